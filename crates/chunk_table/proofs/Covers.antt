@@ -27,7 +27,7 @@ below_end min_key_value valid e = cc
 below_end max_key_value valid e = cc
 below_end key valid e = cc
 
--- a bound that stands where another does is as far below a key
+-- a bound that is where another is has the same order to a key
 as_far : (a b : Bound) (key : Datum) → is_eq (order_bounds a b) ≡ true → order (value_of_bound a) key ≡ order (value_of_bound b) key
 as_far a b key same = order_total.congr (value_of_bound a) (value_of_bound b) key ((Equal-is (order_bounds a b)).0 same)
 

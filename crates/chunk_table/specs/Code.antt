@@ -1,4 +1,4 @@
--- How a table is told from others: as its parts.
+-- How a table is compared with others: as its parts.
 use Rattle.std.specs.Prelude.{ℕ, List, refl}
 use Rattle.std.specs.Coded.{Coded, code_by, coded×, coded_list, coded_ℕ}
 use Rattle.value_model.specs.Keys.{Range}

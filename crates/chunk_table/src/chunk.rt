@@ -107,7 +107,7 @@ impl OwnedList {
         Ok(OwnedList { owners })
     }
 
-    /// The same owners once more. Returns `Memory` if memory runs out.
+    /// Returns a copy of the owners, or `Memory` if memory runs out.
     pub(crate) fn copy(&self, alloc: Global) -> Result<OwnedList, Memory>
         ensures { IfOk result (λ list. list ≡ self.now) }
     {
@@ -140,7 +140,7 @@ pub struct Chunk {
 }
 
 impl Chunk {
-    /// The same chunk once more. Returns `Memory` if memory runs out.
+    /// Returns a copy of the chunk, or `Memory` if memory runs out.
     pub(crate) fn copy(&self, alloc: Global) -> Result<Chunk, Memory>
         ensures { IfOk result (λ chunk. chunk_view chunk ≡ chunk_view self.now) }
     {
@@ -190,7 +190,7 @@ pub(crate) fn greatest_on(shard: NodeId, so_far: Version, chunks: &[Chunk]) -> V
     greatest
 }
 
-/// The same chunks once more. Returns `Memory` if memory runs out.
+/// Returns a copy of the chunks, or `Memory` if memory runs out.
 pub(crate) fn copy_all(alloc: Global, chunks: &[Chunk]) -> Result<Vec<Chunk>, Memory>
     ensures { IfOk result (λ copy. map chunk_view copy.items ≡ map chunk_view chunks.now) }
 {

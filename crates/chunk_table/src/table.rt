@@ -84,7 +84,7 @@ impl Table {
         })
     }
 
-    /// The table of these chunks. Each can be spelled by a journal, and so can their number.
+    /// Returns the table of these chunks. Each can be encoded by a journal, and so can their number.
     ///
     /// `None` where the chunks do not follow one another from below all keys to above them, each with an owner.
     pub fn of(
@@ -112,7 +112,7 @@ impl Table {
         }
     }
 
-    /// The same table once more. Returns `Memory` if memory runs out.
+    /// Returns a copy of the table, or `Memory` if memory runs out.
     pub fn copy(&self, alloc: Global) -> Result<Table, Memory>
         ensures { IfOk result (λ table. table ≡ self.now) }
     {
@@ -148,7 +148,7 @@ impl Table {
         self.changes
     }
 
-    /// From when on it tells owners.
+    /// Returns the time from which on it has owners.
     pub fn oldest(&self) -> Time
         ensures { result.0 ≡ self.now.oldest }
     {
@@ -195,7 +195,7 @@ impl Table {
         self.owner_of_value(key.value(), time)
     }
 
-    /// The shard that had what would stand under the value at a time, were it a key; none before the collection began. A read may
+    /// Returns the shard that had what would be stored under the value at a time, were it a key; none before the collection was created. A read may
     /// name a value that is no key.
     pub fn owner_of_value(&self, value: &Value, time: Time) -> Option<NodeId>
         ensures { option_map (λ shard. shard.0) result ≡ owner_at self.now (datum_of value.now) time.0 }

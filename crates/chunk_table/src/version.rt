@@ -34,7 +34,7 @@ impl Version {
         self.epoch == other.epoch && self.major == other.major
     }
 
-    /// Whether this one comes behind the other: a later collection of the name, or more moves.
+    /// Returns whether this one comes after the other: a later collection of the name, or more moves.
     pub(crate) fn is_later(self, other: Version) -> bool
         ensures { result ≡ is_later (version_view self) (version_view other) }
     {

@@ -1,4 +1,4 @@
--- What stands among the candidates is a value, or an element of one.
+-- A candidate is a value, or an element of one.
 use Rattle.std.proofs.Common.{◌≡◌, List, [], ◌∷◌, ◌++◌, length, refl, sym, ap, ◌∙◌, ℕ, ◌+◌, arith}
 use Rattle.std.specs.Prelude.{Bool, true, false, ◌||◌, nat_lt, flat_map}
 use Rattle.std.specs.List.{list_any}

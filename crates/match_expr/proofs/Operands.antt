@@ -1,4 +1,4 @@
--- Documents alone, as they stand in an array.
+-- Documents alone, as they are in an array.
 use Rattle.std.proofs.Common.{◌≡◌, List, [], ◌∷◌, refl, ap}
 use Rattle.std.specs.Prelude.{Some, None, Option, true, is_some, filter_map, option_map}
 use Rattle.bson_values.specs.Tree.{Datum, string_value, document_value, array_value, binary_value, object_id_value, boolean_value, date_value, null_value, int32_value, timestamp_value, int64_value, min_key_value, max_key_value, Fields}

@@ -23,7 +23,7 @@ among_data : (test : Datum → Bool) (vs : List Value) → list_any (λ v. test 
 among_data test [] = refl
 among_data test (v ∷ vs) = ap (λ (b : Bool). test (datum_of v) || b) (among_data test vs)
 
--- none stands below the place, and none from it on
+-- none is below the place, and none from it on
 none_at : (x : Datum) (vs : List Value) (i : ℕ) → IsPartitionPoint (λ v. order (datum_of v) x ≡ Less) (λ v. order (datum_of v) x ≡ Greater) vs i →
     All (λ v. same_value (datum_of v) x ≡ false) vs
 none_at x vs i apart k d below = elim (cases_lt k i) [

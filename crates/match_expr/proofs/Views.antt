@@ -1,4 +1,4 @@
--- What stands in a list of clauses or tests is within the whole, and one more goes behind the others.
+-- What is in a list of clauses or tests is within the whole, and one more comes after the others.
 use Rattle.std.proofs.Common.{◌≡◌, ◌≤◌, ◌+◌, get_or, List, [], ◌∷◌, ◌++◌, ap, refl, arith}
 use Rattle.std.specs.List.{All}
 use Rattle.std.proofs.lemmas.List.Elements.{All-cons}

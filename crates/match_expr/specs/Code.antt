@@ -1,4 +1,4 @@
--- How a query is told from others: as a document that holds its parts.
+-- How a query is compared with others: as a document that holds its parts.
 use Rattle.std.specs.Prelude.{◌≡◌, ℕ, ℤ, pos, List, [], ◌∷◌, Bool, false, ◌==◌, if◌then◌else◌, refl}
 use Rattle.std.specs.Coded.{Coded, code_by}
 use Rattle.bson_values.specs.Code.{fields_code, items_code}

@@ -1,4 +1,4 @@
--- How limits of keys are told from others: by their parts.
+-- How limits of keys are compared with others: by their parts.
 use Rattle.std.specs.Prelude.{◌≡◌, ℕ, List, Bool, true, false, Option, refl, ◌==◌, if◌then◌else◌}
 use Rattle.std.specs.Coded.{Coded, code_by, coded×, coded_ℕ, coded_list, coded_option}
 use Rattle.value_compare.specs.Code.{bound_code, datum_code}

@@ -36,7 +36,7 @@ fn asked_by(field: &Field) -> Option<&Value>
 }
 
 /// The operand of the first equality on `_id` among the fields of a document: a plain value, or the first `$eq` of an operator
-/// document. The document need be no filter; of one that is, this is the key that the filter asks for. Takes no memory.
+/// document. The document need be no filter; of one that is, this is the key that the filter requests. Takes no memory.
 pub fn key_asked_in(document: &Document) -> Option<&Value>
     ensures { option_map (λ v. datum_of v.now) result ≡ key_asked_in document.now }
 {

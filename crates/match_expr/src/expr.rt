@@ -47,9 +47,9 @@ impl Model for Expr {
 }
 
 impl Expr {
-    /// The filter that a document is. Fails where it is none, with its first fault: fields from the left, and of each first its
+    /// Returns the filter that a document is. Fails where it is none, with its first fault: fields from the left, and of each first its
     /// name (`UnknownOperator`, `Path`), then its operand by itself (`BadOperand`), then how deep the query or the operator document
-    /// in it is (`Deep`), then what that has. Fails with `Memory` for want of memory.
+    /// in it is (`Deep`), then what that has. Returns `Memory` if memory runs out.
     pub fn parse(alloc: Global, document: &Document) -> Result<Expr, ParseFault>
         // A filter is what the document reads as.
         ensures query { IfOk result (λ e. read_query document.now ≡ Ok e) }
@@ -86,7 +86,7 @@ fn key_of(query: &Clauses) -> Result<Option<Key>, Memory>
     }
 }
 
-/// Whether the filter holds of the document. Takes no memory.
+/// Returns whether the document matches the filter. Takes no memory.
 pub fn holds(e: &Expr, document: &Document) -> bool
     ensures { result ≡ holds e.now document.now }
 {

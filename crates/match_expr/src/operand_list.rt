@@ -11,7 +11,7 @@ use std::alloc::Global;
 use std::marker::Model;
 use value_compare::compare;
 
-/// A list of operands, as it was listed, and once more in the order of values. It is seen as it was listed.
+/// A list of operands, as it was listed, and a copy of it in the order of values. Contracts see it as it was listed.
 #[derive(Drop)]
 pub struct OperandList {
     listed: Array,

@@ -18,8 +18,8 @@ use bson_values::{Array, Document, Value};
 use field_paths::{ParseFault, Path, parse_path};
 use std::alloc::Global;
 
-/// The query that a document is, with so many levels left for it and what is in it. Fails with its first fault, with `Deep` where
-/// no level is left, and for want of memory.
+/// Returns the query that a document is, with so many levels left for it and what is in it. Fails with its first fault, with `Deep` where
+/// no level is left, and with `Memory` if memory runs out.
 #[cycle(parse)]
 pub fn parse_within(
     alloc: Global,

@@ -1,4 +1,4 @@
-//! An equality that is asked in front of a filter.
+//! An equality that is tested before a filter.
 
 ghost use Rattle.std.specs.Prelude.{◌≡◌, IfSome, true};
 ghost use Rattle.bson_values.specs.Tree.{Fields};
@@ -22,7 +22,7 @@ pub struct Sieve<'a> {
 }
 
 impl<'a> Sieve<'a> {
-    /// Whether the document has such a value. Takes no memory.
+    /// Returns whether the document has such a value. Takes no memory.
     #[tactic(auto, using(crate::proofs::Candidates::at_path))]
     pub fn lets_pass(&self, document: &Document) -> bool
         ensures { result ≡ lets_pass self.now document.now }

@@ -1,4 +1,4 @@
-//! Tests of what stands at a path, but for those that hold queries and tests. Nothing here takes memory.
+//! Tests of the values at a path, but for those that hold queries and tests. Nothing here takes memory.
 
 ghost use Rattle.std.specs.Prelude.{◌≡◌, ◌||◌, ◌&&◌, length, if◌then◌else◌, nat_lt, not, pos, true};
 ghost use Rattle.std.specs.Ordering.{int_eq};
@@ -16,7 +16,7 @@ use field_paths::{Path, Visitor, any_at, gap_at};
 use std::cmp::Ordering;
 use value_compare::{class, compare};
 
-/// What tests look at: what stands at a path, or one value by itself.
+/// What tests look at: the values at a path, or one value by itself.
 #[derive(Drop)]
 pub enum Place<'a> {
     At {

@@ -1,4 +1,4 @@
-//! Queries as trees: clauses, and tests of what stands at a path.
+//! Queries as trees: clauses, and tests of the values at a path.
 
 ghost use Rattle.std.specs.Prelude.{◌≡◌, ◌≤◌, ◌+◌, All};
 ghost use Rattle.query_model.specs.Queries.{no_clauses, no_queries, no_tests};
@@ -29,12 +29,12 @@ pub struct Clauses {
 #[cycle(query)]
 #[derive(Drop)]
 pub enum Clause {
-    /// Tests of what stands at a path.
+    /// Tests of the values at a path.
     At {
         path: Path,
         tests: Tests,
     },
-    /// Equality of what stands at a path with a value, as the one test, which most clauses are and which takes no list of tests.
+    /// Equality of the values at a path with a value, as the one test, which most clauses are and which takes no list of tests.
     Equal {
         path: Path,
         operand: Value,

@@ -70,6 +70,6 @@ known_read : (read : Result Write QueryFault) (before : Option Fields) → IsKno
 known_read (Ok write) before = known_outcome (effect_of write before)
 known_read (Err fault) before = refl
 
--- what an operation tells
+-- the outcome of an operation
 pub known_effect : (operation : Operation) (before : Option Fields) → IsKnown (effect operation before).1.error
 known_effect operation before = known_read (read_operation operation) before

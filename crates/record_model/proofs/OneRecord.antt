@@ -11,7 +11,7 @@ use Rattle.record_model.proofs.MovePrefixes.{same_request, same_move_start, same
 same_count : (n m : ℕ) → n < 2 ^ 64 → m < 2 ^ 64 → eight n ≡ eight m → n ≡ m
 same_count n m p q e = (same_eight n m [] [] p q (ap (λ (l : List ℕ). l ++ []) e)).0
 
--- what ends itself is told by its bytes
+-- what ends itself is determined by its bytes
 alone : {X : Type 0} (spelled_item : X → List ℕ) (IsSoundItem : X → Type 0) → EndsItself spelled_item IsSoundItem → (a b : X) → IsSoundItem a → IsSoundItem b → spelled_item a ≡ spelled_item b → a ≡ b
 alone spelled_item IsSoundItem item a b p q e = (item a b [] [] p q (ap (λ (l : List ℕ). l ++ []) e)).0
 

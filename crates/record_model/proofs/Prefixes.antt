@@ -1,4 +1,4 @@
--- Each part of a record's spelling ends where the bytes before say, so what stands behind two equal parts is equal too.
+-- Each part of a record's encoding ends where the bytes before say, so what comes after two equal parts is equal too.
 use Rattle.std.proofs.Common.{◌≡◌, ℕ, ◌+◌, ◌<◌, ◌^◌, List, [], ◌∷◌, ◌++◌, length, refl, sym, ap, subst, ◌∙◌, arith, append_assoc}
 use Rattle.std.specs.Prelude.{ℤ, Bool, Option, Some, None, FitsSigned}
 use Rattle.std.specs.Int.{w32, w64, from_le_bytes, cast_unsigned, cast_signed}

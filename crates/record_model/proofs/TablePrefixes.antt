@@ -1,4 +1,4 @@
--- Each part of a table's spelling ends where the bytes before say, and so each of its lists.
+-- Each part of a table's encoding ends where the bytes before say, and so each of its lists.
 use Rattle.std.proofs.Common.{◌≡◌, ℕ, ◌<◌, ◌^◌, List, [], ◌∷◌, ◌++◌, length, refl, ap, ◌∙◌, arith}
 use Rattle.std.specs.List.{AllByRecursion, flat_map}
 use Rattle.value_model.specs.Keys.{Bound, min_bound, key_bound, max_bound}

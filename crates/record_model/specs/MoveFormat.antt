@@ -1,5 +1,5 @@
--- The bytes of what moves of chunks and changes of the catalogue keep, in a format that is own; and which of them have a spelling that
--- says what they are.
+-- The bytes of what moves of chunks and changes of the catalogue store, in a format that is own; and which of them have an encoding that
+-- determines them.
 use Rattle.std.specs.Prelude.{ℕ, ℤ, Bool, ◌<◌, ◌^◌, List, [], ◌∷◌, ◌++◌, length, Option, Some, None, FitsSigned}
 use Rattle.std.specs.Int.{w64, cast_unsigned}
 use Rattle.std.specs.List.{AllByRecursion}

@@ -1,6 +1,6 @@
 -- The bytes of the parts of records, in a format that is own. Numbers are
 -- little-endian; documents are BSON (BSON 1.1, "Specification"). Here the fields that several records have, entries and tables; and
--- which of them have a spelling that says what they are.
+-- which of them have an encoding that determines them.
 use Rattle.std.specs.Prelude.{◌≡◌, ℕ, ◌<◌, ◌^◌, List, [], ◌∷◌, ◌++◌, length, codes, true, Option, Some, None, FitsSigned}
 use Rattle.std.specs.Int.{w32, w64, to_le_bytes, cast_unsigned}
 use Rattle.std.specs.List.{AllByRecursion, flat_map}
@@ -79,7 +79,7 @@ spelled_chunk c = spelled_bound c.range.min ++ (spelled_bound c.range.max ++ (sp
 abbrev pub spelled_table : Table → List ℕ
 spelled_table t = spelled_string t.namespace ++ (eight t.epoch ++ (eight t.changes ++ (eight t.oldest ++ spelled_list spelled_chunk t.chunks)))
 
--- a document's spelling spells it
+-- a document has an encoding
 abbrev pub IsSpellable : Fields → Type 0
 IsSpellable document = ReadsAs (written document) document
 

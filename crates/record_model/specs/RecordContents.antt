@@ -6,7 +6,7 @@ use Rattle.history_model.specs.History.{Entry}
 use Rattle.chunk_model.specs.Catalogue.{Creation}
 use Rattle.record_model.specs.Records.{EntryWords, Record, entry_record, create_record, code_of, record_of}
 
--- the errors that a reply may tell (MongoDB manual, "Error Codes")
+-- the errors that a reply may have (MongoDB manual, "Error Codes")
 abbrev pub known_errors : List ErrorCode
 known_errors =
     bad_value ∷ failed_to_parse ∷ type_mismatch ∷ overflow ∷ illegal_operation ∷ invalid_bson ∷ path_not_viable ∷ cursor_not_found

@@ -1,11 +1,11 @@
--- The bytes of a record, in a format that is own: the format's number, the kind, and the fields. And which records have a spelling that
--- says what they are.
+-- The bytes of a record, in a format that is own: the format's number, the kind, and the fields. And which records have an encoding that
+-- determines them.
 use Rattle.std.specs.Prelude.{ℕ, ◌<◌, ◌^◌, List, ◌∷◌}
 use Rattle.record_model.specs.Records.{Record, table_record, entry_record, ceiling_record, floor_record, move_start_record, section_record, move_end_record, released_record, receive_start_record, batch_record, receive_done_record, receive_end_record, deletion_record, create_record, split_record, commit_record, resolve_record, purge_record, catalogue_ceiling_record, life_record, block_record}
 pub use Rattle.record_model.specs.PartFormat.{four, eight, spelled_string, key_document, spelled_key, spelled_session, spelled_number, spelled_operation, spelled_outcome, spelled_entry, spelled_creation, spelled_list, spelled_bound, spelled_version, spelled_owned, spelled_chunk, spelled_table, IsSpellable, IsSoundDocument, IsSoundKeyValue, IsSoundKey, IsSoundSession, IsSoundNumber, IsSoundOperation, IsSoundOutcome, IsSoundEntry, IsSoundCreation, IsSoundBound, IsSoundVersion, IsSoundOwned, IsSoundChunk, IsSoundTable}
 use Rattle.record_model.specs.MoveFormat.{spelled_request, spelled_move_start, spelled_section, spelled_move_end, spelled_receive_start, spelled_received, spelled_receive_done, spelled_deletion, spelled_split, spelled_commit, spelled_resolve, spelled_purge, IsSoundRequest, IsSoundMoveStart, IsSoundSection, IsSoundMoveEnd, IsSoundReceiveStart, IsSoundReceived, IsSoundReceiveDone, IsSoundDeletion, IsSoundSplit, IsSoundCommit, IsSoundResolve, IsSoundPurge}
 
--- the byte that tells what a record is
+-- the byte of the kind of a record
 abbrev pub kind_byte : Record → ℕ
 kind_byte (table_record t) = 0x01
 kind_byte (entry_record e) = 0x02
@@ -56,7 +56,7 @@ spelled_fields (block_record n) = eight n
 abbrev pub spelled : ℕ → Record → List ℕ
 spelled format r = format ∷ kind_byte r ∷ spelled_fields r
 
--- numbers fit their bytes, namespaces and keys are of their form, and documents are kept ones, spelled by their bytes
+-- numbers fit their bytes, namespaces and keys are of their form, and documents are those that can be stored, encoded by their bytes
 abbrev pub IsSound : Record → Type 0
 IsSound (table_record t) = IsSoundTable t
 IsSound (entry_record e) = IsSoundEntry e

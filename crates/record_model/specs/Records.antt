@@ -42,7 +42,7 @@ pub data Record : Type 0 where
   commit_record : Commit → Record
   resolve_record : Resolve → Record
   purge_record : Purge → Record
-  -- the catalogue told of this time: its later changes are above it
+  -- the catalogue returned this time: its later changes are above it
   catalogue_ceiling_record : ℕ → Record
   -- a life of a router begins, with this number
   life_record : ℕ → Record

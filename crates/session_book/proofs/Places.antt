@@ -78,7 +78,7 @@ module _ (places : List (Session × ℕ)) (kept : List Statements) (apart : AreA
 
   module _ (none : place_of places s ≡ None) (more : List (Session × ℕ)) (w : Statements)
       (added : (x : history.Session) → place_of more x ≡ (if same_session s x then Some (length kept) else place_of places x)) where
-    -- its place is behind the others
+    -- its place is after the others
     pub added_there : place_of more s ≡ Some (length kept)
     added_there = added s ∙ ap (λ (b : Bool). if b then Some (length kept) else place_of places s) (itself s)
 
@@ -100,7 +100,7 @@ module _ (places : List (Session × ℕ)) (kept : List Statements) (apart : AreA
     added_by x false None at = refl
     added_by x false (Some i) at = before_last i (apart.inside x i at)
 
-    -- what is kept of the session is behind the rest
+    -- what is stored of the session is after the rest
     pub added_last : (x : history.Session) → kept_by more (kept ++ w ∷ []) x ≡ (if same_session s x then Some w else kept_by places kept x)
     added_last x = ap (λ (o : Option ℕ). statements_at (kept ++ w ∷ []) o) (added x) ∙ added_by x (same_session s x) (place_of places x) refl
 

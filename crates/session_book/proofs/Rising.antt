@@ -19,7 +19,7 @@ none_absent [] index none = refl
 none_absent (noted ∷ notes) index none =
     grind (arith, nat_tests, none 0 noted (omega arith), none_absent notes index (λ j d lt. none (suc j) d (omega arith)))
 
--- the index stands at that place
+-- the index is at that place
 record HasIndex (notes : List StatementRecord) (index place : ℕ) : Type 0 where
   in_range : place < length notes
   is_it : (d : StatementRecord) → (get_or notes place d).index ≡ index
@@ -63,7 +63,7 @@ module _ (notes : List StatementRecord) (rising : IsRising notes) (index : ℕ) 
   holds_there (noted ∷ rest) is place holds =
       record { in_range = holds.in_range; first = λ d. found_at place d holds; some = not_none (with_index index notes) (get_or notes place noted) (found_at place noted holds) }
 
-  -- where a note has the index, it stands
+  -- where a note has the index, it is found
   pub holds_at : (place : ℕ) → place < length notes → ((d : StatementRecord) → (get_or notes place d).index ≡ index) → Holds notes index place
   holds_at place in_range is_it = holds_there notes refl place (record { in_range = in_range; is_it = is_it })
 
@@ -104,7 +104,7 @@ rises_still notes noted place gap rising i j d lt in_range =
     subst (λ q. (get_or new q d).index ≡ (get_or notes (i - 1) d).index) {x = i - 1 + 1} (omega arith) (ap index (get_or-insert_above notes place noted d (i - 1) (omega arith) gap.in_range)) in
     grind (arith, below i, here i, above i, below j, here j, above j, rising i j d, rising i (j - 1) d, rising (i - 1) (j - 1) d, gap.lesser i d, gap.greater (j - 1) d)
 
--- behind the first the indexes rise too
+-- after the first the indexes rise too
 pub rest_rises : (first : StatementRecord) (rest : List StatementRecord) → IsRising (first ∷ rest) → IsRising rest
 rest_rises first rest rising i j d lt in_range = rising (suc i) (suc j) d (omega (arith, lt)) (omega (arith, in_range))
 

@@ -1,4 +1,4 @@
--- The order of sessions tells them apart as their meanings are.
+-- The order of sessions distinguishes them as their views do.
 use Rattle.std.proofs.Common.{◌≡◌, ℕ, List, [], ◌∷◌, refl, sym, ap, ◌∙◌, arith}
 use Rattle.std.specs.Prelude.{Bool, ◌&&◌, Option, Some, ◌==◌, if◌then◌else◌}
 use Rattle.std.specs.declared.cmp.Ordering.{Ordering}

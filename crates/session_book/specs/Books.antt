@@ -47,6 +47,6 @@ seen_in book number = seen_of (kept_of book number.session) number
 unfoldable pub room_in : Book → Session → ℕ
 room_in book session = room_of (kept_of book (session_view session))
 
--- these were noted so far, in that order
+-- these were noted, in that order
 abbrev pub NotesAre : Book → List (Note Reply) → Type 0
 NotesAre book notes = (number : StatementNumber) → seen_in book number ≡ seen notes number

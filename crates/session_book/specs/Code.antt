@@ -1,4 +1,4 @@
--- How what is kept of a session is told from others: as its numbers, and the keys in it as values.
+-- How what is stored of a session is compared with others: as its numbers, and the keys in it as values.
 use Rattle.std.specs.Prelude.{ℕ, ℤ, List, Option, refl}
 use Rattle.std.specs.Coded.{Coded, code_by, coded×, coded_ℕ, coded_ℤ, coded_list, coded_option}
 use Rattle.value_compare.specs.Code.{datum_code}

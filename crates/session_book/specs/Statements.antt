@@ -19,7 +19,7 @@ abbrev pub are_some : List StatementRecord → Bool
 are_some [] = false
 are_some (noted ∷ notes) = true
 
--- the first statement, and the rest behind it
+-- the first statement, and the rest after it
 abbrev pub notes_with : Option StatementRecord → List StatementRecord → List StatementRecord
 notes_with None rest = rest
 notes_with (Some first) rest = first ∷ rest
@@ -29,7 +29,7 @@ abbrev pub room_with : Option StatementRecord → ℕ → ℕ
 room_with None room = room + 1
 room_with (Some first) room = room
 
--- the indexes rise, and behind no first statement there is none
+-- the indexes rise, and after no first statement there is none
 pub record IsWhole (first : Option StatementRecord) (rest : List StatementRecord) : Type 0 where
   pub rising : IsRising (notes_with first rest)
   pub none : first ≡ None → rest ≡ []
@@ -39,7 +39,7 @@ abbrev pub with_index : ℕ → List StatementRecord → Option StatementRecord
 with_index index [] = None
 with_index index (noted ∷ notes) = if noted.index == index then Some noted else with_index index notes
 
--- the first of that index stands at that place
+-- the first of that index is at that place
 pub record Holds (notes : List StatementRecord) (index place : ℕ) : Type 0 where
   pub in_range : place < length notes
   pub first : (d : StatementRecord) → with_index index notes ≡ Some (slice_index_or notes place d)

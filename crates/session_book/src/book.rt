@@ -29,7 +29,7 @@ pub enum Seen<'a> {
     Done {
         /// The time of its entry.
         time: Time,
-        /// What it was told.
+        /// Its reply.
         reply: &'a Reply,
     },
     /// Its session has this greater transaction.
@@ -65,10 +65,10 @@ struct Place {
     place: u32,
 }
 
-/// What each numbered statement was told (MongoDB manual, "Retryable Writes" and "Server Sessions"). The map has the places of what is
-/// kept of sessions and not what is kept, so that what a search goes through is small.
+/// The reply to each numbered statement (MongoDB manual, "Retryable Writes" and "Server Sessions"). The map has the places of what is
+/// stored of sessions and not what is stored, so that what a search goes through is small.
 ///
-/// A caller reserves for a statement, notes it, and goes on to the next: one `reserve` makes room for one `note`, which then can't
+/// A caller reserves for a statement, notes it, and proceeds to the next: one `reserve` makes room for one `note`, which then can't
 /// fail.
 #[derive(Drop)]
 pub struct Book {
@@ -97,7 +97,7 @@ impl Book {
         }
     }
 
-    /// What the statement is against what was noted so far.
+    /// Returns how the statement relates to those that were noted.
     pub fn look(&self, s: &Stmt) -> Seen
         ensures { seen_view result ≡ seen_in self.now (number_view s.now) }
     {
@@ -145,7 +145,7 @@ impl Book {
     /// Makes room for one more statement of its session. Nothing is noted by it, so each number is seen as it was.
     ///
     /// # Errors
-    /// `Memory` for want of memory, and for a new session where 2^32 are known; each number is seen as it was then too, and no room is lost.
+    /// `Memory` if memory runs out, and for a new session where 2^32 are known; each number is seen as it was then too, and no room is lost.
     pub fn reserve(&mut self, s: &Stmt) -> Result<(), Memory>
         ensures room { OnOk result (1 ≤ room_in self.new s.now.session) }
         ensures others { (t : Session) → room_in self.old t ≤ room_in self.new t }
@@ -163,7 +163,7 @@ impl Book {
     /// Makes room for so many statements of this one's session. Nothing is noted by it, so each number is seen as it was.
     ///
     /// # Errors
-    /// `Memory` for want of memory, and for a new session where 2^32 are known; each number is seen as it was then too, and no room is lost.
+    /// `Memory` if memory runs out, and for a new session where 2^32 are known; each number is seen as it was then too, and no room is lost.
     pub fn reserve_run(&mut self, s: &Stmt, count: usize) -> Result<(), Memory>
         ensures room { OnOk result (count ≤ room_in self.new s.now.session) }
         ensures others { (t : Session) → room_in self.old t ≤ room_in self.new t }
@@ -194,7 +194,7 @@ impl Book {
         Ok(())
     }
 
-    /// Notes a statement that is new, with the time of its entry and what it was told, where there is room for it.
+    /// Notes a statement that is new, with the time of its entry and its reply, where there is room for it.
     pub fn note(&mut self, s: &Stmt, time: Time, reply: Reply)
         requires room { 1 ≤ room_in self.old s.now.session }
         requires new { seen_in self.old (number_view s.now) ≡ new_statement }

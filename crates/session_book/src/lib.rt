@@ -1,4 +1,4 @@
-//! What each numbered statement was told, so that it is done at most once.
+//! The reply to each numbered statement, so that it is done at most once.
 #![tactic(auto)]
 
 mod book;

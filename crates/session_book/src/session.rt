@@ -19,7 +19,7 @@ use std::alloc::Global;
 use std::marker::Model;
 use value_compare::Reply;
 
-/// The statements that were done in the greatest transaction of a session, by their index. The first stands apart, since most sessions
+/// The statements that were done in the greatest transaction of a session, by their index. The first is stored apart, since most sessions
 /// have no other: a look at it then reaches no other memory.
 #[derive(Drop)]
 pub struct Kept {
@@ -141,7 +141,7 @@ impl Kept {
         Ok(())
     }
 
-    /// Notes a statement that is new, where there is room. Those of a lesser transaction can be told no more, and are dropped.
+    /// Notes a statement that is new, where there is room. Those of a lesser transaction can get no reply any more, and are dropped.
     pub fn note(&mut self, txn: i64, noted: StatementRecord)
         requires room { 1 ≤ self.old.room }
         requires new { seen_among self.old txn noted.index ≡ new_statement }
@@ -152,7 +152,7 @@ impl Kept {
         self.put(noted);
     }
 
-    // Goes on to that transaction, where it is another than the one so far.
+    // Begins that transaction, where it is not the current one.
     fn begin(&mut self, txn: i64)
         ensures transaction { self.new.transaction ≡ txn }
         ensures notes { self.new.notes ≡ notes_in txn self.old }
@@ -235,7 +235,7 @@ fn push_copy(copies: &mut Vec<StatementRecord>, statement: &StatementRecord) -> 
     Ok(())
 }
 
-// A copy of what a statement was told. Fails when out of memory.
+// Returns a copy of the reply to a statement. Fails when out of memory.
 fn copy_of(reply: &Reply) -> Result<Reply, Memory>
     ensures { IfOk result (λ r. r ≡ reply.now) }
 {
@@ -274,7 +274,7 @@ fn gap_among(notes: &[StatementRecord], index: u32) -> usize
     }
 }
 
-// Where the statement of that index stands, if there is one for each index from the first on: those of most commands were all done.
+// Returns the place of the statement of that index, if there is one for each index from the first on: those of most commands were all done.
 fn place_in_row(notes: &[StatementRecord], index: u32) -> Option<usize>
     requires { IsRising notes.now }
     ensures { IfSome result (Holds notes.now index) }
@@ -287,7 +287,7 @@ fn place_in_row(notes: &[StatementRecord], index: u32) -> Option<usize>
     }
 }
 
-// Where the statement of that index stands, or where it would go, by a search among all.
+// Returns the place of the statement of that index, or where it would go, by a search among all.
 fn search_among(notes: &[StatementRecord], index: u32) -> Result<usize, usize>
     requires { IsRising notes.now }
     ensures found { IfOk result (Holds notes.now index) }
@@ -296,7 +296,7 @@ fn search_among(notes: &[StatementRecord], index: u32) -> Result<usize, usize>
     notes.binary_search_by_key(&index, |noted| noted.index)
 }
 
-// Where the statement of that index stands, or where it would go.
+// Returns the place of the statement of that index, or where it would go.
 fn place_among(notes: &[StatementRecord], index: u32) -> Result<usize, usize>
     requires { IsRising notes.now }
     ensures found { IfOk result (Holds notes.now index) }

@@ -1,11 +1,11 @@
--- How the bytes grow where the items of a list are put, one behind another.
+-- How the bytes grow where the items of a list are written, one after another.
 use Rattle.std.proofs.Common.{◌≡◌, ℕ, zero, suc, ◌+◌, ◌<◌, ◌≤◌, List, [], ◌∷◌, ◌++◌, length, get_or, take, drop, map, refl, sym, ap, subst, ◌∙◌, add-one, arith, append_assoc, drop-cons, length-take}
 use Rattle.std.specs.List.{AllByRecursion, flat_map}
 use Rattle.std.proofs.lemmas.List.{append-nil, drop_all}
 use Rattle.std.proofs.Math.Seq.{take-length}
 use Rattle.bson_values.proofs.Puts.{kept_on}
 
--- the first i items are put, and those behind are put and sound where all are
+-- the first i items are written, and those after them are written and sound where all are
 pub record PutSoFar {X Y : Type 0} (spelled_item : Y → List ℕ) (IsSoundItem : Y → Type 0) (meant : X → Y) (items : List X) (i : ℕ) (old out : List ℕ) : Type 0 where
   pub text : out ++ flat_map spelled_item (map meant (drop i items)) ≡ old ++ flat_map spelled_item (map meant items)
   pub sound : AllByRecursion IsSoundItem (map meant (drop i items)) → AllByRecursion IsSoundItem (map meant items)

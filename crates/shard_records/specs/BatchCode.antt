@@ -1,4 +1,4 @@
--- How the documents of a batch are told from others: as their keys and documents.
+-- How the documents of a batch are compared with others: as their keys and documents.
 use Rattle.std.specs.Prelude.{List, Option, refl}
 use Rattle.std.specs.Coded.{Coded, code_by, coded×, coded_list, coded_option}
 use Rattle.bson_model.specs.Tree.{Datum, Fields}

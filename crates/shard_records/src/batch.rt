@@ -19,7 +19,7 @@ pub struct MovedDocument {
 }
 
 impl MovedDocument {
-    /// The same once more; the document is shared. Fails out of memory.
+    /// Returns a copy of it; the document is shared. Fails out of memory.
     pub fn copy(&self) -> Result<MovedDocument, Memory>
         ensures { IfOk result (λ m. moved_view m ≡ moved_view self.now) }
     {
@@ -74,7 +74,7 @@ impl MovedList {
         self.docs
     }
 
-    /// The same documents once more, shared. Fails out of memory.
+    /// Returns a copy of the documents, shared. Fails out of memory.
     pub fn copy(&self, alloc: Global) -> Result<MovedList, Memory>
         ensures { IfOk result (λ list. list ≡ self.now) }
     {
@@ -83,7 +83,7 @@ impl MovedList {
     }
 }
 
-// The same documents once more, shared. Fails out of memory.
+// Returns a copy of the documents, shared. Fails out of memory.
 fn copy_all(alloc: Global, docs: &[MovedDocument]) -> Result<Vec<MovedDocument>, Memory>
     ensures { IfOk result (λ copy. map moved_view copy.items ≡ map moved_view docs.now) }
 {
@@ -106,7 +106,7 @@ pub struct MoveBatch {
 }
 
 impl MoveBatch {
-    /// The same batch once more; its documents are shared. Fails out of memory.
+    /// Returns a copy of the batch; its documents are shared. Fails out of memory.
     pub fn copy(&self, alloc: Global) -> Result<MoveBatch, Memory>
         ensures { IfOk result (λ batch. batch_view batch ≡ batch_view self.now) }
     {

@@ -1,6 +1,6 @@
-//! Writing what the catalogue keeps of its changes as bytes.
+//! Writing what the catalogue stores of its changes as bytes.
 //!
-//! What is put stands behind the bytes that were there. After an `Err` a part may stand there too.
+//! What is written comes after the bytes that were there. After an `Err` a part may be there too.
 
 ghost use Rattle.std.specs.Prelude.{◌≡◌, ◌++◌, length, take, OnOk};
 ghost use Rattle.bson_model.specs.Limits.{IsWritable};
@@ -14,7 +14,7 @@ use crate::move_writer::{put_range, put_request};
 use crate::writer::{put_namespace, put_some_key, put_u32, put_u64};
 use bson_values::Memory;
 
-/// Puts a split.
+/// Writes a split.
 pub(crate) fn put_split(kept: &SplitChange, out: &mut Vec<u8>) -> Result<(), Memory>
     requires { IsWritable (key_document kept.now.middle) }
     ensures ok { OnOk result (out.new.items ≡ out.old.items ++ spelled_split (split_view kept.now)) }
@@ -26,7 +26,7 @@ pub(crate) fn put_split(kept: &SplitChange, out: &mut Vec<u8>) -> Result<(), Mem
     put_u64(kept.at.0, out)
 }
 
-/// Puts a commit.
+/// Writes a commit.
 pub(crate) fn put_commit(kept: &CommitChange, out: &mut Vec<u8>) -> Result<(), Memory>
     requires { IsWritableRange kept.now.range }
     ensures ok { OnOk result (out.new.items ≡ out.old.items ++ spelled_commit (commit_view kept.now)) }
@@ -41,7 +41,7 @@ pub(crate) fn put_commit(kept: &CommitChange, out: &mut Vec<u8>) -> Result<(), M
     put_u64(kept.at.0, out)
 }
 
-/// Puts the end of a move that is not committed.
+/// Writes the end of a move that is not committed.
 pub(crate) fn put_resolve(kept: &ResolveChange, out: &mut Vec<u8>) -> Result<(), Memory>
     requires { IsWritableRange kept.now.range }
     ensures ok { OnOk result (out.new.items ≡ out.old.items ++ spelled_resolve (resolve_view kept.now)) }
@@ -54,7 +54,7 @@ pub(crate) fn put_resolve(kept: &ResolveChange, out: &mut Vec<u8>) -> Result<(),
     put_u64(kept.at.0, out)
 }
 
-/// Puts a purge.
+/// Writes a purge.
 pub(crate) fn put_purge(kept: &PurgeChange, out: &mut Vec<u8>) -> Result<(), Memory>
     ensures ok { OnOk result (out.new.items ≡ out.old.items ++ spelled_purge (purge_view kept.now)) }
     ensures sound { OnOk result (IsSoundPurge (purge_view kept.now)) }

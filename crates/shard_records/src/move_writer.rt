@@ -1,6 +1,6 @@
-//! Writing what the shards of a move keep as bytes.
+//! Writing what the shards of a move store as bytes.
 //!
-//! What is put stands behind the bytes that were there. After an `Err` a part may stand there too.
+//! What is written comes after the bytes that were there. After an `Err` a part may be there too.
 
 ghost use Rattle.std.specs.Prelude.{◌≡◌, ◌<◌, ◌^◌, ◌++◌, length, map, take, OnOk};
 ghost use Rattle.std.specs.Arc.{arc_value};
@@ -25,7 +25,7 @@ use std::alloc::Global;
 use std::sync::Arc;
 use value_compare::KeyRange;
 
-/// Puts a range.
+/// Writes a range.
 pub(crate) fn put_range(range: &KeyRange, out: &mut Vec<u8>) -> Result<(), Memory>
     requires { IsWritableRange range.now }
     ensures ok { OnOk result (out.new.items ≡ out.old.items ++ spelled_range range.now) }
@@ -36,7 +36,7 @@ pub(crate) fn put_range(range: &KeyRange, out: &mut Vec<u8>) -> Result<(), Memor
     put_bound(range.max(), out)
 }
 
-/// Puts whether something holds.
+/// Writes whether something holds.
 fn put_flag(holds: bool, out: &mut Vec<u8>) -> Result<(), Memory>
     ensures ok { OnOk result (out.new.items ≡ out.old.items ++ spelled_flag holds) }
     ensures kept { take (length out.old.items) out.new.items ≡ out.old.items }
@@ -44,7 +44,7 @@ fn put_flag(holds: bool, out: &mut Vec<u8>) -> Result<(), Memory>
     put(&[u8::from(holds)], out)
 }
 
-/// Puts a document, if there is one.
+/// Writes a document, if there is one.
 fn put_option(document: &Option<Arc<Document, Global>>, out: &mut Vec<u8>) -> Result<(), Memory>
     requires { IsWritableOption (option_map arc_value document.now) }
     ensures ok { OnOk result (out.new.items ≡ out.old.items ++ spelled_document (option_map arc_value document.now)) }
@@ -60,7 +60,7 @@ fn put_option(document: &Option<Arc<Document, Global>>, out: &mut Vec<u8>) -> Re
     }
 }
 
-/// Puts these documents of a batch, one behind another.
+/// Writes these documents of a batch, one after another.
 fn put_each_moved(docs: &[MovedDocument], out: &mut Vec<u8>) -> Result<(), Memory>
     requires { AllByRecursion IsWritableMoved (map moved_view docs.now) }
     ensures ok { OnOk result (out.new.items ≡ out.old.items ++ flat_map spelled_moved (map moved_view docs.now)) }
@@ -73,7 +73,7 @@ fn put_each_moved(docs: &[MovedDocument], out: &mut Vec<u8>) -> Result<(), Memor
     Ok(())
 }
 
-/// Puts the documents of a batch: how many, and each.
+/// Writes the documents of a batch: how many, and each.
 fn put_docs(docs: &[MovedDocument], out: &mut Vec<u8>) -> Result<(), Memory>
     requires count { length docs.now < 2 ^ 32 }
     requires writable { AllByRecursion IsWritableMoved (map moved_view docs.now) }
@@ -85,7 +85,7 @@ fn put_docs(docs: &[MovedDocument], out: &mut Vec<u8>) -> Result<(), Memory>
     put_each_moved(docs, out)
 }
 
-/// Puts the number of a request.
+/// Writes the number of a request.
 pub(crate) fn put_request(id: &RequestId, out: &mut Vec<u8>) -> Result<(), Memory>
     ensures ok { OnOk result (out.new.items ≡ out.old.items ++ spelled_request (request_view id.now)) }
     ensures sound { OnOk result (IsSoundRequest (request_view id.now)) }
@@ -96,7 +96,7 @@ pub(crate) fn put_request(id: &RequestId, out: &mut Vec<u8>) -> Result<(), Memor
     put_u64(id.count, out)
 }
 
-/// Puts a key with its document.
+/// Writes a key with its document.
 pub(crate) fn put_moved(moved: &MovedDocument, out: &mut Vec<u8>) -> Result<(), Memory>
     requires { IsWritableMoved (moved_view moved.now) }
     ensures ok { OnOk result (out.new.items ≡ out.old.items ++ spelled_moved (moved_view moved.now)) }
@@ -107,7 +107,7 @@ pub(crate) fn put_moved(moved: &MovedDocument, out: &mut Vec<u8>) -> Result<(), 
     put_option(&moved.document, out)
 }
 
-/// Puts the begin of a move.
+/// Writes the begin of a move.
 pub(crate) fn put_move_start(kept: &MoveStart, out: &mut Vec<u8>) -> Result<(), Memory>
     requires { IsWritableRange kept.now.range }
     ensures ok { OnOk result (out.new.items ≡ out.old.items ++ spelled_move_start (move_start_view kept.now)) }
@@ -122,7 +122,7 @@ pub(crate) fn put_move_start(kept: &MoveStart, out: &mut Vec<u8>) -> Result<(), 
     put_u64(kept.time.0, out)
 }
 
-/// Puts the begin of a section.
+/// Writes the begin of a section.
 pub(crate) fn put_section(kept: &SectionStart, out: &mut Vec<u8>) -> Result<(), Memory>
     ensures ok { OnOk result (out.new.items ≡ out.old.items ++ spelled_section (section_view kept.now)) }
     ensures sound { OnOk result (IsSoundSection (section_view kept.now)) }
@@ -132,7 +132,7 @@ pub(crate) fn put_section(kept: &SectionStart, out: &mut Vec<u8>) -> Result<(), 
     put_u64(kept.time.0, out)
 }
 
-/// Puts the end of a part in a move.
+/// Writes the end of a part in a move.
 pub(crate) fn put_move_end(kept: &MoveEnd, out: &mut Vec<u8>) -> Result<(), Memory>
     ensures ok { OnOk result (out.new.items ≡ out.old.items ++ spelled_move_end (move_end_view kept.now)) }
     ensures sound { OnOk result (IsSoundMoveEnd (move_end_view kept.now)) }
@@ -145,7 +145,7 @@ pub(crate) fn put_move_end(kept: &MoveEnd, out: &mut Vec<u8>) -> Result<(), Memo
     put_u64(kept.due, out)
 }
 
-/// Puts the begin of a recipient's part.
+/// Writes the begin of a recipient's part.
 pub(crate) fn put_receive_start(kept: &ReceiveStart, out: &mut Vec<u8>) -> Result<(), Memory>
     requires { IsWritableRange kept.now.range }
     ensures ok { OnOk result (out.new.items ≡ out.old.items ++ spelled_receive_start (receive_start_view kept.now)) }
@@ -160,7 +160,7 @@ pub(crate) fn put_receive_start(kept: &ReceiveStart, out: &mut Vec<u8>) -> Resul
     put_u64(kept.time.0, out)
 }
 
-/// Puts a batch that is stored.
+/// Writes a batch that is stored.
 pub(crate) fn put_received(kept: &ReceivedBatch, out: &mut Vec<u8>) -> Result<(), Memory>
     requires { IsWritableReceived (received_view kept.now) }
     ensures ok { OnOk result (out.new.items ≡ out.old.items ++ spelled_received (received_view kept.now)) }
@@ -174,7 +174,7 @@ pub(crate) fn put_received(kept: &ReceivedBatch, out: &mut Vec<u8>) -> Result<()
     put_docs(kept.batch.docs.as_slice(), out)
 }
 
-/// Puts the end of a copy.
+/// Writes the end of a copy.
 pub(crate) fn put_receive_done(kept: &ReceiveDone, out: &mut Vec<u8>) -> Result<(), Memory>
     requires { IsWritableDone (receive_done_view kept.now) }
     ensures ok { OnOk result (out.new.items ≡ out.old.items ++ spelled_receive_done (receive_done_view kept.now)) }
@@ -185,7 +185,7 @@ pub(crate) fn put_receive_done(kept: &ReceiveDone, out: &mut Vec<u8>) -> Result<
     put_sessions(&kept.sessions.sessions, out)
 }
 
-/// Puts a deletion.
+/// Writes a deletion.
 pub(crate) fn put_deletion(kept: &Deletion, out: &mut Vec<u8>) -> Result<(), Memory>
     requires { IsWritableRange kept.now.range }
     ensures ok { OnOk result (out.new.items ≡ out.old.items ++ spelled_deletion (deletion_view kept.now)) }

@@ -28,7 +28,7 @@ pub enum Record {
         statement: Stmt,
         /// What it does.
         op: OpWords,
-        /// What it was told.
+        /// Its reply.
         reply: Reply,
     },
     /// A shard was read at this time: its later entries are above it.
@@ -70,7 +70,7 @@ pub enum Record {
     Resolve(ResolveChange),
     /// Owners of chunks are forgotten.
     Purge(PurgeChange),
-    /// The catalogue told of this time: its later changes are above it.
+    /// The catalogue returned this time: its later changes are above it.
     CatalogueCeiling(Time),
     /// A life of a router begins, with this number, which counts from 1.
     Life(u64),
@@ -78,10 +78,10 @@ pub enum Record {
     Block(u64),
 }
 
-/// What one write statement does, lent: so that a document is written where it stands.
+/// What one write statement does, lent: so that a document is written where it is.
 #[derive(Clone, Copy)]
 pub enum WordsRef<'a> {
-    /// Puts a document in.
+    /// Inserts a document.
     Insert(&'a Document),
     /// Changes the first document that meets the filter; with `upsert`, puts one in where none does.
     Update {

@@ -1,6 +1,6 @@
-//! Writing what is kept of sessions as bytes.
+//! Writing what is stored of sessions as bytes.
 //!
-//! What is put stands behind the bytes that were there. After an `Err` a part may stand there too.
+//! What is written comes after the bytes that were there. After an `Err` a part may be there too.
 
 ghost use Rattle.std.specs.Prelude.{◌≡◌, ◌<◌, ◌^◌, ◌++◌, length, map, take, FitsSigned, OnOk};
 ghost use Rattle.std.specs.List.{AllByRecursion, flat_map};
@@ -14,7 +14,7 @@ use crate::writer::{put_reply, put_session, put_u32, put_u64};
 use bson_values::Memory;
 use statement_views::{SessionRecord, StatementRecord};
 
-/// Puts a statement that was done.
+/// Writes a statement that was done.
 pub(crate) fn put_statement_record(kept: &StatementRecord, out: &mut Vec<u8>) -> Result<(), Memory>
     requires { IsWritableStatement (statement_record_view kept.now) }
     ensures ok { OnOk result (out.new.items ≡ out.old.items ++ spelled_statement (statement_record_view kept.now)) }
@@ -26,7 +26,7 @@ pub(crate) fn put_statement_record(kept: &StatementRecord, out: &mut Vec<u8>) ->
     put_reply(&kept.reply, out)
 }
 
-/// Puts these statements, one behind another.
+/// Writes these statements, one after another.
 fn put_each_statement(records: &[StatementRecord], out: &mut Vec<u8>) -> Result<(), Memory>
     requires { AllByRecursion IsWritableStatement (map statement_record_view records.now) }
     ensures ok { OnOk result (out.new.items ≡ out.old.items ++ flat_map spelled_statement (map statement_record_view records.now)) }
@@ -39,7 +39,7 @@ fn put_each_statement(records: &[StatementRecord], out: &mut Vec<u8>) -> Result<
     Ok(())
 }
 
-/// Puts the statements of a session: how many, and each.
+/// Writes the statements of a session: how many, and each.
 fn put_statements(records: &[StatementRecord], out: &mut Vec<u8>) -> Result<(), Memory>
     requires count { length records.now < 2 ^ 32 }
     requires writable { AllByRecursion IsWritableStatement (map statement_record_view records.now) }
@@ -51,7 +51,7 @@ fn put_statements(records: &[StatementRecord], out: &mut Vec<u8>) -> Result<(), 
     put_each_statement(records, out)
 }
 
-/// Puts the number of a session's transaction; below zero that of the number and 2^64.
+/// Writes the number of a session's transaction; below zero that of the number and 2^64.
 fn put_transaction(kept: &SessionRecord, out: &mut Vec<u8>) -> Result<(), Memory>
     ensures ok { OnOk result (out.new.items ≡ out.old.items ++ spelled_transaction kept.now.txn) }
     ensures fits { FitsSigned w64 kept.now.txn }
@@ -60,7 +60,7 @@ fn put_transaction(kept: &SessionRecord, out: &mut Vec<u8>) -> Result<(), Memory
     put_u64(kept.txn.cast_unsigned(), out)
 }
 
-/// Puts what is kept of a session.
+/// Writes what is kept of a session.
 pub(crate) fn put_session_record(kept: &SessionRecord, out: &mut Vec<u8>) -> Result<(), Memory>
     requires { IsWritableSession (session_record_view kept.now) }
     ensures ok { OnOk result (out.new.items ≡ out.old.items ++ spelled_session_record (session_record_view kept.now)) }
@@ -72,7 +72,7 @@ pub(crate) fn put_session_record(kept: &SessionRecord, out: &mut Vec<u8>) -> Res
     put_statements(&kept.statements, out)
 }
 
-/// Puts these sessions, one behind another.
+/// Writes these sessions, one after another.
 fn put_each_session(records: &[SessionRecord], out: &mut Vec<u8>) -> Result<(), Memory>
     requires { AllByRecursion IsWritableSession (map session_record_view records.now) }
     ensures ok { OnOk result (out.new.items ≡ out.old.items ++ flat_map spelled_session_record (map session_record_view records.now)) }
@@ -85,7 +85,7 @@ fn put_each_session(records: &[SessionRecord], out: &mut Vec<u8>) -> Result<(), 
     Ok(())
 }
 
-/// Puts sessions: how many, and each.
+/// Writes sessions: how many, and each.
 pub(crate) fn put_sessions(records: &[SessionRecord], out: &mut Vec<u8>) -> Result<(), Memory>
     requires count { length records.now < 2 ^ 32 }
     requires writable { AllByRecursion IsWritableSession (map session_record_view records.now) }

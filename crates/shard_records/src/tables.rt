@@ -1,6 +1,6 @@
 //! Writing a table as bytes.
 //!
-//! What is put stands behind the bytes that were there. After an `Err` a part may stand there too.
+//! What is written comes after the bytes that were there. After an `Err` a part may be there too.
 
 ghost use Rattle.std.specs.Prelude.{◌≡◌, ◌<◌, ◌^◌, ◌++◌, length, map, take, OnErr, OnOk};
 ghost use Rattle.std.specs.List.{AllByRecursion, flat_map};
@@ -15,10 +15,10 @@ use bson_values::Memory;
 use chunk_table::{Chunk, Owned, Table, Version};
 use value_compare::Bound;
 
-/// Puts the one spelling, in the newest format, of the record of a table behind the bytes.
+/// Writes the one encoding, in the newest format, of the record of a table after the bytes.
 ///
 /// # Errors
-/// `Memory` for want of memory, and then the bytes are as they were.
+/// `Memory` if memory runs out, and then the bytes are as they were.
 pub fn write_table(table: &Table, out: &mut Vec<u8>) -> Result<(), Memory>
     ensures ok { OnOk result (out.new.items ≡ out.old.items ++ spelled 1 (table_record table.now)) }
     ensures sound { OnOk result (IsSound (table_record table.now)) }
@@ -29,7 +29,7 @@ pub fn write_table(table: &Table, out: &mut Vec<u8>) -> Result<(), Memory>
     cut_after_err(done, len, out)
 }
 
-/// Puts where a range begins or ends.
+/// Writes where a range begins or ends.
 pub(crate) fn put_bound(bound: &Bound, out: &mut Vec<u8>) -> Result<(), Memory>
     requires { IsWritableBound (bound_of bound.now) }
     ensures ok { OnOk result (out.new.items ≡ out.old.items ++ spelled_bound (bound_of bound.now)) }
@@ -46,7 +46,7 @@ pub(crate) fn put_bound(bound: &Bound, out: &mut Vec<u8>) -> Result<(), Memory>
     }
 }
 
-/// Puts a version.
+/// Writes a version.
 pub(crate) fn put_version(version: &Version, out: &mut Vec<u8>) -> Result<(), Memory>
     ensures ok { OnOk result (out.new.items ≡ out.old.items ++ spelled_version (version_view version.now)) }
     ensures sound { OnOk result (IsSoundVersion (version_view version.now)) }
@@ -57,7 +57,7 @@ pub(crate) fn put_version(version: &Version, out: &mut Vec<u8>) -> Result<(), Me
     put_u64(version.minor, out)
 }
 
-/// Puts one owner of a chunk.
+/// Writes one owner of a chunk.
 fn put_owned(owned: &Owned, out: &mut Vec<u8>) -> Result<(), Memory>
     ensures ok { OnOk result (out.new.items ≡ out.old.items ++ spelled_owned (owned_view owned.now)) }
     ensures sound { OnOk result (IsSoundOwned (owned_view owned.now)) }
@@ -67,7 +67,7 @@ fn put_owned(owned: &Owned, out: &mut Vec<u8>) -> Result<(), Memory>
     put_u32(owned.shard.0, out)
 }
 
-/// Puts these owners of a chunk, one behind another.
+/// Writes these owners of a chunk, one after another.
 fn put_each_owned(owners: &[Owned], out: &mut Vec<u8>) -> Result<(), Memory>
     ensures ok { OnOk result (out.new.items ≡ out.old.items ++ flat_map spelled_owned (map owned_view owners.now)) }
     ensures sound { OnOk result (AllByRecursion IsSoundOwned (map owned_view owners.now)) }
@@ -79,7 +79,7 @@ fn put_each_owned(owners: &[Owned], out: &mut Vec<u8>) -> Result<(), Memory>
     Ok(())
 }
 
-/// Puts the owners of a chunk: how many, and each.
+/// Writes the owners of a chunk: how many, and each.
 fn put_owners(owners: &[Owned], out: &mut Vec<u8>) -> Result<(), Memory>
     requires { length owners.now < 2 ^ 32 }
     ensures ok { OnOk result (out.new.items ≡ out.old.items ++ spelled_list spelled_owned (map owned_view owners.now)) }
@@ -90,7 +90,7 @@ fn put_owners(owners: &[Owned], out: &mut Vec<u8>) -> Result<(), Memory>
     put_each_owned(owners, out)
 }
 
-/// Puts a chunk.
+/// Writes a chunk.
 fn put_chunk(chunk: &Chunk, out: &mut Vec<u8>) -> Result<(), Memory>
     requires { IsWritableChunk (chunk_view chunk.now) }
     ensures ok { OnOk result (out.new.items ≡ out.old.items ++ spelled_chunk (chunk_view chunk.now)) }
@@ -103,7 +103,7 @@ fn put_chunk(chunk: &Chunk, out: &mut Vec<u8>) -> Result<(), Memory>
     put_owners(chunk.history.as_slice(), out)
 }
 
-/// Puts these chunks, one behind another.
+/// Writes these chunks, one after another.
 fn put_each_chunk(chunks: &[Chunk], out: &mut Vec<u8>) -> Result<(), Memory>
     requires { AllByRecursion IsWritableChunk (map chunk_view chunks.now) }
     ensures ok { OnOk result (out.new.items ≡ out.old.items ++ flat_map spelled_chunk (map chunk_view chunks.now)) }
@@ -116,7 +116,7 @@ fn put_each_chunk(chunks: &[Chunk], out: &mut Vec<u8>) -> Result<(), Memory>
     Ok(())
 }
 
-/// Puts the chunks of a table: how many, and each.
+/// Writes the chunks of a table: how many, and each.
 fn put_chunks(chunks: &[Chunk], out: &mut Vec<u8>) -> Result<(), Memory>
     requires count { length chunks.now < 2 ^ 32 }
     requires writable { AllByRecursion IsWritableChunk (map chunk_view chunks.now) }
@@ -128,7 +128,7 @@ fn put_chunks(chunks: &[Chunk], out: &mut Vec<u8>) -> Result<(), Memory>
     put_each_chunk(chunks, out)
 }
 
-/// Puts the fields of a table.
+/// Writes the fields of a table.
 pub(crate) fn put_table(table: &Table, out: &mut Vec<u8>) -> Result<(), Memory>
     ensures ok { OnOk result (out.new.items ≡ out.old.items ++ spelled_table table.now) }
     ensures sound { OnOk result (IsSoundTable table.now) }
@@ -141,7 +141,7 @@ pub(crate) fn put_table(table: &Table, out: &mut Vec<u8>) -> Result<(), Memory>
     put_chunks(table.chunks(), out)
 }
 
-/// Puts the record of a table.
+/// Writes the record of a table.
 fn put_table_record(table: &Table, out: &mut Vec<u8>) -> Result<(), Memory>
     ensures ok { OnOk result (out.new.items ≡ out.old.items ++ spelled 1 (table_record table.now)) }
     ensures sound { OnOk result (IsSound (table_record table.now)) }

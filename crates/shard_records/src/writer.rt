@@ -1,6 +1,6 @@
 //! Writing a record as bytes.
 //!
-//! What is put stands behind the bytes that were there. After an `Err` a part may stand there too.
+//! What is written comes after the bytes that were there. After an `Err` a part may be there too.
 
 ghost use Rattle.std.specs.Prelude.{◌≡◌, ◌<◌, ◌^◌, ◌++◌, ◌∷◌, [], length, take, FitsSigned, OnErr, OnOk};
 ghost use Rattle.std.specs.Int.{cast_unsigned, w64};
@@ -28,11 +28,11 @@ use value_compare::{Key, Reply};
 /// The format that records are written in.
 pub(crate) const NEWEST_FORMAT: u8 = 0x01;
 
-/// Puts the record's one spelling in the newest format behind the bytes. Each document in the record has at most 100
+/// Writes the record's one encoding in the newest format after the bytes. Each document in the record has at most 100
 /// levels and 300,000,000 bytes.
 ///
 /// # Errors
-/// `Memory` for want of memory, and then the bytes are as they were.
+/// `Memory` if memory runs out, and then the bytes are as they were.
 pub fn write_record(kept: &Record, out: &mut Vec<u8>) -> Result<(), Memory>
     requires { IsWritableRecord (record_view kept.now) }
     ensures ok { OnOk result (out.new.items ≡ out.old.items ++ spelled 1 (record_view kept.now)) }
@@ -45,11 +45,11 @@ pub fn write_record(kept: &Record, out: &mut Vec<u8>) -> Result<(), Memory>
     cut_after_err(done, len, out)
 }
 
-/// Puts the one spelling, in the newest format, of the record of an entry of these parts behind the bytes, and copies no document.
+/// Writes the one encoding, in the newest format, of the record of an entry of these parts after the bytes, and copies no document.
 /// Each document in it has at most 100 levels and 300,000,000 bytes, that of a key with it.
 ///
 /// # Errors
-/// `Memory` for want of memory, and then the bytes are as they were.
+/// `Memory` if memory runs out, and then the bytes are as they were.
 pub fn write_entry(
     time: Time,
     namespace: &Namespace,
@@ -85,7 +85,7 @@ pub(crate) fn cut_after_err(
     done
 }
 
-/// Puts the bytes.
+/// Writes the bytes.
 pub(crate) fn put(bytes: &[u8], out: &mut Vec<u8>) -> Result<(), Memory>
     ensures ok { OnOk result (out.new.items ≡ out.old.items ++ bytes.now) }
     ensures kept { take (length out.old.items) out.new.items ≡ out.old.items }
@@ -94,7 +94,7 @@ pub(crate) fn put(bytes: &[u8], out: &mut Vec<u8>) -> Result<(), Memory>
     Ok(())
 }
 
-/// Puts the number's four bytes, the lowest first.
+/// Writes the number's four bytes, the lowest first.
 pub(crate) fn put_u32(n: u32, out: &mut Vec<u8>) -> Result<(), Memory>
     ensures ok { OnOk result (out.new.items ≡ out.old.items ++ four n) }
     ensures kept { take (length out.old.items) out.new.items ≡ out.old.items }
@@ -104,7 +104,7 @@ pub(crate) fn put_u32(n: u32, out: &mut Vec<u8>) -> Result<(), Memory>
     put(&bytes, out)
 }
 
-/// Puts the number's eight bytes, the lowest first.
+/// Writes the number's eight bytes, the lowest first.
 pub(crate) fn put_u64(n: u64, out: &mut Vec<u8>) -> Result<(), Memory>
     ensures ok { OnOk result (out.new.items ≡ out.old.items ++ eight n) }
     ensures kept { take (length out.old.items) out.new.items ≡ out.old.items }
@@ -114,7 +114,7 @@ pub(crate) fn put_u64(n: u64, out: &mut Vec<u8>) -> Result<(), Memory>
     put(&bytes, out)
 }
 
-/// Puts a namespace: the number of its bytes, and its bytes.
+/// Writes a namespace: the number of its bytes, and its bytes.
 pub(crate) fn put_namespace(namespace: &Namespace, out: &mut Vec<u8>) -> Result<(), Memory>
     ensures ok { OnOk result (out.new.items ≡ out.old.items ++ spelled_string namespace.now) }
     ensures kept { take (length out.old.items) out.new.items ≡ out.old.items }
@@ -125,7 +125,7 @@ pub(crate) fn put_namespace(namespace: &Namespace, out: &mut Vec<u8>) -> Result<
     put(text.as_bytes(), out)
 }
 
-/// Puts a document.
+/// Writes a document.
 pub(crate) fn put_document(document: &Document, out: &mut Vec<u8>) -> Result<(), Memory>
     requires { FitsRecord document.now }
     ensures ok { OnOk result (out.new.items ≡ out.old.items ++ written document.now) }
@@ -135,7 +135,7 @@ pub(crate) fn put_document(document: &Document, out: &mut Vec<u8>) -> Result<(),
     write(document, out)
 }
 
-/// Puts the key that an upsert gave, if there is one.
+/// Writes the key that an upsert gave, if there is one.
 fn put_key(key: &Option<Key>, out: &mut Vec<u8>) -> Result<(), Memory>
     requires { IsWritableKey key.now }
     ensures ok { OnOk result (out.new.items ≡ out.old.items ++ spelled_key key.now) }
@@ -151,7 +151,7 @@ fn put_key(key: &Option<Key>, out: &mut Vec<u8>) -> Result<(), Memory>
     }
 }
 
-/// Puts a key as the document that has it alone.
+/// Writes a key as the document that has it alone.
 pub(crate) fn put_some_key(key: &Key, out: &mut Vec<u8>) -> Result<(), Memory>
     requires { IsWritable (key_document key.now) }
     ensures ok { OnOk result (out.new.items ≡ out.old.items ++ written (key_document key.now)) }
@@ -164,7 +164,7 @@ pub(crate) fn put_some_key(key: &Key, out: &mut Vec<u8>) -> Result<(), Memory>
     write(&document, out)
 }
 
-/// Puts whose statement it is.
+/// Writes whose statement it is.
 pub(crate) fn put_session(session: &Session, out: &mut Vec<u8>) -> Result<(), Memory>
     ensures ok { OnOk result (out.new.items ≡ out.old.items ++ spelled_session (session_view session.now)) }
     ensures sound { OnOk result (IsSoundSession (session_view session.now)) }
@@ -188,7 +188,7 @@ pub(crate) fn put_session(session: &Session, out: &mut Vec<u8>) -> Result<(), Me
     }
 }
 
-/// Puts the number of a statement's write command in its session; below zero that of the number and 2^64.
+/// Writes the number of a statement's write command in its session; below zero that of the number and 2^64.
 fn put_txn(statement: &Stmt, out: &mut Vec<u8>) -> Result<(), Memory>
     ensures ok { OnOk result (out.new.items ≡ out.old.items ++ eight (cast_unsigned w64 statement.now.txn)) }
     ensures fits { FitsSigned w64 statement.now.txn }
@@ -197,7 +197,7 @@ fn put_txn(statement: &Stmt, out: &mut Vec<u8>) -> Result<(), Memory>
     put_u64(statement.txn.cast_unsigned(), out)
 }
 
-/// Puts the number of a statement.
+/// Writes the number of a statement.
 fn put_statement(statement: &Stmt, out: &mut Vec<u8>) -> Result<(), Memory>
     ensures ok { OnOk result (out.new.items ≡ out.old.items ++ spelled_number (number_view statement.now)) }
     ensures sound { OnOk result (IsSoundNumber (number_view statement.now)) }
@@ -208,7 +208,7 @@ fn put_statement(statement: &Stmt, out: &mut Vec<u8>) -> Result<(), Memory>
     put_u32(statement.index, out)
 }
 
-/// Puts what a statement does.
+/// Writes what a statement does.
 fn put_operation(words: &WordsRef<'_>, out: &mut Vec<u8>) -> Result<(), Memory>
     requires { IsWritableOperation (operation_lent words.now) }
     ensures ok { OnOk result (out.new.items ≡ out.old.items ++ spelled_operation (operation_lent words.now)) }
@@ -237,7 +237,7 @@ fn put_operation(words: &WordsRef<'_>, out: &mut Vec<u8>) -> Result<(), Memory>
     }
 }
 
-/// Puts what a statement is told.
+/// Writes the reply to a statement.
 pub(crate) fn put_reply(reply: &Reply, out: &mut Vec<u8>) -> Result<(), Memory>
     requires { IsWritableKey (outcome_view reply.now).upserted }
     ensures ok { OnOk result (out.new.items ≡ out.old.items ++ spelled_outcome (outcome_view reply.now)) }
@@ -250,7 +250,7 @@ pub(crate) fn put_reply(reply: &Reply, out: &mut Vec<u8>) -> Result<(), Memory>
     put_u32(reply.code.cast_unsigned(), out)
 }
 
-/// Puts the fields of an entry of these parts.
+/// Writes the fields of an entry of these parts.
 fn put_entry(
     time: Time,
     namespace: &Namespace,
@@ -272,7 +272,7 @@ fn put_entry(
     put_reply(reply, out)
 }
 
-/// Puts the record of an entry of these parts.
+/// Writes the record of an entry of these parts.
 fn put_entry_record(
     time: Time,
     namespace: &Namespace,
@@ -291,7 +291,7 @@ fn put_entry_record(
     put_entry(time, namespace, statement, words, reply, out)
 }
 
-/// Puts the format and the kind of a record.
+/// Writes the format and the kind of a record.
 pub(crate) fn put_head(kind: u8, out: &mut Vec<u8>) -> Result<(), Memory>
     ensures ok { OnOk result (out.new.items ≡ out.old.items ++ 1 ∷ kind ∷ []) }
     ensures kept { take (length out.old.items) out.new.items ≡ out.old.items }
@@ -299,7 +299,7 @@ pub(crate) fn put_head(kind: u8, out: &mut Vec<u8>) -> Result<(), Memory>
     put(&[NEWEST_FORMAT, kind], out)
 }
 
-/// Puts the fields of a collection that begins.
+/// Writes the fields of a collection that begins.
 fn put_creation(
     namespace: &Namespace,
     epoch: u64,
@@ -315,7 +315,7 @@ fn put_creation(
     put_u64(at.0, out)
 }
 
-/// The byte that tells what a record is.
+/// Returns the byte of the kind of a record.
 fn kind_of(kept: &Record) -> u8
     ensures { result ≡ kind_byte (record_view kept.now) }
 {
@@ -344,7 +344,7 @@ fn kind_of(kept: &Record) -> u8
     }
 }
 
-/// Puts the fields of a record.
+/// Writes the fields of a record.
 fn put_fields(kept: &Record, out: &mut Vec<u8>) -> Result<(), Memory>
     requires { IsWritableRecord (record_view kept.now) }
     ensures ok { OnOk result (out.new.items ≡ out.old.items ++ spelled_fields (record_view kept.now)) }
@@ -384,7 +384,7 @@ fn put_fields(kept: &Record, out: &mut Vec<u8>) -> Result<(), Memory>
     }
 }
 
-/// Puts a record.
+/// Writes a record.
 fn put_record(kept: &Record, out: &mut Vec<u8>) -> Result<(), Memory>
     requires { IsWritableRecord (record_view kept.now) }
     ensures ok { OnOk result (out.new.items ≡ out.old.items ++ spelled 1 (record_view kept.now)) }

@@ -29,7 +29,7 @@ events_more at link replied [] q = refl
 events_more at link replied (p ∷ requests) q =
     ap (λ (l : List Event). client_event at link (number_behind replied) p ∷ l) (events_more at link (replies_after p.more replied) requests q)
 
--- so far
+-- after some of the requests
 pub record AreAsking {S : Type 0} (view : S → SeatView) (seats : List S) (network : NetworkView) (handed : List ToLink) (before : World)
     (at link replied_before : ℕ) (bytes left : List ℕ) (replied : ℕ) : Type 0 where
   pub consumed : List ℕ
@@ -95,7 +95,7 @@ module _ {S : Type 0} (view : S → SeatView) (handed : List ToLink) (w : World)
         whole : bytes ≡ bytes_of a.requests ++ rest
         whole = a.all ∙ (ap (λ (b : List ℕ). b ++ left) a.asked.all ∙ ap (λ (b : List ℕ). bytes_of a.requests ++ b) (sym same))
 
-    -- there was no memory for the next one
+    -- memory ran out for the next one
     pub asking_cut : (status : Status) → IsCut view seats w (IsFirstAsked at link replied_before bytes) status
     asking_cut status =
         cut_here view seats w (client_events at link replied_before a.requests) a.end (IsFirstAsked at link replied_before bytes) status a.run

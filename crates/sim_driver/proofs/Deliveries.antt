@@ -26,7 +26,7 @@ module _ (except : Option (List ℕ)) where
       goes u v w (deliver_event m.receiver next) events h (but_run v (marked next ds) (next + 1) events w es later more)
   but_run _ _ _ _ _ _ _ (but_lost u w ds es next later m events got new none more) = but_run u (marked next ds) (next + 1) events w es later more
 
-  -- one run of deliveries behind another
+  -- one run of deliveries after another
   pub but_then : (u : World) (ds : List Bool) (next : ℕ) (events : List Event) (v : World) (es : List Bool) (later : ℕ) (more : List Event) (w : World)
       (fs : List Bool) (last : ℕ) → SettlesBut except u ds next events v es later → SettlesBut except v es later more w fs last
       → SettlesBut except u ds next (events ++ more) w fs last
@@ -40,7 +40,7 @@ module _ (except : Option (List ℕ)) where
       but_lost u x ds fs next last m (events ++ others) got new none
       (but_then u (marked next ds) (next + 1) events w es later others x fs last more then)
 
--- a message stands at each place
+-- there is a message at each place
 pub message_at : (letters : List Letter) (at : ℕ) → at < length letters → (m : Letter) × (slice_get letters at ≡ Some m)
 message_at [] at within = absurd (omega (arith, within))
 message_at (m ∷ letters) zero within = (m, refl)
@@ -72,7 +72,7 @@ passes_by sent at m n except ds first second is =
     let same : m ≡ n = cc both in
     subst (λ (l : Letter). is_passed except ds at l ≡ false) same is
 
--- SO FAR
+-- AFTER SOME OF THEM
 
 -- all that waits was ever sent
 pub all_sent : {S : Type 0} (view : S → SeatView) (seats : List S) (network : NetworkView) (handed : List ToLink) (u : World)
@@ -161,7 +161,7 @@ settling_cut view seats seats_after network handed u except ds es later status s
       all = refl;
     }) c
 
--- a message was delivered, and there was no memory to note it
+-- a message was delivered, and memory ran out when it was noted
 pub delivered_cut : {S : Type 0} (view : S → SeatView) (seats : List S) (network : NetworkView) (handed : List ToLink) (w : World) (which : ℕ) (status : Status)
     → HasDeliveredOne view seats network handed w which → IsCut view seats w (IsPartOfDelivery w which) status
 delivered_cut view seats network handed w which status d = by_kind d.delivers

@@ -15,7 +15,7 @@ use Rattle.pipe_driver.specs.declared.status.Status.TheVariants as statuses
 use Rattle.pipe_driver.proofs.Serving.{kept_at}
 use Rattle.sim_driver.specs.Moves.{AreStill, IsCut, IsLastOf}
 
--- nothing happened where all stands for the world
+-- nothing happened where the world models all
 pub still : {S : Type 0} (view : S → SeatView) (seats : List S) (network : NetworkView) (handed : List ToLink) (w : World)
     → StandsFor view seats network handed w 0 → AreStill view seats w
 still view seats network handed w s = record { nodes = s.nodes; crashes = s.crashes }
@@ -38,7 +38,7 @@ pub last_as : (status : Status) (end last : World) (events events' : List Event)
 last_as status end last events events' P Q says (inl same) = inl same
 last_as status end last events events' P Q says (inr (is, e, has, h)) = inr (is, e, says e has, h)
 
--- what holds of events behind others
+-- what holds of events after others
 behind : (es more : List Event) (e : Event) (Q : List Event → Type 0) → Q (es ++ (more ++ e ∷ [])) → Q ((es ++ more) ++ e ∷ [])
 behind es more e Q has = subst (λ (l : List Event). Q l) (sym (append_assoc es more (e ∷ []))) has
 

@@ -58,7 +58,7 @@ drop_past (x ∷ xs) (suc at) past = drop_past xs at (omega (arith, past))
 pub place_none : (xs : List Letter) (at node left : ℕ) → length xs ≤ at → place_from at node left (drop at xs) ≡ None
 place_none xs at node left past = ap (λ l. place_from at node left l) (drop_past xs at past)
 
--- what stands at that place goes to the node
+-- the message at that place goes to the node
 abbrev pub IsFoundAt : (n node : ℕ) → List Letter → (which : ℕ) → Type 0
 IsFoundAt n node xs which = (i : ℕ) × (which ≡ n + i) × (m : Letter) × (slice_get xs i ≡ Some m) × (m.receiver ≡ node)
 

@@ -223,7 +223,7 @@ pub stops_as : {S : Type 0} (view : S → SeatView) (seats : List S) (w : World)
     → StopsLine view seats w known old status → StopsLine view seats w line old status
 stops_as view seats w known line old status same stops = subst (λ (l : Line). StopsLine view seats w l old status) same stops
 
--- a line that was played, with one note more of all disks behind it
+-- a line that was played, with one note more of all disks after it
 abbrev pub note_played : {N L : Type 0} (facts : LogFacts L) (seats : List (Seat N L)) (count : ℕ) (state : N → NodeState) (since : Since L)
     (network : NetworkView) (handed : List ToLink) (before : World) (bytes : List ℕ) (old new : ScriptView) (closed : Option ℕ) → AreDurable facts seats
     → (h : HasPlayedBytes (seat_since state facts since) seats network handed before bytes old new closed)

@@ -182,7 +182,7 @@ module _ {S : Type 0} (view : S → SeatView) (seats seats_after : List S) (befo
     puts_are : puts_given h.played.end.answered ≡ puts_given p.world.answered ++ old.replies.items
     puts_are = h.played.stands.given
 
-    -- there was no memory for what it prints
+    -- memory ran out for what it prints
     pub line_unprinted : (others : List ℕ) → Stopped view seats_after routers tells noted held_before held consumed (bytes ++ newline ∷ others) statuses.OutOfMemory
     line_unprinted others =
         stops_here others statuses.OutOfMemory h.played.end
@@ -283,7 +283,7 @@ module _ {S : Type 0} (view : S → SeatView) (seats seats_after : List S) (befo
 
 -- BETWEEN LINES
 
--- there was no memory for the next line
+-- memory ran out for the next line
 pub playing_full : {S : Type 0} (view : S → SeatView) (seats : List S) (network : NetworkView) (routers : ℕ) (tells : Bool) (noted : List Noted)
     (held_before held consumed left : List ℕ)
     (s : ScriptView) → Playing view seats network routers tells noted held_before held s consumed

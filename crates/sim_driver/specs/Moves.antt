@@ -1,4 +1,4 @@
--- What calls of a script do to the world that stands for nodes and messages (own).
+-- What calls of a script do to the world that models nodes and messages (own).
 use Rattle.std.specs.Prelude.{◌≡◌, ◌⊎◌, ℕ, ◌+◌, ◌<◌, List, [], ◌∷◌, ◌++◌, length, Some, None, Option, Bool, true, false, not, ◌&&◌}
 use Rattle.std.specs.List.{slice_get}
 use Rattle.opmsg_frames.specs.Outline.{FrameFault}

@@ -15,7 +15,7 @@ use Rattle.sim_driver.specs.Scripts.{ScriptView}
 use Rattle.sim_driver.specs.LineOutcomes.{IsRefused}
 use Rattle.sim_driver.specs.Simulations.{newline, bytes_of_lines, Plays, AllPlayed, CameTo, LastPutShort, all_printed}
 
--- These bytes were played, in whole lines: nodes, logs and messages are those of the world behind them, and what they print was put.
+-- These bytes were played, in whole lines: nodes, logs and messages are those of the world after them, and what they print was put.
 pub record Playing {S : Type 0} (view : S → SeatView) (seats : List S) (network : NetworkView) (routers : ℕ) (tells : Bool) (noted : List Noted) (held_before held : List ℕ)
     (script : ScriptView) (consumed : List ℕ) : Type 0 where
   pub lines : List (List ℕ)
@@ -55,7 +55,7 @@ pub record Stopped {S : Type 0} (view : S → SeatView) (seats : List S) (router
   pub crashes : LeaveKept view seats last
   pub covered : IsTrue tells → AreCovered (all_printed routers) (start routers) noted held_before out last
 
--- The lines that end in these bytes were played; behind them stands the beginning of one.
+-- The lines that end in these bytes were played; after them comes the beginning of one.
 pub record HasPlayedLines {S : Type 0} (view : S → SeatView) (seats : List S) (network : NetworkView) (routers : ℕ) (tells : Bool) (noted : List Noted) (held_before held : List ℕ)
     (script : ScriptView) (bytes begun : List ℕ) : Type 0 where
   pub consumed : List ℕ

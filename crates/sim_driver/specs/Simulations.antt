@@ -92,7 +92,7 @@ pub data Cause (routers limit : ℕ) (at_end : Type 0) (taken : List ℕ) (lines
   write_failed : LastPutShort routers lines left put end → Cause routers limit at_end taken lines left put end statuses.WriteFailed
   -- a disk failed
   disk_failed : CameTo routers lines left put end → Cause routers limit at_end taken lines left put end statuses.DiskFailed
-  -- there was no memory
+  -- memory ran out
   no_memory : CameTo routers lines left put end → Cause routers limit at_end taken lines left put end statuses.OutOfMemory
   -- the next line is refused
   line_refused : (bytes others : List ℕ) → IsCutAt newline left bytes others → (played : AllPlayed routers lines put end) → IsRefused end played.script bytes

@@ -177,7 +177,7 @@ pub fn find_next<M: Mail>(
 /// Delivers the message at a place among all that were sent, and notes that.
 ///
 /// # Errors
-/// As `deliver_at` has them; `Status::OutOfMemory` also where the note finds no room.
+/// As `deliver_at` has them; `Status::OutOfMemory` also if memory runs out for the note.
 pub fn deliver_and_mark<R: Threads + Sync, N: Node, L: Log>(
     rt: &R,
     alloc: Global,

@@ -96,7 +96,7 @@ pub fn answer_line<R: Threads + Sync, N: Node<Request = Request>, L: Log, K: Wit
 /// The lines that end in a piece are played, of which the first was begun before; the beginning of one more may come after them.
 ///
 /// # Errors
-/// As `answer_line` has them; `Status::OutOfMemory` also where a line finds no room.
+/// As `answer_line` has them; `Status::OutOfMemory` also if memory runs out for a line.
 pub fn play_piece<R: Threads + Sync, N: Node<Request = Request>, L: Log, K: Witness<L::Of>>(
     rt: &R,
     alloc: Global,

@@ -1,4 +1,4 @@
--- How a value is told from others: as the document that holds it alone. And so bounds, ranges and spans.
+-- How a value is compared with others: as the document that holds it alone. And so bounds, ranges and spans.
 use Rattle.std.specs.Prelude.{◌≡◌, ◌⊎◌, ℕ, List, [], refl, ◌==◌, if◌then◌else◌}
 use Rattle.std.proofs.Common.{inl, inr}
 use Rattle.std.specs.Coded.{Coded, code_by, coded×, coded⊎, coded_list, coded_ℕ}

@@ -110,7 +110,7 @@ impl Key {
         &self.value
     }
 
-    /// The same key once more. Returns `Memory` if memory runs out.
+    /// Returns a copy of the key, or `Memory` if memory runs out.
     pub fn copy(&self) -> Result<Key, Memory>
         ensures { IfOk result (λ k. k ≡ self.now) }
     {
@@ -126,7 +126,7 @@ pub enum KeyFault {
     Absent,
     /// Its first `_id` is of a kind that no key is.
     Kind,
-    /// Want of memory.
+    /// Out of memory.
     Memory,
 }
 
@@ -138,8 +138,8 @@ impl From<Memory> for KeyFault {
     }
 }
 
-/// The key of a document, which is its first `_id`. Fails with `Absent` where there is none, with `Kind` where it is of a kind
-/// that no key is, and for want of memory.
+/// Returns the key of a document, which is its first `_id`. Returns `Absent` where there is none, `Kind` where it is of a kind
+/// that no key is, and `Memory` if memory runs out.
 pub fn key_of(_alloc: Global, document: &Document) -> Result<Key, KeyFault>
     ensures key { IfOk result (λ k. valid_key document.now ≡ Ok k) }
     ensures absent { (result ≡ Err Absent) ↔ (valid_key document.now ≡ Err absent_key) }

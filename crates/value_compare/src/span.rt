@@ -68,7 +68,7 @@ impl Bound {
         }
     }
 
-    /// The same bound once more. Returns `Memory` if memory runs out.
+    /// Returns a copy of the bound, or `Memory` if memory runs out.
     pub fn copy(&self) -> Result<Bound, Memory>
         ensures { IfOk result (λ b. bound_of b ≡ bound_of self.now) }
     {
@@ -131,14 +131,14 @@ impl KeyRange {
         &self.max
     }
 
-    /// Whether a key stands in the range, which holds its least bound and not its greatest. Takes no memory.
+    /// Returns whether a key is in the range, which holds its least bound and not its greatest. Takes no memory.
     pub fn contains(&self, key: &Key) -> bool
         ensures { result ≡ inside (range_span self.now) key.now }
     {
         self.contains_value(key.value())
     }
 
-    /// Whether a value, which need be no key, stands between the bounds of the range, as a key would. Takes no memory.
+    /// Returns whether a value, which need be no key, is between the bounds of the range, as a key would be. Takes no memory.
     #[tactic(auto, using(crate::proofs::Turned::greater_is_less))]
     pub fn contains_value(&self, value: &Value) -> bool
         ensures { result ≡ inside (range_span self.now) (datum_of value.now) }
@@ -146,7 +146,7 @@ impl KeyRange {
         self.min.compare_to_value(value).is_le() && self.max.compare_to_value(value).is_gt()
     }
 
-    /// The same range once more. Returns `Memory` if memory runs out.
+    /// Returns a copy of the range, or `Memory` if memory runs out.
     pub fn copy(&self) -> Result<KeyRange, Memory>
         ensures { IfOk result (λ r. r ≡ self.now) }
     {
@@ -166,7 +166,7 @@ pub enum Span {
 }
 
 impl Span {
-    /// The same span once more. Returns `Memory` if memory runs out.
+    /// Returns a copy of the span, or `Memory` if memory runs out.
     pub fn copy(&self) -> Result<Span, Memory>
         ensures { IfOk result (λ s. span_of s ≡ span_of self.now) }
     {
@@ -177,7 +177,7 @@ impl Span {
     }
 }
 
-/// Whether a key stands in a span: a range holds its least bound and not its greatest. Takes no memory.
+/// Returns whether a key is in a span: a range holds its least bound and not its greatest. Takes no memory.
 pub fn inside(span: &Span, key: &Key) -> bool
     ensures { result ≡ inside (span_of span.now) key.now }
 {

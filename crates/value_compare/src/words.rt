@@ -1,4 +1,4 @@
-//! The words of a write: what it does, and what it is told (MongoDB manual, "insert", "update" and "delete").
+//! The operands of a write: what it does, and its outcome (MongoDB manual, "insert", "update" and "delete").
 
 use crate::key::Key;
 use bson_values::Document;
@@ -20,7 +20,7 @@ pub enum OpWords {
     },
 }
 
-/// What one write statement is told.
+/// The outcome of one write statement.
 #[derive(Drop)]
 pub struct Reply {
     /// How many documents it met or put in.

@@ -1,4 +1,4 @@
--- The notes of the sessions so far, and those of the sessions that are left, which come after them.
+-- The notes of the sessions that were visited, and those of the sessions that are left, which come after them.
 use Rattle.std.proofs.Common.{◌≡◌, ◌++◌}
 use Rattle.session_book.specs.Records.{session_notes}
 use Rattle.std.specs.Map.{keys_of}

@@ -1,4 +1,4 @@
--- The sessions so far were merged, and took room for each statement.
+-- The sessions that were visited were merged, and took room for each statement.
 use Rattle.std.proofs.Common.{◌≡◌, ◌≤◌, ◌+◌}
 use Rattle.cluster_base.specs.declared.identity.Session.{Session}
 use Rattle.history_model.specs.History.{StatementNumber}

@@ -1,4 +1,4 @@
--- The statements so far were merged, and took room each.
+-- The statements that were visited were merged, and took room each.
 use Rattle.std.proofs.Common.{◌≡◌, ◌≤◌, ◌+◌, if◌then◌else◌, length}
 use Rattle.cluster_base.specs.declared.identity.Session.{Session}
 use Rattle.history_model.specs.History.{StatementNumber}
