@@ -8,6 +8,6 @@ abbrev pub line_if : Option Status → Option (List ℕ)
 line_if None = None
 line_if (Some status) = line_of status
 
--- the line that tells of the status with this number
+-- the line of the status with this number
 abbrev pub line_at : ℕ → Option (List ℕ)
 line_at number = line_if (with_number number)

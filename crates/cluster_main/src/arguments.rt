@@ -16,7 +16,7 @@ use std::io;
 pub enum NoArguments {
     /// It can't be read, as where an argument is not UTF-8.
     Unreadable,
-    /// There was no memory for them.
+    /// Out of memory.
     Memory,
 }
 
@@ -31,7 +31,7 @@ fn texts_of(alloc: Global, args: Args) -> Result<Vec<Text>, Memory>
     Ok(words)
 }
 
-/// The program's arguments behind its own name, as strings, from what the system gives.
+/// Returns the program's arguments after its own name, as strings, from what the system gives.
 pub fn arguments_of(alloc: Global, given: io::Result<Args>) -> Result<Vec<Text>, NoArguments>
     ensures words { IfOk given (λ args. IfOk result (λ words. words.items ≡ map string_bytes (drop 1 (into_iter_items args)))) }
     ensures no_room { OnOk given (IfErr result (λ e. e ≡ none.Memory)) }

@@ -1,4 +1,4 @@
-//! What the program tells of its end.
+//! What the program prints at its end.
 
 ghost use Rattle.std.specs.Prelude.{◌≡◌};
 ghost use Rattle.std.specs.Option.{option_map};
@@ -9,7 +9,7 @@ use cluster_top::Status;
 use std::io::Eprint;
 use std::process::ExitCode;
 
-/// The line that tells of the status with this number.
+/// Returns the line of the status with this number.
 pub fn line_for(number: u8) -> Option<&'static str>
     ensures { option_map (λ line. line.now) result ≡ line_at number }
 {
@@ -19,7 +19,7 @@ pub fn line_for(number: u8) -> Option<&'static str>
     }
 }
 
-/// Writes the line that tells of the status with this number, where there is one, and gives the number to the process. A
+/// Writes the line of the status with this number, where there is one, and returns the number to the process. A
 /// line that can't be written is left out.
 pub fn told<R: Eprint>(rt: &R, number: u8) -> ExitCode
     ensures { exit_status result ≡ number }

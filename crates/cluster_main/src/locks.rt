@@ -16,7 +16,7 @@ use std::fs::{File, Files, OpenOptions};
 pub enum NoLocks {
     /// A file can't be opened, or its lock is held: by another start, or for another journal that is the same file.
     Refused,
-    /// There was no memory for its name.
+    /// Out of memory for its name.
     Memory,
 }
 
@@ -47,7 +47,7 @@ fn lock_file<R: Files<File = File>>(rt: &R, name: &str) -> Result<File, NoLocks>
 /// there are, and that each is locked is only tried, by bench/two_starts.py.
 ///
 /// # Errors
-/// `Refused` where a file can't be opened or its lock is held; `Memory` where there is no memory for a name.
+/// `Refused` where a file can't be opened or its lock is held; `Memory` if memory runs out for a name.
 pub fn lock_journals<R: Files<File = File>>(
     rt: &R,
     alloc: Global,

@@ -1,4 +1,4 @@
--- One version behind others, and the place up to which versions are no later than a time.
+-- One version after others, and the place up to which versions are no later than a time.
 use Rattle.std.proofs.Common.{◌≡◌, ◌+◌, ◌-◌, ◌<◌, ◌≤◌, ℕ, zero, suc, List, [], ◌∷◌, ◌++◌, length, map, refl, sym, ap, ◌∙◌, subst, arith}
 use Rattle.std.specs.Prelude.{Bool, true, false, Option, Some, None, IfSome, nat_le, if◌then◌else◌}
 use Rattle.std.specs.List.{slice_index_or}
@@ -44,7 +44,7 @@ module _ {X : Type 0} (seen : X → Dated) where
       ap (λ (b : Bool). left_after (if b then (seen x).1 else before) (map seen xs) time) (later 0 x (omega arith))
       ∙ later_leave before xs time (λ k d below. later (suc k) d (omega (arith, below)))
 
-  -- what the first of the versions leave: the last of them, or what stood there before where they are none
+  -- what the first of the versions result in: the last of them, or what was stored there before where they are none
   abbrev left_by_first : Option Fields → List X → ℕ → X → Option Fields
   left_by_first before xs zero d = before
   left_by_first before xs (suc i) d = (seen (slice_index_or xs i d)).1
@@ -100,7 +100,7 @@ older_leave last older time late =
     sym (left_push None (map dated older) (dated last) time
     ∙ ap (λ (b : Bool). if b then option_map arc_value last.document else left_after None (map dated older) time) (lt-leb last.time.0 time late))
 
--- the last version goes behind the older ones
+-- the last version goes after the older ones
 pub joined_rising : (last : Version) (older : List Version) → AreRising (Some last) older → AreRising None (older ++ last ∷ [])
 joined_rising last older rising = record {
   sorted = IsNonDecreasingBy-push (λ v. v.time.0) older last rising.sorted (λ d some. later_than dated older d last.time.0 rising.later some);

@@ -155,7 +155,7 @@ between_ordered : (p : Datum → Bool) (es between : Entries) → between ≡ fi
 between_ordered p es between is ordered =
     subst AreOrdered (sym is) (subst (λ ks. IsStrictlySortedBy order ks) (sym (keys_filter p es)) (IsStrictlySortedBy-filter order p (keys_of es) ordered))
 
--- the documents of the entries between the edges are, in the order of keys, what stands under the keys inside
+-- the documents of the entries between the edges are, in the order of keys, what is stored under the keys inside
 pub lists_span : (span : Span) (es between : Entries) (chains : List Past) (time : ℕ) → IsSpan span →
     between ≡ entries_between order (first_edge span) (last_edge span) es → AreKeys between → AreOrdered es →
     ListsDocuments (λ k. if inside span k then at_found chains time (lookup (is_at (order k)) es) else None) (values_of (rows_in chains time between))

@@ -85,7 +85,7 @@ module _ (places : BTreeMap Datum ℕ) (chains : List Past) (apart : AreApart pl
     added_by q false same None e = refl
     added_by q false same (Some i) e = before_end chains past i (apart.inside q i e)
 
-    -- the key's chain is behind the others
+    -- the key's chain is after the others
     pub added_behind : IsChanged (pasts_at places chains) (pasts_at more (chains ++ past ∷ [])) key past
     added_behind q = ap (λ (o : Option ℕ). chain_at (chains ++ past ∷ []) o) (added q) ∙ added_by q (same_value key q) refl (get_by (order q) places) refl
 

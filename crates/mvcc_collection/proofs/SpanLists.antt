@@ -106,7 +106,7 @@ either_under true true (Some document) = refl
 either_under true false (Some document) = refl
 either_under false b under = refl
 
--- the documents of a span, and behind them those of the spans that it is before
+-- the documents of a span, and after them those of the spans that it is before
 pub lists_more : (under : Datum → Option Fields) (span : Span) (spans : List Span) (documents more : List Fields) → AllByRecursion (IsBefore span) spans →
     ListsDocuments (λ key. if inside span key then under key else None) documents →
     ListsDocuments (λ key. if inside_some spans key then under key else None) more →
@@ -146,7 +146,7 @@ module _ {A : Type 0} (see : A → Span) (xs : List A) (i : ℕ) (x : A) (less :
   pub later_ascend : AreAscending (map see (drop i xs)) → AreAscending (map see (drop (i + 1) xs))
   later_ascend ascending = (subst AreAscending next_span ascending).1
 
-  -- the documents of the next span are put behind the others
+  -- the documents of the next span are appended to the others
   pub lists_next : (under all : Datum → Option Fields) (old new : List Fields) → AreAscending (map see (drop i xs)) →
       ((found : List Fields) → ListsDocuments (λ key. if inside_some (map see (drop i xs)) key then under key else None) found → ListsDocuments all (old ++ found)) →
       ((found : List Fields) × ListsDocuments (λ key. if inside (see x) key then under key else None) found × (new ≡ old ++ found)) →
@@ -159,7 +159,7 @@ module _ {A : Type 0} (see : A → Span) (xs : List A) (i : ℕ) (x : A) (less :
       subst (λ (l : List Fields). ListsDocuments all l)
       (sym (append_assoc old step.0 more) ∙ ap (λ (l : List Fields). l ++ more) (sym step.2)) (listed (step.0 ++ more) here)
 
--- behind the last span nothing is left to list
+-- after the last span nothing is left to list
 pub lists_all : {A : Type 0} (see : A → Span) (left : List A) (under all : Datum → Option Fields) (documents : List Fields) → left ≡ [] →
     ((found : List Fields) → ListsDocuments (λ key. if inside_some (map see left) key then under key else None) found → ListsDocuments all (documents ++ found)) →
     ListsDocuments all documents

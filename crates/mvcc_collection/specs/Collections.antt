@@ -1,4 +1,4 @@
--- What contracts see of a collection: what stands under a key at a time, the time of a key's last version, and for how many more
+-- What contracts see of a collection: what is stored under a key at a time, the time of a key's last version, and for how many more
 -- versions of it there is room (MongoDB manual, "Read Concern \"snapshot\"", "Document Field Order and the `_id` Field"). Keys
 -- that compare equal are one key.
 use Rattle.std.specs.Prelude.{◌≡◌, ℕ, List, Option, Some, None}
@@ -14,7 +14,7 @@ use Rattle.mvcc_collection.specs.Chains.{Past, document_left, last_time}
 use Rattle.mvcc_collection.specs.Places.{chain_at}
 use Rattle.mvcc_collection.specs.declared.collection.Collection.{Collection}
 
--- from the time on this document, or none, stands under the key
+-- from the time on this document, or none, is stored under the key
 abbrev pub put_view : {Z : Type 0} → Datum → Time → Option (Arc Fields Z) → Put
 put_view key time document = record { key = key; time = time.0; document = option_map arc_value document }
 
@@ -34,7 +34,7 @@ room_of (Some past) = past.room
 abbrev pub past_in : Collection → Datum → Option Past
 past_in c key = chain_at c.chains.items (get_by (order key) c.places)
 
--- what stands under the key at the time
+-- what is stored under the key at the time
 unfoldable pub at_in : Collection → Datum → ℕ → Option Fields
 at_in c key time = document_in (past_in c key) time
 

@@ -10,7 +10,7 @@ use Rattle.mvcc_collection.specs.declared.chain.Version.{Version}
 abbrev pub dated : Version → Dated
 dated v = (v.time.0, option_map arc_value v.document)
 
--- older versions, and the last behind them
+-- older versions, and the last after them
 abbrev pub dated_with : Option Version → List Version → List Dated
 dated_with None older = map dated older
 dated_with (Some last) older = map dated older ++ dated last ∷ []

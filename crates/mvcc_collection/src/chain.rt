@@ -13,14 +13,14 @@ use std::alloc::Global;
 use std::marker::Model;
 use std::sync::Arc;
 
-/// What stands under a key from a time on: a document, or none.
+/// What is stored under a key from a time on: a document, or none.
 #[derive(Drop)]
 pub(crate) struct Version {
     time: Time,
     document: Option<Arc<Document, Global>>,
 }
 
-/// The versions of the document under a key, by rising time. The last stands apart, since most look at the present. It joins the others
+/// The versions of the document under a key, by rising time. The last is stored apart, since most reads are of the present. It joins the others
 /// when room is made for the next one, so that to put a version reaches no other memory.
 #[derive(Drop)]
 pub(crate) struct Chain {
@@ -67,7 +67,7 @@ impl Chain {
         Ok(())
     }
 
-    /// Puts a version behind the others, which are earlier. Takes one room, and no memory.
+    /// Appends a version to the others, which are earlier. Takes one room, and no memory.
     pub(crate) fn push(&mut self, time: Time, document: Option<Arc<Document, Global>>)
         requires room { 1 ≤ self.old.room }
         requires later { IfSome (last_time self.old.versions) (λ t. t < time.0) }

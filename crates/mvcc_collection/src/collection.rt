@@ -73,7 +73,7 @@ impl Collection {
         Ok(())
     }
 
-    /// From this time on this document, or none, stands under the key, for which there is room. All that was put under the key
+    /// From this time on this document, or none, is stored under the key, for which there is room. Each version that was stored under the key
     /// before is earlier. Takes no memory.
     pub fn put(&mut self, key: &Key, time: Time, document: Option<Arc<Document, Global>>)
         requires room { 1 ≤ room_in self.old key.now }
@@ -89,7 +89,7 @@ impl Collection {
         }
     }
 
-    /// The document that stands under the key at the time, if there is one.
+    /// Returns the document that is stored under the key at the time, if there is one.
     pub fn get_at(&self, key: &Key, time: Time) -> Option<&Arc<Document, Global>>
         ensures { option_map (λ d. arc_value d.now) result ≡ at_in self.now key.now time.0 }
     {

@@ -65,13 +65,13 @@ abbrev pub AskFits : (create : Bool) → At → Work → Type 0
 AskFits create at (writing kind ordered statements answers) = create ≡ true
 AskFits create at (reading named time stages telling) = (create ≡ false) × (is_for at time ≡ true)
 
--- the table of the collection is told
+-- the table of the collection arrives
 pub record HasTable (namespace : List ℕ) (told : Option Table) : Type 0 where
   pub table : Table
   pub is : told ≡ Some table
   pub name : table.namespace ≡ namespace
 
--- a table is told as the work wants it
+-- a table arrives as the work wants it
 abbrev pub ToldFits : (namespace : List ℕ) → At → Option Table → Work → Type 0
 ToldFits namespace at table (writing kind ordered statements answers) = HasTable namespace table
 ToldFits namespace at table (reading named time stages telling) = is_for at time ≡ true
@@ -90,7 +90,7 @@ LeadsBody r q to from (time_ask id) = (to ≡ 1) × (id ≡ id_of r q.count) × 
 LeadsBody r q to from (time_told id) = (to ≡ r.me) × (id ≡ id_of r q.count) × (q.wait ≡ for_time) × IsReading q.work
 LeadsBody r q to from (stale id turn met) = ⊥
 
--- the shard asks for the table that a parked ask wants, or is told it
+-- the shard requests the table that a parked request wants, or gets it
 abbrev pub Fetches : Open → (to from : ℕ) → Body → Type 0
 Fetches q to from (table_ask namespace create at) = (to ≡ 0) × (from ≡ 1) × (namespace ≡ q.namespace) × (create ≡ false)
 Fetches q to from (table_told namespace create at table) = (to ≡ 1) × HasTable q.namespace table
@@ -113,7 +113,7 @@ Leads r q (p ∷ other ∷ more) m = ⊥
 abbrev pub Parks : (parked : List Letter) → (namespace : List ℕ) → Shard → Type 0
 Parks parked namespace s = (s.parked ≡ parked) × ((parked ≡ []) ⊎ (table_of namespace s.tables ≡ None))
 
--- a step sends one message, which has this property, and takes and tells nothing
+-- a step sends one message, which has this property, and takes and replies nothing
 pub record Passes (f : Effect) (P : Letter → Type 0) : Type 0 where
   pub letter : Letter
   pub mail : f.mail ≡ letter ∷ []

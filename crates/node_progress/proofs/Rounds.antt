@@ -1,4 +1,4 @@
--- Behind each round every request is answered.
+-- After each round every request is answered.
 use Rattle.std.proofs.Common.{◌≡◌, ◌⊎◌, inl, inr, ℕ, zero, suc, ◌+◌, List, [], ◌∷◌, length, refl, sym, ap, subst, ◌∙◌, arith}
 use Rattle.std.specs.Prelude.{Ok}
 use Rattle.std.specs.List.{AllByRecursion}
@@ -110,7 +110,7 @@ piped_requests_are_answered routers rounds events w next pipes =
       quiet = there.1.nodes;
     }
 
--- WHAT COMES BEHIND A ROUND
+-- WHAT COMES AFTER A ROUND
 
 -- a request that was taken and answered
 record WasAnswered (w : World) (a : Asked) : Type 0 where

@@ -1,4 +1,4 @@
--- A router leads on, or tells the answer.
+-- A router leads on, or replies.
 use Rattle.std.proofs.Common.{◌≡◌, ◌≢◌, ◌⊎◌, inl, inr, ℕ, ◌+◌, ◌≤◌, List, [], ◌∷◌, ◌++◌, length, refl, sym, ap, subst, ◌∙◌, arith, append-nil, length-append, Bool}
 use Rattle.std.specs.Prelude.{Option, Some, None, true, false, ◌==◌, ◌&&◌, if◌then◌else◌}
 use Rattle.std.specs.List.{AllByRecursion, flat_map}
@@ -34,7 +34,7 @@ pub record HasOne (r : Router) (q : Open) : Type 0 where
   pub stated : IsStated q.work
   pub tables : AllByRecursion IsFirst r.tables
 
--- where it goes on, or is told
+-- where it proceeds, or is answered
 pub data Goes (r : Router) (q : Open) (f : Effect) (t : Router) : Type 0 where
   goes_on : (p : Open) → t.requests ≡ p ∷ [] → id_of t p.count ≡ id_of r q.count → IsGoing p.work → Passes f (Leads t p []) → Goes r q f t
   is_over : (reply : Reply) → t.requests ≡ [] → f.mail ≡ [] → f.taken ≡ [] → f.replies ≡ reply ∷ [] → reply.id ≡ id_of r q.count → Goes r q f t
@@ -64,7 +64,7 @@ of_one g requests q only = ap (λ l. flat_map g l) only ∙ append-nil (g q)
 pub every_found : (tables : List Table) (namespace : List ℕ) (t : Table) → AllByRecursion IsFirst tables → table_of namespace tables ≡ Some t → IsFirst t
 every_found tables namespace t all got = all_at IsFirst t tables all (table_found namespace tables t got).stands
 
--- A TABLE IS TOLD
+-- A TABLE ARRIVES
 
 -- what becomes of the request, by what is next of it
 abbrev Becomes : Router → Open → (u : Router) → Next → Type 0

@@ -149,7 +149,7 @@ repeated_first : (ordered : Bool) (entries : List Entry) (statements : List Stat
 repeated_first ordered entries _ _ _ (repeats s rest e dones seen goes more) = seen_index s entries e seen
 repeated_first ordered entries _ _ _ (ends_repeat s rest e seen goes) = seen_index s entries e seen
 
--- what a write is told leads on to its router
+-- the outcomes of a write lead on to its router
 done_leads : (r : Router) (q : Open) (from : ℕ) (id : RequestId) (turn : ℕ) (ordered : Bool) (namespace : List ℕ) (statements : List Statement) (sent : Sent)
     (d : Done) (dones : List Done)
     → IsOfFirst statements d → IsAskOf r q (write_ask id turn ordered namespace statements sent) → LeadsBody r q id.router from (write_done id (d ∷ dones))

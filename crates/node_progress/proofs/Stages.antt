@@ -75,7 +75,7 @@ pub all_of_each : (P : Held → Type 0) (i : ℕ) (xs : List Held) → EachAt (�
 all_of_each P i [] each = tt
 all_of_each P i (x ∷ xs) each = (each.0, all_of_each P (i + 1) xs each.1)
 
--- WHERE NODES STAND
+-- THE STAGES OF NODES
 
 is_at : (v : View) (asked : List Asked) (answered : List Answered) (at : ℕ) (kept : List Kept) (s : NodeState) → StateFits v asked answered at kept s
     → number_of s ≡ at
@@ -89,7 +89,7 @@ router_place p me place (inl e) = absurd (omega arith)
 router_place p me place (inr (inl e)) = absurd (omega arith)
 router_place p me place (inr (inr e)) = e
 
--- BEHIND A STEP
+-- AFTER A STEP
 
 -- the request is still under way
 module _ (w : World) (next p : ℕ) (i : Input) (old : Held) (f : Effect) (new : NodeState) (s : Waits w next) where
@@ -129,7 +129,7 @@ module _ (w : World) (next p : ℕ) (i : Input) (old : Held) (f : Effect) (new :
       still a (inl done) = inl (told_more a.id w.answered (answered_by w.now f.replies) done)
       still a (inr own) = inr (own ∙ sym same)
 
-  -- it is told, and nothing is under way
+  -- it is answered, and nothing is under way
   pub is_idle : (reply : Reply) → AllByRecursion (λ (h : Held). IsQuiet h.state) (slice_set w.nodes p (record { state = new; kept = old.kept ++ f.written }))
       → f.mail ≡ [] → f.taken ≡ [] → f.replies ≡ reply ∷ [] → reply.id ≡ id_of s.router s.request.count
       → Idle (tick (after (is_given w p i) p old f new)) (next + 1)

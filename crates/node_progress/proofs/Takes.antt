@@ -105,7 +105,7 @@ both_begins g f t mail taken replies (at_once x reply requests sent took told ow
 both_begins g f t mail taken replies (waits x q requests going took own s) =
     waits x q requests going (ap (λ l. l ++ f.taken) taken ∙ took) own (record { letter = s.letter; is = ap (λ l. l ++ f.mail) mail ∙ s.is; leads = s.leads })
 
--- BEHIND THE STEP
+-- AFTER THE STEP
 
 each_of_all : (P : Held → Type 0) (i : ℕ) (xs : List Held) → AllByRecursion P xs → EachAt (λ j h. P h) i xs
 each_of_all P i [] all = tt

@@ -19,11 +19,11 @@ IsQuiet (catalogue_state c) = Unit {0}
 IsQuiet (shard_state s) = s.parked ≡ []
 IsQuiet (router_state r) = r.requests ≡ []
 
--- the request was told something
+-- the request got a reply
 abbrev pub IsAnswered : List Answered → Asked → Type 0
 IsAnswered answered a = IsIn a.id (ids_told answered)
 
--- its statements, or those up to the error that ends it, are told by entries that stand
+-- the outcomes of its statements, or of those up to the error that ends it, are those of entries that are stored
 pub record HasToldAll (history : List Entry) (asked : List Asked) (answered : List Answered) (a : Asked) (write : WriteCommand) : Type 0 where
   pub answer : Answered
   pub told : IsIn answer answered
@@ -31,8 +31,8 @@ pub record HasToldAll (history : List Entry) (asked : List Asked) (answered : Li
   pub dones : List Done
   pub tells : AreTold history asked answer write 0 write.operations dones
 
--- Of a write without a client's number all statements stand, up to the error that ends an ordered one. Of each write the statements are told
--- by entries that stand, under their numbers or of a greater transaction. Both also where no reply is put.
+-- Of a write without a client's number the entries of all statements are stored, up to the error that ends an ordered one. Of each write the outcomes of the
+-- statements are those of entries that are stored, under their numbers or of a greater transaction. Both also where no reply is put.
 pub record IsServedAs (history : List Entry) (asked : List Asked) (answered : List Answered) (a : Asked) (write : WriteCommand) : Type 0 where
   pub whole : write.number ≡ None → IsWhole history a.id write
   pub tells : HasToldAll history asked answered a write

@@ -24,7 +24,7 @@ grown_prefix (b ∷ old) (suc at) z within =
     let less : suc at - suc (length old) ≡ at - length old = omega arith in
     rw less (ap (λ xs. b ∷ xs) (grown_prefix old at z fits))
 
--- bytes that were grown with zeros have none of them behind the place that they were grown to
+-- bytes that were grown with zeros have none of them after the place that they were grown to
 pub grown_back : (old : List ℕ) (end : ℕ) → drop end (old ++ replicate (end - length old) 0) ≡ drop end old
 grown_back [] end =
     let none : end - 0 - end ≡ 0 = omega arith in rw (drop-replicate {X = ℕ} end (end - 0) 0, none) (grind (arith, common_steps))
@@ -47,7 +47,7 @@ written_over old grown new (b ∷ piece) at n some grew wrote long =
     let whole : take n (new ++ drop (length new) grown) ≡ new = rw (long, same) (take-append_seam new (drop (length new) grown)) in
     whole ∙ wrote ∙ rw (prefix, back) refl
 
--- the part that stands behind a prefix of this length
+-- the part that comes after a prefix of this length
 pub part_behind : (prefix piece back : List ℕ) (at : ℕ) → length prefix ≡ at →
     take (length piece) (drop at (prefix ++ piece ++ back)) ≡ piece
 part_behind prefix piece back at size =

@@ -63,8 +63,8 @@ source_after s n = record { left = drop n s.left; plan = after_call s.plan }
 abbrev pub source_failed : SourceState → SourceState
 source_failed s = record { left = s.left; plan = after_fault s.plan }
 
--- The bytes of a disk after a write of a piece at an offset: what lay before it, zeros for the gap after the disk's end,
--- the piece, and what lay behind it. A write of no bytes changes nothing.
+-- The bytes of a disk after a write of a piece at an offset: what came before it, zeros for the gap after the disk's end,
+-- the piece, and what came after it. A write of no bytes changes nothing.
 abbrev pub written : List ℕ → ℕ → List ℕ → List ℕ
 written bytes at [] = bytes
 written bytes at (b ∷ piece) =

@@ -42,10 +42,10 @@ impl CallList {
         }
     }
 
-    /// Finds memory for one more call, with a piece of at most `len` bytes. `bytes` are those of the disk.
+    /// Takes memory for one more call, with a piece of at most `len` bytes. `bytes` are those of the disk.
     ///
     /// # Errors
-    /// `AllocError` if no memory is found.
+    /// `AllocError` if memory runs out.
     pub(crate) fn make_room(&mut self, bytes: &[u8], len: usize) -> Result<(), AllocError>
         ensures ok { OnOk result (len < self.new.room) }
         ensures only { OnErr result (self.old.room ≤ len) }
@@ -62,7 +62,7 @@ impl CallList {
         self.spare.reserve(len)
     }
 
-    /// Puts a write of the piece behind the others.
+    /// Appends a write of the piece to the others.
     pub(crate) fn push_write(&mut self, at: u64, piece: &[u8])
         requires { length piece.now < self.old.room }
         ensures calls { self.new.calls ≡ self.old.calls ++ Write at piece.now ∷ [] }
@@ -83,7 +83,7 @@ impl CallList {
         }
     }
 
-    /// Puts a call behind the others.
+    /// Appends a call to the others.
     pub(crate) fn push(&mut self, call: Call)
         requires { 0 < self.old.room }
         ensures calls { self.new.calls ≡ self.old.calls ++ call ∷ [] }

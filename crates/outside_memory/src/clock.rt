@@ -1,4 +1,4 @@
-//! Clocks in memory: one that stands still, and one that gives a list of moments.
+//! Clocks in memory: one that always gives one moment, and one that gives a list of moments.
 ghost use Rattle.std.specs.Prelude.{◌≡◌};
 ghost use Rattle.outside_memory.specs.Clocks.{IsOfList};
 
@@ -6,7 +6,7 @@ use outside::clock::Clock;
 use std::marker::Model;
 use std::sync::atomic::{AtomicUsize, Ordering};
 
-/// A clock that stands at one moment, in milliseconds since 1970.
+/// A clock that always gives one moment, in milliseconds since 1970.
 #[derive(Clone, Copy, Debug, PartialEq, Eq)]
 pub struct FixedClock(pub u64);
 

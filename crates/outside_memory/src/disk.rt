@@ -17,8 +17,8 @@ use outside::streams::Failed;
 use std::alloc::AllocError;
 use std::marker::Model;
 
-/// A disk whose bytes lie in memory. It keeps the list of the calls that changed it or made it stay, so that one can
-/// tell what a crash may leave at each moment.
+/// A disk whose bytes are in memory. It keeps the list of the calls that changed it or made it durable, from which
+/// follow the files after a crash at each moment.
 #[derive(Drop)]
 pub struct MemDisk {
     bytes: Vec<u8>,
@@ -75,10 +75,10 @@ impl MemDisk {
         self.list.as_slice()
     }
 
-    /// Finds memory so that the list of calls has room for one more, with a piece of at most `len` bytes.
+    /// Takes memory so that the list of calls has room for one more, with a piece of at most `len` bytes.
     ///
     /// # Errors
-    /// `AllocError` if no memory is found.
+    /// `AllocError` if memory runs out.
     pub fn make_room(&mut self, len: usize) -> Result<(), AllocError>
         ensures ok { OnOk result (len < self.new.list_room) }
         ensures only { OnErr result (self.old.list_room ≤ len) }
@@ -92,7 +92,7 @@ impl MemDisk {
 /// the gap.
 ///
 /// # Errors
-/// `AllocError` if no memory is found to grow: then no byte changed.
+/// `AllocError` if memory runs out: then no byte changed.
 fn write_over(bytes: &mut Vec<u8>, at: usize, piece: &[u8]) -> Result<(), AllocError>
     ensures ok { OnOk result (bytes.new.items ≡ written bytes.old.items at piece.now) }
     ensures err { OnErr result (bytes.new.items ≡ bytes.old.items) }
@@ -113,7 +113,7 @@ fn write_over(bytes: &mut Vec<u8>, at: usize, piece: &[u8]) -> Result<(), AllocE
 /// Fills the bytes up to the length `end` with zeros, if they are shorter.
 ///
 /// # Errors
-/// `AllocError` if no memory is found to grow: then no byte changed.
+/// `AllocError` if memory runs out: then no byte changed.
 fn grow_to(bytes: &mut Vec<u8>, end: usize) -> Result<(), AllocError>
     ensures ok { OnOk result (bytes.new.items ≡ bytes.old.items ++ replicate (end - vec_len bytes.old) 0) }
     ensures err { OnErr result (bytes.new.items ≡ bytes.old.items) }
@@ -226,7 +226,7 @@ impl Disk for MemDisk {
         ensures nothing { OnErr result (self.new.bytes ≡ self.old.bytes) }
 
         // It fails exactly where the plan says so, or where it has no room for the bytes or in the list of calls, and
-        // finds no memory.
+        // memory runs out.
         ensures planned { IsTrue (fails_now self.old.plan) → IsErr result }
         ensures only { OnErr result (IsTrue (fails_now self.old.plan) ⊎ (self.old.room < at + length piece.now)
             ⊎ (self.old.list_room ≤ length piece.now)) }
@@ -270,7 +270,7 @@ impl Disk for MemDisk {
         ensures done { OnOk result (self.new ≡ disk_cut self.old len self.new.list_room) }
         ensures failed { OnErr result (self.new ≡ record (disk_failed self.old) { list_room = self.new.list_room }) }
 
-        // It fails exactly where the plan says so, or where the list of calls has no room and finds no memory.
+        // It fails exactly where the plan says so, or where the list of calls has no room and memory runs out.
         ensures planned { IsTrue (fails_now self.old.plan) → IsErr result × (self.new ≡ disk_failed self.old) }
         ensures only { OnErr result (IsTrue (fails_now self.old.plan) ⊎ (self.old.list_room ≡ 0)) }
     {
@@ -303,7 +303,7 @@ impl Disk for MemDisk {
         ensures done { OnOk result (self.new ≡ disk_synced self.old self.new.list_room) }
         ensures failed { OnErr result (self.new ≡ record (disk_failed self.old) { list_room = self.new.list_room }) }
 
-        // It fails exactly where the plan says so, or where the list of calls has no room and finds no memory.
+        // It fails exactly where the plan says so, or where the list of calls has no room and memory runs out.
         ensures planned { IsTrue (fails_now self.old.plan) → IsErr result × (self.new ≡ disk_failed self.old) }
         ensures only { OnErr result (IsTrue (fails_now self.old.plan) ⊎ (self.old.list_room ≡ 0)) }
     {

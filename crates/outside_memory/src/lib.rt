@@ -1,5 +1,5 @@
 //! The outside in memory, for tests and theorems. Each form does exactly what its clauses say, and fails at exactly the
-//! calls that its list names, or where it finds no memory.
+//! calls that its list names, or where memory runs out.
 #![tactic(auto)]
 
 mod acceptor;

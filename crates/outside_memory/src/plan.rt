@@ -5,7 +5,7 @@ ghost use Rattle.outside_memory.specs.FaultPlan.{fresh_plan, fails_now, after_ca
 
 use std::marker::Model;
 
-/// The numbers of the calls that fail, from 0, with the counts of the calls and of the faults so far. A count stays at
+/// The numbers of the calls that fail, from 0, with the counts of the calls and of the faults. A count stays at
 /// its last value, 2^64 - 1.
 #[derive(Drop)]
 pub(crate) struct FaultPlan {

@@ -68,7 +68,7 @@ impl Sink for MemSink {
         ensures calm { OnOk result (self.new.plan.faults ≡ self.old.plan.faults) }
         ensures later { self.old.plan.faults ≤ self.new.plan.faults }
 
-        // It fails exactly where the plan says so, or where it has no room and finds no memory.
+        // It fails exactly where the plan says so, or where it has no room and memory runs out.
         ensures planned { IsTrue (fails_now self.old.plan) → IsErr result }
         ensures only { OnErr result (IsTrue (fails_now self.old.plan)
             ⊎ (self.old.room < length self.old.held + length piece.now)) }

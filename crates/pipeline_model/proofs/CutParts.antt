@@ -1,4 +1,4 @@
--- Parts in order, each cut behind its first n: the first n of what is left of all, put in order, are the first n of everything.
+-- Parts in order, each cut after its first n: the first n of what is left of all, put in order, are the first n of everything.
 use Rattle.std.proofs.Common.{◌≡◌, ℕ, ◌+◌, ◌≤◌, ◌<◌, ◌⊎◌, ⊎_elim, List, [], ◌∷◌, ◌++◌, length, take, drop, refl, sym, ap, ◌∙◌, subst, arith}
 use Rattle.std.specs.Prelude.{Bool, true, false, cond, not, count_by, flat_map, IsPermutation}
 use Rattle.std.specs.List.{AllByRecursion}

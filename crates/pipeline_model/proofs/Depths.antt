@@ -1,4 +1,4 @@
--- No value at a path is deeper than what it stands in, and no document gets deeper by a projection.
+-- No value at a path is deeper than what it is in, and no document gets deeper by a projection.
 use Rattle.std.proofs.Common.{ℕ, suc, ◌≤◌, List, [], ◌∷◌, arith}
 use Rattle.std.specs.Prelude.{Bool, true, false, Option, Some, None, option_and_then, filter_map, if◌then◌else◌}
 use Rattle.std.specs.Str.{bytes_eq}

@@ -1,4 +1,4 @@
--- A cell that stands for others may be replaced by them.
+-- A cell that replaces others may be replaced by them.
 use Rattle.std.proofs.Common.{◌≡◌, zero, suc, ◌+◌, ◌<◌, ◌⊎◌, ⊎_elim, ℤ, List, [], ◌∷◌, ◌++◌, map, length, refl, sym, ap, ◌∙◌, subst, arith}
 use Rattle.std.specs.Prelude.{◌+ℤ◌, Bool, true, false, ◌&&◌, Contains, filter_map, if◌then◌else◌}
 use Rattle.std.specs.List.{AllByRecursion}

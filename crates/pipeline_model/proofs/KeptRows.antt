@@ -1,4 +1,4 @@
--- One more row among joined rows: it is taken into the row of its key, or stands as a row of its own.
+-- One more row among joined rows: it is taken into the row of its key, or is a row of its own.
 use Rattle.std.proofs.Common.{◌≡◌, List, [], ◌∷◌, ◌++◌, map, refl, sym, ap, ◌∙◌, subst, arith}
 use Rattle.std.specs.Prelude.{Bool, true, false, cond, ◌||◌, Contains}
 use Rattle.std.specs.List.{AllByRecursion, list_any}
@@ -23,7 +23,7 @@ Others key rows = AllByRecursion (λ row. same_value row.key key ≡ false) rows
 turned : (a b : Datum) → same_value a b ≡ false → same_value b a ≡ false
 turned a b e = same_value_equivalence.symm b a ∙ e
 
--- rows that are apart: those before and behind one have other keys
+-- rows that are apart: those before and after one have other keys
 others_before : (front back : List PartialRow) (m : PartialRow) → AreApart (front ++ m ∷ back) → Others m.key front
 others_before [] back m h = tt
 others_before (row ∷ front) back m h =

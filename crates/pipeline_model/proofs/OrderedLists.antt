@@ -1,5 +1,5 @@
--- Lists in order by a test that is total: each list has an ordered permutation, and what parts leave out behind their first n
--- stands behind the first n of the parts together.
+-- Lists in order by a test that is total: each list has an ordered permutation, and what parts leave out after their first n
+-- comes after the first n of the parts together.
 use Rattle.std.proofs.Common.{◌≡◌, ℕ, zero, suc, ◌+◌, ◌≤◌, ◌<◌, List, [], ◌∷◌, ◌++◌, length, get_or, take, refl, sym, ap, subst, arith}
 use Rattle.std.specs.Prelude.{Bool, true, false, cond, count_by, IsPermutation, IsSortedBy}
 use Rattle.std.specs.List.{AllByRecursion}
@@ -85,7 +85,7 @@ module _ {X : Type 0} (lt : X → X → Bool)
   in_order_up [] = tt
   in_order_up (x ∷ xs) = put_in_up x (in_order xs) (in_order_up xs)
 
-  -- a test that what stands above fails where it fails holds of the first n, where n pass it
+  -- a test that fails for what is above a value for which it fails holds of the first n, where n pass it
   module _ (t : X → Bool) (above_fails : (y z : X) → t y ≡ false → lt z y ≡ false → t z ≡ false) where
     count_none : (ys : List X) → AllByRecursion (λ z. t z ≡ false) ys → count_by t ys ≡ 0
     count_none [] h = refl

@@ -1,4 +1,4 @@
--- What a sort with a limit may keep while documents come: the first n so far are enough.
+-- What a sort with a limit may keep while documents arrive: the first n of those that arrived are enough.
 use Rattle.std.proofs.Common.{◌≡◌, ℕ, zero, suc, ◌≤◌, List, [], ◌∷◌, ◌++◌, map, take, refl, sym, ap, ◌∙◌, subst, arith}
 use Rattle.std.specs.Prelude.{Bool, true, false, flat_map, IsPermutation, IsSortedBy}
 use Rattle.std.specs.List.{AllByRecursion}
@@ -32,7 +32,7 @@ module _ {X : Type 0} (lt : X → X → Bool)
   up_singles [] = tt
   up_singles (x ∷ xs) = ((tt, tt), up_singles xs)
 
-  -- The first n so far, and more documents, put in order: their first n are the first n of all. So what does not come before
+  -- The first n of those that arrived, and more documents, put in order: their first n are the first n of all. So what does not come before
   -- any of n that are kept may be passed over.
   pub first_of_more : (n : ℕ) (docs kept more sorted : List X) → 1 ≤ n → AreFirst lt n docs kept → IsPermutation (kept ++ more) sorted → IsSortedBy lt sorted →
       AreFirst lt n (docs ++ more) (take n sorted)

@@ -52,7 +52,7 @@ abbrev pub read_accumulator : Datum → Result Accumulator QueryFault
 read_accumulator (document_value (field name d no_fields)) = ok_or (named accumulators name) unknown_operator >>= λ which. accumulate which d
 read_accumulator d = Err bad_operand
 
--- the keys and the other fields that are read so far
+-- the keys and the other fields that were read
 pub record GroupParts : Type 0 where
   pub keys : List Operand
   pub fields : List GroupField

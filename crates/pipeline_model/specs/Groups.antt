@@ -11,7 +11,7 @@ use Rattle.pipeline_model.specs.Operands.{value_of}
 use Rattle.pipeline_model.specs.SortKeys.{Direction, directed}
 use Rattle.pipeline_model.specs.GroupSpecs.{Accumulator, sum_accumulator, count_accumulator, extreme_accumulator, GroupField, GroupSpec}
 
--- what an accumulator has so far
+-- what an accumulator has
 pub data Cell : Type 0 where
   -- the exact sum, and whether each number in it is an int32
   sum_cell : ℤ → Bool → Cell

@@ -17,7 +17,7 @@ pub data Rows : Type 0 where
   partial_rows : List PartialRow → Rows
   counted_rows : ℕ → Rows
 
--- what it gives of the documents behind its stages
+-- what it returns of the documents after its stages
 pub data HalfEnd : Type 0 where
   documents_end : HalfEnd
   partials_end : GroupSpec → HalfEnd
@@ -41,11 +41,11 @@ pub record IsHalf (half : Half) (docs : List Fields) (rows : Rows) : Type 0 wher
   pub runs : Runs half.stages docs (listed left)
   pub ends : EndsIn half.last left rows
 
--- the documents that may stand in the span: those with a key outside do not
+-- the documents that may be in the span: those with a key outside are not
 abbrev pub may_stand_in : List Span → Fields → Bool
 may_stand_in span document = elim (valid_key document) [ Ok key ↦ inside_some span key | Err fault ↦ true ]
 
--- what the filter at the head of some stages keeps of the documents, where one stands there
+-- the documents that match the filter at the head of some stages, where there is one
 abbrev pub kept_at_head : List Stage → List Fields → List Fields
 kept_at_head (match_stage asked ∷ rest) docs = filter (holds asked) docs
 kept_at_head stages docs = docs
@@ -94,7 +94,7 @@ pub record Merges (merge : Merge) (parts : List Rows) (out : Outcome) : Type 0 w
   pub joins : Joins merge.joining parts start
   pub goes_on : GoesOn merge.stages start out
 
--- documents that compare equal stand in the order of their parts, and then of their places
+-- documents that compare equal are in the order of their parts, and then of their places
 abbrev pub IsInTurn : Joining → List Rows → Outcome → Type 0
 IsInTurn (joined_in_order spec) parts (listed sorted) = IsStableBy (comes_before spec) (flat_map documents_in_part parts) sorted
 IsInTurn joining parts start = Unit {0}

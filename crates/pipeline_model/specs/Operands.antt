@@ -40,7 +40,7 @@ abbrev pub is_plain : Operand → Bool
 is_plain (path_operand path) = true
 is_plain (constant_operand d) = is_scalar d
 
--- what a string names behind its $
+-- what a string names after its $
 abbrev pub named_path : List ℕ → Option (List ℕ)
 named_path [] = None
 named_path (b ∷ name) = if b == byte "$" then Some name else None

@@ -1,6 +1,6 @@
 -- Projections (MongoDB manual, "$project", "Project Fields to Return from Query"). A projection includes fields or excludes them;
 -- `_id` stays unless it is excluded. Own: a name is one part; a computed value at a path through an array is an array; a stored
--- field whose name is computed is left out, and the computed ones stand last.
+-- field whose name is computed is left out, and the computed ones come last.
 use Rattle.std.specs.Prelude.{ℕ, pos, List, [], ◌∷◌, Bool, true, false, not, ◌&&◌, ◌||◌, Option, Some, None, Result, Ok, Err, codes, if◌then◌else◌}
 use Rattle.std.specs.List.{list_any, list_all}
 use Rattle.std.specs.Ordering.{int_eq}

@@ -22,7 +22,7 @@ pub record SortField : Type 0 where
 abbrev pub SortSpec : Type 0
 SortSpec = List SortField
 
--- what a document sorts by at one path: a value, or the mark of an empty array, which stands above MinKey and below null
+-- what a document sorts by at one path: a value, or the mark of an empty array, which is above MinKey and below null
 pub data KeyPart : Type 0 where
   empty_array : KeyPart
   value_part : Datum → KeyPart
@@ -39,7 +39,7 @@ part_value (value_part d) = d
 abbrev pub order_parts : KeyPart → KeyPart → Ordering
 order_parts = then_cmp (on part_rank nat_cmp) (on part_value order)
 
--- an order as it stands, or the other way round
+-- an order as it is, or the other way round
 abbrev pub directed : {K : Type 0} → Direction → (K → K → Ordering) → K → K → Ordering
 directed ascending R x y = R x y
 directed descending R x y = R y x

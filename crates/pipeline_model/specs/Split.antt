@@ -23,7 +23,7 @@ behind_front (stage ∷ rest) = stage ∷ rest
 abbrev pub reach : ℕ → ℕ → ℕ
 reach skipped taken = min (skipped + taken) (2 ^ 64 - 1)
 
--- what of the stages behind the front the half has, what it gives, and the merge
+-- which of the stages after the front the half has, what it returns, and the merge
 pub record Cut : Type 0 where
   pub stages : List Stage
   pub last : HalfEnd
@@ -55,7 +55,7 @@ cut (limit_stage n ∷ rest) = record {
 }
 cut rest = record { stages = []; last = documents_end; merge = record { joining = joined_as_they_come; stages = rest } }
 
--- what the $match stages in front of the first other stage say of the keys of documents
+-- what the $match stages before the first other stage say of the keys of documents
 abbrev pub narrowed_by_stages : List Stage → KeyLimits → KeyLimits
 narrowed_by_stages (match_stage asked ∷ rest) limits = narrowed_by_stages rest (narrowed_by asked limits)
 narrowed_by_stages rest limits = limits

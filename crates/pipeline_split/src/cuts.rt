@@ -1,4 +1,4 @@
-//! How the stages behind the front are cut.
+//! How the stages after the front are cut.
 
 ghost use Rattle.std.specs.Prelude.{◌≡◌, ◌∷◌, ◌++◌, IfOk, map};
 ghost use Rattle.std.specs.Arc.{arc_value};
@@ -22,7 +22,7 @@ pub(crate) struct Cut {
     pub(crate) merge: Merge,
 }
 
-/// The same stages once more; what they ask for is shared. Returns `Memory` if memory runs out.
+/// Returns a copy of the stages; what they request is shared. Returns `Memory` if memory runs out.
 pub(crate) fn share_all(alloc: Global, stages: &[Stage]) -> Result<Vec<Stage>, Memory>
     ensures { IfOk result (λ all. map stage_of all.items ≡ map stage_of stages.now) }
 {
@@ -61,7 +61,7 @@ fn limit_in(stages: &[Stage]) -> Option<u64>
     }
 }
 
-// The stages, and a limit behind them, if there is one. Returns `Memory` if memory runs out.
+// Returns the stages, and a limit after them, if there is one. Returns `Memory` if memory runs out.
 fn with_limit(stages: Vec<Stage>, limit: Option<u64>) -> Result<Vec<Stage>, Memory>
     ensures { IfOk result (λ all. map stage_of all.items ≡ map stage_of stages.items ++ limit_stages limit) }
 {
@@ -137,7 +137,7 @@ fn cut_plain(alloc: Global, stages: &[Stage]) -> Result<Cut, Memory>
     })
 }
 
-/// What of the stages behind the front the half has, what it gives, and the merge. Returns `Memory` if memory runs out.
+/// Returns which of the stages after the front the half has, what it returns, and the merge. Returns `Memory` if memory runs out.
 pub(crate) fn cut_stages(alloc: Global, stages: &[Stage]) -> Result<Cut, Memory>
     ensures { IfOk result (λ c. cut_of c ≡ cut (map stage_of stages.now)) }
 {

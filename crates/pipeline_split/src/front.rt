@@ -22,7 +22,7 @@ fn acts_alone(stage: &Stage) -> bool
     }
 }
 
-/// How many stages stand in front that act on each document by itself.
+/// Returns how many stages at the front act on each document by itself.
 pub(crate) fn front_length(stages: &[Stage]) -> usize
     ensures within { result ≤ length stages.now }
     ensures front { front (map stage_of stages.now) ≡ map stage_of (take result stages.now) }

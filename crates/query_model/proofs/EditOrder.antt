@@ -1,4 +1,4 @@
--- The edits of a change rise by their paths, and documents of one spelling are one.
+-- The edits of a change rise by their paths, and documents of one encoding are one.
 use Rattle.std.proofs.Common.{◌≡◌, ℕ, List, [], ◌∷◌, refl, sym, ap, subst, ◌∙◌}
 use Rattle.std.specs.Prelude.{Bool, true, false, Result, Ok, Err, if◌then◌else◌}
 use Rattle.std.specs.Cmp.{IsTotalOrder}

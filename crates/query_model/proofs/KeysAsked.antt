@@ -50,7 +50,7 @@ no_elements : (key : Datum) → is_key key ≡ true → elements_of key ≡ []
 no_elements (array_value ds) e = absurd cc
 no_elements key e = refl
 
--- at `_id` stands the key alone
+-- at `_id` there is the key alone
 pub found_key : (document : Fields) (key : Datum) → get (codes "_id") document ≡ Some key → is_key key ≡ true → found_at (codes "_id" ∷ []) document ≡ alone key
 found_key document key e k = rw (e, no_elements key k) refl
 

@@ -141,7 +141,7 @@ change_keeps_key change before after key found e =
     let good : is_key kept.0 ≡ true = same_is_key kept.0 key kept.2 ∙ is.1 in
     (kept.0, ap (λ (x : Option Datum). valid x) kept.1 ∙ ap (λ (x : Bool). kept_if kept.0 x) good, kept.2)
 
--- the equalities of one path, and what stands behind them
+-- the equalities of one path, and what comes after them
 key_in_front : (part : List ℕ) (tests : Tests) (ms : Fields) (id : Bool) → bytes_eq part (codes "_id") ≡ id →
     key_of (with_equalities part tests ms) ≡ (if id then option_or (equality_in tests) (key_of ms) else key_of ms)
 key_in_front part no_tests ms true e = refl
@@ -173,7 +173,7 @@ equal_asked (Some x) key e = by_test (is_key x) e
     by_test true h = h
     by_test false h = absurd cc
 
--- what an insert leaves where nothing stands, by whether it is too large
+-- what an insert results in where no document is stored, by whether it is too large
 inserted_under : (document : Fields) (key : Datum) (large : Bool) → key_of document ≡ Some key →
     IsUnder key (left_by None (if large then Err too_large_fault else Ok (inserted document)))
 inserted_under document key true there = tt

@@ -39,7 +39,7 @@ joined_parts (b ∷ name) = joined_next (b == 46) b (parts_of name) (λ e. eqb-t
 abbrev pub LacksDot : List ℕ → Type 0
 LacksDot xs = (i : ℕ) → i < length xs → get_or xs i 0 ≢ 46
 
--- a part, and what stands behind its dot
+-- a part, and what comes after its dot
 pub parts_around : (part rest : List ℕ) → LacksDot part → parts_of (part ++ 46 ∷ rest) ≡ part ∷ parts_of rest
 parts_around [] rest h = refl
 parts_around (b ∷ part) rest h =

@@ -1,4 +1,4 @@
--- What is put at a path stands there, and what stands apart of it stays; so with what is taken out.
+-- A value that is put at a path is found there, and the values at paths apart from it stay; so with a value that is removed.
 use Rattle.std.proofs.Common.{◌≡◌, ℕ, List, [], ◌∷◌, refl, sym, ap, subst, ◌∙◌}
 use Rattle.std.specs.Prelude.{Bool, true, false, ◌&&◌, ◌||◌, not, Option, Some, None, Result, Ok, Err, if◌then◌else◌}
 use Rattle.std.specs.List.{starts_with}
@@ -86,7 +86,7 @@ apart_rest a b p q same apart =
     let back : bytes_eq b a ≡ true = ap (λ (n : List ℕ). bytes_eq n a) (sym (same_bytes a b same)) ∙ equal_itself a in
     sym (rw (same, back) refl) ∙ apart
 
--- what stands below a name goes by what stands at it
+-- the value below a name depends on the value at it
 value_by : (b : List ℕ) (q : Path) (d e : Fields) → get b d ≡ get b e → value_at (b ∷ q) d ≡ value_at (b ∷ q) e
 value_by b [] d e same = same
 value_by b (n ∷ q) d e same = ap (λ (found : Option Datum). option_and_then (value_at (n ∷ q)) (option_and_then as_document found)) same
@@ -96,7 +96,7 @@ nothing_at [] = refl
 nothing_at (b ∷ []) = refl
 nothing_at (b ∷ n ∷ q) = refl
 
--- what stands below a document on the way
+-- the value below a document on the way
 below_way : (n : List ℕ) (q : Path) (found : Option Datum) (inner : Fields) → on_the_way found ≡ Ok inner →
     value_at (n ∷ q) inner ≡ option_and_then (value_at (n ∷ q)) (option_and_then as_document found)
 below_way n q None inner e = ap (λ (ms : Fields). value_at (n ∷ q) ms) (sym (done_is no_fields inner e)) ∙ nothing_at (n ∷ q)
@@ -104,7 +104,7 @@ below_way n q (Some (document_value ms)) inner e =
     let same : ms ≡ inner = cc in ap (λ (fields : Fields). value_at (n ∷ q) fields) (sym same)
 below_way n q (Some d) inner e = absurd cc
 
--- a document that is changed at a name, where it stands on the way
+-- a document that is changed at a name, where it is on the way
 at_name : (a b : List ℕ) (q : Path) (found : Option Datum) (document inner changed : Fields) → a ≡ b → get a document ≡ found → on_the_way found ≡ Ok inner →
     value_at q changed ≡ value_at q inner → (q ≡ [] → ⊥) → value_at (b ∷ q) (with_field a (document_value changed) document) ≡ value_at (b ∷ q) document
 at_name a b [] found document inner changed same there way rest some = absurd (some refl)
@@ -138,7 +138,7 @@ puts_inside a n p value document after e =
     let made : with_field a (document_value second.0) document ≡ after = done_is (with_field a (document_value second.0) document) after second.2 in
     record { inner = first.0; changed = second.0; way = first.1; put = second.1; is = sym made }
 
--- what stands apart of the path stays
+-- a value at a path apart from this one stays
 pub put_leaves : (p q : Path) (value : Datum) (document after : Fields) → is_apart p q ≡ true → put_at p value document ≡ Ok after →
     value_at q after ≡ value_at q document
 put_leaves [] q value document after apart e = absurd (apart_empty q apart)
@@ -157,7 +157,7 @@ put_leaves (a ∷ n ∷ p) (b ∷ q) value document after apart e =
     absurd_apart n p [] none h = cc
     absurd_apart n p (b ∷ q) none h = absurd cc
 
--- what is put stands there
+-- a value that is put is found there
 pub put_stands : (a : List ℕ) (p : Path) (value : Datum) (document after : Fields) → put_at (a ∷ p) value document ≡ Ok after →
     value_at (a ∷ p) after ≡ Some value
 put_stands a [] value document after e =

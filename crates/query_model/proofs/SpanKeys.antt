@@ -346,7 +346,7 @@ module _ (key : Datum) (own : is_key key ≡ true) where
       by None is = record { within = fits.within; named = has_all xs [] (or_first (has xs) false there) }
       by (Some keys) is = fits
 
-  -- what a test says of a key that stands alone
+  -- what a test says of a key that is alone
   compared : (a b : Bool) → ((a && b) || false) ≡ true → b ≡ true
   compared true true h = refl
   compared true false h = absurd cc

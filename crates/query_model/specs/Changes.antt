@@ -1,6 +1,6 @@
 -- Changes of documents as data, and which documents are changes, or the first fault (MongoDB manual, "Update Operators",
 -- "Update Documents" and "Replace a Document"). A document with no outermost name that begins with $ is a replacement. Else each
--- of its names is an operator's, with a document of paths and operands. Of two faults the left is told, and of a field its
+-- of its names is an operator's, with a document of paths and operands. Of two faults the left is returned, and of a field its
 -- name's before its operand's. Edits go in the order of their paths (own, in that parts compare by their bytes).
 use Rattle.std.specs.Prelude.{ℕ, ℤ, List, [], ◌∷◌, ◌++◌, Bool, true, false, ◌&&◌, ◌||◌, not, Option, Some, None, Result, Ok, Err, ok_or, codes, is_some, if◌then◌else◌}
 use Rattle.std.specs.declared.cmp.Ordering.{Ordering}
@@ -15,7 +15,7 @@ use Rattle.query_model.specs.Paths.{Path, read_path, begins_with_dollar, as_docu
 use Rattle.query_model.specs.Queries.{QueryFault, unknown_operator, bad_operand, path_fault, named}
 use Rattle.query_model.specs.Reading.{◌>>=◌}
 
--- what an operator makes of what stands at its path
+-- what an operator makes of the value at its path
 pub data Edit : Type 0 where
   set_edit : Datum → Edit
   unset_edit : Edit
@@ -68,7 +68,7 @@ read_edits operator (field name d ms) = do
   others ← read_edits operator ms
   Ok ((path, edit) ∷ others)
 
--- the edits of all operators, as they stand
+-- the edits of all operators, in their order in the document
 abbrev pub read_operators : Fields → Result (List (Path × Edit)) QueryFault
 read_operators no_fields = Ok []
 read_operators (field name d ms) = do
@@ -87,7 +87,7 @@ abbrev pub put_among : List (Path × Edit) → List (Path × Edit) → List (Pat
 put_among others [] = others
 put_among others (e ∷ es) = put_among (insert_entry path_order others e.0 e.1) es
 
--- neither path is the other, or stands in front of it
+-- neither path is the other, or a prefix of it
 abbrev pub is_apart : Path → Path → Bool
 is_apart p q = not (starts_with bytes_eq p q || starts_with bytes_eq q p)
 
@@ -95,7 +95,7 @@ abbrev pub are_apart : List (Path × Edit) → Bool
 are_apart [] = true
 are_apart (e ∷ es) = list_all (λ f. is_apart e.0 f.0) es && are_apart es
 
--- the change that edits are, where no path is given twice or stands in front of another
+-- the change that edits are, where no path is given twice or is a prefix of another
 abbrev pub change_of : List (Path × Edit) → Result Change QueryFault
 change_of es = if are_apart es then Ok (edits (put_among [] es)) else Err bad_operand
 

@@ -1,4 +1,4 @@
--- The key that a document asks for, before it is read as a query, so that a document which asks for none is told apart from one
+-- The key that a document requests, before it is read as a query, so that a document which requests none is distinguished from one
 -- with another fault (MongoDB manual, "Targeted Operations vs. Broadcast Operations").
 use Rattle.std.specs.Prelude.{[], ◌∷◌, Option, Some, None, codes, if◌then◌else◌}
 use Rattle.std.specs.Option.{option_or}

@@ -34,7 +34,7 @@ abbrev pub ◌>>=◌ : {A B : Type 0} → Result A WriteFault → (A → Result 
 (Ok x) >>= f = f x
 (Err e) >>= f = Err e
 
--- the first field of that name has this value; where there is none, it is set behind the others
+-- the first field of that name has this value; where there is none, it is appended to the others
 abbrev pub with_field : List ℕ → Datum → Fields → Fields
 with_field name value no_fields = field name value no_fields
 with_field name value (field first d ms) = if bytes_eq first name then field first value ms else field first d (with_field name value ms)
@@ -44,13 +44,13 @@ abbrev pub without_field : List ℕ → Fields → Fields
 without_field name no_fields = no_fields
 without_field name (field first d ms) = if bytes_eq first name then ms else field first d (without_field name ms)
 
--- what stands at a path
+-- the value at a path
 abbrev pub value_at : Path → Fields → Option Datum
 value_at [] document = None
 value_at (part ∷ []) document = get part document
 value_at (part ∷ parts) document = option_and_then (value_at parts) (option_and_then as_document (get part document))
 
--- the document on the way, which is made where nothing stands
+-- the document on the way, which is made where there is no value
 abbrev pub on_the_way : Option Datum → Result Fields WriteFault
 on_the_way None = Ok no_fields
 on_the_way (Some (document_value ms)) = Ok ms
@@ -65,12 +65,12 @@ put_at (part ∷ parts) value document = do
   changed ← put_at parts value inner
   Ok (with_field part (document_value changed) document)
 
--- the document that stands in a field, changed, if there is one
+-- the document in a field, changed, if there is one
 abbrev pub change_inside : List ℕ → (Fields → Fields) → Option Datum → Fields → Fields
 change_inside part change (Some (document_value ms)) document = with_field part (document_value (change ms)) document
 change_inside part change found document = document
 
--- the document without what stands at the path
+-- the document without the value at the path
 abbrev pub take_at : Path → Fields → Fields
 take_at [] document = document
 take_at (part ∷ []) document = without_field part document
@@ -90,7 +90,7 @@ long_sum z = if is_int64 z then Ok (int64_value z) else Err overflow_fault
 abbrev pub short_sum : ℤ → Result Datum WriteFault
 short_sum z = if is_int32 z then Ok (int32_value z) else long_sum z
 
--- the operand added to what stands there
+-- the operand added to the value there
 abbrev pub sum_with : Datum → Option Datum → Result Datum WriteFault
 sum_with n None = Ok n
 sum_with (int32_value n) (Some (int32_value z)) = short_sum (z +ℤ n)
@@ -99,7 +99,7 @@ sum_with (int64_value n) (Some (int32_value z)) = long_sum (z +ℤ n)
 sum_with (int64_value n) (Some (int64_value z)) = long_sum (z +ℤ n)
 sum_with n (Some d) = Err not_number_fault
 
--- the operand where it is less than what stands there, or nothing does
+-- the operand where it is less than the value there, or there is none
 abbrev pub lesser_of : Datum → Option Datum → Datum
 lesser_of value None = value
 lesser_of value (Some d) = if is_lt (order value d) then value else d

@@ -12,7 +12,7 @@ use Rattle.query_model.specs.KeySpans.{key_equal}
 use Rattle.query_model.specs.Edits.{WriteFault, duplicate_fault, too_large_fault, ◌>>=◌, is_too_large, changed}
 use Rattle.query_model.specs.Writes.{Write, insert_write, update_write, delete_write}
 
--- what a write leaves, and tells
+-- what a write results in: the document, and its outcome
 pub record Effect : Type 0 where
   pub after : Option Fields
   -- how many documents it put in, met or took out
@@ -29,7 +29,7 @@ inserted document = record { after = Some document; count = 1; modified = 0; ups
 abbrev pub unmet : Option Fields → Effect
 unmet before = record { after = before; count = 0; modified = 0; upserted = None }
 
--- it changed a document where the spelling is another
+-- it changed a document where the encoding is another
 abbrev pub updated : Fields → Fields → Effect
 updated before after = record { after = Some after; count = 1; modified = if bytes_eq (written before) (written after) then 0 else 1; upserted = None }
 
@@ -55,7 +55,7 @@ effect_of (update_write asked change (Some start)) None = changed change start >
 effect_of (delete_write asked) (Some before) = Ok (if holds asked before then deleted else unmet (Some before))
 effect_of (delete_write asked) None = Ok (unmet None)
 
--- what stands under the key behind a write; a fault changes nothing
+-- what is stored under the key after a write; a fault changes nothing
 abbrev pub left_by : Option Fields → Result Effect WriteFault → Option Fields
 left_by before (Ok effect) = effect.after
 left_by before (Err fault) = before

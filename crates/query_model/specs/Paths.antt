@@ -1,4 +1,4 @@
--- Paths, and what stands at them in a document (MongoDB manual, "Dot Notation", "Query on Embedded/Nested Documents" and
+-- Paths, and the values at them in a document (MongoDB manual, "Dot Notation", "Query on Embedded/Nested Documents" and
 -- "Query an Array of Embedded Documents"). Own: an array is one step, so that only those of its elements that are documents
 -- are gone into; no part is an index, and a part of digits alone is refused.
 use Rattle.std.specs.Prelude.{◌≡◌, ℕ, List, [], ◌∷◌, length, Bool, true, false, ◌||◌, Option, Some, None, Result, Ok, Err, is_none, nat_lt, ◌==◌, if◌then◌else◌, filter_map, flat_map}
@@ -27,7 +27,7 @@ abbrev pub into_first : ℕ → Path → Path
 into_first b [] = (b ∷ []) ∷ []
 into_first b (part ∷ parts) = (b ∷ part) ∷ parts
 
--- what stands between the dots
+-- what is between the dots
 abbrev pub parts_of : List ℕ → Path
 parts_of [] = [] ∷ []
 parts_of (b ∷ name) = if b == byte "." then [] ∷ parts_of name else into_first b (parts_of name)

@@ -16,7 +16,7 @@ mutual
     clause : Clause → Query → Query
 
   pub data Clause : Type 0 where
-    -- tests of what stands at a path
+    -- tests of the values at a path
     path_clause : Path → Tests → Clause
     connective_clause : Connective → Queries → Clause
 

@@ -47,7 +47,7 @@ abbrev mutual
   is_plain_test (not_test tests) = are_plain_tests tests
   is_plain_test operator = true
 
--- a field of that name for each `$eq`, in front of others
+-- a field of that name for each `$eq`, before others
 abbrev pub with_equalities : List ℕ → Tests → Fields → Fields
 with_equalities name no_tests ms = ms
 with_equalities name (test (eq_test d) others) ms = field name d (with_equalities name others ms)

@@ -15,7 +15,7 @@ pub fn replacements()
     ensures within { read_change (one "x" (inner "$set" (number 1))) ≡ Ok (replacement (one "x" (inner "$set" (number 1)))) }
 {}
 
-/// Else each name is an operator's, before and behind names that are none.
+/// Else each name is an operator's, before and after names that are none.
 pub fn operators()
     ensures each { (read_change (setting "a" (number 1)) ≡ Ok (edits ((codes "a" ∷ [], set_edit (number 1)) ∷ [])))
         × (read_change (by "$unset" "a" (text "")) ≡ Ok (edits ((codes "a" ∷ [], unset_edit) ∷ [])))
@@ -40,7 +40,7 @@ pub fn operands()
         × (read_change (by "$unset" "a.$b" (number 1)) ≡ Err (path_fault dollar_part)) }
 {}
 
-/// Edits go in the order of their paths, over all operators: part by part, so that `a.b` comes before `a-b`. An operator may stand twice.
+/// Edits go in the order of their paths, over all operators: part by part, so that `a.b` comes before `a-b`. An operator may occur twice.
 pub fn in_order()
     ensures names { read_change (one "$set" (document_value (two "b" (number 1) "a" (number 2))))
         ≡ Ok (edits ((codes "a" ∷ [], set_edit (number 2)) ∷ (codes "b" ∷ [], set_edit (number 1)) ∷ [])) }
@@ -54,7 +54,7 @@ pub fn in_order()
         ≡ Ok (edits ((codes "a" ∷ [], set_edit (number 2)) ∷ (codes "b" ∷ [], set_edit (number 1)) ∷ [])) }
 {}
 
-/// No path stands twice or in front of another, over all operators. `a` does not stand in front of `ab`.
+/// No path occurs twice or is a prefix of another, over all operators. `a` is no prefix of `ab`.
 pub fn apart()
     ensures twice { (read_change (one "$set" (document_value (two "a" (number 1) "a" (number 1)))) ≡ Err bad_operand)
         × (read_change (two "$set" (inner "a" (number 1)) "$inc" (inner "a" (number 1))) ≡ Err bad_operand) }
@@ -67,7 +67,7 @@ pub fn apart()
         ≡ Ok (edits ((codes "a" ∷ codes "b" ∷ [], set_edit (number 1)) ∷ (codes "a" ∷ codes "c" ∷ [], set_edit (number 2)) ∷ []))) }
 {}
 
-/// Of two faults the left is told, of a field its name's before its operand's; that paths are not apart is told last.
+/// Of two faults the left is returned, of a field its name's before its operand's; that paths are not apart is returned last.
 pub fn first_faults()
     ensures left { (read_change (two "$inc" (inner "a" (text "x")) "$foo" (number 1)) ≡ Err bad_operand)
         × (read_change (two "$foo" (number 1) "$inc" (inner "a" (text "x"))) ≡ Err unknown_operator) }

@@ -8,7 +8,7 @@ ghost use Rattle.query_model.specs.Edits.{immutable_fault, is_too_large, not_doc
 ghost use Rattle.query_model.specs.SampleChanges.{Becomes, FailsWith, by, greatest_int32, greatest_int64, kept, long, setting, text};
 ghost use Rattle.query_model.specs.SampleQueries.{array, inner, number, one, two};
 
-/// The value stands at the path: in the first field of a name, or behind all others; a document that is missing on the way is made.
+/// The value is at the path: in the first field of a name, or after all others; a document that is missing on the way is made.
 pub fn put()
     ensures there { put_at (codes "a" ∷ []) (number 2) (two "a" (number 1) "b" (number 5)) ≡ Ok (two "a" (number 2) "b" (number 5)) }
     ensures last { put_at (codes "a" ∷ []) (number 2) (one "b" (number 5)) ≡ Ok (two "b" (number 5) "a" (number 2)) }
@@ -25,7 +25,7 @@ pub fn put()
         × (put_at (codes "a" ∷ codes "b" ∷ codes "c" ∷ []) (number 2) (one "a" (inner "b" (number 1))) ≡ Err not_document_fault) }
 {}
 
-/// The first field of the name is taken out, and the second then shows. Nothing is made, and nothing happens where nothing stands.
+/// The first field of the name is removed, and the second then shows. Nothing is made, and nothing happens where there is no value.
 pub fn taken()
     ensures there { take_at (codes "a" ∷ []) (two "a" (number 1) "b" (number 5)) ≡ one "b" (number 5) }
     ensures first { take_at (codes "a" ∷ []) (two "a" (number 1) "a" (number 2)) ≡ one "a" (number 2) }
@@ -59,7 +59,7 @@ pub fn sums()
         × (FailsWith (by "$inc" "a" (number 1)) (kept "a" (array (number 1 ∷ []))) not_number_fault) }
 {}
 
-/// The operand where it is less or greater, by the order of all values; a value that compares equal stays as it is spelled.
+/// The operand where it is less or greater, by the order of all values; a value that compares equal keeps its encoding.
 pub fn least_and_greatest()
     ensures least { (Becomes (by "$min" "a" (number 2)) (kept "a" (number 5)) (kept "a" (number 2)))
         × (Becomes (by "$min" "a" (number 7)) (kept "a" (number 5)) (kept "a" (number 5)))
@@ -75,7 +75,7 @@ pub fn least_and_greatest()
         × (Becomes (by "$max" "a.b" null_value) (one "_id" (number 1)) (kept "a" (inner "b" null_value))) }
 {}
 
-/// `{$set: {b: 1, a: 2}}` of `{_id: 1}` is `{_id: 1, a: 2, b: 1}`: new fields stand in the order of paths.
+/// `{$set: {b: 1, a: 2}}` of `{_id: 1}` is `{_id: 1, a: 2, b: 1}`: new fields come in the order of paths.
 pub fn turns()
     ensures order { Becomes (one "$set" (document_value (two "b" (number 1) "a" (number 2)))) (one "_id" (number 1)) (field (codes "_id") (number 1) (two "a" (number 2) "b" (number 1))) }
     ensures nothing { Becomes (one "$set" (document_value no_fields)) (kept "a" (number 1)) (kept "a" (number 1)) }
@@ -84,7 +84,7 @@ pub fn turns()
     ensures whole { FailsWith (two "$set" (inner "a" (number 2)) "$inc" (inner "z" (number 1))) (field (codes "_id") (number 1) (two "a" (number 1) "z" (text "t"))) not_number_fault }
 {}
 
-/// The key stays, in whatever spelling; that it would be another is told at the path `_id`. Below `_id` there is no document.
+/// The key stays, in whatever encoding; that it would be another is returned at the path `_id`. Below `_id` there is no document.
 pub fn keys_stay()
     ensures another { (FailsWith (setting "_id" (number 2)) (kept "a" (number 1)) immutable_fault)
         × (FailsWith (by "$inc" "_id" (number 1)) (kept "a" (number 1)) immutable_fault)
@@ -103,7 +103,7 @@ pub fn keys_stay()
         × (FailsWith (by "$inc" "_id" (number 1)) (two "_id" (text "k") "a" (number 1)) not_number_fault) }
 {}
 
-/// A replacement takes the place of all but the key: without `_id` it has the old one in front, with one it has it where it stands.
+/// A replacement takes the place of all but the key: without `_id` it has the old one first, with one it has it where it is.
 pub fn replaced()
     ensures in_front { (Becomes (one "x" (number 9)) (kept "a" (number 1)) (two "_id" (number 1) "x" (number 9)))
         × (Becomes (one "x" (number 9)) (two "a" (number 1) "_id" (number 1)) (two "_id" (number 1) "x" (number 9)))
@@ -113,7 +113,7 @@ pub fn replaced()
         × (FailsWith (one "_id" (inner "a" (number 1))) (kept "a" (number 1)) immutable_fault) }
 {}
 
-/// A result of 16,777,217 bytes or of 101 levels is too large, which is told last; what was there before is not judged.
+/// A result of 16,777,217 bytes or of 101 levels is too large, which is returned last; what was there before is not judged.
 pub fn too_large()
     ensures most_bytes { (document : Fields) → length (written document) ≡ 16777216 → document_depth document ≤ 100 → is_too_large document ≡ false }
     ensures bytes { (document : Fields) → length (written document) ≡ 16777217 → is_too_large document ≡ true }
@@ -126,7 +126,7 @@ pub fn too_large()
         × (FailsWith (two "_id" (number 2) "a" (document_value (nested 99))) (one "_id" (number 1)) immutable_fault) }
 {}
 
-/// What stands at a path is found by the first fields of its names, and not in arrays.
+/// The value at a path is found by the first fields of its names, and not in arrays.
 pub fn standing()
     ensures there { (value_at (codes "a" ∷ codes "b" ∷ []) (two "a" (inner "b" (number 1)) "a" (inner "b" (number 2))) ≡ Some (number 1))
         × (value_at (codes "a" ∷ codes "b" ∷ []) (two "a" (inner "c" (number 1)) "a" (inner "b" (number 2))) ≡ None)

@@ -7,7 +7,7 @@ ghost use Rattle.query_model.specs.Queries.{bad_operand, path_fault, too_deep, u
 ghost use Rattle.query_model.specs.Reading.{read_query};
 ghost use Rattle.query_model.specs.SampleQueries.{array, flag, inner, number, one, two, within_and, within_not};
 
-/// Names that are no operators where they stand.
+/// Names that are no operators where they occur.
 pub fn names()
     ensures outermost { (read_query (one "$where" (number 1)) ≡ Err unknown_operator)
         × (read_query (one "$expr" (document_value no_fields)) ≡ Err unknown_operator)
@@ -44,7 +44,7 @@ pub fn operands()
         × (read_query (one "a" (inner "$elemMatch" (array []))) ≡ Err bad_operand) }
 {}
 
-/// Of two faults the first is told: a name's before its operand's, an operand's before what is in it, the left before the right.
+/// Of two faults the first is returned: a name's before its operand's, an operand's before what is in it, the left before the right.
 pub fn ordered()
     ensures name { (read_query (one "a." (inner "$foo" (number 1))) ≡ Err (path_fault empty_part))
         × (read_query (one "$foo" (array (inner "a." (number 1) ∷ []))) ≡ Err unknown_operator) }
@@ -55,7 +55,7 @@ pub fn ordered()
         × (read_query (one "a" (document_value (two "$in" (number 5) "$foo" (number 1)))) ≡ Err bad_operand) }
 {}
 
-/// The outermost query is level 1. Level 100 is read, and level 101 is too deep, before what is in it and behind the operand by itself.
+/// The outermost query is level 1. Level 100 is read, and level 101 is too deep, before what is in it and after the operand by itself.
 pub fn levels()
     ensures queries { (is_ok (read_query (within_and 99 (one "a" (inner "$gt" (number 1))))) ≡ true)
         × (read_query (within_and 100 no_fields) ≡ Err too_deep) }

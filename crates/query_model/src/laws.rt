@@ -43,7 +43,7 @@ pub fn never_too_deep()
     ensures { (document : Fields) → IsWithinDepth document → read_query document ≢ Err too_deep }
 {}
 
-/// What is put at a path stands there; what stands at a path that is no prefix of it, nor it of that, stays.
+/// A value that is put at a path is found there; the value at a path that is no prefix of it, nor it of that, stays.
 #[tactic(auto, using(crate::proofs::Puts::put_stands, crate::proofs::Puts::put_leaves))]
 pub fn put_leaves_all_else()
     ensures stands { (part : List ℕ) (parts : Path) (value : Datum) (document after : Fields) → put_at (part ∷ parts) value document ≡ Ok after
@@ -52,13 +52,13 @@ pub fn put_leaves_all_else()
         → value_at q after ≡ value_at q document }
 {}
 
-/// What is taken out at a path leaves what stands at a path that is no prefix of it, nor it of that.
+/// A removal at a path keeps the value at a path that is no prefix of it, nor it of that.
 #[tactic(auto, using(crate::proofs::Puts::take_leaves))]
 pub fn take_leaves_all_else()
     ensures { (p q : Path) (document : Fields) → is_apart p q ≡ true → value_at q (take_at p document) ≡ value_at q document }
 {}
 
-/// The edits of a change stand in the order of their paths, each path once.
+/// The edits of a change are in the order of their paths, each path once.
 #[tactic(auto, using(crate::proofs::EditOrder::edits_in_order))]
 pub fn edits_in_order()
     ensures { (document : Fields) (es : List (Path × Edit)) → read_change document ≡ Ok (edits es) → IsStrictlySortedBy path_order (keys_of es) }

@@ -95,7 +95,7 @@ pub fn elements_at_a()
         ≡ Ok (true ∷ true ∷ true ∷ true ∷ true ∷ true ∷ true ∷ []) }
 {}
 
-/// At a path, values and a gap stand side by side; an array of no documents has neither.
+/// At a path, there are values and a gap side by side; an array of no documents has neither.
 pub fn gaps_at_b()
     ensures eq { answers_at_b "$eq" (number 5) ≡ Ok (true ∷ false ∷ false ∷ false ∷ true ∷ true ∷ []) }
     ensures eq_null { answers_at_b "$eq" null_value ≡ Ok (true ∷ false ∷ false ∷ true ∷ false ∷ false ∷ []) }

@@ -11,7 +11,7 @@ ghost use Rattle.query_model.specs.Effects.{deleted, effect_of, inserted, unmet}
 ghost use Rattle.query_model.specs.SampleChanges.{by, delete_of, kept, long, setting, update_of, upsert_of};
 ghost use Rattle.query_model.specs.SampleQueries.{array, inner, number, one, two};
 
-/// An insert puts its document in where none is there. Of one that is there it is told before the size.
+/// An insert stores its document where none is there. That one is there is returned before the size.
 pub fn inserts()
     ensures put { effect_of (insert_write (kept "a" (number 1))) None ≡ Ok (inserted (kept "a" (number 1))) }
     ensures duplicate { (effect_of (insert_write (kept "a" (number 1))) (Some (one "_id" (number 1))) ≡ Err duplicate_fault)
@@ -19,7 +19,7 @@ pub fn inserts()
     ensures large { effect_of (insert_write (nested 100)) None ≡ Err too_large_fault }
 {}
 
-/// An update acts where the document is there and the filter holds. It counts what it met, and as modified what is spelled anew.
+/// An update acts where the document is there and matches the filter. It counts what it matched, and as modified what is encoded anew.
 pub fn updates()
     ensures changed { update_of (one "_id" (number 1)) (setting "a" (number 2)) (Some (kept "a" (number 1)))
         ≡ Ok (Ok (record { after = Some (kept "a" (number 2)); count = 1; modified = 1; upserted = None })) }
@@ -49,7 +49,7 @@ pub fn upserts_there()
     ensures fails { upsert_of (two "_id" (number 1) "a" (number 5)) (setting "a" (number 2)) (Some (kept "a" (number 1))) ≡ Ok (Err duplicate_fault) }
 {}
 
-/// Else it begins with the equalities at the top of the filter, in its order, `_id` where it stands; and then makes the change.
+/// Else it begins with the equalities at the top of the filter, in its order, `_id` where it is; and then makes the change.
 pub fn upserts()
     ensures begins { upsert_of (field (codes "a") (number 1) (two "_id" (number 1) "y" (inner "$gt" (number 3)))) (setting "x" (number 9)) None
         ≡ Ok (Ok (record { after = Some (field (codes "a") (number 1) (two "_id" (number 1) "x" (number 9))); count = 1; modified = 0; upserted = Some (number 1) })) }
@@ -82,7 +82,7 @@ pub fn filters_of_upserts()
     ensures update { update_of (two "_id" (number 1) "a.b" (number 5)) (setting "x" (number 9)) None ≡ Ok (Ok (unmet None)) }
 {}
 
-/// Of an update's faults the filter's is told first, then the change's, then that an upsert can't begin with the filter.
+/// Of an update's faults the filter's is returned first, then the change's, then that an upsert can't begin with the filter.
 pub fn faults_of_words()
     ensures filter { read_update (one "a." (number 1)) (by "$foo" "a" (number 1)) true ≡ Err (path_fault empty_part) }
     ensures change { read_update (one "a.b" (number 1)) (by "$foo" "a" (number 1)) true ≡ Err unknown_operator }

@@ -63,7 +63,7 @@ module _ (given : List Given) (creations : List Creation) (history : List Entry)
   right_told : (t : Answered) → IsIn t answered → IsRightIn given creations history asked answered t
   right_told t i = right_in given creations history asked answered [] answered one.right t i
 
-  -- what a request is told is right, and its router's time was not lower then
+  -- the reply to a request is right, and its router's time was not lower then
   pub answer_right : (a : Asked) (t : Answered) → IsTold asked answered a t → IsRightFor creations history asked answered a t
   answer_right a t told =
       let r = right_told t told.told in
@@ -71,7 +71,7 @@ module _ (given : List Given) (creations : List Creation) (history : List Entry)
       subst (λ (b : Asked). IsRightFor creations history asked answered b t) same
       (record { cursors = r.cursors; next = r.next; right = r.is.right; risen = r.is.risen })
 
-  -- each answer is told to a request
+  -- each reply belongs to a request
   pub record HasRequest (t : Answered) : Type 0 where
     pub request : Asked
     pub is : IsTold asked answered request t
@@ -87,7 +87,7 @@ module _ (given : List Given) (creations : List Creation) (history : List Entry)
       subst (λ (id : RequestId). TellsWrite history asked id t write) told.own
       (right_of creations history asked answered r.cursors a t (Ok (write_command write)) r.next asks r.right).0
 
-  -- what a write was told
+  -- the reply to a write
   pub told_write : (t : Answered) (write : WriteCommand) → IsIn t answered → command_of t.request ≡ Ok (write_command write)
       → TellsWrite history asked t.id t write
   told_write t write i asks = let h = told_to t i in tells_its_write h.request t write h.is (ap command_of h.same ∙ asks)
@@ -97,7 +97,7 @@ module _ (given : List Given) (creations : List Creation) (history : List Entry)
   pub one_entry : (d e : Entry) → IsIn d history → IsIn e history → d.number ≡ e.number → d ≡ e
   one_entry d e i j same = one_number history one.numbers (λ x k. on_first creations x (all_at (IsPlaced creations) x history one.placed k)) d e i j same
 
-  -- without a client's number it is told the entries of all its statements
+  -- without a client's number the reply has the outcomes of the entries of all its statements
   pub tells_all : (t : Answered) (write : WriteCommand) → IsIn t answered → command_of t.request ≡ Ok (write_command write) → write.number ≡ None
       → t.document ≡ answer_document (answer_of write.kind t.time (told_by t.id history))
   tells_all t write i asks none =

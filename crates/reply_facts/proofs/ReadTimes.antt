@@ -1,4 +1,4 @@
--- The times that reads are told.
+-- The times that reads return.
 use Rattle.std.proofs.Common.{◌≡◌, ℕ, ◌≤◌, ◌⊎◌, inl, inr, List, refl, sym, ap, subst, ◌∙◌, arith}
 use Rattle.std.specs.Prelude.{Option, Some, None, Result, Ok, Err}
 use Rattle.bson_model.specs.Tree.{Fields}
@@ -110,7 +110,7 @@ module _ (creations : List Creation) (history : List Entry) (asked : List Asked)
   ahead_by (Ok (kill_command kill)) next s asks right told = absurd (let e = sym right.says ∙ told in cc)
   ahead_by (Err refusal) next s asks right told = absurd (never_ahead a.request refusal s asks (sym right.0 ∙ told))
 
-  -- a greatest time that is told is the router's
+  -- a greatest time that is returned is the router's
   pub ahead_time : (next : List Cursor) (s : ℕ) → IsRight creations history asked answered cursors a t next
       → t.document ≡ answer_document (refusal_answer (time_ahead s))
       → s ≡ t.time
@@ -125,7 +125,7 @@ module _ (creations : List Creation) (history : List Entry) (asked : List Asked)
       (count_not_ahead counted.0.number counted.0.time s (sym counted.0.says ∙ told))
   read_ahead_by r next reading s (count_reads other) (inr refused) told = (refused_so other s refused.0 told).1
 
-  -- a read that is told one is ahead
+  -- a read that returns one is ahead
   pub is_ahead : (next : List Cursor) (reading : Reading) (s : ℕ) → Reads (command_of a.request) reading
       → IsRight creations history asked answered cursors a t next
       → t.document ≡ answer_document (refusal_answer (time_ahead s)) → IsAhead history answered a t reading

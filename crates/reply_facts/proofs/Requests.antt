@@ -42,7 +42,7 @@ own_entry a b e sends own other =
     (ap (λ (given : Option ClientNumber). number_for given a.id sends.index) (sym own) ∙ sym sends.entry.statement.same_number
     ∙ other.entry.statement.same_number)
 
--- of different numbers each stands in one place
+-- of different numbers each is in one place
 one_place : {X : Type 0} (id_of : X → RequestId) (a b : X) (xs : List X) → AreDifferent (map id_of xs) → IsIn a xs → IsIn b xs → id_of a ≡ id_of b → a ≡ b
 one_place id_of a b [] different i j same = absurd (in_none a i)
 one_place {X = X} id_of a b (c ∷ xs) different i j same =
@@ -68,7 +68,7 @@ one_asked a b asked different i j same = one_place (λ (x : Asked). x.id) a b as
 pub one_told : (s t : Answered) (answered : List Answered) → AreDifferent (ids_told answered) → IsIn s answered → IsIn t answered → s.id ≡ t.id → s ≡ t
 one_told s t answered different i j same = one_place (λ (x : Answered). x.id) s t answered different i j same
 
--- no answer stands behind another of the same request
+-- no reply comes after another to the same request
 pub once_told : (prefix middle back : List Answered) (s t : Answered) → AreDifferent (ids_told (prefix ++ s ∷ (middle ++ t ∷ back))) → s.id ≡ t.id → ⊥
 once_told (x ∷ prefix) middle back s t different same = once_told prefix middle back s t different.1 same
 once_told [] middle back s t different same = behind middle different.0

@@ -1,4 +1,4 @@
--- What right answers tell, by what the requests ask for.
+-- What right replies return, by what the requests are.
 use Rattle.std.proofs.Common.{◌≡◌, ℕ, ℤ, ◌≤◌, ◌⊎◌, inl, inr, List, [], ◌∷◌, refl, sym, ap, subst, ◌∙◌, arith}
 use Rattle.std.specs.Prelude.{Option, Some, None, Result, Ok, Err, codes}
 use Rattle.std.specs.Option.{unwrap_or}
@@ -195,7 +195,7 @@ same_parts a b cursor namespace items time =
     let documents : a.documents ≡ b.documents = same_items a.documents b.documents items in
     λ i. record { cursor = cursor i; namespace = namespace i; documents = documents i; time = time i }
 
--- replies that are alike tell one batch
+-- replies that are alike return one batch
 pub same_first : (a b : Batch) → answer_document (first_answer a) ≡ answer_document (first_answer b) → a ≡ b
 same_first a b same =
     let cursor : a.cursor ≡ b.cursor = cc in

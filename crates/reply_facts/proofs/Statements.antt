@@ -1,4 +1,4 @@
--- A number has one entry, and what was done of a statement is told by the entry of its number.
+-- A number has one entry, and the outcome of a statement that was done is that of the entry of its number.
 use Rattle.std.proofs.Common.{◌≡◌, ℕ, ◌+◌, ◌⊎◌, inl, inr, List, [], ◌∷◌, refl, sym, ap, subst, ◌∙◌}
 use Rattle.std.specs.Prelude.{Bool, true, false, Option, None, map}
 use Rattle.command_model.specs.Writes.{ClientNumber, WriteCommand}
@@ -34,7 +34,7 @@ one_number (c ∷ history) numbered first d e i j same =
     by_place (inr k) (inl y) more = absurd (apart d k (same ∙ ap (λ (z : Entry). z.number) y))
     by_place (inr k) (inr l) more = more k l
 
--- WHAT STATEMENTS ARE TOLD
+-- OUTCOMES OF STATEMENTS
 
 -- nothing follows where the command has ended
 abbrev pub UnlessEnded : {X : Type 0} → (ended : Bool) → List X → Type 0 → Type 0

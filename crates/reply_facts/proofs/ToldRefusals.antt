@@ -1,4 +1,4 @@
--- What requests that are refused are told.
+-- Replies to requests that are refused.
 use Rattle.std.proofs.Common.{◌≡◌, ℕ, ap, ◌∙◌}
 use Rattle.std.specs.Prelude.{Result, Ok, Err}
 use Rattle.opmsg_model.specs.Requests.{Form, Body, read_body, faulty_body, Request}

@@ -1,4 +1,4 @@
--- How requests, answers and entries stand to each other.
+-- How requests, replies and entries relate to each other.
 use Rattle.std.specs.Prelude.{◌≡◌, ◌<◌, List, [], ◌∷◌, Bool, false, ◌&&◌, Option, Some, None}
 use Rattle.bson_model.specs.Tree.{Fields}
 use Rattle.std.specs.Str.{bytes_eq}
@@ -8,13 +8,13 @@ use Rattle.command_model.specs.Reading.{Reading}
 use Rattle.history_model.specs.History.{Entry, IsIn, key_written}
 use Rattle.reply_model.specs.Exchanges.{Asked, Answered}
 
--- the request was taken, and is told this
+-- the request was taken, and this is its reply
 pub record IsTold (asked : List Asked) (answered : List Answered) (a : Asked) (t : Answered) : Type 0 where
   pub taken : IsIn a asked
   pub told : IsIn t answered
   pub own : a.id ≡ t.id
 
--- its router told this in the life in which it took the request, before that came
+-- its router returned this in the life in which it took the request, before that came
 pub record WasToldBefore (answered : List Answered) (a : Asked) (t : Answered) : Type 0 where
   pub told : IsIn t answered
   pub router : t.id.router ≡ a.id.router
@@ -33,7 +33,7 @@ abbrev pub found : Option Fields → List Fields
 found None = []
 found (Some document) = document ∷ []
 
--- the entry writes in the collection that is read, under a key that may stand in the span of the stages
+-- the entry writes in the collection that is read, under a key that may be in the span of the stages
 abbrev pub touches : Reading → Entry → Bool
 touches reading e =
     bytes_eq e.namespace reading.namespace && elim (key_written e.operation) [ None ↦ false | Some key ↦ inside_some (span_of_stages reading.stages) key ]

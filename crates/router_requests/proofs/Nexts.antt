@@ -1,4 +1,4 @@
--- What becomes of an open request where a table is told.
+-- What becomes of an open request after a table arrives.
 use Rattle.std.proofs.Common.{◌≡◌, refl, ap, sym, subst, ◌∙◌, ℕ, List, [], Bool, true, false, ◌&&◌, if◌then◌else◌}
 use Rattle.std.proofs.lemmas.Slice.Eq.{bytes_eq-Decides}
 use Rattle.std.specs.Prelude.{Option, Some, None, is_some}

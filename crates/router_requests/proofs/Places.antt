@@ -1,4 +1,4 @@
--- Where requests stand in a list whose counts rise.
+-- Where requests are in a list whose counts rise.
 use Rattle.std.proofs.Common.{◌≡◌, refl, ap, sym, ℕ, suc, ◌+◌, ◌≤◌, ◌<◌, List, [], ◌∷◌, ◌++◌, map, length, Bool, true, false, ◌&&◌, ◌==◌, if◌then◌else◌, arith, nat_lt}
 use Rattle.std.proofs.lemmas.Bool.{eqb-true, le-leb, leb-true, ltb-true, lt-ltb}
 use Rattle.std.specs.Prelude.{zero}
@@ -24,7 +24,7 @@ rises_less less least greatest [] le e = le-leb less greatest (omega (arith, leb
 rises_less less least greatest (q ∷ items) le e =
     let p = both (nat_lt least q.count) (rises q.count greatest items) e in and (lt-ltb less q.count (omega (arith, ltb-true least q.count p.0, le))) p.1
 
--- a request behind the others
+-- a request after the others
 pub rises_pushed : (least greatest : ℕ) (items : List OpenRequest) (q : OpenRequest) → rises least greatest items ≡ true → q.count ≡ greatest + 1
     → rises least q.count (items ++ q ∷ []) ≡ true
 rises_pushed least greatest [] q e next = and (lt-ltb least q.count (omega (arith, leb-true least greatest e, next))) (le-leb q.count q.count (omega arith))
@@ -49,7 +49,7 @@ module _ (router life count : ℕ) where
     by_test true e = absurd (omega (arith, eqb-true a count e, low, above))
     by_test false e = refl
 
-  -- behind greater counts there is none to take out
+  -- after greater counts there is none to remove
   without_none : (least greatest : ℕ) (items : List OpenRequest) → rises least greatest items ≡ true → count ≤ least → without count (map (λ q. open_view router life q) items) ≡ map (λ q. open_view router life q) items
   without_none least greatest [] e low = refl
   without_none least greatest (q ∷ items) e low =

@@ -1,4 +1,4 @@
--- The statements behind the answers.
+-- The statements after the answers.
 use Rattle.std.proofs.Common.{◌≡◌, ap, sym, ◌∙◌, ◌-◌, List, take, drop, map, length}
 use Rattle.std.proofs.lemmas.List.{drop-map, length-map, take_rest}
 use Rattle.std.specs.Prelude.{Option}

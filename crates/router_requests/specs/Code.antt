@@ -1,4 +1,4 @@
--- How halves and merges are told from others: by what they hold, each in a place of its own.
+-- How halves and merges are compared with others: by what they hold, each in a place of its own.
 use Rattle.std.specs.Prelude.{◌≡◌, ◌⊎◌, ℕ, List, refl, ◌==◌, if◌then◌else◌}
 use Rattle.std.proofs.Common.{inl, inr}
 use Rattle.std.specs.Coded.{Coded, code_by, coded×, coded⊎, coded_list, coded_ℕ}

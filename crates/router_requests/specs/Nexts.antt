@@ -1,4 +1,4 @@
--- What becomes of an open request where a table is told.
+-- What becomes of an open request after a table arrives.
 use Rattle.std.specs.Prelude.{◌≡◌, ℕ, [], Option, Some}
 use Rattle.node_model.specs.RouterRows.{Next as Fate, stays, is_told, with_work, asks_shards, reply_to, empty_answer}
 use Rattle.node_model.specs.States.{Open, Router, for_shards}

@@ -7,7 +7,7 @@ abbrev pub rises : (least greatest : ℕ) → List OpenRequest → Bool
 rises least greatest [] = nat_le least greatest
 rises least greatest (q ∷ requests) = nat_lt least q.count && rises q.count greatest requests
 
--- how many requests stand before that with this count; all where there is none
+-- how many requests come before that with this count; all where there is none
 abbrev pub place_of : ℕ → List OpenRequest → ℕ
 place_of count [] = 0
 place_of count (q ∷ requests) = if q.count == count then 0 else suc (place_of count requests)

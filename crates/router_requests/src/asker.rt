@@ -78,7 +78,7 @@ impl Asker {
         Ok(self.says(CATALOGUE, time, Body::TableAsk(ask)))
     }
 
-    /// What a read of a time that is ahead asks every shard for: its time. So far there is one.
+    /// Returns what a read of a time that is ahead requests of every shard: its time. Currently there is one.
     pub fn asks_times(self, time: Time, count: u64) -> Message
         ensures { letter_of result ∷ [] ≡ rows.asks_times (asker_view self) time.0 (rows.id_of (asker_view self) count) }
     {

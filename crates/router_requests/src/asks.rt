@@ -216,8 +216,8 @@ impl Asker {
         }
     }
 
-    /// What a read asks for at a time by the table that it can go on with, if that is there: the shards, or else the catalogue. Fails for
-    /// want of memory.
+    /// Returns what a read requests at a time by the table that it can proceed with, if that is there: of the shards, or else of the catalogue. Returns
+    /// `Memory` if memory runs out.
     pub fn asks_read(
         self,
         time: Time,

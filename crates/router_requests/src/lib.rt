@@ -1,4 +1,4 @@
-//! The requests of a router that are not told yet, and what they ask the other nodes for.
+//! The requests of a router that are not answered yet, and what they request of the other nodes.
 #![tactic(auto)]
 
 mod asker;

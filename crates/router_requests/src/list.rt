@@ -73,7 +73,7 @@ impl OpenList {
         None
     }
 
-    // How many requests stand before that with this count; all where there is none.
+    // Returns how many requests come before that with this count; all where there is none.
     fn place(&self, count: u64) -> usize
         ensures { result ≡ place_of count self.now.requests.items }
     {
@@ -107,7 +107,7 @@ impl OpenList {
         self.taken += 1;
     }
 
-    /// Puts the next request behind the others, where there is room. Takes no memory.
+    /// Appends the next request to the others, where there is room. Takes no memory.
     #[tactic(auto, using(crate::proofs::Places::rises_pushed))]
     pub fn push(&mut self, request: OpenRequest)
         requires room { has_room self.old ≡ true }
@@ -159,8 +159,8 @@ impl OpenList {
         }
     }
 
-    // The request at a place has its turn, where a table of this collection was told for a time, and this is the one that is known then.
-    // Gives the place of the next one.
+    // The request at a place has its turn, after a table of this collection arrived for a time, where this is the one that is known then.
+    // Returns the place of the next one.
     fn learn_at(
         &mut self,
         place: usize,
@@ -191,8 +191,8 @@ impl OpenList {
         }
     }
 
-    /// A table of this collection was told for a time, and this is the one that is known then, if one is: requests that can go on with it
-    /// wait for the shards, and those that are told that nothing is there are taken out.
+    /// A table of this collection arrived for a time, and this is the one that is known then, if one is: requests that can proceed with it
+    /// wait for the shards, and those that are answered that nothing is there are removed.
     pub fn learn(&mut self, namespace: &Namespace, told: At, known: Option<&Table>)
         ensures taken { taken_of self.new ≡ taken_of self.old }
         ensures opens { (r : states.Router) (time : ℕ) (after : List tables.Table) → tables.table_of namespace.now after ≡ option_map (λ t. t.now) known.entry →

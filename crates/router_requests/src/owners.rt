@@ -99,7 +99,7 @@ pub(crate) fn owner_of_statement(
     Ok(table.owner_now(&key))
 }
 
-/// The shard that had what a half is of at a time, if one had it: so far one shard has all keys.
+/// Returns the shard that had what a half is of at a time, if one had it: currently one shard has all keys.
 pub fn owner_of_half(table: &Table, at: Time, _half: &Half) -> Option<NodeId>
     ensures { option_map (λ shard. shard.0) result ≡ rows.owner_of_span table.now at.0 (half_of _half.now).span }
 {

@@ -1,4 +1,4 @@
-//! Reads that are not told yet.
+//! Reads that are not answered yet.
 
 ghost use Rattle.std.specs.Prelude.{◌≡◌};
 ghost use Rattle.std.specs.Arc.{arc_value};
@@ -59,7 +59,7 @@ impl Parts {
     }
 }
 
-/// How what is read is told.
+/// How the result of a read is returned.
 #[derive(Clone, Copy, Debug, PartialEq, Eq)]
 pub enum Telling {
     /// In batches, of which the first has so many documents at most, and is the only one where `single`.
@@ -68,7 +68,7 @@ pub enum Telling {
     Number,
 }
 
-/// A read that is not told yet.
+/// A read that is not answered yet.
 #[derive(Drop)]
 pub struct OpenRead {
     /// Whether its time was named.

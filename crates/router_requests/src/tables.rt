@@ -1,4 +1,4 @@
-//! What becomes of open requests where a table is told.
+//! What becomes of open requests after a table arrives.
 
 ghost use Rattle.std.specs.Prelude.{◌≡◌, ◌&&◌, ℕ, List, None};
 ghost use Rattle.std.specs.Option.{is_some, option_map};
@@ -18,18 +18,18 @@ use chunk_table::Table;
 use cluster_base::{Namespace, Time};
 use protocol_model::At;
 
-/// What becomes of an open request where a table is told.
+/// What becomes of an open request after a table arrives.
 #[derive(Clone, Copy, Debug, PartialEq, Eq)]
 pub enum Next {
     /// It stays as it is.
     Stays,
     /// It asks the shards.
     GoesOn,
-    /// It is told so that nothing is there, at this time.
+    /// It is answered so that nothing is there, at this time.
     IsTold(Time, Telling),
 }
 
-/// Whether what is told for a time is the answer to a read of this one.
+/// Returns whether what arrives for a time is the answer to a read of this one.
 fn is_for(told: At, at: Time) -> bool
     ensures { result ≡ rows.is_for (at_view told) at.0 }
 {
@@ -60,7 +60,7 @@ fn can_go_on(known: Option<&Table>, work: &Work) -> bool
     }
 }
 
-/// What becomes of work that waits for its table, and can't go on, where the table was told for a time.
+/// Returns what becomes of work that waits for its table, and can't proceed, after the table arrived for a time.
 fn next_without(told: At, work: &Work) -> Next
     ensures { (r : states.Router) (time : ℕ) (q : states.Open) (id : identities.RequestId) → q.work ≡ work_view id work.now →
         IsNext r time None q (rows.next_without r time (at_view told) q) result }
@@ -77,7 +77,7 @@ fn next_without(told: At, work: &Work) -> Next
     }
 }
 
-/// What becomes of an open request where a table of this collection was told for a time, and this is the one that is known then.
+/// Returns what becomes of an open request after a table of this collection arrived for a time, where this is the one that is known then.
 pub fn next_of(
     namespace: &Namespace,
     told: At,

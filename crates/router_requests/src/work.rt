@@ -5,10 +5,10 @@ use cluster_base::{Namespace, Time};
 use command_replies::{ClientNumber, WriteKind};
 use protocol_model::{DoneList, Head, StatementList};
 
-/// What a request has to do before it is told.
+/// What a request has to do before it is answered.
 #[derive(Drop)]
 pub enum Work {
-    /// Its statements, of this kind, and what the first of them were told.
+    /// Its statements, of this kind, and the outcomes of the first of them.
     Writing {
         kind: WriteKind,
         /// The number that the client gave them, if it gave one.
@@ -32,7 +32,7 @@ pub enum Wait {
     ForShards,
 }
 
-/// A request that is not told yet.
+/// A request that is not answered yet.
 #[derive(Drop)]
 pub struct OpenRequest {
     /// How many requests the router had taken in its life, with this one.

@@ -17,7 +17,7 @@ none_more byte i bytes first within other =
     subst (λ (l : List ℕ). HasNone byte l) (sym (ap (λ (n : ℕ). take n bytes) (add-one i) ∙ take-suc bytes i 0 within))
     (none_append byte (take i bytes) (get_or bytes i 0 ∷ []) first (other, tt))
 
--- what stands before the first such byte tells what stands behind it
+-- what comes before the first such byte determines what comes after it
 pub same_cut : (byte : ℕ) (a b c d : List ℕ) → HasNone byte a → HasNone byte c → a ++ byte ∷ b ≡ c ++ byte ∷ d → (a ≡ c) × (b ≡ d)
 same_cut byte [] b [] d in_a in_c e = (refl, cc e)
 same_cut byte [] b (y ∷ c) d in_a in_c e = absurd (in_c.0 (cc e))

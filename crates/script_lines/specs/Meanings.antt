@@ -1,4 +1,4 @@
--- The line that a `Line` stands for.
+-- The line that a `Line` models.
 use Rattle.std.specs.Prelude.{Some, None}
 use Rattle.script_lines.specs.Lines as said
 use Rattle.script_lines.specs.Lines.{client_line, deliver_line, moment_line, settle_line, next_line}

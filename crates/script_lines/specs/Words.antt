@@ -8,7 +8,7 @@ use Rattle.hex.specs.Hex.{decode_of}
 abbrev pub HasNone : (byte : ℕ) → List ℕ → Type 0
 HasNone byte bytes = AllByRecursion (λ b. b ≢ byte) bytes
 
--- the bytes are cut where this byte first stands
+-- the bytes are cut where this byte first occurs
 pub record IsCutAt (byte : ℕ) (bytes before behind : List ℕ) : Type 0 where
   pub whole : bytes ≡ before ++ byte ∷ behind
   pub first : HasNone byte before

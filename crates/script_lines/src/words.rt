@@ -7,7 +7,7 @@ use itoa::Buffer;
 use std::str;
 
 #[tactic(auto, using(crate::proofs::Cuts::none_more))]
-/// What stands before the first such byte, and what stands behind it.
+/// Returns what comes before the first such byte, and what comes after it.
 pub fn cut_at(byte: u8, bytes: &[u8]) -> Option<(&[u8], &[u8])>
     ensures found { IfSome result (λ x. IsCutAt byte bytes.now x.0.now x.1.now) }
     ensures none { IsNone result → HasNone byte bytes.now }

@@ -1,4 +1,4 @@
--- What is told of a half is a row of the shard.
+-- What is returned for a half is a transition of the shard.
 use Rattle.std.proofs.Common.{◌≡◌, ℕ, List, [], ◌∷◌}
 use Rattle.std.specs.Prelude.{Result, Ok, Err}
 use Rattle.base_model.specs.Identities.{RequestId}

@@ -178,7 +178,7 @@ other_planned s m p other timed none unwritten unsent = (
   omega (arith, timed),
 )
 
--- no table is told
+-- no table arrives
 pub none_told : (s : Shard) (m : Letter) (p : StepPlan) (told : TableTold) → m.body ≡ table_told_view told → told.table ≡ None → p.time.0 ≡ heard s m → p.change ≡ Nothing
     → p.records.items ≡ [] → map letter_of p.mail ≡ [] → IsPlanned s (letter_input m) p
 none_told s m p told body none timed still unwritten unsent =

@@ -56,7 +56,7 @@ module _ (shard : ℕ) (namespace : List ℕ) (ordered : Bool) (entries : List E
       (subst (λ (m : List Entry). Serves shard namespace ordered entries start all (dones ++ []) m now) (append-nil made)
       (goes.on [] [] now (serves_no_more (entries ++ made) now left)))
 
-  -- what is served behind one more
+  -- what is served after one more
   behind : (left : List Statement) (dones : List Done) (made : List Entry) (d : Done) (more : List Entry) (after : ℕ)
       → ((ds : List Done) (further : List Entry) (last : ℕ) → Serves shard namespace ordered ((entries ++ made) ++ more) after left ds further last
       → Serves shard namespace ordered entries start all (dones ++ d ∷ ds) (made ++ (more ++ further)) last)
@@ -101,7 +101,7 @@ module _ (shard : ℕ) (namespace : List ℕ) (ordered : Bool) (entries : List E
       (goes.on (done_of e ∷ []) (e ∷ []) (now + 1) (ends_new (entries ++ made) now s left unseen (subst (λ (x : Done). ends ordered x ≡ true) (sym same) on)))
   last_one s left dones made now more after o d goes left_for_later is on = absurd cc
 
-  -- one statement more was served, and more may be behind it or not
+  -- one statement more was served, and more may come after it or not
   pub goes_or_ends : (s : Statement) (left : List Statement) (dones dones_then : List Done) (made made_then more : List Entry) (now after : ℕ) (o : Option Done) (d : Done) (b : Bool)
       → GoesOn shard namespace ordered entries start all (s ∷ left) dones made now → IsServed shard namespace (entries ++ made) now s o more after → o ≡ Some d
       → ends ordered d ≡ b → made_then ≡ made ++ more → dones_then ≡ dones ++ d ∷ []
@@ -147,7 +147,7 @@ module _ (shard : ℕ) (namespace : List ℕ) (ordered : Bool) (entries : List E
       by_end true either = either.0 refl
       by_end false either = either.1 refl
 
--- records of entries that were made, and of those behind them
+-- records of entries that were made, and of those after them
 pub kept_more : (made made_then more : List Entry) (records records_then : List (List ℕ)) (r : Option StatementResult) → AreKept made records → AreKept more (record_in r)
     → made_then ≡ made ++ more → records_then ≡ records ++ record_in r → AreKept made_then records_then
 kept_more made made_then more records records_then r kept next grown written = record {
@@ -174,7 +174,7 @@ pub not_none : {X : Type 0} (items : List X) → 1 ≤ length items → items �
 not_none [] some none = absurd (omega (arith, some))
 not_none (x ∷ items) some none = absurd cc
 
--- what the first statement of an ask is told unless it is new
+-- the outcome of the first statement of a request unless it is new
 pub repeats_first : (ordered : Bool) (entries : List Entry) (given : Option ClientNumber) (id : RequestId) (items seen : List Asked) (x : Asked) (d : Done) → seen ≡ items →
     0 < length seen → x ≡ get_or seen 0 x → Some d ≡ seen_before (number_for given id x.index) entries →
     Repeats ordered entries (map (rust.statement_view given id) items) (d ∷ [])

@@ -1,4 +1,4 @@
--- The key that an upsert puts in stands in a document that is kept, so it is short.
+-- The key that an upsert inserts is in a document that is stored, so it is short.
 use Rattle.std.proofs.Common.{◌≡◌, ◌≤◌, length, refl, sym, ap, subst, ◌∙◌, arith}
 use Rattle.std.specs.Prelude.{Bool, true, false, ◌||◌, Option, Some, None, Result, Ok, Err, codes, if◌then◌else◌}
 use Rattle.std.proofs.lemmas.Bool.{ltb-false}

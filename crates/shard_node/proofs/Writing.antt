@@ -41,7 +41,7 @@ module _ (shard : ℕ) (namespace : List ℕ) (entries : List Entry) (time : ℕ
   kept_none o more after (served_new unseen) same = absurd (never_later time (sym same))
   kept_none o more after left_for_later same = record { spelled = refl; sound = tt }
 
-  -- where one was, the key that is told is short
+  -- where one was, the key of the outcome is short
   pub told_short : (o : Option Done) (more : List Entry) (after : ℕ) (index : ℕ) (told : EntryResult) → IsServed shard namespace entries time s o more after → after ≢ time →
       o ≡ Some (done_view index (WasDone told)) → IsWritableKey (outcome_view told.outcome).upserted
   told_short o more after index told (served_again e seen) later is = absurd (later refl)
@@ -50,7 +50,7 @@ module _ (shard : ℕ) (namespace : List ℕ) (entries : List Entry) (time : ℕ
       let same : done_of (entry_for entries (time + 1) shard namespace s) ≡ done_view index (WasDone told) = cc in
       short_key s.operation (document_left namespace (key_written s.operation) entries) (outcome_view told.outcome) (sym (ap (λ (d : Done). outcome_in d.answer) same))
 
-  -- where one was, the entry is what was told
+  -- where one was, the entry has the outcome that was returned
   pub kept_one : (o : Option Done) (more : List Entry) (after : ℕ) (index : ℕ) (told : EntryResult) (statement : Stmt) (operation : Operation) (bytes : List ℕ) →
       IsServed shard namespace entries time s o more after → after ≢ time → o ≡ Some (done_view index (WasDone told)) → words.number_view statement ≡ s.number →
       s.operation ≡ operation → bytes ≡ spelled 1 (entry_record_of told namespace statement operation) → IsSound (entry_record_of told namespace statement operation) →

@@ -37,7 +37,7 @@ changed s time (Write namespace entries) = record {
 abbrev pub after : Shard → StepPlan → Shard
 after s p = changed s p.time.0 p.change
 
--- The plan is a row of the shard on this input: its messages and its records are those of the row, and nobody is replied to.
+-- The plan is a transition of the shard on this input: its messages and its records are those of the transition, and no reply is returned.
 pub record IsPlanned (s : Shard) (i : Input) (p : StepPlan) : Type 0 where
   pub effect : Effect
   pub row : ShardRow s i effect (after s p)

@@ -19,7 +19,7 @@ pub record AreKept (entries : List Entry) (records : List (List ℕ)) : Type 0 w
   pub spelled : records ≡ spellings_of entries
   pub sound : AllByRecursion (λ e. IsSound (record_of e)) entries
 
--- A statement is served behind these entries and those that were made: it makes some more, with their records.
+-- A statement is served after these entries and those that were made: it makes some more, with their records.
 pub record IsStep (shard : ℕ) (namespace : List ℕ) (entries made : List Entry) (time : ℕ) (s : Statement) (served : Option StatementResult)
     (made_then : List Entry) (after : ℕ) : Type 0 where
   pub more : List Entry

@@ -78,7 +78,7 @@ impl ShardNode {
         Ok(StepPlan::of_message(self.alloc, time, message))
     }
 
-    // The time is told.
+    // Returns the plan that sends the time.
     pub(crate) fn plan_time(&self, time: Time, ask: TimeAsk) -> StepPlan
         ensures planned { (m : Letter) → m.body ≡ time_ask_view ask → time.0 ≡ heard (shard_view self.now) m →
             IsPlanned (shard_view self.now) (letter_input m) result }

@@ -26,7 +26,7 @@ use protocol_model::{Body, Input, Message, TableTold};
 use shard_requests::{Standing, keep_others, later, standing_of};
 
 impl ShardNode {
-    // A first statement that is not new is told so on any table.
+    // Returns the plan for a first statement that is not new, which is answered so on any table, or `Memory` if memory runs out.
     fn plan_again(&self, time: Time, body: &Body) -> Result<Option<StepPlan>, Memory>
         requires old { (a : Ask) → ask_in (body_view body.now) ≡ Some a →
             verdict_of a.sent self.now.me.0 (table_of a.namespace self.now.tables.tables) ≢ fits }
@@ -98,7 +98,7 @@ impl ShardNode {
         }
     }
 
-    // A table that is told, or none.
+    // Returns the plan for a table that arrives, or the news that there is none. Returns `Memory` if memory runs out.
     fn plan_told(&self, time: Time, told: TableTold) -> Result<StepPlan, Memory>
         ensures planned { (m : Letter) → m.body ≡ table_told_view told → time.0 ≡ heard (shard_view self.now) m →
             IfOk result (λ p. IsPlanned (shard_view self.now) (letter_input m) p) }
@@ -111,7 +111,7 @@ impl ShardNode {
         }
     }
 
-    // A message that asks for no documents that stand on a table.
+    // Returns the plan for a message that requests no documents that depend on a table, or `Memory` if memory runs out.
     fn plan_other(&self, time: Time, body: Body) -> Result<StepPlan, Memory>
         requires stands { Stands self.now.me.0 self.now.tables.tables NoAsk (body_view body) }
         ensures planned { (m : Letter) → m.body ≡ body_view body → time.0 ≡ heard (shard_view self.now) m →
@@ -199,7 +199,7 @@ impl ShardNode {
         Ok(plan)
     }
 
-    // Becomes what was planned, and gives out its messages. Takes no memory.
+    // Becomes what was planned, and sends its messages. Takes no memory.
     pub(crate) fn take(&mut self, plan: StepPlan) -> Outputs<Message>
         requires ready { IsReady self.old plan }
         ensures state { shard_view self.new ≡ after (shard_view self.old) plan }

@@ -84,7 +84,7 @@ impl ShardNode {
         StepPlan::of_message(self.alloc, time, told)
     }
 
-    // Asks for the table of an ask that waits, behind other messages. Returns `Memory` if memory runs out.
+    // Requests the table of a request that waits, after other messages. Returns `Memory` if memory runs out.
     fn ask_again(
         &self,
         time: Time,
@@ -112,7 +112,7 @@ impl ShardNode {
         Ok(StepPlan::of_mail(self.alloc, time, mail))
     }
 
-    // What waited is tried again, if it waited for this table, behind other messages. Returns `Memory` if memory runs out.
+    // What waited is tried again, if it waited for this table, after other messages. Returns `Memory` if memory runs out.
     fn try_again(
         &self,
         time: Time,
@@ -142,7 +142,7 @@ impl ShardNode {
         Ok(mail)
     }
 
-    // A table is told: one that is news is kept, and what waited for it is tried again. Returns `Memory` if memory runs out.
+    // Returns the plan for a table that arrives: one that is new is stored, and what waited for it is tried again. Returns `Memory` if memory runs out.
     pub(crate) fn plan_table(
         &self,
         time: Time,
@@ -158,7 +158,7 @@ impl ShardNode {
         Ok(StepPlan::of_time(self.alloc, time))
     }
 
-    // A table that is news is kept, and what waited for it is tried again. Returns `Memory` if memory runs out.
+    // Returns the plan for a table that is new, which is stored, and what waited for it is tried again. Returns `Memory` if memory runs out.
     fn learn(&self, time: Time, table: Arc<Table, Global>) -> Result<StepPlan, Memory>
         requires news { is_news (arc_value table) (table_of (arc_value table).namespace self.now.tables.tables) ≡ true }
         ensures planned { (m : Letter) (namespace : List ℕ) (create : Bool) (at : letters.At) → m.body ≡ table_told namespace create at (Some (arc_value table))

@@ -34,7 +34,7 @@ use shard_store::{EntryPlan as Entries, StatementOutcome, statement_number};
 const MOST_SERVED: usize = 100_000;
 
 impl ShardNode {
-    // Serves a statement behind the entries of the shard and those that are planned, or leaves it for later. Returns `Memory` if memory runs out,
+    // Serves a statement after the entries of the shard and those that are planned, or leaves it for later. Returns `Memory` if memory runs out,
     // and what was planned is of no more use then.
     fn serve(
         &self,
@@ -88,7 +88,7 @@ impl ShardNode {
         }))
     }
 
-    // Serves one statement more of an ask, behind what was served of it, and tells whether more may be served behind it in this step.
+    // Serves one statement more of a request, after what was served of it, and returns whether more may be served after it in this step.
     // Returns `Memory` if memory runs out.
     fn serve_next(
         &self,
@@ -179,7 +179,7 @@ impl ShardNode {
         })
     }
 
-    // A first statement that is not new is told so on any table: it alone is looked up, and what is left of the ask is asked for again.
+    // A first statement that is not new is answered so on any table: it alone is looked up, and what is left of the request is requested again.
     pub(crate) fn plan_repeat(&self, time: Time, ask: &WriteAsk) -> Result<Option<StepPlan>, Memory>
         requires old { (a : Ask) → ask_in (write_ask_view ask.now) ≡ Some a →
             verdict_of a.sent self.now.me.0 (table_of a.namespace self.now.tables.tables) ≢ fits }

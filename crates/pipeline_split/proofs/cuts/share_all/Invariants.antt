@@ -1,4 +1,4 @@
--- The stages so far and those that are left are all.
+-- The stages that were copied and those that are left are all.
 use Rattle.std.proofs.Common.{◌≡◌, ◌++◌, drop, map}
 use Rattle.pipeline_lang.specs.View.{stage_of}
 use Rattle.pipeline_split.proofs.cuts.share_all.Given as goal

@@ -1,4 +1,4 @@
--- What lists the documents of the spans that are left, behind those that are there, lists those of all; and the spans that are left ascend.
+-- What lists the documents of the spans that are left, after those that are there, lists those of all; and the spans that are left ascend.
 use Rattle.std.proofs.Common.{◌++◌, drop, map, List, None, if◌then◌else◌}
 use Rattle.std.specs.Arc.{arc_value}
 use Rattle.bson_values.specs.Tree.{Fields}
