@@ -1,4 +1,4 @@
--- The times that replies tell.
+-- The times that replies have.
 use Rattle.std.proofs.Common.{◌≡◌, refl}
 use Rattle.std.specs.Prelude.{Some, None}
 use Rattle.base_model.specs.Errors.{ErrorCode}

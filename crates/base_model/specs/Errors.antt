@@ -1,4 +1,4 @@
--- The errors that a reply may tell, each with its number and its name (MongoDB manual, "Error Codes").
+-- The errors that a reply may have, each with its number and its name (MongoDB manual, "Error Codes").
 use Rattle.std.specs.Prelude.{ℕ, List, codes}
 
 pub record ErrorCode : Type 0 where

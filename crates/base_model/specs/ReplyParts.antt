@@ -7,7 +7,7 @@ abbrev pub shown_if : Option Fields → Fields
 shown_if None = no_fields
 shown_if (Some document) = field (codes "evidence") (document_value document) no_fields
 
--- the evidence behind an error, if any
+-- the evidence of an error, if any
 abbrev pub evidence_shown : Evidence → Fields
 evidence_shown evidence = shown_if (evidence_document evidence)
 

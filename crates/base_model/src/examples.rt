@@ -30,7 +30,7 @@ pub fn full_names()
     ensures none { IsNamespace [] → ⊥ }
 {}
 
-/// A refusal's reply, and the times that replies tell.
+/// A refusal's reply, and the times that replies have.
 pub fn replied()
     ensures refusal { refusal_reply (time_ahead (timestamp 1000 2)) ≡ ahead_reply }
     ensures time { (operation_time (Some done_reply) ≡ Some (timestamp 1000 2)) × (operation_time (Some ahead_reply) ≡ None) × (operation_time None ≡ None) }

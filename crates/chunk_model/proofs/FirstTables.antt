@@ -8,7 +8,7 @@ use Rattle.bson_model.specs.Tree.{Datum}
 use Rattle.chunk_model.specs.Catalogue.{Creation}
 use Rattle.chunk_model.specs.Tables.{Chunk, first_shard, first_chunk, first_table, owner_among, newest, owner_now, owner_at}
 
--- what the chunk gives, by whether the key stands in it
+-- the owner by the chunk, by whether the key is in it
 abbrev now_by : Creation → Bool → Option ℕ
 now_by c has = elim (if has then Some (first_chunk c) else None) as (λ (o : Option Chunk). Option ℕ) [ None ↦ None | Some chunk ↦ newest chunk.owners ]
 

@@ -1,4 +1,4 @@
--- A version is not behind itself, and agrees with itself.
+-- A version is not after itself, and agrees with itself.
 use Rattle.std.proofs.Common.{◌≡◌, ℕ, arith, refl}
 use Rattle.std.specs.Prelude.{true, false, Some}
 use Rattle.std.proofs.lemmas.Bool.Decides.{nat_tests}

@@ -1,5 +1,5 @@
 -- Who owns a key at a time, by the changes of the catalogue alone, and which changes may follow others (MongoDB manual, "Data
--- Partitioning with Chunks" and "Sharded Cluster Balancer"; that owners of the past are told apart by time is own).
+-- Partitioning with Chunks" and "Sharded Cluster Balancer"; that owners of the past are distinguished by time is own).
 use Rattle.std.specs.Prelude.{◌≡◌, ◌≢◌, ◌<◌, ◌+◌, ℕ, List, [], ◌∷◌, true, false, ◌&&◌, Option, Some, None, nat_le, if◌then◌else◌}
 use Rattle.std.specs.List.{AllByRecursion}
 use Rattle.std.specs.Ordering.{is_eq}

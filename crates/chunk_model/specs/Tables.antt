@@ -19,7 +19,7 @@ pub record Chunk : Type 0 where
   pub owners : List Owned
 
 -- The chunks of a collection: its name, which of the collections of that name it is, how many changes the table has seen, and the
--- time from which on it tells owners.
+-- time from which on it has owners.
 pub record Table : Type 0 where
   pub namespace : List ℕ
   pub epoch : ℕ
@@ -89,12 +89,12 @@ shard_version table shard = greatest_version (no_chunk table.epoch) (chunks_on s
 abbrev pub is_longer : Table → Table → Bool
 is_longer a b = nat_lt b.changes a.changes
 
--- the table of a collection among these, if it stands there
+-- the table of a collection among these, if it is there
 abbrev pub table_of : List ℕ → List Table → Option Table
 table_of namespace [] = None
 table_of namespace (t ∷ tables) = if bytes_eq t.namespace namespace then Some t else table_of namespace tables
 
--- the tables with this one: in the place of the one of its collection, where that has seen fewer changes, or behind them
+-- the tables with this one: in the place of the one of its collection, where that has seen fewer changes, or after them
 abbrev pub with_table : Table → List Table → List Table
 with_table t [] = t ∷ []
 with_table t (u ∷ tables) = if bytes_eq u.namespace t.namespace then ((if is_longer t u then t else u) ∷ tables) else u ∷ with_table t tables

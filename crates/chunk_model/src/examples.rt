@@ -8,7 +8,7 @@ ghost use Rattle.chunk_model.specs.Tables.{chunk_of, chunks_on, collection_versi
 ghost use Rattle.chunk_model.specs.Verdicts.{fits, router_is_old, sent_by, shard_is_old, verdict_of};
 ghost use Rattle.chunk_model.specs.Versions.{agrees, greater, is_later, is_greater};
 
-/// A move makes a version differ and a split does not; a later collection of the name is behind all versions of an earlier one.
+/// A move makes a version differ and a split does not; a later collection of the name is after all versions of an earlier one.
 pub fn versions()
     ensures moves { (is_later (record { epoch = 1; major = 2; minor = 0 }) (record { epoch = 1; major = 1; minor = 7 }) ≡ true) × (agrees (record { epoch = 1; major = 2; minor = 0 }) (record { epoch = 1; major = 1; minor = 0 }) ≡ false) }
     ensures splits { (is_later (record { epoch = 1; major = 2; minor = 1 }) (record { epoch = 1; major = 2; minor = 0 }) ≡ false) × (agrees (record { epoch = 1; major = 2; minor = 1 }) (record { epoch = 1; major = 2; minor = 0 }) ≡ true) }
@@ -47,7 +47,7 @@ pub fn verdicts()
     ensures split { verdict_of (record { shard = record { epoch = 1; major = 2; minor = 0 }; collection = record { epoch = 1; major = 2; minor = 0 } }) 1 (Some moved_table) ≡ fits }
 {}
 
-/// A table stands among others under its collection's name, and gives way to one of the same name that has seen more changes alone.
+/// A table is stored among others under its collection's name, and gives way to one of the same name that has seen more changes alone.
 pub fn tables()
     ensures longer { (is_longer moved_table (first_table creation) ≡ true) × (is_longer moved_table moved_table ≡ false) }
     ensures found { (table_of (codes "d.c") (other_table ∷ moved_table ∷ []) ≡ Some moved_table) × (table_of (codes "d.d") (other_table ∷ moved_table ∷ []) ≡ None) }

@@ -1,8 +1,8 @@
-//! The errors that a reply may tell.
+//! The errors that a reply may have.
 ghost use Rattle.std.specs.Prelude.{◌≡◌, pos};
 ghost use Rattle.cluster_base.specs.Codes.{meaning_of};
 
-/// An error that a reply tells by its number and its name (MongoDB manual, "Error Codes").
+/// An error that a reply has by its number and its name (MongoDB manual, "Error Codes").
 #[derive(Clone, Copy, Debug, PartialEq, Eq, Hash)]
 pub enum Code {
     /// A field has a value that the command does not take.

@@ -1,5 +1,5 @@
-//! Words that every part of the cluster shares: times and nodes, sessions and statements, the names of
-//! namespaces, and the errors that a reply may tell.
+//! Terms that every part of the cluster shares: times and nodes, sessions and statements, the names of
+//! namespaces, and the errors that a reply may have.
 #![tactic(auto)]
 
 mod code;

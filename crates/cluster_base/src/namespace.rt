@@ -19,7 +19,7 @@ const NAMESPACE_BYTES: usize = 255;
 pub enum NameFault {
     /// The text is not the full name of a namespace.
     Form,
-    /// There was no memory for the name.
+    /// Out of memory for the name.
     Memory,
 }
 
@@ -151,8 +151,8 @@ impl Namespace {
         Ok(Namespace { text })
     }
 
-    /// The namespace of a collection in a database. Answers `Form` exactly where the two make none, and `Memory` for
-    /// want of memory.
+    /// Returns the namespace of a collection in a database, `Form` exactly where the two make none, or `Memory` if
+    /// memory runs out.
     pub fn of_parts(alloc: Global, database: &str, collection: &str) -> Result<Namespace, NameFault>
         ensures ok { IfOk result (λ n. (n ≡ full_name database.now collection.now) × MakeNamespace database.now collection.now) }
         ensures form { IsErrOf result NameFault.Form ↔ ¬ (MakeNamespace database.now collection.now) }
@@ -173,7 +173,7 @@ impl Namespace {
         self.text.as_str()
     }
 
-    /// The same namespace once more. Returns `Memory` if memory runs out.
+    /// Returns a copy of the namespace, or `Memory` if memory runs out.
     pub fn copy(&self) -> Result<Namespace, Memory>
         ensures { IfOk result (λ n. n ≡ self.now) }
     {

@@ -36,7 +36,7 @@ count_below bound n at below = shows_one bound at (count_answer n at) (time_of_c
 pub killed_below : (bound : ℕ) (killed missing : List ℤ) → ShowsBelow bound (killed_answer killed missing)
 killed_below bound killed missing = shows_none bound (killed_answer killed missing) (time_of_killed killed missing)
 
--- what is told without a look at documents shows no time
+-- a reply without a look at documents shows no time
 pub legacy_below : (bound moment : ℕ) (shown : Bool) → ShowsBelow bound (legacy_answer moment shown)
 legacy_below bound moment shown = shows_none bound (legacy_answer moment shown) (time_of_legacy moment shown)
 

@@ -1,4 +1,4 @@
--- What was told stays right, whatever is written later.
+-- Replies that were returned stay right, whatever is written later.
 use Rattle.std.proofs.Common.{◌≡◌, ◌≢◌, ◌⊎◌, inl, inr, ℕ, ◌+◌, ◌<◌, ◌≤◌, List, [], ◌∷◌, ◌++◌, refl, sym, ap, subst, ◌∙◌, arith, append-nil, Bool}
 use Rattle.std.specs.Prelude.{Option, Some, None, Result, Ok, true, false, map, int_lt, IsPermutation}
 use Rattle.std.specs.List.{AllByRecursion}
@@ -29,7 +29,7 @@ use Rattle.node_laws.proofs.SeenStatements.{true_false}
 use Rattle.node_laws.proofs.Growth.{MoreOf, more_entries, entry_stays, creation_stays, entries_by_longer, began_grows, documents_stay}
 use Rattle.node_laws.proofs.AnswerTimes.{IsBelow, AreBelow, greatest_below, time_shown}
 
--- behind all statements no entry of them follows
+-- after all statements no entry of them follows
 nothing_follows : (id : RequestId) (namespace : List ℕ) (ordered : Bool) (index : ℕ) (operations : List Operation) (es more : List Entry)
     → AreStatements id namespace ordered index operations (es ++ more) → AreAll ordered operations (map done_of es) → more ≡ []
 nothing_follows id namespace ordered index [] [] [] each all = refl
@@ -74,7 +74,7 @@ other_command command other same not write e = not write (sym same ∙ e)
 
 -- WHAT GROWS
 
--- a later view, where more is asked and told in a step
+-- a later view, where more is requested and replied in a step
 pub record Grows (v w : View) (asked more : List Asked) (answered news : List Answered) (now : ℕ) : Type 0 where
   pub later : Later v w
   pub before : NeighboursFit v asked
@@ -82,9 +82,9 @@ pub record Grows (v w : View) (asked more : List Asked) (answered news : List An
   pub came : AllByRecursion (λ (a : Asked). a.came < now + 1) asked
   pub steps : AllByRecursion (λ (t : Answered). t.step ≡ now) news
 
--- WHAT WRITES ARE TOLD
+-- REPLIES TO WRITES
 
--- the entries of a write that was told whole are all that it makes
+-- the entries of a write whose reply was whole are all that it makes
 closed_write : (v w : View) (asked more : List Asked) (a : Asked) (write : WriteCommand) → Later v w → NeighboursFit w (asked ++ more) → IsIn a asked
     → command_of a.request ≡ Ok (write_command write) → write.number ≡ None → IsWhole (entries_in v first_shard) a.id write
     → entries_by a.id (entries_in w first_shard) ≡ entries_by a.id (entries_in v first_shard)
@@ -94,7 +94,7 @@ closed_write v w asked more a write later after taken asks own whole =
     ap (λ l. entries_by a.id l) m.same ∙ whole_stays (entries_in v first_shard) m.more a.id write (subst (λ l. IsPart l a.id write) m.same part) whole
 
 module _ (old new : List Entry) (asked more : List Asked) (t : Answered) (stays : (d : Entry) → IsIn d old → IsIn d new) where
-  -- what a statement may be told it may be told of more entries and requests
+  -- an outcome that a statement may have it may have with more entries and requests
   may_grow : (given : Option ClientNumber) (number : StatementNumber) (namespace : List ℕ) (operation : Operation) (answer : StatementOutcome)
       → MayBeTold old asked t given number namespace operation answer → MayBeTold new (asked ++ more) t given number namespace operation answer
   may_grow given number namespace operation _ (told_own e i is past) = told_own e (stays e i) is past
@@ -126,7 +126,7 @@ module _ (old new : List Entry) (asked more : List Asked) (t : Answered) (stays 
       by_end true none later = none
       by_end false rest later = later rest
 
--- TIMES THAT WERE TOLD
+-- TIMES THAT WERE RETURNED
 
 may_below : (history : List Entry) (asked : List Asked) (t : Answered) (bound : ℕ) (given : Option ClientNumber) (number : StatementNumber)
     (namespace : List ℕ) (operation : Operation) (answer : StatementOutcome) → AllByRecursion (λ (e : Entry). e.time ≤ bound) history
@@ -156,7 +156,7 @@ numbers_beside : (given : Option ClientNumber) (id : RequestId) (i j : ℕ)
 numbers_beside None id i j = (refl, refl)
 numbers_beside (Some by) id i j = (refl, refl)
 
--- of entries behind one another the later keeps the numbers
+-- of entries after one another the later keeps the numbers
 kept_apart : (old more : List Entry) (d e : Entry) → AreNumbered (old ++ more) → IsIn d old → IsIn e more → KeepsNumbers d e
 kept_apart [] more d e numbered i j = absurd (in_none d i)
 kept_apart (c ∷ old) more d e numbered i j = by_place (in_cons d c old i) (λ k. kept_apart old more d e numbered.1 k j)
@@ -165,7 +165,7 @@ kept_apart (c ∷ old) more d e numbered i j = by_place (in_cons d c old i) (λ 
     by_place (inl same) later = subst (λ (x : Entry). KeepsNumbers x e) (sym same) (all_at (KeepsNumbers c) e (old ++ more) numbered.0 (in_back e old more j))
     by_place (inr k) later = later k
 
--- what was told was told of entries that stood then
+-- replies that were returned have outcomes of entries that were stored then
 abbrev pub IsClosed : View → View → Answered → Type 0
 IsClosed v w s = (write : WriteCommand) (index : ℕ) (e : Entry) → IsIn e (entries_in w first_shard) → IsToldOf s write index e
     → IsIn e (entries_in v first_shard)
@@ -174,7 +174,7 @@ write_is : (a b : WriteCommand) (command : Result Command Refusal) → command �
 write_is a b command e f = cc
 
 module _ (v w : View) (asked more : List Asked) (later : Later v w) (before : NeighboursFit v asked) (after : NeighboursFit w (asked ++ more)) where
-  -- an entry that comes later is of no statement that was told an older one
+  -- an entry that comes later is of no statement that was answered with an older one
   none_later : (t : Answered) (write : WriteCommand) (index : ℕ) (operations : List Operation) (dones : List Done) (e : Entry) (j : ℕ)
       → AreTold (entries_in v first_shard) asked t write index operations dones → dones ≢ [] → time_of dones ≡ None
       → IsIn e (entries_in w first_shard) → IsIn e (more_entries v w first_shard later).more → e.number ≡ number_for write.number t.id j → ⊥
@@ -240,7 +240,7 @@ module _ (v w : View) (asked more : List Asked) (later : Later v w) (before : Ne
       by_place (inl i) = i
       by_place (inr j) = absurd (by_time (time_of dones) refl at j)
 
-  -- a request that does not write is told of no entry
+  -- a reply to a request that does not write has no entry
   other_closed : (t : Answered) → IsNoWrite (command_of t.request) → IsClosed v w t
   other_closed t not write index e stands told = absurd (not write told.0)
 
@@ -278,7 +278,7 @@ module _ (v w : View) (asked more : List Asked) (later : Later v w) (before : Ne
   all_closed answered _ _ _ (one_answer cursors next last t rest f others) =
       (closed_right answered cursors next f.request t f.same f.right f.settled, all_closed answered next last rest others)
 
--- WHAT READS ARE TOLD
+-- REPLIES TO READS
 
 give_stays : (v w : View) (read : Reading) (time : ℕ) (out : Outcome) → Later v w → IsFixed v read time
     → AllByRecursion (IsPlaced (creations_in w)) (entries_in w first_shard)
@@ -405,7 +405,7 @@ module _ (v w : View) (asked more : List Asked) (answered news : List Answered) 
         settled = s.settled;
       }) (answers_grow next last rest others)
 
--- answers behind one another
+-- replies after one another
 pub answers_joined : (v : View) (asked : List Asked) (answered : List Answered) (first middle last : List Cursor) (xs ys : List Answered)
     → AnswersFit v asked answered first xs middle
     → AnswersFit v asked answered middle ys last → AnswersFit v asked answered first (xs ++ ys) last

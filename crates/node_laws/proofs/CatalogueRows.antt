@@ -23,16 +23,16 @@ use Rattle.node_laws.proofs.Owes.{InputFits, IsSaid, Owes}
 use Rattle.node_laws.proofs.Lists.{map_longer}
 use Rattle.node_laws.proofs.Growth.{creations_longer, met_later, met_max}
 
--- QUIET STEPS: nothing is taken, told or written
+-- QUIET STEPS: nothing is taken, replied or written
 
--- a step that takes and tells nothing asks for no more than before
+-- a step that takes and replies nothing requests no more than before
 pub one_still : (w : World) → AreDifferent (ids_asked w.asked) → AreDifferent (ids_asked (w.asked ++ []))
 one_still w d = subst (λ l. AreDifferent (ids_asked l)) (sym (append-nil w.asked)) d
 
 pub once_still : (w : World) → AreDifferent (ids_told w.answered) → AreDifferent (ids_told (w.answered ++ []))
 once_still w d = subst (λ l. AreDifferent (ids_told l)) (sym (append-nil w.answered)) d
 
--- nor does it tell anything
+-- nor does it reply anything
 pub no_answers : (v : View) (asked : List Asked) (answered : List Answered) (cursors : List Cursor) → v.cursors ≡ cursors
     → AnswersFit v asked answered cursors [] v.cursors
 no_answers v asked answered cursors same = subst (λ l. AnswersFit v asked answered cursors [] l) (sym same) (no_answer cursors)
@@ -81,7 +81,7 @@ table_missing namespace (c ∷ creations) e = by_test (bytes_eq c.namespace name
         false_true : false ≡ true → ⊥
         false_true e = cc
 
--- a collection of a new name behind others
+-- a collection of a new name after others
 names_longer : (creations : List Creation) (c : Creation) → AllByRecursion (λ (d : Creation). d.namespace ≢ c.namespace) creations
     → AreDifferentNames creations → AreDifferentNames (creations ++ c ∷ [])
 names_longer [] c new names = (tt, tt)
@@ -104,7 +104,7 @@ later_catalogue asked at time kept c le f = record {
   wanted = f.wanted;
 }
 
--- a step of the catalogue that writes nothing: its later state, and its letters in a view behind it
+-- a step of the catalogue that writes nothing: its later state, and its messages in a view after it
 still : (w : World) (book : Book) (at : ℕ) (kept : List Kept) (c d : Catalogue) (mail : List Letter) → Good w book
     → HeldFits (view_of w.nodes book) w.asked w.answered w.given at (record { state = catalogue_state c; kept = kept }) → c.time ≤ d.time
     → CatalogueFits w.asked at kept d → IsMet (view_of w.nodes book) w.given d.time

@@ -1,4 +1,4 @@
--- Where a read is told that nothing is there, its collection had not begun at its time, nor will it have.
+-- Where the reply to a read is that nothing is there, its collection was not created at its time, nor will it have been.
 use Rattle.std.proofs.Common.{◌≡◌, ℕ, ◌<◌, ◌≤◌, List, [], ◌∷◌, refl, sym, ap, subst, ◌∙◌, arith, Bool}
 use Rattle.std.specs.Prelude.{Option, Some, None, true, false, nat_le, if◌then◌else◌}
 use Rattle.std.specs.List.{AllByRecursion}
@@ -50,7 +50,7 @@ unowned v known namespace stages at t begun k name none = by_time (nat_le k.crea
         (subst (λ u. owner_of_span u at (split stages).0.span ≡ None) k.table none))
     by_time false h = begins_after v namespace at k.creation begun k.begun (sym (ap (λ (u : Table). u.namespace) k.table) ∙ name) (leb-false _ _ h)
 
--- the catalogue told of no table, or of one that names no owner: for the time that is read at
+-- the catalogue returned no table, or one that names no owner: for the time that is read at
 pub told_nothing : (v : View) (asked : List Asked) (told_at known : ℕ) (namespace : List ℕ) (told : At) (table : Option Table)
     (tables : List Table) (named : Bool) (at : ℕ) (stages : List Stage) (telling : Telling)
     → NeighboursFit v asked → TableFits v told_at namespace told table → AllByRecursion (IsKnownTable v known) (adopted table tables)

@@ -44,7 +44,7 @@ pub record IsOwned (v : View) (time : ℕ) (namespace : List ℕ) (shard : ℕ) 
 
 -- WRITES
 
--- The statements of an ask are the next ones of a request, behind those that are answered and did not end it; the shard that is asked
+-- The statements of a message are the next ones of a request, after those that are answered and did not end it; the shard that receives it
 -- owns their keys, and the message is not older than what the router knew.
 pub record IsWriteOf (v : View) (asked : List Asked) (receiver time : ℕ) (id : RequestId) (ordered : Bool) (namespace : List ℕ)
     (statements : List Statement) : Type 0 where
@@ -70,7 +70,7 @@ pub record HasBegun (v : View) (time : ℕ) (namespace : List ℕ) : Type 0 wher
   pub name : creation.namespace ≡ namespace
   pub before : creation.at ≤ time
 
--- what statements of a request are told by the shard that owns their keys
+-- the outcomes of statements of a request, of the shard that owns their keys
 pub record IsDoneOf (v : View) (asked : List Asked) (sender time : ℕ) (id : RequestId) (dones : List Done) : Type 0 where
   pub request : Asked
   pub write : WriteCommand
@@ -100,7 +100,7 @@ abbrev pub AtFits : At → ℕ → Type 0
 AtFits no_time time = Unit {0}
 AtFits (at_time at) time = at ≤ time
 
--- what a table that is told says of its collection
+-- what a table that is sent says of its collection
 abbrev pub TableFits : View → ℕ → (namespace : List ℕ) → At → Option Table → Type 0
 TableFits v time namespace at (Some t) = IsKnownTable v time t × (t.namespace ≡ namespace)
 TableFits v time namespace no_time None = Unit {0}
@@ -156,7 +156,7 @@ WorkFits a namespace (writing kind ordered statements answers) =
     × (statements ≡ statements_from write.number a.id 0 write.operations) × AllByRecursion (λ d. ends ordered d ≡ false) answers
 WorkFits a namespace (reading named at stages telling) = IsReading a namespace named at stages telling
 
--- what a write was told so far, by entries that are not above a time
+-- the outcomes of a write that arrived, of entries that are not above a time
 abbrev pub AreSeen : View → ℕ → Asked → Work → Type 0
 AreSeen v time a (writing kind ordered statements answers) =
     (write : WriteCommand) → command_of a.request ≡ Ok (write_command write) → AreAnswers (entries_in v first_shard) time write a.id 0 answers
@@ -180,11 +180,11 @@ pub record IsOpenOf (v : View) (asked : List Asked) (answered : List Answered) (
   pub work : WorkFits request q.namespace q.work
   pub seen : AreSeen v r.time request q.work
 
--- what stands in a life before this one, or in this one
+-- what is in a life before this one, or in this one
 abbrev pub IsBy : (life now : ℕ) (begun : Bool) → Type 0 → Type 0
 IsBy life now begun P = (life < now) ⊎ ((life ≡ now) × (begun ≡ true) × P)
 
--- a time that was told is not above this one
+-- a time that was returned is not above this one
 abbrev pub ToldBelow : ℕ → Answered → Type 0
 ToldBelow bound t = (time : ℕ) → operation_time (Some t.document) ≡ Some time → time ≤ bound
 
@@ -215,13 +215,13 @@ StateFits v asked answered at kept (catalogue_state c) = CatalogueFits asked at 
 StateFits v asked answered at kept (shard_state s) = ShardFits v asked at kept s
 StateFits v asked answered at kept (router_state r) = RouterFits v asked answered at r
 
--- a time that was met so far
+-- a time that was met
 abbrev pub IsMet : View → List Given → ℕ → Type 0
 IsMet v given time = WasMet given (creations_in v) (entries_in v first_shard) time
 
 -- CURSORS
 
--- the number is one of those that were given so far, and what it shows is of a time that is past
+-- the number is one of those that were given, and what it shows is of a time that is past
 pub record IsGiven (gave time : ℕ) (c : Cursor) : Type 0 where
   pub n : ℕ
   pub number : c.number ≡ pos n
@@ -252,7 +252,7 @@ pub record HeldFits (v : View) (asked : List Asked) (answered : List Answered) (
 
 -- ANSWERS
 
--- what a read was told stays right: its time is one that the shard has passed, or the collection begins after it
+-- the reply to a read stays right: its time is one that the shard has passed, or the collection is created after it
 abbrev pub IsFixed : View → Reading → ℕ → Type 0
 IsFixed v read time = (time ≤ v.bound first_shard) ⊎ NoneBegan v read.namespace time
 
@@ -292,20 +292,20 @@ pub record AnswerFits (v : View) (asked : List Asked) (answered : List Answered)
   pub right : IsRight (creations_in v) (entries_in v first_shard) asked answered cursors request t next
   pub settled : IsSettled v (creations_in v) (entries_in v first_shard) asked answered cursors request t next right
 
--- all that was told, in order, from these cursors to those
+-- all replies, in order, from these cursors to those
 pub data AnswersFit (v : View) (asked : List Asked) (answered : List Answered) : List Cursor → List Answered → List Cursor → Type 0 where
   no_answer : (cursors : List Cursor) → AnswersFit v asked answered cursors [] cursors
   one_answer : (cursors next last : List Cursor) (t : Answered) (later : List Answered) → AnswerFits v asked answered cursors t next
       → AnswersFit v asked answered next later last → AnswersFit v asked answered cursors (t ∷ later) last
 
--- TIMES THAT SHARDS TELL
+-- TIMES THAT SHARDS SEND
 
--- the entry is one of the statements of a write that was told the entry's time
+-- the entry is one of the statements of a write whose reply has the entry's time
 abbrev pub IsToldOf : (s : Answered) (write : WriteCommand) (index : ℕ) (e : Entry) → Type 0
 IsToldOf s write index e = (command_of s.request ≡ Ok (write_command write)) × (e.number ≡ number_for write.number s.id index)
     × (operation_time (Some s.document) ≡ Some e.time)
 
--- no entry of which any router had told the time before the request came is above the time
+-- no entry whose time any router had returned before the request came is above the time
 abbrev pub IsPast : View → List Answered → Asked → ℕ → Type 0
 IsPast v answered a time = (s : Answered) (write : WriteCommand) (index : ℕ) (e : Entry) → IsIn s answered → s.step < a.came
     → IsIn e (entries_in v first_shard) → IsToldOf s write index e → e.time ≤ time
@@ -314,7 +314,7 @@ abbrev pub TimeFits : View → List Asked → List Answered → ℕ → Body →
 TimeFits v asked answered time (time_told id) = (a : Asked) × IsIn a asked × (a.id ≡ id) × IsPast v answered a time
 TimeFits v asked answered time body = Unit {0}
 
--- as it is told, no entry is
+-- at the time at which it is sent, no entry is
 abbrev pub TellsAll : View → ℕ → Body → Type 0
 TellsAll v time (time_told id) = AllByRecursion (λ (e : Entry). e.time ≤ time) (entries_in v first_shard)
 TellsAll v time body = Unit {0}
@@ -337,7 +337,7 @@ pub record NeighboursFit (v : View) (asked : List Asked) : Type 0 where
 
 -- THE WORLD
 
--- the catalogue stands first, then the shard
+-- the catalogue is first, then the shard
 abbrev pub IsCatalogue : NodeState → Type 0
 IsCatalogue (catalogue_state c) = Unit {0}
 IsCatalogue (shard_state s) = ⊥

@@ -1,4 +1,4 @@
--- Journals grow, more is asked and told: what was true of messages, tables and entries stays.
+-- Journals grow, more is requested and replied: what was true of messages, tables and entries stays.
 use Rattle.std.proofs.Common.{◌≡◌, ◌⊎◌, inl, inr, ℕ, ◌<◌, ◌≤◌, List, [], ◌∷◌, ◌++◌, refl, sym, ap, subst, ◌∙◌, arith, append-nil, ◌+◌, Bool}
 use Rattle.std.specs.Prelude.{Option, Some, None, Result, Ok, Err, true, false, max, filter, nat_le, if◌then◌else◌}
 use Rattle.std.specs.List.{AllByRecursion}
@@ -163,7 +163,7 @@ settled_stay v w namespace time later settled =
     (all_weaken (λ (e : Entry). v.bound first_shard < e.time) (λ e. ¬ Counts namespace time e) m.more
     (λ e h counts. let l = counts.0 in absurd (omega arith)) m.above)
 
--- nothing stands in a collection that did not begin
+-- nothing is stored in a collection that was not created
 pub nothing_stands : (v : View) (namespace : List ℕ) (time : ℕ) → NoneBegan v namespace time
     → AllByRecursion (IsPlaced (creations_in v)) (entries_in v first_shard)
     → documents_at (entries_in v first_shard) namespace time ≡ []
@@ -223,7 +223,7 @@ rows_grow v w asked more sender time id (Err (half_excess n)) later f = record {
   told = f.told;
 }
 
--- what statements are told is told of more entries, at a later time
+-- outcomes of statements are those of more entries, at a later time
 answer_grows : (old more : List Entry) (early late : ℕ) (number : StatementNumber) (answer : StatementOutcome) → early ≤ late
     → IsAnswerOf old early number answer → IsAnswerOf (old ++ more) late number answer
 answer_grows old more early late number _ le (by_entry e i numbered past) = by_entry e (in_prefix e old more i) numbered (omega arith)

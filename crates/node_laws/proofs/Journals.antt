@@ -47,7 +47,7 @@ times_at (h ∷ nodes) zero old written new here le (suc p) = omega arith
 times_at (h ∷ nodes) (suc at) old written new here le zero = omega arith
 times_at (h ∷ nodes) (suc at) old written new here le (suc p) = times_at nodes at old written new here le p
 
--- the book behind a step
+-- the book after a step
 abbrev pub with_news : Book → List Choice → List Cursor → Book
 with_news book news cursors = record { chosen = book.chosen ++ news; cursors = cursors }
 
@@ -66,7 +66,7 @@ time_here [] at old new here = absurd (cc)
 time_here (h ∷ nodes) zero old new here = refl
 time_here (h ∷ nodes) (suc at) old new here = time_here nodes at old new here
 
--- and of a node that stands there
+-- and of the node at that place
 pub time_got : (nodes : List Held) (at : ℕ) (old : Held) → slice_get nodes at ≡ Some old → time_at nodes at ≡ time_of_node old.state
 time_got [] at old here = absurd (cc)
 time_got (h ∷ nodes) zero old here = let same : h ≡ old = cc in ap (λ (x : Held). time_of_node x.state) same

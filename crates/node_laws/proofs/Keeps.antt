@@ -127,9 +127,9 @@ order_stays asked more now a came news order =
     (all_weaken (λ (b : Asked). b.came ≡ now) (λ (b : Asked). b.id.router ≡ a.id.router → b.id.life ≡ a.id.life → b.came < a.came → b.time ≤ a.time) more
     (λ b e router life before. absurd (omega arith)) news)
 
--- TIMES THAT SHARDS TELL
+-- TIMES THAT SHARDS SEND
 
--- what is told fits
+-- what is sent fits
 times_told : (v : View) (asked : List Asked) (answered : List Answered) (sender receiver time : ℕ) (b : Body) → BodyFits v asked sender receiver time b
     → TellsAll v time b
     → TimeFits v asked answered time b
@@ -181,7 +181,7 @@ module _ (v w : View) (asked more : List Asked) (answered news : List Answered) 
 
 -- A STEP
 
--- the facts on the world behind a step, in this view of it
+-- the facts on the world after a step, in this view of it
 pub record GoodIn (v : View) (w : World) (at : ℕ) (old : Held) (f : Effect) (new : NodeState) : Type 0 where
   pub order : InOrder (slice_set w.nodes at (with_more old f.written new))
   pub nodes : EachAt (HeldFits v (asked_after w f) (answered_after w f) w.given) 0 (slice_set w.nodes at (with_more old f.written new))

@@ -81,7 +81,7 @@ pub record IsStanding (creations : List Creation) (namespace : List ℕ) (time :
   pub own : key_of document ≡ Some key
   pub valid : is_key key ≡ true
 
--- where something stands under a key, an entry wrote it
+-- where a document is stored under a key, an entry wrote it
 written_by : (P : Entry → Type 0) (namespace : List ℕ) (key : Option Datum) (es : List Entry) (document : Fields) → AllByRecursion P es
     → document_after namespace key None es ≡ Some document → (e : Entry) × P e × (writes_to namespace key e ≡ true)
 written_by P namespace key [] document all found = absurd (cc)
@@ -122,7 +122,7 @@ module _ (creations : List Creation) (history : List Entry) (namespace : List �
         valid = same_is_key under.0 q under.2 ∙ valid;
       }
 
-  -- each document that stands at a time
+  -- each document that is stored at a time
   pub all_stand : AllByRecursion (IsStanding creations namespace time) (documents_at history namespace time)
   all_stand =
       let listed = lists_collection history namespace time in

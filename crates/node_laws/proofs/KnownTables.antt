@@ -44,7 +44,7 @@ pub all_adopted : (P : Table → Type 0) (table : Option Table) (tables : List T
 all_adopted P None tables own all = all
 all_adopted P (Some t) tables own all = all_with P t tables (own t refl) all
 
--- a table of the name is there behind that
+-- a table of the name is there after that
 pub table_there : (namespace : List ℕ) (t : Table) (tables : List Table) → t.namespace ≡ namespace
     → (u : Table) × (table_of namespace (with_table t tables) ≡ Some u)
 table_there namespace t [] name = (t, ap (λ a. if a then Some t else None) ((bytes_eq-Decides t.namespace namespace).1 name))

@@ -1,4 +1,4 @@
--- What holds of each item of a list, and what stands in one.
+-- What holds of each item of a list, and what is in one.
 use Rattle.std.proofs.Common.{◌≡◌, List, [], ◌∷◌, ◌++◌, refl, ap, Bool}
 use Rattle.std.specs.Prelude.{map, filter, true, false, if◌then◌else◌}
 use Rattle.std.specs.List.{AllByRecursion}
@@ -40,7 +40,7 @@ pub map_longer : {X Y : Type 0} (f : X → Y) (xs ys : List X) → map f (xs ++ 
 map_longer f [] ys = refl
 map_longer f (x ∷ xs) ys = ap (λ l. f x ∷ l) (map_longer f xs ys)
 
--- both that an item stands there and what holds of it give another fact
+-- both that an item is there and what holds of it give another fact
 pub all_within : {X : Type 0} (P Q : X → Type 0) (xs : List X) → ((x : X) → IsIn x xs → P x → Q x) → AllByRecursion P xs → AllByRecursion Q xs
 all_within P Q [] f all = tt
 all_within P Q (x ∷ xs) f all = (f x (in_first x xs) all.0, all_within P Q xs (λ y i p. f y (in_later y x xs i) p) all.1)

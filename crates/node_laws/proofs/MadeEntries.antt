@@ -1,4 +1,4 @@
--- For which statement of a request a shard makes an entry, and that it makes it behind those in front.
+-- For which statement of a request a shard makes an entry, and that it makes it after those before it.
 use Rattle.std.proofs.Common.{◌≡◌, ℕ, zero, suc, ◌+◌, ◌<◌, ◌≤◌, List, [], ◌∷◌, ◌++◌, refl, sym, ap, subst, ◌∙◌, arith, append_assoc, Bool}
 use Rattle.std.specs.Prelude.{Option, Some, None, true, false, length, drop, is_some, nat_le}
 use Rattle.std.specs.List.{AllByRecursion}
@@ -69,7 +69,7 @@ length_push : {X : Type 0} (xs : List X) (x : X) → length (xs ++ x ∷ []) ≡
 length_push [] x = refl
 length_push (y ∷ xs) x = let n = length_push xs x in omega (arith, n)
 
--- no more are told than there are
+-- there are no more outcomes than statements
 pub few_answers : (history : List Entry) (time : ℕ) (write : WriteCommand) (id : RequestId) (index : ℕ) (dones : List Done)
     → AreAnswers history time write id index dones → index ≤ length write.operations → index + length dones ≤ length write.operations
 few_answers history time write id index [] all le = omega arith
@@ -90,7 +90,7 @@ no_error (Some error) e = absurd (cc)
 pub entry_goes : (e : Entry) (ordered : Bool) → ordered ≡ true → ends ordered (done_of e) ≡ false → e.outcome.error ≡ None
 entry_goes e ordered is on = no_error e.outcome.error (ap (λ b. ends b (done_of e)) (sym is) ∙ on)
 
--- an entry under a number, that was told no error
+-- an entry under a number, without an error
 pub record WasDone (history : List Entry) (number : StatementNumber) (time : ℕ) : Type 0 where
   pub entry : Entry
   pub stands : IsIn entry history
@@ -125,7 +125,7 @@ answer_goes history time number index _ ordered is on (by_entry e stands same pa
 answer_goes history time number index _ ordered is on (by_older e stands session less past) =
     absurd (true_false (ap (λ b. ends b (record { index = index; answer = is_older e.number.transaction })) (sym is) ∙ on))
 
--- each statement that was told and did not end its command was done
+-- each statement that has an outcome and did not end its command was done
 pub front_done : (history : List Entry) (time : ℕ) (write : WriteCommand) (id : RequestId) (ordered : Bool) (index : ℕ) (dones : List Done) → ordered ≡ true
     → AreAnswers history time write id index dones → AllByRecursion (λ d. ends ordered d ≡ false) dones → (i : ℕ) → index ≤ i → i < index + length dones
     → WasDone history (number_for write.number id i) time
@@ -144,7 +144,7 @@ front_done history time write id ordered index (d ∷ dones) is all goes i from 
 
 -- ENTRIES THAT ARE MADE
 
--- the entry is that of a statement of a write, behind all in front of it where they are in order
+-- the entry is that of a statement of a write, after all before it where they are in order
 pub record IsMadeAt (a : Asked) (write : WriteCommand) (ordered : Bool) (history : List Entry) (e : Entry) : Type 0 where
   pub index : ℕ
   pub entry : IsEntryAt a write index e

@@ -35,7 +35,7 @@ pub record Moments (w : World) : Type 0 where
   pub asked : AllByRecursion (λ a. HadMoment w.given a × (a.came < w.now + 1)) w.asked
   pub givens : AllByRecursion (λ (g : Given). g.step < w.now) w.given
 
--- the moment behind an input
+-- the moment after an input
 abbrev pub moment_after : Input → ℕ → ℕ
 moment_after (moment_input moment) old = moment
 moment_after (client_input link number request) old = old
@@ -183,7 +183,7 @@ last_here at moment (g ∷ given) now i = by_test (g.node == at) (last_here at g
     by_test true p q = p
     by_test false p q = q
 
--- a moment that comes behind a request is none that it knew
+-- a moment that comes after a request is none that it knew
 last_stays : (node step moment : ℕ) (given more : List Given) → AllByRecursion (λ (g : Given). step < g.step + 1) more
     → last_from node step moment (given ++ more) ≡ last_from node step moment given
 last_stays node step moment [] [] all = refl

@@ -1,4 +1,4 @@
--- What becomes of an open request where a table is told fits.
+-- What becomes of an open request after a table arrives fits.
 use Rattle.std.proofs.Common.{◌≡◌, inl, inr, ℕ, ◌+◌, ◌<◌, ◌≤◌, List, [], refl, sym, subst, ◌∙◌, Bool}
 use Rattle.std.specs.Prelude.{pos, Option, Some, None, true, false, ◌&&◌, if◌then◌else◌}
 use Rattle.std.specs.List.{AllByRecursion}
@@ -53,7 +53,7 @@ next_keeps r time tables namespace told q = by_test (is_for_table q.wait && byte
     by_test true = by_table (table_for tables q.namespace q.work)
     by_test false = refl
 
--- an answer fits, leaves the cursors, shows no later time, and is told at this one
+-- a reply fits, leaves the cursors, shows no later time, and is returned at this one
 abbrev pub IsToldRightly : View → List Asked → (said : List Answered) → List Cursor → (time now : ℕ) → Reply → Type 0
 IsToldRightly v asked said cursors time now x = AnswerFits v asked said cursors (as_answered now x) cursors × ToldBelow time (as_answered now x)
     × (x.time ≡ time)

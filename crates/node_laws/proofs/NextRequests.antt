@@ -1,4 +1,4 @@
--- What becomes of each open request where a table is told: some are told, and the others stay open.
+-- What becomes of each open request after a table arrives: some are answered, and the others stay open.
 use Rattle.std.proofs.Common.{◌≡◌, ◌≢◌, ◌⊎◌, inl, inr, ℕ, List, [], ◌∷◌, ◌++◌, sym, ap, subst, ◌∙◌}
 use Rattle.std.specs.List.{AllByRecursion, flat_map}
 use Rattle.history_model.proofs.Lists.{all_weaken, all_both, all_append, in_first, in_later, in_cons}

@@ -1,4 +1,4 @@
--- What an open write was told, and what stands of it, and ends where all is told.
+-- The outcomes of an open write that arrived, and which of its entries are stored, and that it ends where all arrived.
 use Rattle.std.proofs.Common.{◌≡◌, ◌≢◌, ◌⊎◌, inl, inr, ℕ, ◌+◌, ◌<◌, ◌≤◌, List, [], ◌∷◌, ◌++◌, refl, sym, ap, subst, ◌∙◌, arith, Bool}
 use Rattle.std.specs.Prelude.{pos, Option, Some, None, true, false, map, length, int_lt, ◌==◌, if◌then◌else◌}
 use Rattle.std.specs.List.{AllByRecursion}
@@ -28,12 +28,12 @@ indexes_from id namespace ordered index (d ∷ operations) (e ∷ es) each =
           (indexes_from id namespace ordered (index + 1) operations es each.2),
     )
 
--- what statements from an index on were told, by entries of these
+-- the outcomes of statements from an index on, of these entries
 abbrev pub StandIn : List Entry → ℕ → List Done → Type 0
 StandIn es index [] = Unit {0}
 StandIn es index (d ∷ dones) = ((e : Entry) × IsIn e es × (e.number.index ≡ index) × (d ≡ done_of e)) × StandIn es (index + 1) dones
 
--- behind the first entry
+-- after the first entry
 stand_behind : (f : Entry) (es : List Entry) (least index : ℕ) (dones : List Done) → f.number.index < least → least ≤ index → StandIn (f ∷ es) index dones
     → StandIn es index dones
 stand_behind f es least index [] first le all = tt
@@ -44,7 +44,7 @@ stand_behind f es least index (d ∷ dones) first le ((e, i, at, same), all) =
     by_place (inl is) = absurd (let n : e.number.index ≡ f.number.index = ap (λ (x : Entry). x.number.index) is in omega arith)
     by_place (inr j) = j
 
--- they are the first of what all entries were told
+-- they are the first of the outcomes of all entries
 pub stand_first : (id : RequestId) (namespace : List ℕ) (ordered : Bool) (index : ℕ) (operations : List Operation) (es : List Entry) (answers : List Done)
     → AreStatements id namespace ordered index operations es → StandIn es index answers → (more : List Done) × (map done_of es ≡ answers ++ more)
 stand_first id namespace ordered index operations es [] each all = (map done_of es, refl)
@@ -79,7 +79,7 @@ made_no_other history asked e m node life request same =
     ap (λ (n : StatementNumber). n.transaction) number
     ∙ number_no_other m.sends.write.number m.request.id m.sends.index node life request (sym (ap (λ (n : StatementNumber). n.session) number) ∙ same)
 
--- so that a statement under one is told by its own entry
+-- so that a statement under one has the outcome of its own entry
 pub own_answer : (history : List Entry) (time : ℕ) (id : RequestId) (index : ℕ) (answer : StatementOutcome) → AllByRecursion HasNoOther history
     → IsAnswerOf history time (number_for None id index) answer
     → (e : Entry) × IsIn e history × (e.number ≡ number_for None id index) × (answer ≡ answer_by e)
@@ -103,7 +103,7 @@ own_stands history time write id index (d ∷ answers) own none all =
       own_stands history time write id (index + 1) answers own none all.2,
     )
 
--- what a write without a client's number was told is the first of what its entries were told
+-- the outcomes of a write without a client's number that arrived are the first of those of its entries
 pub answers_stand : (history : List Entry) (time : ℕ) (write : WriteCommand) (id : RequestId) (answers : List Done) → write.number ≡ None
     → AllByRecursion HasNoOther history → IsPart history id write → AreAnswers history time write id 0 answers
     → (more : List Done) × (told_by id history ≡ answers ++ more)
@@ -143,7 +143,7 @@ none_last : (ordered : Bool) (answers : List Done) → AllByRecursion (λ a. end
 none_last ordered [] goes = tt
 none_last ordered (a ∷ answers) goes = ((λ h. absurd (true_false (sym h ∙ goes.0))), none_last ordered answers goes.1)
 
--- behind what goes on only the last ends it
+-- after what proceeds only the last ends it
 pub noted_last : (ordered : Bool) (answers dones : List Done) → AllByRecursion (λ a. ends ordered a ≡ false) answers → OnlyLast ordered dones
     → OnlyLast ordered (noted answers dones)
 noted_last ordered answers [] goes last = none_last ordered answers goes
@@ -195,7 +195,7 @@ answers_below history time write id index (d ∷ dones) all =
     of_answer _ (by_entry e i numbered past) = past
     of_answer _ (by_older e i session less past) = tt
 
--- where a write is not told whole, no outcome ended it
+-- where outcomes of a write are missing, none that arrived ended it
 pub none_ends : (ordered : Bool) (statements : List Statement) (answers : List Done) → is_answered ordered statements answers ≡ false
     → AllByRecursion (λ d. ends ordered d ≡ false) answers
 none_ends ordered [] answers open_yet = absurd (cc)
@@ -208,12 +208,12 @@ none_ends ordered (s ∷ statements) (d ∷ answers) open_yet = by_test (ends or
     by_test true h o more = absurd (cc)
     by_test false h o more = (h, more o)
 
--- where it is, what it was told is all that stands, and that of all its statements
+-- where none is missing, they are those of all its entries that are stored, and of all its statements
 pub record IsAllTold (ordered : Bool) (operations : List Operation) (answers standing : List Done) : Type 0 where
   pub last : standing ≡ []
   pub all : AreAll ordered operations answers
 
--- what is told behind an outcome, by whether that ends the command
+-- the outcomes after an outcome, by whether that ends the command
 abbrev AreAllBehind : Bool → List Operation → List Done → Bool → Type 0
 AreAllBehind ordered operations answers t = elim t as (λ b. Type 0) [ true ↦ answers ≡ [] | false ↦ AreAll ordered operations answers ]
 

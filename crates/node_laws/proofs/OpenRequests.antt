@@ -125,9 +125,9 @@ left_without n count (q ∷ requests) i = by_test (q.count == count) refl (in_co
         by_rest (inl k) = inl (in_later n q.count (counts_of (without count requests)) k)
         by_rest (inr e) = inr e
 
--- THE OPEN REQUESTS BEHIND A STEP
+-- THE OPEN REQUESTS AFTER A STEP
 
--- Some of the open requests were told, and the others stay open.
+-- Some of the open requests were answered, and the others stay open.
 pub record IsParted (r : Router) (old new : List Open) (news : List Answered) : Type 0 where
   pub different : AreDifferentCounts (counts_of new)
   pub silent : AllByRecursion (λ (q : Open). AllByRecursion (λ (t : Answered). t.id ≢ id_of r q.count) news) new

@@ -65,7 +65,7 @@ pub closed_grows : (requests : List Open) (answered news : List Answered) (a : A
 closed_grows requests answered news a (inl i) = inl i
 closed_grows requests answered news a (inr i) = inr (told_more a.id answered news i)
 
--- what is asked of and told by another router says nothing of this one
+-- the requests and replies of another router say nothing of this one
 abbrev pub AreOf : ℕ → List Asked → Type 0
 AreOf at asked = AllByRecursion (λ (a : Asked). a.id.router ≡ at) asked
 

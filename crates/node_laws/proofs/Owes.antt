@@ -26,11 +26,11 @@ asked_after w f = w.asked ++ asked_by w.now f.taken
 abbrev pub answered_after : World → Effect → List Answered
 answered_after w f = w.answered ++ answered_by w.now f.replies
 
--- a message that is sent: it fits, its time was met, and if it tells a time, no entry is later
+-- a message that is sent: it fits, its time was met, and if it has a time, no entry is later
 abbrev pub IsSaid : View → List Asked → List Given → Letter → Type 0
 IsSaid v asked given m = LetterFits v asked m × IsMet v given m.time × TellsAll v m.time m.body
 
--- what the node at a place owes in a view of the world behind the step
+-- what the node at a place owes in a view of the world after the step
 pub record OwesIn (v : View) (w : World) (book : Book) (at : ℕ) (old : Held) (f : Effect) (new : NodeState) : Type 0 where
   pub node : HeldFits v (asked_after w f) (answered_after w f) w.given at (record { state = new; kept = old.kept ++ f.written })
   pub letters : AllByRecursion (IsSaid v (asked_after w f) w.given) f.mail
@@ -43,7 +43,7 @@ pub record Owes (w : World) (book : Book) (at : ℕ) (old : Held) (f : Effect) (
   -- what it writes is above its time, which does not fall
   pub rises : AllByRecursion (IsAbove (time_of_node old.state)) f.written
   pub later : time_of_node old.state ≤ time_of_node new
-  -- what it takes and tells is its own, and new
+  -- what it takes and replies is its own, and new
   pub taken : AllByRecursion (λ (x : Taken). x.id.router ≡ at) f.taken
   pub told : AllByRecursion (λ (x : Reply). x.id.router ≡ at) f.replies
   pub one : AreDifferent (ids_asked (asked_after w f))
@@ -53,10 +53,10 @@ pub record Owes (w : World) (book : Book) (at : ℕ) (old : Held) (f : Effect) (
   -- the times that it decides are for requests of its own
   pub news : List Choice
   pub chose : AllByRecursion (λ (c : Choice). (c.id.router ≡ at) × IsIn c.id (ids_asked (asked_after w f))) news
-  -- the cursors behind the step: those of the other routers stay
+  -- the cursors after the step: those of the other routers stay
   pub cursors : List Cursor
   pub elsewhere : (router : ℕ) → router ≢ at → filter (is_of router) cursors ≡ filter (is_of router) book.cursors
-  -- the rest is owed in the view behind the step, in which the other journals stay, and its own journal and time are these
+  -- the rest is owed in the view after the step, in which the other journals stay, and its own journal and time are these
   pub owed : (v : View) → Later (view_of w.nodes book) v → ((p : ℕ) → p ≢ at → v.journal p ≡ journal_at w.nodes p) → v.journal at ≡ old.kept ++ f.written
       → v.bound at ≡ time_of_node new
       → v.chosen ≡ book.chosen ++ news → v.cursors ≡ cursors → OwesIn v w book at old f new

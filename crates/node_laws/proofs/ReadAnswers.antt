@@ -1,4 +1,4 @@
--- What reads are told is right, and stays so.
+-- Replies to reads are right, and stay so.
 use Rattle.std.proofs.Common.{◌≡◌, inl, inr, ℕ, ◌<◌, ◌≤◌, List, [], ◌∷◌, zero, suc, refl, sym, ap, subst, ◌∙◌, arith, append-nil, Bool}
 use Rattle.std.specs.Prelude.{pos, Some, None, true, false, filter, flat_map, length, drop, take, codes, ◌^◌, nat_lt, ◌-◌, IsPermutation, IsSortedBy, if◌then◌else◌}
 use Rattle.std.specs.List.{list_all}
@@ -111,7 +111,7 @@ rows_exceed v asked read at time n rows around m much =
     (IsPermutation-refl docs))
     ((split_half_outside read.stages (split read.stages).0 (split read.stages).1 docs rows refl).0 m.makes) much
 
--- lengths that are told alike show alike
+-- lengths that are returned alike show alike
 shown_alike : (length n : ℕ) → 2 ^ 63 ≤ length → 2 ^ 63 ≤ n
     → (if nat_lt n (2 ^ 63) then n else 2 ^ 63 - 1) ≡ (if nat_lt length (2 ^ 63) then length else 2 ^ 63 - 1)
 shown_alike length n a b = by_tests (nat_lt n (2 ^ 63)) (nat_lt length (2 ^ 63)) refl refl
@@ -125,7 +125,7 @@ pub told_alike : (length n : ℕ) → IsTold length n → answer_document (refus
 told_alike length n (inl same) = ap (λ m. answer_document (refusal_answer (too_much m))) same
 told_alike length n (inr (a, b)) = rw (shown_alike length n a b) refl
 
--- WHAT IS TOLD
+-- WHAT IS RETURNED
 
 module _ (v : View) (asked : List Asked) (told : List Answered) (cursors : List Cursor) (a : Asked) (t : Answered) where
   pub overflow_right : (namespace : List ℕ) (named : Bool) (at : ℕ) (stages : List Stage) (telling : Telling)
@@ -222,7 +222,7 @@ empty_batch size = record {
   longest = λ n m. m.there;
 }
 
--- so a read is told that nothing is there
+-- so the reply to a read is that nothing is there
 pub empty_right : (v : View) (asked : List Asked) (told : List Answered) (cursors : List Cursor) (a : Asked) (t : Answered) (q : Open) (named : Bool) (at : ℕ)
     (stages : List Stage) (telling : Telling)
     → NeighboursFit v asked → NoneBegan v q.namespace at → IsReading a q.namespace named at stages telling → at ≤ t.time

@@ -1,4 +1,4 @@
--- What is known of reads: of which time they are, how they are told, and what a shard has for them.
+-- What is known of reads: of which time they are, how their results are returned, and what a shard has for them.
 use Rattle.std.proofs.Common.{◌≡◌, ℕ, ◌<◌, ◌≤◌, List}
 use Rattle.std.specs.Prelude.{Some, None, Result, Ok, Err, Bool, true, false}
 use Rattle.std.specs.List.{AllByRecursion}
@@ -52,7 +52,7 @@ abbrev pub IsDecided : View → RequestId → Work → Type 0
 IsDecided v id (writing kind ordered statements answers) = Unit {0}
 IsDecided v id (reading named at stages telling) = chosen_time id v.chosen ≡ Some at
 
--- HOW IT IS TOLD
+-- HOW IT IS RETURNED
 
 pub data IsTelling (a : Asked) : Reading → Telling → Type 0 where
   tells_find : (find : Find) → command_of a.request ≡ Ok (find_command find)
@@ -98,7 +98,7 @@ pub record IsMade (v : View) (asked : List Asked) (sender time : ℕ) (id : Requ
   pub shown : IsShown v asked sender time id namespace at half documents
   pub makes : IsHalf half documents rows
 
--- rows that are too much, with the length that is told of them
+-- rows that are too much, with the length that is returned for them
 pub record IsTooMuch (v : View) (asked : List Asked) (sender time : ℕ) (id : RequestId) (n : ℕ) : Type 0 where
   pub rows : Rows
   pub made : IsMade v asked sender time id rows
@@ -106,7 +106,7 @@ pub record IsTooMuch (v : View) (asked : List Asked) (sender time : ℕ) (id : R
   pub excess : excess_of_half rows ≡ Some length
   pub told : IsTold length n
 
--- what a shard tells of a half; none overflows
+-- what a shard returns for a half; none overflows
 abbrev pub RowsFit : View → List Asked → (sender time : ℕ) → RequestId → Result Rows HalfFault → Type 0
 RowsFit v asked sender time id (Ok rows) = IsMade v asked sender time id rows
 RowsFit v asked sender time id (Err half_overflow) = ⊥

@@ -1,4 +1,4 @@
--- What a request reads, of which time, and in which words it is told.
+-- What a request reads, of which time, and in which form its result is returned.
 use Rattle.std.proofs.Common.{◌≡◌, ℕ, ◌<◌, ◌≤◌, refl, sym, ap, subst, ◌∙◌, arith, Bool}
 use Rattle.std.specs.Prelude.{Option, Some, None, Result, Ok, true, false, max, nat_le, if◌then◌else◌}
 use Rattle.std.specs.List.{list_all}
@@ -45,7 +45,7 @@ read_int64 a _ _ (tells_count read asks) = int64_of_count a.request read asks
 
 -- TIMES
 
--- once its time is reached, it is a time that it may be told of
+-- once its time is reached, it is a time that its reply may have
 pub read_time : (a : Asked) (t : Answered) (read : Reading) (at : ℕ) (named : Bool) → IsTimeAt a read at named → at ≤ t.time → IsTimeRead a t read at
 read_time a t read at _ (is_named names) past = named_time at names past
 read_time a t read at _ (is_own none reached same) past = subst (λ n. IsTimeRead a t read n) (sym same) (own_time none reached)

@@ -1,4 +1,4 @@
--- Where an ask to write is served, its entries are sent and placed, and of each request a prefix stands.
+-- Where a request to write is served, its entries are sent and placed, and of each request the entries of a prefix are stored.
 use Rattle.std.proofs.Common.{◌≡◌, ◌≢◌, ℕ, ◌+◌, ◌<◌, List, [], ◌∷◌, ◌++◌, refl, sym, ap, subst, ◌∙◌, arith, append_assoc, append-nil, Bool}
 use Rattle.std.specs.Prelude.{Option, Some, None, Result, Ok, true, false, map, length, drop, if◌then◌else◌}
 use Rattle.std.specs.List.{AllByRecursion}
@@ -46,7 +46,7 @@ owned_key_by t (Some key) shard e = record { key = key; writes = refl; owner = e
 pub owned_key : (t : Table) (s : Statement) (shard : ℕ) → owner_of_statement t s ≡ Some shard → HasKey t (key_written s.operation) shard
 owned_key t s shard e = owned_key_by t (key_written s.operation) shard e
 
--- so far the first shard owns all
+-- currently the first shard owns all
 pub owned_by_first : (v : View) (time : ℕ) (namespace : List ℕ) (shard : ℕ) (s : Statement) → IsOwned v time namespace shard s → shard ≡ first_shard
 owned_by_first v time namespace shard s o = let k = owned_key (first_table o.creation) s shard o.owner in only_now o.creation k.key shard k.owner
 
@@ -74,7 +74,7 @@ pub ask_own : (v : View) (asked : List Asked) (receiver time : ℕ) (id : Reques
 ask_own v asked receiver time id ordered namespace statements a =
     all_prefix (IsOf a.write id) statements a.back (subst (λ l. AreOf a.write id l) a.next (statements_of a.write id (length a.front)))
 
--- what some entries were told is what the first of them were told
+-- the outcomes of some entries are those of the first of them
 pub record ToldFirst (entries : List Entry) (front : List Done) : Type 0 where
   pub ahead : List Entry
   pub behind : List Entry
@@ -132,7 +132,7 @@ none_of_other given a b (e ∷ made) other own =
 write_is : (r : Result Command Refusal) (a b : WriteCommand) → r ≡ Ok (write_command a) → r ≡ Ok (write_command b) → a ≡ b
 write_is r a b e h = cc
 
--- where of one request a prefix stands, and none of the others made an entry, of each a prefix stands
+-- where of one request a prefix is stored, and none of the others made an entry, of each a prefix is stored
 pub parts_longer : (asked : List Asked) (entries made : List Entry) (own : Asked) (write : WriteCommand) → AreDifferent (ids_asked asked) → IsIn own asked
     → command_of own.request ≡ Ok (write_command write)
     → AllByRecursion (IsBy write.number own.id) made → (write.number ≡ None → IsPart (entries ++ made) own.id write)

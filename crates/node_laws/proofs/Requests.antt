@@ -20,7 +20,7 @@ use Rattle.node_laws.proofs.SeenStatements.{own_session}
 abbrev pub IsNew : List Asked → Asked → Type 0
 IsNew asked a = AllByRecursion (λ (b : Asked). b.id ≢ a.id) asked
 
--- the requests behind others of different numbers are new
+-- the requests after others of different numbers are new
 pub new_ones : (asked more : List Asked) → AreDifferent (ids_asked (asked ++ more)) → AllByRecursion (IsNew asked) more
 new_ones [] more all = all_of (IsNew []) more (λ a. tt)
 new_ones (b ∷ asked) more all = joined more (behind asked more all.0) (new_ones asked more all.1)
@@ -64,7 +64,7 @@ none_by entries asked a (e ∷ history) new sent =
     ap (λ t. if t then e ∷ entries_by a.id history else entries_by a.id history) (other_sent s.request a.id e s.sends other)
     ∙ none_by entries asked a history new sent.1
 
--- so of each request a prefix stands, also of new ones
+-- so of each request a prefix is stored, also of new ones
 pub parts_grow : (asked more : List Asked) (history : List Entry) → AreDifferent (ids_asked (asked ++ more)) → AllByRecursion (WasMade history asked) history
     → AllByRecursion (StandsInPart history) asked → AllByRecursion (StandsInPart history) (asked ++ more)
 parts_grow asked more history different sent parts =
@@ -93,7 +93,7 @@ pub asked_here : (now at : ℕ) (taken : List Taken) → AllByRecursion (λ (x :
 asked_here now at [] all = tt
 asked_here now at (x ∷ taken) all = (all.0, asked_here now at taken all.1)
 
--- what is told in a step was not told before a request that came in it or earlier
+-- what is replied in a step was not replied before a request that came in it or earlier
 pub still_fresh : (answered news : List Answered) (now : ℕ) (a : Asked) → a.came < now + 1 → AllByRecursion (λ (t : Answered). t.step ≡ now) news
     → IsFresh answered a → IsFresh (answered ++ news) a
 still_fresh answered news now a came told fresh =

@@ -1,4 +1,4 @@
--- What a router tells is right, and stays so.
+-- The replies of a router are right, and stay so.
 use Rattle.std.proofs.Common.{◌≡◌, ◌≢◌, ◌⊎◌, inl, inr, ℕ, ◌+◌, ◌<◌, ◌≤◌, List, [], ◌∷◌, ◌++◌, refl, sym, ap, subst, ◌∙◌, arith, append-nil, append_assoc, Bool}
 use Rattle.std.specs.Prelude.{pos, Option, Some, None, Result, Ok, Err, true, false, length, int_lt, if◌then◌else◌}
 use Rattle.std.specs.List.{AllByRecursion}
@@ -34,7 +34,7 @@ use Rattle.node_laws.proofs.AnswerTimes.{ShowsBelow, refusal_below, hello_below,
 abbrev pub as_answered : ℕ → Reply → Answered
 as_answered now x = record { id = x.id; link = x.link; number = x.number; request = x.request; step = now; time = x.time; document = x.document }
 
--- an open request is told rightly
+-- an open request gets a right reply
 pub answer_fits : (v : View) (asked : List Asked) (answered told : List Answered) (r : Router) (time now : ℕ)
     (q : Open) (answer : Answer) (cursors next : List Cursor) (o : IsOpenOf v asked answered r q) → r.time ≤ time → o.request.came < now + 1
     → StaysRight v asked told cursors o.request (as_answered now (reply_to r time q answer)) next
@@ -54,7 +54,7 @@ answer_fits v asked answered told r time now q answer cursors next o later came 
 
 -- A TIME THAT IS AHEAD
 
--- the shard told its time, asked after the request came
+-- the shard returned its time, requested after the request came
 pub ahead_right : (v : View) (asked : List Asked) (told : List Answered) (cursors : List Cursor) (a : Asked) (t : Answered) (id : RequestId)
     (at heard now : ℕ) (old : List Answered)
     → IsAwaited v a id at → IsPast v old a heard → heard ≤ t.time → t.time < at → a.came < now + 1 → told ≡ old ++ t ∷ [] → t.step ≡ now
@@ -88,7 +88,7 @@ same_place [] x ys (w ∷ us) u vs e n = absurd (cc)
 same_place (z ∷ xs) x ys [] u vs e n = absurd (cc)
 same_place (z ∷ xs) x ys (w ∷ us) u vs e n = same_place xs x ys us u vs (cc) (omega arith)
 
--- a request that was taken, with its write, and an answer to it that is told behind all that was taken
+-- a request that was taken, with its write, and a reply to it after all that was taken
 pub record IsTelling (v : View) (asked : List Asked) (a : Asked) (write : WriteCommand) (t : Answered) : Type 0 where
   pub around : NeighboursFit v asked
   pub taken : IsIn a asked
@@ -128,7 +128,7 @@ module _ (v : View) (asked : List Asked) (a : Asked) (write : WriteCommand) (t :
       index_at None id n = refl
       index_at (Some by) id n = refl
 
-  -- an answer that is by an entry may be told
+  -- an outcome of an entry may be returned
   may_tell : (prefix : List Operation) (operation : Operation) (back : List Operation) (answer : StatementOutcome)
       → write.operations ≡ prefix ++ operation ∷ back
       → IsAnswerOf (entries_in v first_shard) t.time (number_for write.number t.id (length prefix)) answer

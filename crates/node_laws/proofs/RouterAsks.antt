@@ -88,7 +88,7 @@ owned_by v time namespace shard t s k name owner = record {
   owner = subst (λ u. owner_of_statement u s ≡ Some shard) k.table owner;
 }
 
--- so far one shard owns a span
+-- currently one shard owns a span
 pub only_span : (c : Creation) (at shard : ℕ) (span : List Span) → owner_of_span (first_table c) at span ≡ Some shard → shard ≡ first_shard
 only_span c at shard span e = (only_at c null_value at shard e).0
 

@@ -61,7 +61,7 @@ module _ (w : World) (book : Book) (at : ℕ) (kept : List Kept) (r : Router) (g
   pub fits : RouterFits (view_of w.nodes book) w.asked w.answered at r
   fits = h.state
 
-  -- a view behind the step: the other journals stay
+  -- a view after the step: the other journals stay
   abbrev pub IsBehind : View → Type 0
   IsBehind v = Later (view_of w.nodes book) v × ((p : ℕ) → p ≢ at → v.journal p ≡ journal_at w.nodes p)
 
@@ -100,7 +100,7 @@ module _ (w : World) (book : Book) (at : ℕ) (kept : List Kept) (r : Router) (g
   pub came_by : (a : Asked) → IsIn a w.asked → a.came < w.now + 1
   came_by a i = all_at (λ (b : Asked). b.came < w.now + 1) a w.asked good.came i
 
-  -- the cursors stay where nothing is told of them
+  -- the cursors stay where no reply is about them
   pub turns_stay : (time moment : ℕ) (tables : List Table) (requests : List Open) → r.time ≤ time
       → Turns book.cursors book.cursors at (goes_to r time moment tables requests (as_before r))
   turns_stay time moment tables requests later =
@@ -116,7 +116,7 @@ module _ (w : World) (book : Book) (at : ℕ) (kept : List Kept) (r : Router) (g
 
   -- FORMS OF STEPS
 
-  -- nothing is told
+  -- nothing is replied
   pub stays_owes : (time : ℕ) → r.time ≤ time → IsMet (view_of w.nodes book) w.given time
       → Owes w book at (record { state = router_state r; kept = kept }) (tells (as_before r) [] [])
       (router_state (goes_to r time r.moment r.tables r.requests (as_before r)))
@@ -216,7 +216,7 @@ module _ (w : World) (book : Book) (at : ℕ) (kept : List Kept) (r : Router) (g
         times = tt;
       })
 
-  -- an open request is told
+  -- an open request is answered
   pub told_owes : (q : Open) (answer : Answer) (time : ℕ) (f : Opened) (next : List Cursor) → IsIn q r.requests → r.time ≤ time
       → IsMet (view_of w.nodes book) w.given time
       → AllByRecursion (IsAbove r.time) f.written → Turns book.cursors next at (goes_to r time r.moment r.tables (without q.count r.requests) f)

@@ -43,7 +43,7 @@ goes_to r time moment tables requests f = record {
 abbrev pub tells : Opened → List Letter → List Reply → Effect
 tells f mail replies = record { written = f.written; mail = mail; taken = []; replies = replies }
 
--- what a row gives, in a view behind the step
+-- what a transition results in, in a view after the step
 pub record RowFits (v : View) (w : World) (book : Book) (s : Router) (mail : List Letter) (replies : List Reply) : Type 0 where
   pub tables : AllByRecursion (IsKnownTable v s.time) s.tables
   pub requests : AllByRecursion (IsOpenOf v w.asked w.answered s) s.requests

@@ -1,4 +1,4 @@
--- What a message tells a router, and what the router asks for and tells then.
+-- What a message carries for a router, and what the router requests and replies then.
 use Rattle.std.proofs.Common.{◌≡◌, ◌≢◌, inl, inr, ℕ, ◌+◌, ◌<◌, ◌≤◌, List, [], ◌∷◌, ◌++◌, refl, sym, ap, subst, ◌∙◌, arith, Bool}
 use Rattle.std.specs.Prelude.{Option, Some, None, true, false, nat_lt, if◌then◌else◌}
 use Rattle.std.specs.List.{AllByRecursion}
@@ -42,7 +42,7 @@ use Rattle.node_laws.proofs.NextFacts.{IsToldRightly, next_keeps, next_fits}
 use Rattle.node_laws.proofs.RouterLater.{goes_to, tells, goes_owes}
 use Rattle.node_laws.proofs.RouterForms.{not_ahead, GoesOn, IsBehind, around, each_open, known_tables, came_by, turns_stay, quiet, goes_on_owes, told_owes}
 
--- what becomes of each open request where a message tells of a table
+-- what becomes of each open request where a message carries a table
 abbrev next_by : Router → Letter → Option Table → (namespace : List ℕ) → At → Open → Next
 next_by r m table namespace told q = next_of r (heard r m) (adopted table r.tables) namespace told q
 
@@ -80,7 +80,7 @@ module _ (w : World) (book : Book) (at : ℕ) (kept : List Kept) (r : Router) (g
   abbrev Behind : View → Type 0
   Behind v = IsBehind w book at kept r good h v
 
-  -- the router's time behind the message
+  -- the router's time after the message
   pub later : r.time ≤ heard r m
   later = omega arith
 
@@ -203,7 +203,7 @@ module _ (w : World) (book : Book) (at : ℕ) (kept : List Kept) (r : Router) (g
             seen = tt;
           }
 
-  -- the shard's time came behind the request, so that of no write that was answered before is an entry later
+  -- the shard's time came after the request, so that of no write that was answered before is an entry later
   told_before : (v : View) → Behind v → (id : RequestId) → m.body ≡ time_told id → (a : Asked) → IsIn a w.asked → a.id ≡ id → IsPast v w.answered a m.time
   told_before v behind id says a taken own =
       let t : TimeFits (view_of w.nodes book) w.asked w.answered m.time (time_told id) = subst

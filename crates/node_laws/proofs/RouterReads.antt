@@ -1,4 +1,4 @@
--- The rows of a read tell a router what to tell.
+-- The rows of a read determine the reply of a router.
 use Rattle.std.proofs.Common.{◌≡◌, ◌≢◌, inl, inr, ℕ, ◌≤◌, ◌*◌, List, [], ◌∷◌, ◌++◌, refl, sym, subst, ◌∙◌, arith, Bool}
 use Rattle.std.specs.Prelude.{pos, Some, None, Ok, Err, true, false, length, drop, codes, nat_lt}
 use Rattle.std.specs.List.{AllByRecursion}
@@ -57,7 +57,7 @@ record ReadIn (v : View) (a : Asked) (namespace : List ℕ) (named : Bool) (time
 module _ (w : World) (book : Book) (at : ℕ) (kept : List Kept) (r : Router) (good : Good w book)
     (h : HeldFits (view_of w.nodes book) w.asked w.answered w.given at (record { state = router_state r; kept = kept }))
     (m : Letter) (comes : SentFits (view_of w.nodes book) w.asked w.answered w.given m) where
-  -- the time of a read that rows are told for is decided
+  -- the time of a read that rows are sent for is decided
   decided_of : (v : View) (q : Open) (a : Asked) (named : Bool) (time other : ℕ) (stages : List Stage) (telling : Telling)
       → q.work ≡ reading named time stages telling
       → HasTime v a (id_of r q.count) r.time q.wait q.work → chosen_time (id_of r q.count) v.chosen ≡ Some other

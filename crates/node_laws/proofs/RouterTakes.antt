@@ -164,7 +164,7 @@ module _ (w : World) (book : Book) (at : ℕ) (kept : List Kept) (r : Router) (g
       (λ b c e. not_taken b.id.life r.life b.id.count r.count r.begun (c (ap (λ (i : RequestId). i.router) e ∙ mine.own))
       (ap (λ (i : RequestId). i.life) e) (ap (λ (i : RequestId). i.count) e)) mine.counted
 
-  -- nor was it told
+  -- nor was it answered
   none_told : (v : View) (asked : List Asked) (answered : List Answered) (cursors last : List Cursor) (told : List Answered)
       → AnswersFit v asked answered cursors told last
       → AllByRecursion (λ (b : Asked). b.id ≢ id_of r (r.count + 1)) asked → AllByRecursion (λ (x : Answered). x.id ≢ id_of r (r.count + 1)) told

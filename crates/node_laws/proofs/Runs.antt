@@ -134,7 +134,7 @@ after_nothing w at old here =
     let d = append-nil w.answered in
     λ i. record { nodes = n i; sent = s i; asked = a i; answered = d i; given = w.given; now = w.now }
 
--- an input that a life begins before says the same behind the beginning
+-- an input that a life begins before says the same after the beginning
 fits_later : (w : World) (book : Book) (at : ℕ) (old : Held) (f : Effect) (new : NodeState) (next : Book) (i : Input) → BeginsBefore i
     → Later (view_of w.nodes book) (view_of (slice_set w.nodes at (with_more old f.written new)) next) → InputFits w book i
     → InputFits (after w at old f new) next i
@@ -322,7 +322,7 @@ the_catalogue w asked answered given nodes (c, s, routers, same, is_c, is_s) all
     let t = the_catalogue_in w asked answered given c s routers is_c (subst (λ l. EachAt (HeldFits w asked answered given) 0 l) same all) in
     record { catalogue = t.catalogue; kept = t.kept; fits = t.fits; journal = ap (λ l. journal_at l 0) same ∙ t.journal }
 
--- all that was told is right, at times that were met
+-- all replies are right, at times that were met
 all_right : (v : View) (given : List Given) (asked : List Asked) (answered : List Answered) (cursors last : List Cursor) (told : List Answered)
     → AnswersFit v asked answered cursors told last → AllByRecursion (λ (t : Answered). IsMet v given t.time) told
     → AreRight given (creations_in v) (entries_in v first_shard) asked answered cursors told

@@ -41,7 +41,7 @@ own_session id =
 
 -- WHAT IS FOUND
 
--- what a number was told before: by an entry under it, or by one of a greater transaction of its session
+-- the earlier outcome of a number: of an entry under it, or of one of a greater transaction of its session
 pub data IsFound (entries : List Entry) (number : StatementNumber) : Done → Type 0 where
   found_entry : (e : Entry) → IsIn e entries → e.number ≡ number → IsFound entries number (done_of e)
   found_older : (e : Entry) → IsIn e entries → e.number.session ≡ number.session → int_lt number.transaction e.number.transaction ≡ true
@@ -182,7 +182,7 @@ greatest_is session (e ∷ entries) =
     }
 
 module _ (number : StatementNumber) (entries : List Entry) where
-  -- what a number was told before
+  -- the earlier outcome of a number
   pub seen_found : (d : Done) → seen_before number entries ≡ Some d → IsFound entries number d
   seen_found d seen =
       by_greatest (greatest_of number.session (notes_of entries)) (greatest_is number.session entries) (noted number (notes_of entries))

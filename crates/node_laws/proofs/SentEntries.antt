@@ -1,4 +1,4 @@
--- Each entry was sent by a request that was taken, behind all statements in front of it, and no answer ends in front of it.
+-- Each entry was sent by a request that was taken, after all statements before it, and no outcome before it ends the command.
 use Rattle.std.proofs.Common.{◌≡◌, inl, inr, ℕ, ◌+◌, ◌<◌, List, [], ◌∷◌, refl, sym, ap, subst, ◌∙◌, arith, Bool}
 use Rattle.std.specs.Prelude.{Option, Some, None, true, false, is_some}
 use Rattle.history_model.proofs.Lists.{all_at}
@@ -17,7 +17,7 @@ use Rattle.node_laws.proofs.WriteFacts.{AreDoneBefore, WasMade}
 use Rattle.node_laws.proofs.SeenStatements.{true_false}
 use Rattle.node_laws.proofs.MadeEntries.{index_at}
 
--- an entry that was told no error ends nothing
+-- an entry without an error ends nothing
 not_over : (e : Entry) (index : ℕ) (ordered : Bool) → e.outcome.error ≡ None → ends ordered (record { index = index; answer = answer_by e }) ≡ true → ⊥
 not_over e index false none over = true_false (sym over)
 not_over e index true none over = by_error e.outcome.error none over
@@ -38,7 +38,7 @@ number_at (Some by) id i k = refl
 
 module _ (history : List Entry) (asked : List Asked) (numbered : AreNumbered history) (first : (e : Entry) → IsIn e history → e.shard ≡ first_shard) where
   module _ (t : Answered) (write : WriteCommand) (time index : ℕ) (reached : write.ordered ≡ true → AreDoneBefore history time write t.id index) where
-    -- an entry in front of it ends nothing
+    -- an entry before it ends nothing
     entry_goes : (i : ℕ) (d : Done) (e : Entry) → i < index → IsIn e history → e.number ≡ number_for write.number t.id i → d.answer ≡ answer_by e
         → ends write.ordered d ≡ true → ⊥
     entry_goes i d e below stands number is over =

@@ -1,4 +1,4 @@
--- Where statements of a request without a client's number are served that are its next ones, a prefix of its statements stands before
+-- Where statements of a request without a client's number are served that are its next ones, a prefix of its statements is stored before
 -- and after.
 use Rattle.std.proofs.Common.{◌≡◌, ◌≢◌, ◌⊎◌, inl, inr, ℕ, ◌+◌, ◌<◌, ◌≤◌, List, [], ◌∷◌, ◌++◌, refl, sym, ap, subst, ◌∙◌, arith, append_assoc, append-nil, Bool}
 use Rattle.std.specs.Prelude.{pos, Option, Some, None, true, false, length, drop, int_lt, if◌then◌else◌}
@@ -18,7 +18,7 @@ use Rattle.node_laws.proofs.Growth.{entries_by_longer}
 use Rattle.node_laws.proofs.NotedOutcomes.{HasNoOther}
 use Rattle.node_laws.proofs.SeenStatements.{true_false, IsFound, found_entry, found_older, seen_found, IsNewBehind, unseen_new, own_session, entry_by, all_by}
 
--- IN FRONT OF AN INDEX, AND BEHIND IT
+-- BEFORE AN INDEX, AND AFTER IT
 
 abbrev pub AreBelow : ℕ → List Entry → Type 0
 AreBelow index entries = AllByRecursion (λ (e : Entry). e.number.index < index) entries
@@ -31,7 +31,7 @@ index_of : (id : RequestId) (namespace : List ℕ) (index : ℕ) (operation : Op
     → e.number.index ≡ index
 index_of id namespace index operation e s = ap (λ (n : StatementNumber). n.index) s.same_number
 
--- the entries in front of others have the first indices
+-- the entries before others have the first indices
 pub front_below : (id : RequestId) (namespace : List ℕ) (ordered : Bool) (index : ℕ) (operations : List Operation) (front back : List Entry)
     → AreStatements id namespace ordered index operations (front ++ back) → AreBelow (index + length front) front
 front_below id namespace ordered index operations [] back all = tt
@@ -50,7 +50,7 @@ from_index id namespace ordered index least (d ∷ operations) (e ∷ entries) l
     let i : e.number.index ≡ index = index_of id namespace index d e all.0 in
     ((omega arith), from_index id namespace ordered (index + 1) least operations entries (omega arith) all.2)
 
--- the statements behind a front are those from its length on
+-- the statements after a front are those from its length on
 pub behind_front : (id : RequestId) (namespace : List ℕ) (ordered : Bool) (index : ℕ) (operations : List Operation) (front back : List Entry)
     → AreStatements id namespace ordered index operations (front ++ back)
     → AreStatements id namespace ordered (index + length front) (drop (length front) operations) back
@@ -61,7 +61,7 @@ behind_front id namespace ordered index (d ∷ operations) (e ∷ front) back al
     subst (λ k. AreStatements id namespace ordered k (drop (length front) operations) back) n
     (behind_front id namespace ordered (index + 1) operations front back all.2)
 
--- others may stand behind a front that goes on
+-- others may come after a front that proceeds
 pub other_back : (id : RequestId) (namespace : List ℕ) (ordered : Bool) (index : ℕ) (operations : List Operation) (front back other : List Entry)
     → GoOn ordered front → AreStatements id namespace ordered index operations (front ++ back)
     → AreStatements id namespace ordered (index + length front) (drop (length front) operations) other
@@ -79,7 +79,7 @@ other_back id namespace ordered index (d ∷ operations) (e ∷ front) back othe
 
 -- THE NEXT STATEMENT
 
--- what stands of a request: these entries in front of an index, and behind it these, of the statements from there on
+-- the entries of a request that are stored: these before an index, and after it these, of the statements from there on
 pub record Stands (id : RequestId) (namespace : List ℕ) (ordered : Bool) (entries : List Entry) (index : ℕ) (operations : List Operation)
     (front back : List Entry) : Type 0 where
   pub split : entries_by id entries ≡ front ++ back
@@ -87,7 +87,7 @@ pub record Stands (id : RequestId) (namespace : List ℕ) (ordered : Bool) (entr
   pub from : AreStatements id namespace ordered index operations back
   pub zero : AllByRecursion HasNoOther entries
 
--- the next statement, where it was seen: its entry is the first behind the front
+-- the next statement, where it was applied before: its entry is the first after the front
 pub record IsFirst (back : List Entry) (d : Done) : Type 0 where
   pub entry : Entry
   pub more : List Entry
@@ -134,7 +134,7 @@ seen_first id namespace ordered entries index operations front back _ s (found_o
     let none : e.number.transaction ≡ pos 0 = all_at HasNoOther e entries s.zero stands id.router id.life id.count session in
     absurd (true_false (sym less ∙ ap (λ n. int_lt (pos 0) n) none))
 
--- where it was not seen, nothing stands behind the front
+-- where it was not applied before, nothing is stored after the front
 unseen_none : (id : RequestId) (namespace : List ℕ) (ordered : Bool) (entries : List Entry) (index : ℕ) (operations : List Operation) (front back : List Entry)
     → Stands id namespace ordered entries index operations front back → seen_before (number_for None id index) entries ≡ None → back ≡ []
 unseen_none id namespace ordered entries index operations front back s new =
@@ -150,7 +150,7 @@ unseen_none id namespace ordered entries index operations front back s new =
     by_back [] (d ∷ back) all others = absurd all
     by_back (operation ∷ operations) (d ∷ back) all others = absurd (others.0 all.0.same_number)
 
--- with the entry of this index behind it the front is below the next one
+-- with the entry of this index after it the front is below the next one
 below_next : (id : RequestId) (namespace : List ℕ) (index : ℕ) (operation : Operation) (front : List Entry) (e : Entry) → AreBelow index front
     → IsStatement (number_for None id index) namespace operation e → AreBelow (index + 1) (front ++ e ∷ [])
 below_next id namespace index operation front e below is =
@@ -185,7 +185,7 @@ own_first id namespace index operation e entries is =
     ap (λ t. if t then e ∷ entries_by id entries else entries_by id entries)
     (ap (λ (n : StatementNumber). is_session_of id n.session) is.same_number ∙ own_session id)
 
--- where it is new, its entry stands alone behind the front
+-- where it is new, its entry is alone after the front
 next_new : (id : RequestId) (namespace : List ℕ) (ordered : Bool) (entries : List Entry) (index : ℕ) (operation : Operation) (operations : List Operation)
     (front made : List Entry) (e : Entry)
     → IsStatement (number_for None id index) namespace operation e → ends ordered (done_of e) ≡ false
@@ -207,7 +207,7 @@ next_new id namespace ordered entries index operation operations front made e is
     own_zero : HasNoOther e
     own_zero node life request same = ap (λ (n : StatementNumber). n.transaction) is.same_number
 
--- the next statement, and those behind it
+-- the next statement, and those after it
 pub record Next (given : Option ClientNumber) (id : RequestId) (index : ℕ) (operation : Operation) (operations : List Operation) (s : Statement)
     (others : List Statement) : Type 0 where
   pub number : s.number ≡ number_for given id index

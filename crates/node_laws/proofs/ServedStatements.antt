@@ -1,4 +1,4 @@
--- What serving statements leaves: entries that rise, each as its operation tells, each once, and what their statements are told.
+-- What serving statements results in: entries that rise, each as its operation says, each once, and the outcomes of their statements.
 use Rattle.std.proofs.Common.{◌≡◌, ◌⊎◌, inl, inr, ℕ, ◌+◌, ◌<◌, ◌≤◌, List, [], ◌∷◌, ◌++◌, refl, sym, ap, subst, ◌∙◌, arith, append_assoc, append-nil, Bool}
 use Rattle.std.specs.Prelude.{None, length, int_lt}
 use Rattle.std.specs.List.{AllByRecursion}
@@ -159,7 +159,7 @@ serves_entries P shard namespace ordered _ _ _ _ _ _ (serves_new entries time s 
 serves_entries P shard namespace ordered _ _ _ _ _ _ (ends_again entries time s rest e seen over) all = tt
 serves_entries P shard namespace ordered _ _ _ _ _ _ (ends_new entries time s rest new over) all = ((refl, refl, all.0), tt)
 
--- WHAT IS TOLD
+-- OUTCOMES
 
 -- the statement is one of a write, by its number
 pub record IsOf (write : WriteCommand) (id : RequestId) (s : Statement) : Type 0 where
@@ -241,7 +241,7 @@ module _ (write : WriteCommand) (id : RequestId) where
 
 -- THE LAST
 
--- only the last of what is told ends the command
+-- only the last of the outcomes ends the command
 pub serves_last : (shard : ℕ) (namespace : List ℕ) (ordered : Bool) (entries : List Entry) (time : ℕ) (statements : List Statement)
     (dones : List Done) (made : List Entry) (last : ℕ) → Serves shard namespace ordered entries time statements dones made last → OnlyLast ordered dones
 serves_last shard namespace ordered _ _ _ _ _ _ (serves_no_more entries time rest) = tt

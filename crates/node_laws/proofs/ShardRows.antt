@@ -55,7 +55,7 @@ heard_met : (w : World) (book : Book) (at : ℕ) (kept : List Kept) (s : Shard) 
     → IsMet (view_of w.nodes book) w.given (heard s m)
 heard_met w book at kept s m is met = met_max (view_of w.nodes book) w.given s.time m.time is.met met
 
--- a message is heard, and one is sent back
+-- a message is received, and one is sent back
 heard_back : (w : World) (book : Book) (at : ℕ) (kept : List Kept) (s : Shard) (m : Letter) (mail : List Letter) → Stood w book at kept s
     → InputFits w book (letter_input m)
     → ((v : View) → Later (view_of w.nodes book) v → IsMet v w.given (heard s m) → entries_in v at ≡ s.entries → v.bound at ≡ heard s m
@@ -66,12 +66,12 @@ heard_back w book at kept s m mail is comes letters = at_rest w book at kept s (
 
 -- ROWS BY WHAT THEY ANSWER
 
--- what a message says that was heard, at the node's own numbers
+-- what a message says that was received, at the node's own numbers
 body_is : (w : World) (book : Book) (at : ℕ) (m : Letter) (b : Body) → m.body ≡ b → InputFits w book (letter_input m)
     → BodyFits (view_of w.nodes book) w.asked m.sender m.receiver m.time b
 body_is w book at m b is comes = subst (λ x. BodyFits (view_of w.nodes book) w.asked m.sender m.receiver m.time x) is comes.0
 
--- statements that were seen are told again
+-- retries get their outcomes again
 first_repeated : (ordered : Bool) (entries : List Entry) (statements : List Statement) (dones : List Done) → Repeats ordered entries statements dones
     → (dones ≡ []) ⊎ ((s : Statement) × (rest : List Statement) × (statements ≡ s ∷ rest))
 first_repeated ordered entries _ _ (repeats_no_more rest) = inl refl

@@ -30,9 +30,9 @@ use Rattle.node_laws.proofs.Journals.{later_self}
 use Rattle.node_laws.proofs.ServedStatements.{up_to_later}
 use Rattle.node_laws.proofs.RequestParts.{owned_by_first}
 
--- A STEP THAT TAKES AND TELLS NOTHING
+-- A STEP THAT TAKES AND REPLIES NOTHING
 
--- the node fits behind the step, and so do the messages that it sends
+-- the node fits after the step, and so do the messages that it sends
 pub record Leaves (v : View) (w : World) (at : ℕ) (kept : List Kept) (mail : List Letter) (new : NodeState) : Type 0 where
   pub node : StateFits v w.asked w.answered at kept new
   pub met : IsMet v w.given (time_of_node new)
@@ -189,7 +189,7 @@ asks_again_fit v asked given s time (m ∷ parked) met = by_ask (ask_in m.body) 
 
 -- WHAT IS SENT BACK
 
--- what statements of a request are told, by these entries
+-- the outcomes of statements of a request, of these entries
 pub record AreToldBy (v : View) (asked : List Asked) (history : List Entry) (time : ℕ) (id : RequestId) (dones : List Done) : Type 0 where
   pub request : Asked
   pub write : WriteCommand
@@ -200,7 +200,7 @@ pub record AreToldBy (v : View) (asked : List Asked) (history : List Entry) (tim
   pub last : OnlyLast write.ordered dones
   pub begun : HasBegun v time write.namespace
 
--- by those that stand in a later view
+-- of those that are stored in a later view
 pub told_done : (u v : View) (asked : List Asked) (sender time : ℕ) (id : RequestId) (history : List Entry) (dones : List Done) → Later u v
     → entries_in v sender ≡ history → AreToldBy u asked history time id dones → IsDoneOf v asked sender time id dones
 told_done u v asked sender time id history dones later same t = record {
@@ -220,7 +220,7 @@ pub begun_owned : (v : View) (early time : ℕ) (namespace other : List ℕ) (re
 begun_owned v early time namespace other receiver s le name o =
     record { creation = o.creation; begun = o.begun; name = o.name ∙ name; before = let h = o.before in omega arith }
 
--- what waited tells no time
+-- what waited has no time
 pub tells_none : (v : View) (time : ℕ) (namespace : List ℕ) (b : Body)
     → (elim (ask_in b) as (λ (x : Option Ask). Bool) [ None ↦ false | Some a ↦ bytes_eq a.namespace namespace ]) ≡ true → TellsAll v time b
 tells_none v time namespace (time_told id) h = absurd (cc)

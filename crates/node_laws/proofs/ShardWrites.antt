@@ -61,7 +61,7 @@ pub record Served (w : World) (book : Book) (at : ℕ) (s : Shard) (time : ℕ) 
   pub parts : AllByRecursion (StandsInPart (s.entries ++ made)) w.asked
   pub told : AreToldBy (view_of w.nodes book) w.asked (s.entries ++ made) last id dones
 
--- what stands at the shard's place are its entries
+-- the journal at the shard's place has its entries
 shard_entries : (w : World) (book : Book) (at : ℕ) (kept : List Kept) (s : Shard) → Stood w book at kept s
     → entries_in (view_of w.nodes book) first_shard ≡ s.entries
 shard_entries w book at kept s is = ap (λ n. entries_kept (journal_at w.nodes n)) (sym is.fits.place)
@@ -73,7 +73,7 @@ part_moved a from into x y operations entries name order part =
     subst (λ n. AreStatements a n y 0 operations (entries_by a entries)) name
     (subst (λ o. AreStatements a from o 0 operations (entries_by a entries)) order part)
 
--- the statements that are served, where some are told
+-- the statements that are served, where some have outcomes
 pub first_served : (shard : ℕ) (namespace : List ℕ) (ordered : Bool) (entries : List Entry) (time : ℕ) (statements : List Statement) (dones : List Done)
     (made : List Entry) (last : ℕ) → Serves shard namespace ordered entries time statements dones made last
     → (dones ≡ []) ⊎ ((s : Statement) × (rest : List Statement) × (statements ≡ s ∷ rest))
@@ -83,7 +83,7 @@ first_served shard namespace ordered _ _ _ _ _ _ (serves_new entries time s rest
 first_served shard namespace ordered _ _ _ _ _ _ (ends_again entries time s rest d seen over) = inr (s, rest, refl)
 first_served shard namespace ordered _ _ _ _ _ _ (ends_new entries time s rest new over) = inr (s, rest, refl)
 
--- where some are told, the collection began
+-- where some have outcomes, the collection was created
 pub begun_by : (v : View) (asked : List Asked) (receiver early time : ℕ) (id : RequestId) (ordered : Bool) (namespace : List ℕ) (statements : List Statement)
     (d : Done) (dones : List Done)
     → early ≤ time → (ask : IsWriteOf v asked receiver early id ordered namespace statements)
@@ -114,7 +114,7 @@ module _ (w : World) (book : Book) (at : ℕ) (kept : List Kept) (s : Shard) (is
   past : AreUpTo now s.entries
   past = up_to_later s.time now s.entries later is.fits.past
 
-  -- what was told before, at the request's own number
+  -- the outcomes that were returned before, at the request's own number
   before : AreAnswers s.entries early ask.write Own.id 0 ask.front
   before =
       subst (λ i. AreAnswers s.entries early ask.write i 0 ask.front) (sym ask.own)
@@ -139,7 +139,7 @@ module _ (w : World) (book : Book) (at : ℕ) (kept : List Kept) (s : Shard) (is
       (ap (λ n. statements_from ask.write.number Own.id n (drop (length ask.front) ask.write.operations)) zero_at
       ∙ sym (drop_statements ask.write.number Own.id 0 (length ask.front) ask.write.operations) ∙ next) past done_before
 
-  -- of a request without a client's number a prefix stands
+  -- of a request without a client's number a prefix is stored
   part_stands : ask.write.number ≡ None → IsPart (s.entries ++ made) Own.id ask.write
   part_stands none =
       let part : IsPart s.entries Own.id ask.write = all_at (StandsInPart s.entries) Own w.asked is.fits.parts ask.taken ask.write ask.asks none in

@@ -50,7 +50,7 @@ next_above r most = by_test (nat_lt r.gave (block_size * r.blocks)) refl
     by_test true h = omega arith
     by_test false h = omega arith
 
--- what is given of numbers behind one more
+-- what is given of numbers after one more
 pub record OneMore (r : Router) (cursors : List Cursor) (f : Opened) : Type 0 where
   pub own : f.cursors ≡ cursors
   pub gave : f.gave ≡ next_number r

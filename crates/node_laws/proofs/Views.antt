@@ -15,7 +15,7 @@ pub record Choice : Type 0 where
   pub id : RequestId
   pub at : ℕ
 
--- What is noted of a run beside its world: the times that reads were decided for, and the cursors behind all that was told.
+-- What is noted of a run beside its world: the times that reads were decided for, and the cursors after all replies.
 pub record Book : Type 0 where
   pub chosen : List Choice
   pub cursors : List Cursor
@@ -55,7 +55,7 @@ IsAbove time (kept_table t) = Unit {0}
 IsAbove time (kept_life n) = Unit {0}
 IsAbove time (kept_block n) = Unit {0}
 
--- a journal with more behind it, above a time
+-- a journal with more after it, above a time
 pub record Longer (time : ℕ) (old new : List Kept) : Type 0 where
   pub written : List Kept
   pub same : new ≡ old ++ written

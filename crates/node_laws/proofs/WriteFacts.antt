@@ -1,4 +1,4 @@
--- What is known of writes: for which request an entry was made, and what statements are told.
+-- What is known of writes: for which request an entry was made, and the outcomes of statements.
 use Rattle.std.proofs.Common.{◌≡◌, ℕ, ◌+◌, ◌<◌, ◌≤◌, List, [], ◌∷◌, Bool}
 use Rattle.std.specs.Prelude.{None, true, length, int_lt}
 use Rattle.command_model.specs.Writes.{WriteCommand}
@@ -8,15 +8,15 @@ use Rattle.reply_model.specs.Exchanges.{Asked, number_for}
 use Rattle.reply_model.specs.Outcomes.{StatementOutcome, is_older, Done, answer_by}
 use Rattle.reply_model.specs.Right.{ends, Sends}
 
--- WHAT A STATEMENT IS TOLD
+-- THE OUTCOME OF A STATEMENT
 
--- the answer is by an entry that stands under the number, or by one of a greater transaction of its session; the entry is not above a time
+-- the outcome is of an entry that is stored under the number, or of one of a greater transaction of its session; the entry is not above a time
 pub data IsAnswerOf (history : List Entry) (time : ℕ) (number : StatementNumber) : StatementOutcome → Type 0 where
   by_entry : (e : Entry) → IsIn e history → e.number ≡ number → e.time ≤ time → IsAnswerOf history time number (answer_by e)
   by_older : (e : Entry) → IsIn e history → e.number.session ≡ number.session → int_lt number.transaction e.number.transaction ≡ true → e.time ≤ time
       → IsAnswerOf history time number (is_older e.number.transaction)
 
--- a statement of a write is told so
+-- a statement of a write has this outcome
 pub record IsDoneAt (history : List Entry) (time : ℕ) (write : WriteCommand) (id : RequestId) (d : Done) : Type 0 where
   pub within : d.index < length write.operations
   pub answer : IsAnswerOf history time (number_for write.number id d.index) d.answer
@@ -33,12 +33,12 @@ OnlyLast ordered (d ∷ dones) = (ends ordered d ≡ true → dones ≡ []) × O
 
 -- WHO SENT AN ENTRY
 
--- each statement in front of an index was done before a time, without an error
+-- each statement before an index was done before a time, without an error
 abbrev pub AreDoneBefore : List Entry → (time : ℕ) → WriteCommand → RequestId → (index : ℕ) → Type 0
 AreDoneBefore history time write id index = (i : ℕ) → i < index
     → (d : Entry) × IsIn d history × (d.number ≡ number_for write.number id i) × (d.outcome.error ≡ None) × (d.time < time)
 
--- the entry was made for a request that a router took, and where that is ordered, behind all statements in front of it
+-- the entry was made for a request that a router took, and where that is ordered, after all statements before it
 pub record WasMade (history : List Entry) (asked : List Asked) (e : Entry) : Type 0 where
   pub request : Asked
   pub taken : IsIn request asked

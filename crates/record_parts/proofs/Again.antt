@@ -1,4 +1,4 @@
--- What spells a part of a record, whatever stands behind it, is read as that part.
+-- The encoding of a part of a record, whatever comes after it, is read as that part.
 use Rattle.std.proofs.Common.{◌≡◌, ℕ, ◌<◌, ◌≤◌, ◌^◌, List, [], ◌∷◌, ◌++◌, length, take, drop, Bool, true, false, refl, sym, ap, subst, ◌∙◌, arith, codes, append_assoc, length-append, Ok}
 use Rattle.std.specs.Prelude.{ℤ, Option, Some, None, nat_lt, FitsSigned}
 use Rattle.std.specs.Int.{w32, w64, from_le_bytes, cast_unsigned, cast_signed}
@@ -31,7 +31,7 @@ stepped f e next = ap (λ o. o >>= f) e ∙ next
 pub first : {X : Type 0} {y : Option X} (at : List ℕ → Option X) (a b rest : List ℕ) → at (a ++ (b ++ rest)) ≡ y → at ((a ++ b) ++ rest) ≡ y
 first at a b rest e = ap at (append_assoc a b rest) ∙ e
 
--- what is read of a part behind which nothing stands
+-- what is read of a part after which nothing comes
 pub last : {X : Type 0} {y : Option X} (at : List ℕ → Option X) (a : List ℕ) → at (a ++ []) ≡ y → at a ≡ y
 last at a e = ap at (sym (append-nil a)) ∙ e
 

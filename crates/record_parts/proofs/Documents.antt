@@ -22,11 +22,11 @@ use Rattle.record_parts.specs.declared.fault.RecordFault.{RecordFault}
 use Rattle.record_parts.specs.SoundParts.{Finds, fault_view}
 use Rattle.record_parts.specs.Readers.{whole_in}
 
--- what was found is the document that stands there
+-- what was found is the document that is there
 pub found_whole : (bytes : List ℕ) (ms : Fields) (n : ℕ) → n ≤ length bytes → ReadsAs (take n bytes) ms → IsWithinDepth ms → whole_in (whole_at bytes) ≡ Some (ms, n)
 found_whole bytes ms n le reads low = rw (whole_again bytes ms n le reads low) refl
 
--- where there is a fault no document stands
+-- where there is a fault there is no document
 pub no_whole : (bytes : List ℕ) (fault : Fault) (offset : ℕ) → AreBytes bytes → HasFirstFault bytes fault offset → whole_in (whole_at bytes) ≡ None
 no_whole bytes fault offset are first = by_read (whole_at bytes) refl
   where
@@ -47,7 +47,7 @@ by_fault bytes (Deep offset) are first = none_there bytes (Deep offset) are (λ 
 by_fault bytes (Trailing offset) are first = none_there bytes (Trailing offset) are (λ q. cc) first
 by_fault bytes Memory are first = tt
 
--- a call that failed in reading a document tells so
+-- a call that failed in reading a document returns that
 pub found_fault : (bytes : List ℕ) (e : BsonFault) (d : RecordFault) → AreBytes bytes → d ≡ fault_view e → (e ≢ Memory → (fault : Fault) × (offset : ℕ) × (e ≡ fault_from fault offset) × HasFirstFault bytes fault offset) → Finds (λ (x : Fields × ℕ). x) (Err d) (whole_in (whole_at bytes))
 found_fault bytes e d are is first = subst (λ (f : RecordFault). Finds (λ (x : Fields × ℕ). x) (Err f) (whole_in (whole_at bytes))) (sym is) (by_fault bytes e are first)
 

@@ -1,4 +1,4 @@
--- How lists grow where their items are read, one behind another.
+-- How lists grow where their items are read, one after another.
 use Rattle.std.proofs.Common.{◌≡◌, ℕ, zero, suc, ◌+◌, ◌-◌, ◌<◌, ◌≤◌, List, [], ◌∷◌, ◌++◌, length, map, refl, sym, ap, ◌∙◌, subst, arith, append_assoc, length-append, ◌^◌}
 use Rattle.std.proofs.lemmas.List.{append-nil}
 use Rattle.std.specs.Prelude.{Option, Some, None, Err}
@@ -89,7 +89,7 @@ pub map_behind : {X Y : Type 0} (f : X → Y) (items : List X) (x : X) → map f
 map_behind f [] x = refl
 map_behind f (y ∷ items) x = ap (λ ys. f y ∷ ys) (map_behind f items x)
 
--- items that end themselves are read as they are spelled
+-- items that end themselves are read as they are encoded
 pub items_again : {X : Type 0} (item_at : List ℕ → Found X) (spelled_item : X → List ℕ) (P : X → Type 0) → ((x : X) (rest : List ℕ) → P x → item_at (spelled_item x ++ rest) ≡ Some (x, rest)) → (xs : List X) (rest : List ℕ) → AllByRecursion P xs → items_at item_at (length xs) (flat_map spelled_item xs ++ rest) ≡ Some (xs, rest)
 unfolding items_at
 items_again item_at spelled_item P item [] rest all = refl

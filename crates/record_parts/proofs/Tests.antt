@@ -1,4 +1,4 @@
--- Tests, and what they tell.
+-- Tests, and what follows from them.
 use Rattle.std.proofs.Common.{◌≡◌, ◌≢◌, Bool, true, false, refl, Ordering, Less, Equal, Greater, ap, subst}
 use Rattle.std.specs.Prelude.{Option, Some, None, ◌↔◌}
 use Rattle.std.specs.Ordering.{is_lt}
@@ -17,7 +17,7 @@ pub is_true : (b : Bool) → ¬ (b ≡ false) → b ≡ true
 is_true true none = refl
 is_true false none = absurd (none refl)
 
--- what was answered tells the test
+-- what was returned determines the test
 pub some_true : {X : Type 0} (x : X) (b : Bool) → (Path (Option X) (Some x) None ↔ (b ≡ false)) → b ≡ true
 some_true x true tells = refl
 some_true x false tells = absurd (cc (tells.1 refl))

@@ -1,5 +1,5 @@
--- The readers of parts of records as functions of the bytes: what each finds at their beginning, and the bytes behind it. Bytes that
--- spell a part are read as it. A reader may take others too, since what it read is compared with the bytes in the end.
+-- The readers of parts of records as functions of the bytes: what each finds at their beginning, and the bytes after it. Bytes that
+-- encode a part are read as it. A reader may take others too, since what it read is compared with the bytes in the end.
 use Rattle.std.specs.Prelude.{ℕ, zero, suc, List, [], ◌∷◌, length, take, drop, Bool, false, ◌&&◌, Option, Some, None, Result, Ok, Err, nat_lt, nat_le, eqb, ◌==◌, if◌then◌else◌}
 use Rattle.std.specs.Int.{w32, w64, from_le_bytes, cast_signed}
 use Rattle.std.specs.Str.{is_utf8}
@@ -22,7 +22,7 @@ abbrev pub ◌>>=◌ : {A B : Type 0} → Option A → (A → Option B) → Opti
 None >>= f = None
 (Some x) >>= f = f x
 
--- a value, and the bytes behind it
+-- a value, and the bytes after it
 abbrev pub Found : Type 0 → Type 0
 Found X = Option (X × List ℕ)
 
@@ -39,7 +39,7 @@ four_at bytes = bytes_at 4 bytes >>= λ x. Some (from_le_bytes w32 (take 4 x.0),
 unfoldable pub eight_at : List ℕ → Found ℕ
 eight_at bytes = bytes_at 8 bytes >>= λ x. Some (from_le_bytes w64 (take 8 x.0), x.1)
 
--- what stands before the first dot, and behind it
+-- what comes before the first dot, and after it
 abbrev pub cut_at_dot : List ℕ → Option (List ℕ × List ℕ)
 cut_at_dot [] = None
 cut_at_dot (b ∷ bytes) = if eqb b 46 then Some ([], bytes) else (cut_at_dot bytes >>= λ x. Some (b ∷ x.0, x.1))

@@ -10,7 +10,7 @@ use Rattle.chunk_table.specs.Whole.{IsWritableBound, IsWritableChunk, follow_fro
 use Rattle.record_parts.specs.declared.fault.RecordFault.{RecordFault}
 use Rattle.record_parts.specs.declared.fault.RecordFault.TheVariants.{NoRecord, Memory}
 
--- What a call returned, seen by view, is what stands there, and nothing stands there where it says so; of want of memory nothing is
+-- What a call returned, seen by view, is what is there, and nothing is there where it says so; where memory ran out nothing is
 -- said.
 abbrev pub Finds : {X Y : Type 0} → (X → Y) → Result X RecordFault → Option Y → Type 0
 Finds view (Ok x) there = there ≡ Some (view x)

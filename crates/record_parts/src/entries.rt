@@ -144,7 +144,7 @@ pub fn read_operation(alloc: Global, bytes: &[u8]) -> Result<(OpWords, &[u8]), R
     }
 }
 
-/// Reads what a statement was told.
+/// Reads the outcome of a statement.
 #[tactic(auto, unfolding(crate::specs::Readers::outcome_at))]
 pub fn read_reply(alloc: Global, bytes: &[u8]) -> Result<(Reply, &[u8]), RecordFault>
     ensures found { Finds (λ x. (outcome_view x.0, x.1.now)) result (outcome_at bytes.now) }

@@ -9,9 +9,9 @@ use std::alloc::{AllocError, AllocFailed};
 /// Why bytes were not read as a record.
 #[derive(Clone, Copy, Debug, PartialEq, Eq)]
 pub enum RecordFault {
-    /// No record is spelled so.
+    /// No record is encoded so.
     NoRecord,
-    /// Want of memory.
+    /// Out of memory.
     Memory,
 }
 

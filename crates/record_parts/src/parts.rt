@@ -1,6 +1,6 @@
 //! Reading the parts that several records have: numbers, names, documents and keys.
 //!
-//! Each reader gives what stands at the beginning of the bytes, and the bytes behind it.
+//! Each reader returns what is at the beginning of the bytes, and the bytes after it.
 
 ghost use Rattle.std.specs.Prelude.{◌≡◌, ◌≤◌, Ok, length, IfOk};
 ghost use Rattle.std.specs.Str.{IsUtf8};

@@ -1,4 +1,4 @@
--- What spells a part of what moves and changes keep, whatever stands behind it, is read as that part; and so are they.
+-- The encoding of a part of what moves and changes store, whatever comes after it, is read as that part; and so are they.
 use Rattle.std.proofs.Common.{◌≡◌, ℕ, ◌<◌, ◌≤◌, List, [], ◌∷◌, ◌++◌, length, Bool, true, false, refl, ap, ◌∙◌, arith}
 use Rattle.std.specs.Prelude.{ℤ, Option, Some, None, nat_lt, if◌then◌else◌}
 use Rattle.std.specs.Int.{w64, cast_unsigned, cast_signed}

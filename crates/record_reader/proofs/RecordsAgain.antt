@@ -1,4 +1,4 @@
--- Every record is read as it is spelled.
+-- Every record is read as it is encoded.
 use Rattle.std.proofs.Common.{◌≡◌, ℕ, ◌<◌, ◌^◌, List, [], ◌∷◌, ◌++◌, Bool, true, false, refl, sym, ap, ◌∙◌}
 use Rattle.std.specs.Prelude.{Option, Some, None, Result, Ok, Err, IfOk, IsTrue, ◌↔◌}
 use Rattle.bson_values.specs.declared.text.Memory as values
@@ -74,7 +74,7 @@ found_record view x bytes r found sound held same = sym (record_again r sound he
 some_is : (a b : Record) → Path (Option Record) (Some a) (Some b) → a ≡ b
 some_is a b e = cc
 
--- Where the bytes are not the spelling of what was found, they spell no record.
+-- Where the bytes are not the encoding of what was found, they encode no record.
 pub no_other : {X : Type 0} (view : X → Record) (x : X) (bytes : List ℕ) (same_bytes : Bool) (r : Record) → record_at bytes ≡ Some (view x) →
     (IsTrue same_bytes ↔ (spelled 1 (view x) ≡ bytes)) → same_bytes ≡ false → IsSound r → IsHeld r → spelled 1 r ≡ bytes → Path (Option Record) (Some r) None
 no_other view x bytes false r found tells other sound held same =

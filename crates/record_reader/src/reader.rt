@@ -183,7 +183,7 @@ fn record_in(alloc: Global, bytes: &[u8]) -> Result<Record, RecordFault>
     }
 }
 
-/// Whether the bytes are the record's one spelling. Returns `Memory` if memory runs out.
+/// Returns whether the bytes are the record's one encoding, or `Memory` if memory runs out.
 #[tactic(auto, using(crate::proofs::Held::held_writable))]
 fn is_spelled(alloc: Global, kept: &Record, bytes: &[u8]) -> Result<bool, Memory>
     requires { IsHeld (record_view kept.now) }
@@ -206,13 +206,13 @@ fn kept_if<T: Drop>(kept: T, same: Result<bool, Memory>) -> Result<T, RecordFaul
     }
 }
 
-/// Reads the record that the bytes, all of them, spell in the newest format.
+/// Reads the record that the bytes, all of them, encode in the newest format.
 ///
 /// # Errors
-/// - `NoRecord` exactly where they spell none that the program can hold, unless memory runs out.
-/// - `Memory` for want of memory.
+/// - `NoRecord` exactly where they encode none that the program can hold, unless memory runs out.
+/// - `Memory` if memory runs out.
 pub fn read_record(alloc: Global, bytes: &[u8]) -> Result<Record, RecordFault>
-    // What is read is sound, and is spelled by the bytes.
+    // What is read is sound, and is encoded by the bytes.
     ensures spelled { IfOk result (λ r. spelled 1 (record_view r) ≡ bytes.now) }
     ensures sound { IfOk result (λ r. IsSound (record_view r)) }
     ensures held { IfOk result (λ r. IsHeld (record_view r)) }

@@ -10,7 +10,7 @@ pub struct StatementRecord {
     pub index: u32,
     /// The time of its entry.
     pub time: Time,
-    /// What it was told.
+    /// Its reply.
     pub reply: Reply,
 }
 

@@ -5,7 +5,7 @@ use record_reader::{RecordFault, read_record};
 use shard_records::Record;
 use std::alloc::Global;
 
-/// `KIND | BYTES`: the bytes are read as a record of that kind. No prefix of them is read, nor they with one byte behind.
+/// `KIND | BYTES`: the bytes are read as a record of that kind. No prefix of them is read, nor they with one byte appended.
 #[derive(Drop)]
 pub struct Records;
 
@@ -76,7 +76,7 @@ fn is_read(alloc: Global, kind: &str, bytes: &[u8]) -> Result<bool, RowFault> {
     }
 }
 
-// Whether no prefix of the bytes is read, nor they with a byte behind.
+// Returns whether no prefix of the bytes is read, nor they with a byte appended.
 fn alone_is_read(alloc: Global, bytes: Vec<u8>) -> Result<bool, RowFault> {
     let mut bytes = bytes;
     for i in 0..bytes.len() {

@@ -13,7 +13,7 @@ use std::alloc::Global;
 use value_compare::{Key, OpWords, Reply};
 
 /// `TIME | SESSION | TXN | INDEX | OPERATION | N | MODIFIED | UPSERTED | CODE | BYTES`: an entry of the namespace `d.c`. A document
-/// is `{_id: n}`, and stands as n; the operation is `insert n`, `update n n`, `upsert n n` or `delete n`.
+/// is `{_id: n}`, and is written as n; the operation is `insert n`, `update n n`, `upsert n n` or `delete n`.
 #[derive(Drop)]
 pub struct Entries;
 
@@ -157,7 +157,7 @@ fn entry_of(
     })
 }
 
-// Whether the record's bytes are put behind those that were there.
+// Returns whether the record's bytes are written after those that were there.
 fn is_spelled(alloc: Global, kept: &Record, wanted: &str) -> Result<bool, RowFault>
     requires { IsWritableRecord (record_view kept.now) }
 {

@@ -15,7 +15,7 @@ Token = ℕ × (ℤ × List ℕ)
 abbrev order_tokens : Token → Token → Ordering
 order_tokens = then_cmp (on (λ t. t.0) nat_cmp) (on (λ t. t.1) order_scalars)
 
--- of an end, and of what stands before one more value
+-- of an end, and of what comes before one more value
 abbrev end : Token
 end = (0, (pos 0, []))
 

@@ -1,4 +1,4 @@
--- Keys, and which of them stand in a span (MongoDB manual, "Document Field Order and the _id Field" and "Data
+-- Keys, and which of them are in a span (MongoDB manual, "Document Field Order and the _id Field" and "Data
 -- Partitioning with Chunks"): a range takes its least key and not its greatest.
 use Rattle.std.specs.Prelude.{◌≡◌, Bool, true, false, ◌&&◌, List, [], ◌∷◌, Option, Some, None, Result, Ok, Err, codes, if◌then◌else◌}
 use Rattle.std.specs.declared.cmp.Ordering.{Ordering}
@@ -56,12 +56,12 @@ pub data Span : Type 0 where
   range_span : Range → Span
   point_span : Datum → Span
 
--- the key stands in the span
+-- the key is in the span
 abbrev pub inside : Span → Datum → Bool
 inside (range_span range) key = is_le (order_bounds range.min (key_bound key)) && is_lt (order_bounds (key_bound key) range.max)
 inside (point_span point) key = same_value point key
 
--- the key stands in one of the spans
+-- the key is in one of the spans
 abbrev pub inside_some : List Span → Datum → Bool
 inside_some spans key = list_any (λ span. inside span key) spans
 

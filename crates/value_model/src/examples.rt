@@ -6,7 +6,7 @@ ghost use Rattle.bson_model.specs.Tree.{array_value, binary_value, boolean_value
 ghost use Rattle.value_model.specs.Keys.{IsRange, absent_key, inside, inside_some, is_key, key_bound, key_of, max_bound, min_bound, order_bounds, point_span, range_span, valid_key, value_of_bound, wrong_kind};
 ghost use Rattle.value_model.specs.Order.{boolean_rank, class_of, order, order_items, order_fields, order_scalars, order_within, same_value, scalar_of};
 
-/// Each class stands below the next, whatever its values are.
+/// Each class is below the next, whatever its values are.
 pub fn classes()
     ensures classes { (class_of min_key_value ≡ 0) × (class_of (int64_value (negsuc 0)) ≡ 2) × (class_of max_key_value ≡ 11) }
     ensures least { order min_key_value null_value ≡ Less }
@@ -33,7 +33,7 @@ pub fn bytes()
     ensures content { order (binary_value 0 (1 ∷ [])) (binary_value 0 (2 ∷ [])) ≡ Less }
 {}
 
-/// {a: 5} is less than {b: 1}, and that is less than {a: ""}. The shorter of two documents or arrays is less where they agree so far.
+/// {a: 5} is less than {b: 1}, and that is less than {a: ""}. The shorter of two documents or arrays is less where it is a prefix of the other.
 pub fn nested()
     ensures names { order (document_value (field (codes "a") (int32_value (pos 5)) no_fields)) (document_value (field (codes "b") (int32_value (pos 1)) no_fields)) ≡ Less }
     ensures classes { order_fields (field (codes "b") (int32_value (pos 1)) no_fields) (field (codes "a") (string_value []) no_fields) ≡ Less }
