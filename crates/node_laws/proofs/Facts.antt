@@ -314,7 +314,7 @@ abbrev pub TimeFits : View → List Asked → List Answered → ℕ → Body →
 TimeFits v asked answered time (time_told id) = (a : Asked) × IsIn a asked × (a.id ≡ id) × IsPast v answered a time
 TimeFits v asked answered time body = Unit {0}
 
--- at the time at which it is sent, no entry is
+-- no entry is above the time that is sent
 abbrev pub TellsAll : View → ℕ → Body → Type 0
 TellsAll v time (time_told id) = AllByRecursion (λ (e : Entry). e.time ≤ time) (entries_in v first_shard)
 TellsAll v time body = Unit {0}

@@ -47,7 +47,7 @@ module _ (given : List Given) (creations : List Creation) (history : List Entry)
   unrolled cursors told (nothing_told c) = tt
   unrolled cursors told (then_told c next t later right rest) = (next, right, rest)
 
-  -- what is told behind a part, from the cursors that there are then
+  -- the replies after a part, from the cursors that there are then
   pub behind : (cursors : List Cursor) (front back : List Answered) → AreRight given creations history asked answered cursors (front ++ back)
       → (found : List Cursor) × AreRight given creations history asked answered found back
   behind cursors [] back right = (cursors, right)
@@ -56,7 +56,7 @@ module _ (given : List Given) (creations : List Creation) (history : List Entry)
   -- WHAT OPENS ONE
 
   module _ (s : Answered) (find : Find) (first : Batch) where
-    -- it stands there with these documents
+    -- it is there with these documents
     abbrev pub IsThere : List Fields → List Cursor → Type 0
     IsThere remaining cursors = Stands s.id.router s.id.life first.cursor first.namespace first.time remaining cursors
 
@@ -130,7 +130,7 @@ module _ (given : List Given) (creations : List Creation) (history : List Entry)
         (subst (λ (l : List Fields). MayGive history find.reading first.time (listed l))
         (parts first.documents told.documents shows.batch_of.front) gives) shows.opens
 
-    -- the find that was told the number opened a cursor
+    -- the find whose reply has the number opened a cursor
     pub opened : (cursors next : List Cursor) → OpensCursor s find first → IsRightOf given creations history asked answered cursors s next
         → IsOpened cursors next
     opened cursors next opens right =
@@ -188,7 +188,7 @@ module _ (given : List Given) (creations : List Creation) (history : List Entry)
         remaining right.kills there
     still_by (Err refusal) a t cursors next remaining right there = same_still remaining cursors next right.1 there
 
-    -- whatever is told, the cursor stands there
+    -- whatever is replied, the cursor is there
     pub still : (t : Answered) (cursors next : List Cursor) (remaining : List Fields) → IsRightOf given creations history asked answered cursors t next
         → IsThere remaining cursors
         → StandsStill s.id.router s.id.life first.cursor first.namespace first.time remaining next
@@ -331,7 +331,7 @@ module _ (given : List Given) (creations : List Creation) (history : List Entry)
             told.cursor (owns a t more own) there told.found).same)
             told.shows
 
-    -- who asks for the next batch of an open cursor is told it
+    -- a request of the next batch of an open cursor gets it
     pub next_shown : (t : Answered) (cursors next : List Cursor) (remaining : List Fields) → AsksMore s first t → remaining ≢ []
         → IsRightOf given creations history asked answered cursors t next → IsThere remaining cursors → NextShown t next remaining
     next_shown t cursors next remaining more some right there =
@@ -357,7 +357,7 @@ module _ (given : List Given) (creations : List Creation) (history : List Entry)
         by_found (inr closed) =
             closed.0.says ∙ ap (λ (n : ℤ). answer_document (refusal_answer (record { error = cursor_not_found; evidence = cursor_evidence n }))) more.number
 
-    -- ALL THAT IS TOLD BEHIND
+    -- ALL REPLIES AFTER IT
 
     pub record Remains (remaining shown : List Fields) (back : List Answered) : Type 0 where
       pub left : List Fields
@@ -397,7 +397,7 @@ module _ (given : List Given) (creations : List Creation) (history : List Entry)
         let r = unrolled cursors (t ∷ (rest ++ back)) right in
         shown_there rest documents back r.0 remaining number some shows r.2 (leaves t cursors r.0 remaining never closed r.1 there)
 
-    -- it stands there, whatever is told
+    -- it is there, whatever is replied
     pub record RemainsSo (remaining : List Fields) (back : List Answered) : Type 0 where
       pub left : List Fields
       pub cursors : List Cursor

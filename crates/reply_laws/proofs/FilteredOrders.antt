@@ -68,7 +68,7 @@ module _ {X : Type 0} (test : X → Bool) where
       by_test true is rest = rest
       by_test false is rest = ap (λ (c : Bool). cond c (x ∷ filter test (filter fails xs)) (filter test (filter fails xs))) is ∙ rest
 
-  -- some order of those that pass stands in front of the others
+  -- some order of those that pass comes before the others
   pub others_behind : (xs front : List X) → IsPermutation (filter test xs) front → IsPermutation xs (front ++ filter fails xs)
   others_behind xs front permutes =
       IsPermutation-trans xs (filter test xs ++ filter fails xs) (front ++ filter fails xs) (IsPermutation-filter_both test fails (λ x. refl) xs)

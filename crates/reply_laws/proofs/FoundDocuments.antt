@@ -1,4 +1,4 @@
--- What stands under a key at a time is what the last entry under it left, of those up to then.
+-- What is stored under a key at a time is what the last entry under it left, of those up to then.
 use Rattle.std.proofs.Common.{◌≡◌, ℕ, ◌<◌, ◌≤◌, ◌⊎◌, inl, inr, List, [], ◌∷◌, ◌++◌, refl, ap, ◌∙◌, arith}
 use Rattle.std.specs.Prelude.{true, false, Option, None, Bool, if◌then◌else◌, nat_le}
 use Rattle.std.specs.List.{AllByRecursion}
@@ -32,7 +32,7 @@ up_to_entry earlier later e time legal early =
     ) refl
 
 module _ (namespace : List ℕ) (key : Option Datum) where
-  -- what up to a time writes no such key leaves what stands there
+  -- where no entry up to a time writes such a key, what is stored there stays
   abbrev pub WritesNone : ℕ → List Entry → Type 0
   WritesNone time es = AllByRecursion (λ (d : Entry). d.time ≤ time → writes_to namespace key d ≡ false) es
 
@@ -45,7 +45,7 @@ module _ (namespace : List ℕ) (key : Option Datum) where
       by_time (inl early) rest = rw early.0 (none.0 early.1, rest)
       by_time (inr late) rest = rw late.0 rest
 
-  -- WHAT STANDS AT A TIME
+  -- WHAT IS STORED AT A TIME
 
   -- where an entry is the last under a key up to a time, what it left
   pub last_left : (earlier later : List Entry) (e : Entry) (time : ℕ) → Legal (earlier ++ e ∷ later) → e.time ≤ time → writes_to namespace key e ≡ true
@@ -61,7 +61,7 @@ module _ (namespace : List ℕ) (key : Option Datum) where
   pub nothing_left : (history : List Entry) (time : ℕ) → WritesNone time history → document_at history namespace key time ≡ None
   nothing_left history time none = all_untouched namespace key None (up_to time history) (none_up_to time history none)
 
-  -- where none came between two times, what stood there before
+  -- where none came between two times, what was stored there before
   abbrev pub WritesNoneBetween : ℕ → ℕ → List Entry → Type 0
   WritesNoneBetween before time es = AllByRecursion (λ (d : Entry). before < d.time → d.time ≤ time → writes_to namespace key d ≡ false) es
 

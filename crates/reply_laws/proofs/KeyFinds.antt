@@ -109,7 +109,7 @@ pub record TellsKey (history : List Entry) (a : Asked) (t : Answered) (key : Dat
   pub read : IsTimeRead a t (find_of key at).reading time
   pub documents_are : filter (holds (id_is key)) (found (document_at history (codes "d.c") (Some key) time)) ≡ documents
 
--- a find of a key that is told these documents found them at their time
+-- a find of a key that returns these documents found them at their time
 pub tells_key : (history : List Entry) (a : Asked) (t : Answered) (next : List Cursor) (key : Datum) (at : Option ℕ) (documents : List Fields) (time : ℕ)
     → IsRight (creation ∷ []) history [] [] [] a t next → command_of a.request ≡ Ok (find_command (find_of key at)) → key_equal (id_is key) ≡ Some key
     → a.request.more ≡ false

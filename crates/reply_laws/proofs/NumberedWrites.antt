@@ -1,4 +1,4 @@
--- Writes with clients' numbers, to try the definitions on: what their statements may be told by the entries.
+-- Writes with clients' numbers, to try the definitions on: which outcomes their statements may have by the entries.
 use Rattle.std.proofs.Common.{◌≡◌, ◌≢◌, ℕ, ◌+◌, ◌<◌, ◌≤◌, List, [], ◌∷◌, refl, sym, ap, subst, ◌∙◌, arith, codes}
 use Rattle.std.specs.Prelude.{Bool, true, false, ◌&&◌, Option, Some, Ok, int_lt}
 use Rattle.std.specs.List.{AllByRecursion}
@@ -23,9 +23,9 @@ abbrev pub dones_from : ℕ → List StatementOutcome → List Done
 dones_from index [] = []
 dones_from index (answer ∷ answers) = record { index = index; answer = answer } ∷ dones_from (index + 1) answers
 
--- WHAT AN ENTRY TELLS
+-- WHICH OUTCOME AN ENTRY GIVES
 
--- what a statement may be told by the entry has a property
+-- an outcome that a statement may have by the entry has a property
 pub record Gives (asked : List Asked) (t : Answered) (number : StatementNumber) (namespace : List ℕ) (operation : Operation) (P : StatementOutcome → Type 0)
     (e : Entry) : Type 0 where
   pub own : IsStatement number namespace operation e → e.time ≤ t.time → P (answer_by e)
@@ -44,7 +44,7 @@ told_by_entries history asked t given number namespace operation P answer all (t
     (all_at (Gives asked t number namespace operation P) e history all i).older session less had
 
 module _ (asked : List Asked) (t : Answered) (number : StatementNumber) where
-  -- another session's tells nothing
+  -- another session's gives none
   pub gives_elsewhere : {namespace : List ℕ} {operation : Operation} (P : StatementOutcome → Type 0) (e : Entry) → e.number.session ≢ number.session
       → Gives asked t number namespace operation P e
   gives_elsewhere P e another = record {
@@ -66,7 +66,7 @@ module _ (asked : List Asked) (t : Answered) (number : StatementNumber) where
       → int_lt number.transaction e.number.transaction ≡ false → Gives asked t number namespace operation P e
   gives_another P e another no_more = gives_nothing P e (λ same. another (ap (λ (n : StatementNumber). n.index) same)) no_more
 
-  -- one that is greater is told
+  -- one that is greater gives its own
   pub gives_older : {namespace : List ℕ} {operation : Operation} (e : Entry) → e.number ≢ number
       → Gives asked t number namespace operation (λ x. x ≡ is_older e.number.transaction) e
   gives_older e another = record {
@@ -84,7 +84,7 @@ module _ (asked : List Asked) (t : Answered) (number : StatementNumber) where
     older = λ session less had. absurd (let both : true ≡ false = sym less ∙ no_more in cc);
   }
 
-  -- an entry that is later tells nothing
+  -- an entry that is later gives none
   pub gives_later : {namespace : List ℕ} {operation : Operation} (P : StatementOutcome → Type 0) (e : Entry) → t.time < e.time
       → int_lt number.transaction e.number.transaction ≡ false → Gives asked t number namespace operation P e
   gives_later P e late no_more = record {
@@ -93,13 +93,13 @@ module _ (asked : List Asked) (t : Answered) (number : StatementNumber) where
     older = λ session less had. absurd (let both : true ≡ false = sym less ∙ no_more in cc);
   }
 
--- WHAT A COMMAND IS TOLD
+-- WHICH OUTCOMES A COMMAND MAY HAVE
 
 module _ (history : List Entry) (asked : List Asked) (a : Asked) (step counter : ℕ) (kind : WriteKind) (ordered : Bool) (by : ClientNumber) where
   abbrev pub command_with : List Operation → WriteCommand
   command_with operations = record { kind = kind; namespace = codes "d.c"; operations = operations; ordered = ordered; number = Some by }
 
-  -- each statement may be told this, and this alone
+  -- each statement may have this outcome, and this alone
   abbrev pub AreJust : ℕ → List Operation → List StatementOutcome → Type 0
   AreJust index [] answers = answers ≡ []
   AreJust index (operation ∷ operations) [] = ⊥
@@ -168,7 +168,7 @@ module _ (history : List Entry) (asked : List Asked) (a : Asked) (step counter :
         ∙ sym says,
   )
 
-  -- the first statement may be told nothing
+  -- the first statement may have no outcome
   pub untold : (operation : Operation) (rest : List Operation) → command_of a.request ≡ Ok (write_command (command_with (operation ∷ rest)))
       → ((document : Fields) → AllByRecursion
       (Gives asked (tells a step counter document) (number_for (Some by) a.id 0) (codes "d.c") operation (λ x. ⊥)) history)

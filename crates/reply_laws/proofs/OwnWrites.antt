@@ -20,14 +20,14 @@ use Rattle.reply_facts.proofs.Requests.{by_in}
 use Rattle.reply_facts.proofs.RightAnswers.{TellsWrite, right_of}
 use Rattle.reply_facts.proofs.Statements.{UnlessEnded, one_number, all_told}
 
--- nothing ends in front of the first statement
+-- nothing ends before the first statement
 pub none_before : (write : WriteCommand) (dones : List Done) → EndsBefore 0 write dones → ⊥
 none_before write [] before = before
 none_before write (d ∷ dones) (inl before) = omega (arith, before.0)
 none_before write (d ∷ dones) (inr before) = none_before write dones before
 
 module _ (history : List Entry) (asked : List Asked) (t : Answered) (write : WriteCommand) (none : write.number ≡ None) where
-  -- it may be told the outcomes of its entries
+  -- it may have the outcomes of its entries
   own_told : (index : ℕ) (operations : List Operation) (entries : List Entry) → AreStatements t.id write.namespace write.ordered index operations entries
       → AreAll write.ordered operations (map done_of entries) → ((e : Entry) → IsIn e entries → IsIn e history × (e.time ≤ t.time))
       → AreTold history asked t write index operations (map done_of entries)

@@ -1,4 +1,4 @@
--- Finds of three documents in order, and what is told of their cursors, to try the definitions on.
+-- Finds of three documents in order, and the replies about their cursors, to try the definitions on.
 use Rattle.std.proofs.Common.{◌≡◌, ◌≢◌, ℕ, ℤ, pos, inl, inr, List, [], ◌∷◌, length, take, drop, refl, sym, ap, subst, ◌∙◌, arith, codes}
 use Rattle.std.specs.Prelude.{Bool, true, false, ◌||◌, Option, Some, None, Ok, IsPermutation, IsSortedBy}
 use Rattle.std.proofs.lemmas.List.Sorted.{IsPermutation-refl, IsPermutation-trans}
@@ -127,14 +127,14 @@ module _ (asked : List Asked) (answered : List Answered) (cursors : List Cursor)
       → IsRight (creation ∷ []) kept asked answered cursors a t next → b.documents ≡ documents
   first_documents next documents is right = one_batch (Some size) all_three b.documents documents (first_shows next right).batch_of is
 
--- where documents remain and more is asked for, a new cursor is told
+-- where documents remain and more is requested, a new cursor is returned
 pub opens_new : (id : RequestId) (single : Bool) (namespace : List ℕ) (time : ℕ) (cursors : List Cursor) (rest : List Fields) (number : ℤ) (next : List Cursor)
     → single ≡ false → rest ≢ [] → Opens id single namespace time cursors rest number next → IsNewNumber id number cursors
 opens_new id single namespace time cursors rest number next many some (opens_none r (inl e)) = absurd (some e)
 opens_new id single namespace time cursors rest number next many some (opens_none r (inr e)) = absurd (let f : true ≡ false = sym e ∙ many in cc)
 opens_new id single namespace time cursors rest number next many some (opens_one r n more other new) = new
 
--- where no other is asked for, 0 is told
+-- where no other is requested, 0 is returned
 pub opens_zero : (id : RequestId) (single : Bool) (namespace : List ℕ) (time : ℕ) (cursors : List Cursor) (rest : List Fields) (number : ℤ)
     (next : List Cursor)
     → single ≡ true → Opens id single namespace time cursors rest number next → number ≡ pos 0
@@ -188,7 +188,7 @@ module _ (history : List Entry) (asked : List Asked) (answered : List Answered) 
   gone_by next c found says (inr none) = let e : None ≡ Some c = sym none.0.closed ∙ found in cc
   gone_by next c found says (inl told) = not_next told.batch (sym told.says ∙ says)
 
-  -- nor is one that is found told to be gone
+  -- nor is the reply that one is gone that is found
   pub never_gone : (next : List Cursor) (c : Cursor) → open_cursor a.id more.cursor more.namespace cursors ≡ Some c → t.document ≡ gone_of more.cursor
       → IsRight (creation ∷ []) history asked answered cursors a t next → ⊥
   never_gone next c found says right =
@@ -233,7 +233,7 @@ same_numbers (x ∷ xs) (y ∷ ys) same =
     let more : xs ≡ ys = same_numbers xs ys rest in
     cc
 
--- a reply that is right tells these closed
+-- a reply that is right returns these closed
 pub killed_right : (asked : List Asked) (answered : List Answered) (cursors next : List Cursor) (a : Asked) (t : Answered) (kill : KillCursors)
     (killed missing : List ℤ)
     → command_of a.request ≡ Ok (kill_command kill) → t.document ≡ answer_document (killed_answer killed missing)

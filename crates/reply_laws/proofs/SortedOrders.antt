@@ -1,4 +1,4 @@
--- Where each element comes before all behind it, no other order is sorted.
+-- Where each element comes before all after it, no other order is sorted.
 use Rattle.std.proofs.Common.{◌≡◌, ◌⊎◌, inl, inr, ◌≤◌, List, [], ◌∷◌, length, refl, sym, ap, subst, ◌∙◌, arith}
 use Rattle.std.specs.Prelude.{Bool, true, false, cond, filter, IsPermutation}
 use Rattle.std.specs.List.{AllByRecursion}
@@ -33,7 +33,7 @@ all_pass test (x ∷ xs) all = ap (λ (b : Bool). cond b (x ∷ filter test xs) 
 
 module _ {X : Type 0} (lt : X → X → Bool)
     (chain : (x y z : X) → lt y x ≡ false → lt z y ≡ false → lt z x ≡ false) (one_way : (x y : X) → lt y x ≡ true → lt x y ≡ false) where
-  -- each comes before all behind it
+  -- each comes before all after it
   abbrev pub Rises : List X → Type 0
   Rises [] = Unit {0}
   Rises (x ∷ xs) = AllByRecursion (λ y. lt x y ≡ true) xs × Rises xs

@@ -1,4 +1,4 @@
--- The documents of a collection whose keys stand in a span, and reads by them.
+-- The documents of a collection whose keys are in a span, and reads by them.
 use Rattle.std.proofs.Common.{◌≡◌, ℕ, List, [], ◌∷◌, refl, sym, ap, subst, ◌∙◌, Ordering}
 use Rattle.std.specs.Prelude.{Bool, true, false, cond, Option, Some, None, Result, Ok, Err, filter, nat_le, if◌then◌else◌}
 use Rattle.std.specs.List.{AllByRecursion}
@@ -29,7 +29,7 @@ hit_is_key : (written : Option Datum) (operation : Operation) (key : Datum) → 
 hit_is_key None operation key is same = absurd (cc)
 hit_is_key (Some own) operation key is same = sym (same_is_key own key same) ∙ written_is_key operation own is
 
--- where a document stands is a key
+-- where a document is stored is a key
 left_is_key : (namespace : List ℕ) (key : Datum) (document : Fields) (es : List Entry) → document_left namespace (Some key) es ≡ Some document → is_key key
     ≡ true
 left_is_key namespace key document [] e = absurd (cc)
@@ -42,7 +42,7 @@ left_is_key namespace key document (d ∷ es) e = by_test (writes_to namespace (
         (both (bytes_eq d.namespace namespace) (same_key (key_written d.operation) (Some key)) is).1
     by_test false is e later = later e
 
--- a document stands under its own key
+-- a document is stored under its own key
 pub record IsKeyed (key : Datum) (document : Fields) : Type 0 where
   pub is : is_key key ≡ true
   pub own : HasSameKey key document
@@ -54,7 +54,7 @@ keyed_at history namespace time key document stands =
     let is : is_key key ≡ true = left_is_key namespace key document es stands in
     record { is = is; own = subst (λ (o : Option Fields). IsUnder key o) stands (after_under namespace key None es is tt) }
 
--- such a document may stand in the spans in which its key stands
+-- such a document may be in the spans in which its key is
 keyed_inside : (span : List Span) (key : Datum) (document : Fields) → IsKeyed key document → may_stand_in span document ≡ inside_some span key
 keyed_inside span key document keyed =
     let own : Datum = keyed.own.0 in
@@ -70,7 +70,7 @@ with_first : (row : Datum × Fields) (rows : Rows) → AreAbove order_total row.
 unfolding IsStrictlySortedBy
 with_first row rows above ordered = (above, ordered)
 
--- what is found behind the first row is found with it
+-- what is found after the first row is found with it
 found_behind : (q : Datum) (row : Datum × Fields) (rows : Rows) (document : Fields) → AreInOrder (row ∷ rows) → document_under q rows ≡ Some document
     → document_under q (row ∷ rows) ≡ Some document
 found_behind q row rows document ordered found = by_test (is_eq (order q row.0)) refl
@@ -144,7 +144,7 @@ module _ (span : List Span) where
           rest ∙ ap (λ (d : Bool). cond d (document_under q rows) None) out ∙ ap (λ (d : Bool). cond d (Some row.1) None) (sym out)
       by_tests false false i s rest = rest
 
-  -- the documents of the span, as they stand under keys
+  -- the documents of the span, as they are stored under keys
   pub listed_in_span : (history : List Entry) (namespace : List ℕ) (time : ℕ)
       → ListsDocuments (λ q. cond (inside_some span q) (document_at history namespace (Some q) time) None)
       (filter (may_stand_in span) (documents_at history namespace time))

@@ -57,13 +57,13 @@ module _ (stages : List Stage) where
             (subst (λ (l : List Fields). Runs stages l out) (sym (passed_again stands docs allows.ordered)) inside);
       }
 
--- WHAT STANDS IN A SPAN
+-- WHAT IS IN A SPAN
 
 module _ (history : List Entry) (namespace : List ℕ) where
   abbrev under_in : List Span → ℕ → Datum → Option Fields
   under_in span time q = cond (inside_some span q) (document_at history namespace (Some q) time) None
 
-  -- one that stands under a key of the span is written by none, where none touches the span
+  -- a document that is stored under a key of the span is written by no entry, where none touches the span
   never_written : (span : List Span) (written : Option Datum) (own : Bool) (q : Datum) → inside_some span q ≡ true
       → (own && elim written as (λ o. Bool) [ None ↦ false | Some key ↦ inside_some span key ]) ≡ false → (own && same_key written (Some q)) ≡ false
   never_written span written false q is none = refl

@@ -71,7 +71,7 @@ module _ (router life : ℕ) (number : ℤ) (namespace : List ℕ) (time : ℕ) 
   abbrev pub IsOther : Cursor → Type 0
   IsOther c = ((c.router == router) && int_eq c.number number) ≡ false
 
-  -- it stands there with these documents, and no other of its router has its number
+  -- it is there with these documents, and no other of its router has its number
   pub record Stands (remaining : List Fields) (cursors : List Cursor) : Type 0 where
     pub front : List Cursor
     pub back : List Cursor
@@ -282,7 +282,7 @@ module _ (router life : ℕ) (number : ℤ) (namespace : List ℕ) (time : ℕ) 
 
   -- WHAT IS CLOSED
 
-  -- it stands there still; one that has ended stays so
+  -- it is still there; one that has ended stays so
   pub record StandsStill (remaining : List Fields) (next : List Cursor) : Type 0 where
     pub left : List Fields
     pub stands : Stands left next

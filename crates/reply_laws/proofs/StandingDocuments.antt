@@ -62,7 +62,7 @@ up_to_whole prefix back e time legal early =
           (λ d is. omega (arith, no_later d e is, early)) (follows_prefix prefix back e legal).rises),
     ) refl
 
--- the document at a time is what an entry up to then leaves, and what is written behind it
+-- the document at a time is what an entry up to then results in, and what is written after it
 from_entry : (prefix back : List Entry) (e : Entry) (namespace : List ℕ) (key : Option Datum) (time : ℕ) → Legal (prefix ++ e ∷ back)
     → e.time ≤ time → writes_to namespace key e ≡ true → document_at (prefix ++ e ∷ back) namespace key time
     ≡ document_after namespace key (effect e.operation (document_left namespace key prefix)).0 (up_to time back)
@@ -106,7 +106,7 @@ there_after prefix back e namespace key time legal inserts small early hits none
         subst (λ (o : Operation). (effect o before).0 ≢ None) (sym own.1)
         (effect_leaves own.0 k.0 before k.1 (λ large. small (ap (λ (o : Outcome). o.error) told ∙ large)))
 
--- an insert of a document with a key that is told no error leaves this document
+-- an insert of a document with a key that returns no error results in this document
 effect_puts : (document : Fields) (key : Datum) (before : Option Fields) → valid_key document ≡ Ok key
     → (effect (insert_operation document) before).1.error ≡ None → (effect (insert_operation document) before).0 ≡ Some document
 effect_puts document key None valid =

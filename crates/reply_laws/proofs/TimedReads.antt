@@ -139,7 +139,7 @@ module _ (history : List Entry) (a : Asked) (t : Answered) (reading : Reading) (
   never_first b next says (inr (refused_excess when m read excess told, same)) = let e = sym told ∙ says in cc
   never_first b next says (inr (refused_ahead ahead told, same)) = let e = sym told ∙ says in cc
 
-  -- it is never told as a batch
+  -- it is never returned as a batch
   pub no_batch : (b : Batch) (next : List Cursor) → IsRight (creation ∷ []) history [] [] [] a t next → t.document ≡ answer_document (first_answer b) → ⊥
   no_batch b next right says = never_first b next says (right_of (creation ∷ []) history [] [] [] a t (Ok (count_command reading)) next asks right)
 

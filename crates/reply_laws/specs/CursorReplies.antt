@@ -10,7 +10,7 @@ use Rattle.command_model.specs.Answers.{first_answer, next_answer, answer_docume
 use Rattle.history_model.specs.History.{IsIn}
 use Rattle.reply_model.specs.Exchanges.{Answered}
 
--- a find or an aggregate was told a first batch, and the number of a new cursor for the others
+-- a find or an aggregate returned a first batch, and the number of a new cursor for the others
 pub record OpensCursor (s : Answered) (find : Find) (first : Batch) : Type 0 where
   pub asks : command_of s.request ≡ Ok (find_command find)
   pub told : s.document ≡ answer_document (first_answer first)
@@ -20,7 +20,7 @@ pub record OpensCursor (s : Answered) (find : Find) (first : Batch) : Type 0 whe
 abbrev pub IsOfLife : (s t : Answered) → Type 0
 IsOfLife s t = (t.id.router ≡ s.id.router) × (t.id.life ≡ s.id.life)
 
--- the request asks for the next batch of the cursor that `s` was told
+-- the request is for the next batch of the cursor that `s` returned
 pub record AsksMore (s : Answered) (first : Batch) (t : Answered) : Type 0 where
   pub more : GetMore
   pub asks : command_of t.request ≡ Ok (more_command more)
@@ -36,7 +36,7 @@ pub record AsksToClose (s : Answered) (first : Batch) (t : Answered) : Type 0 wh
   pub name : kill.namespace ≡ first.namespace
   pub life : IsOfLife s t
 
--- What is told behind `s`, none of which ends the cursor: the documents of its next batches, one after another. A request that gets no reply
+-- The replies after `s`, none of which ends the cursor: the documents of its next batches, one after another. A request that gets no reply
 -- leaves the cursor as it is.
 pub data Shows (s : Answered) (first : Batch) : List Answered → (documents : List Fields) → Type 0 where
   shows_nothing : Shows s first [] []

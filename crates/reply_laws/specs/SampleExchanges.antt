@@ -38,7 +38,7 @@ asks router count came counter asked = record {
   request = asked;
 }
 
--- and tells this in a step, at Timestamp(1000, ..)
+-- and gets this reply in a step, at Timestamp(1000, ..)
 abbrev pub tells : Asked → (step counter : ℕ) → Fields → Answered
 tells a step counter document = record {
   id = a.id;
@@ -61,7 +61,7 @@ entry_at counter router count index key outcome = record {
   outcome = outcome;
 }
 
--- It is told rightly, where nothing was told before, and no cursor is open before or afterwards.
+-- Its reply is right, where there was no reply before, and no cursor is open before or afterwards.
 abbrev pub IsToldRightly : List Entry → Asked → Answered → Type 0
 IsToldRightly history a t = IsRight (creation ∷ []) history [] [] [] a t []
 
@@ -89,7 +89,7 @@ first_told = tells first 3 2 done_reply
 abbrev pub first_entry : Entry
 first_entry = entry_at 2 2 1 0 five done
 
--- then one of {_id: 5L} at router 3, which has not heard of the first one
+-- then one of {_id: 5L} at router 3, which does not know of the first one
 abbrev pub second : Asked
 second = asks 3 1 4 0 (request 1 false (insert_body (with_id long_five ∷ []) true))
 
@@ -103,7 +103,7 @@ second_entry = entry_at 3 3 1 0 long_five (fails_with duplicate_key)
 abbrev pub finding : Datum → Option ℕ → Asked
 finding key at = asks 2 2 6 2 (request 2 false (find_body key at))
 
--- it is told documents of Timestamp(1000, ..)
+-- it returns documents of Timestamp(1000, ..)
 abbrev pub is_shown : Datum → Option ℕ → List Fields → (counter : ℕ) → Answered
 is_shown key at documents counter = tells (finding key at) 7 2 (shown documents counter)
 
@@ -145,7 +145,7 @@ deep_entry = record (entry_at 2 2 1 0 five (fails_with object_too_large)) { oper
 abbrev pub greeted : Asked
 greeted = asks 2 1 2 0 greeting
 
--- behind the first insert an update by {$set: {x: 1}} at router 2
+-- after the first insert an update by {$set: {x: 1}} at router 2
 abbrev pub changing : Asked
 changing = asks 2 2 4 2 (request 2 false (update_with (set_one (with_id five) no_fields)))
 
@@ -181,15 +181,15 @@ deleted_reply count counter =
 abbrev pub three_writes : List Entry
 three_writes = first_entry ∷ changing_entry ∷ deleting_entry ∷ []
 
--- behind these a find at router 2, which knows Timestamp(1000, 5)
+-- after these a find at router 2, which knows Timestamp(1000, 5)
 abbrev pub finding_later : Option ℕ → Asked
 finding_later at = asks 2 4 8 5 (request 4 false (find_body five at))
 
--- it is told documents of Timestamp(1000, ..)
+-- it returns documents of Timestamp(1000, ..)
 abbrev pub is_shown_later : Option ℕ → List Fields → (counter : ℕ) → Answered
 is_shown_later at documents counter = tells (finding_later at) 9 5 (shown documents counter)
 
--- behind the first insert, three updates at once, without order, at router 2: of {_id: 5} by {$set: {}}; of {_id: 6} by the same, with upsert;
+-- after the first insert, three updates at once, without order, at router 2: of {_id: 5} by {$set: {}}; of {_id: 6} by the same, with upsert;
 -- of {_id: 5} by {$set: {_id: 6}}
 abbrev pub set_nothing : Fields
 set_nothing = field (codes "$set") (document_value no_fields) no_fields
@@ -235,7 +235,7 @@ unmet_delete = asks 2 2 4 2 (request 2 false (delete_with (taken_out (with_id si
 abbrev pub unmet_entries : List Entry
 unmet_entries = first_entry ∷ record (entry_at 3 2 2 0 six (record done { count = 0 })) { operation = delete_operation (with_id six) } ∷ []
 
--- a find of 5 at router 2 that knows of Timestamp(1000, ..), and is told at another
+-- a find of 5 at router 2 that knows of Timestamp(1000, ..), and is answered at another
 abbrev pub finding_at : (counter : ℕ) → Asked
 finding_at counter = asks 2 4 8 counter (request 4 false (find_body five None))
 

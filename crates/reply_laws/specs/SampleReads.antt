@@ -65,7 +65,7 @@ sorting more size others = asks 2 2 6 4 (request 2 more (sorted_body (of_size si
 abbrev pub batch : ℤ → List Fields → Batch
 batch cursor documents = record { cursor = cursor; namespace = codes "d.c"; documents = documents; time = timestamp 1000 4 }
 
--- what a request is told
+-- the reply to a request
 abbrev pub told_first : Asked → ℤ → List Fields → Answered
 told_first a cursor documents = tells a 7 4 (answer_document (first_answer (batch cursor documents)))
 
@@ -112,7 +112,7 @@ told_killed a killed missing = tells a 9 4 (answer_document (killed_answer kille
 
 -- STEPS
 
--- it is told rightly of three documents, where these cursors were opened before, and these afterwards
+-- its reply of three documents is right, where these cursors were opened before, and these afterwards
 abbrev pub Turns : List Cursor → Asked → Answered → List Cursor → Type 0
 Turns cursors a t next = IsRight (creation ∷ []) kept [] [] cursors a t next
 

@@ -52,13 +52,13 @@ inserts_under transaction documents ordered = record {
   number = number_of transaction;
 }
 
--- where these requests came, and nothing was told before, this is told rightly in that step, at Timestamp(1000, ..), and nothing else
+-- where these requests came, and there was no reply before, this reply is right in that step, at Timestamp(1000, ..), and nothing else
 abbrev pub IsToldJust : List Entry → List Asked → Asked → (step counter : ℕ) → Fields → Type 0
 IsToldJust history asked a step counter document =
     IsRight (creation ∷ []) history asked [] [] a (tells a step counter document) []
     × ((other : Fields) (next : List Cursor) → IsRight (creation ∷ []) history asked [] [] a (tells a step counter other) next → other ≡ document)
 
--- nothing is told rightly
+-- no reply is right
 abbrev pub IsUntold : List Entry → List Asked → Asked → (step counter : ℕ) → Type 0
 IsUntold history asked a step counter =
     (other : Fields) (next : List Cursor) → IsRight (creation ∷ []) history asked [] [] a (tells a step counter other) next → ⊥
@@ -89,7 +89,7 @@ both_answers = first_answer ∷ answer_again ∷ []
 
 -- ONE THAT FAILED
 
--- behind an insert of {_id: 5} one of {_id: 5L} at router 2, as transaction 4; then {_id: 5} is taken out
+-- after an insert of {_id: 5} one of {_id: 5L} at router 2, as transaction 4; then {_id: 5} is deleted
 abbrev pub failing : Asked
 failing = asks 2 2 4 2 (request 2 false (insert_under (pos 4) (with_id long_five ∷ []) true))
 
@@ -149,7 +149,7 @@ insert_elsewhere =
 abbrev pub five_elsewhere : Entry
 five_elsewhere = record inserted_five { namespace = codes "d.b" }
 
--- requests with these bodies, and what the second is told
+-- requests with these bodies, and the reply to the second
 abbrev pub sends_three : (first second : Fields) → List Asked
 sends_three first second = first_three first ∷ then_three second ∷ []
 
@@ -216,7 +216,7 @@ zero_sent = asks 2 1 2 0 (request 1 false (insert_under (pos 0) (with_id five �
 
 -- TWO STATEMENTS
 
--- behind an insert of {_id: 5} one of {_id: 5L} and {_id: 6} as transaction 4, at router 2 and at another time again
+-- after an insert of {_id: 5} one of {_id: 5L} and {_id: 6} as transaction 4, at router 2 and at another time again
 abbrev pub two_sent : (router count came : ℕ) → Bool → Asked
 two_sent router count came ordered = asks router count came 2 (request count false (insert_under (pos 4) two_documents ordered))
 
@@ -224,21 +224,21 @@ two_sent router count came ordered = asks router count came 2 (request count fal
 abbrev pub sent_two : Asked
 sent_two = asks 2 1 2 0 (request 1 false (insert_under (pos 4) (with_id five ∷ with_id six ∷ []) false))
 
--- its second statement is done, behind the error of the first
+-- its second statement is done, after the error of the first
 abbrev pub second_done : (counter : ℕ) → Entry
 second_done counter = entry_under sevens counter (pos 4) 1 (insert_operation (with_id six)) done
 
 abbrev pub both_done : List Entry
 both_done = first_entry ∷ failed ∷ second_done 4 ∷ []
 
--- a find of {_id: 5} at Timestamp(1000, 2) at router 3, which knows Timestamp(1000, 0), and tells that as its greatest
+-- a find of {_id: 5} at Timestamp(1000, 2) at router 3, which knows Timestamp(1000, 0), and returns that as its greatest
 abbrev pub finding_two : Asked
 finding_two = asks 3 1 6 0 (request 2 false (find_body five (Some (timestamp 1000 2))))
 
 abbrev pub told_ahead : Answered
 told_ahead = tells finding_two 7 0 (answer_document (refusal_answer (time_ahead (timestamp 1000 0))))
 
--- The first is told at router 2 that it has ended. Then that router learns of the second 1001, and takes the insert again, without order.
+-- The first gets the reply at router 2 that it has ended. Then that router learns of the second 1001, and takes the insert again, without order.
 abbrev pub ended : Answered
 ended = tells (two_sent 2 2 4 true) 5 3 duplicate_reply
 

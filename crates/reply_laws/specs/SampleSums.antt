@@ -47,7 +47,7 @@ sum_spec = record {
       ∷ [];
 }
 
--- it is told that a sum is outside int64
+-- the reply is that a sum is outside int64
 abbrev pub told_overflow : Answered
 told_overflow = tells summing 7 4 (answer_document (refusal_answer (without_evidence overflow)))
 

@@ -44,7 +44,7 @@ reading_of stages at after = record { namespace = codes "d.c"; stages = stages; 
 abbrev pub find_in : Reading → Find
 find_in reading = record { reading = reading; batches = record { size = None; single = false } }
 
--- It is told, at Timestamp(1000, 6), documents of Timestamp(1000, ..).
+-- It returns, at Timestamp(1000, 6), documents of Timestamp(1000, ..).
 abbrev pub told_at : Asked → (counter : ℕ) → List Fields → Answered
 told_at a counter documents = tells a 7 6 (shown documents counter)
 

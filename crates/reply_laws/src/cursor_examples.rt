@@ -131,7 +131,7 @@ pub fn cursor_numbers()
         (told_first (sorting false 2 no_fields) (pos 1) (with_id one ∷ with_id two ∷ [])) (another_router ∷ open_with (with_id three ∷ []) ∷ []) }
 {}
 
-/// A cursor shows what was there at its time, whatever is written behind that.
+/// A cursor shows what was there at its time, whatever is written after that.
 pub fn later_writes()
     ensures stays { IsRight (creation ∷ []) changed_later [] [] (open_with (with_id two ∷ with_id three ∷ []) ∷ []) (going_on false 2 5 (codes "c") no_fields)
         (told_next (going_on false 2 5 (codes "c") no_fields) (pos 0) (with_id two ∷ with_id three ∷ [])) (open_with [] ∷ []) }

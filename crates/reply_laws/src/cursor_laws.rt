@@ -19,7 +19,7 @@ ghost use Rattle.reply_laws.specs.CursorReplies.{AsksMore, EndsCursor, OpensCurs
 ghost use Rattle.reply_model.specs.Right.{IsRight};
 ghost use Rattle.reply_model.specs.OneHistory.{Given, OneHistory};
 
-/// The batches of a cursor, joined, are a prefix of one list that the read may give at its time. The next is of that time too, and tells the
+/// The batches of a cursor, joined, are a prefix of one list that the read may return at its time. The next is of that time too, and has the
 /// number again, but 0 where it is the last.
 pub fn batches_join()
     ensures prefix { (given : List Given) (creations : List Creation) (history : List Entry) (asked : List Asked) (before later back : List Answered)

@@ -53,8 +53,8 @@ pub fn asked()
 {}
 
 /// Two inserts under one key, in both widths, at two routers, and a find of the second's key at the first router: one history. It is
-/// none where an entry is lost, where one was made that nobody sent, where a reply is missing from what was asked, and where a request
-/// is told twice.
+/// none where an entry is lost, where one was made that nobody sent, where a reply is missing from those to the requests, and where a request
+/// gets two replies.
 pub fn one_history()
     ensures whole { OneHistory moments (creation ∷ []) both_entries all_asked all_told }
     ensures lost { OneHistory moments (creation ∷ []) [] all_asked all_told → ⊥ }
@@ -81,7 +81,7 @@ pub fn many_statements()
     ensures silent_lost { IsToldWrongly [] (three_asked true true) (tells (three_asked true true) 3 3 (second_fails 1 3)) }
 {}
 
-/// An insert of a document that is too large is told so, and ends there where it is ordered; the document isn't found.
+/// An insert of a document that is too large gets that error, and ends there where it is ordered; the document isn't found.
 pub fn too_large()
     ensures told { IsToldRightly (deep_entry ∷ []) deep_asked (tells deep_asked 3 2 too_large_reply) }
     ensures goes_on { IsToldWrongly (deep_entry ∷ entry_at 3 2 1 1 six done ∷ []) deep_asked (tells deep_asked 3 3 too_large_reply) }
@@ -89,7 +89,7 @@ pub fn too_large()
     ensures not_shown { IsToldWrongly (deep_entry ∷ []) (finding five None) (is_shown five None (deep ∷ []) 2) }
 {}
 
-/// A handshake is told its router's last moment, and a request whose document has a fault is refused with its place.
+/// A handshake returns its router's last moment, and a request whose document has a fault is refused with its place.
 pub fn without_documents()
     ensures greeting { IsToldRightly [] greeted (tells greeted 3 0 (answer_document (legacy_answer 1000000 false))) }
     ensures another_moment { IsToldWrongly [] greeted (tells greeted 3 0 (answer_document (legacy_answer 1000001 false))) }
@@ -98,7 +98,7 @@ pub fn without_documents()
     ensures never_refused { (refusal : Refusal) → IsToldWrongly [] first (tells first 3 0 (answer_document (refusal_answer refusal))) }
 {}
 
-/// Of an insert that is under way a prefix of its entries may stand, also none, but no entry behind one that is missing, and none behind
+/// Of an insert that is under way a prefix of its entries may be stored, also none, but no entry after one that is missing, and none after
 /// the error that ends it. It is not answered by then.
 pub fn under_way()
     ensures nothing { IsPart [] (id_at 2 1)
@@ -115,7 +115,7 @@ pub fn under_way()
 {}
 
 /// After the first insert, at Timestamp(1000, 2), a find of either five shows the document, and one of six shows none. At Timestamp(1000,
-/// 1) nothing is there yet, and Timestamp(1000, 3) is ahead of the router's time, which is told.
+/// 1) nothing is there yet, and Timestamp(1000, 3) is ahead of the router's time, which is returned.
 pub fn found()
     ensures right { IsToldRightly both_entries third third_told }
     ensures wrong { IsToldWrongly both_entries third (is_shown long_five None [] 2) }
@@ -132,8 +132,8 @@ pub fn found()
     ensures never_named { IsToldWrongly both_entries third (tells third 7 2 ahead_reply) }
 {}
 
-/// An update that changed the document that it met, and a delete that took one out, are told just so. An answer with another count, and
-/// the answer of another kind of write, are wrong, and so is an entry with another count.
+/// An update that changed the document that it matched, and a delete that removed one, return just that. A reply with another count, and
+/// the reply to another kind of write, are wrong, and so is an entry with another count.
 pub fn changed()
     ensures legal { Legal three_writes }
     ensures miscounted { Legal (first_entry ∷ record changing_entry { outcome = done } ∷ []) → ⊥ }
@@ -145,8 +145,8 @@ pub fn changed()
     ensures not_deleted { IsToldWrongly three_writes deleting (tells deleting 7 4 (deleted_reply 0 4)) }
 {}
 
-/// Of three updates at once the first meets a document and changes nothing, the second meets none and puts one in, and the third can't change
-/// the key of what it meets. Each of these is told. A delete that meets none has an entry and is told 0.
+/// Of three updates at once the first matches a document and changes nothing, the second matches none and inserts one, and the third can't change
+/// the key of what it matches. Each of these is returned. A delete that matches none has an entry and returns 0.
 pub fn updates_told()
     ensures right { IsToldRightly upserting_entries upserting (tells upserting 5 5 (upserting_reply 2 0 1)) }
     ensures more_changed { IsToldWrongly upserting_entries upserting (tells upserting 5 5 (upserting_reply 2 2 1)) }
@@ -170,7 +170,7 @@ pub fn own_words()
         }) → ⊥ }
 {}
 
-/// A find that names no time is of its router's time as that took it, also where it is told later and its document is gone by then.
+/// A find that names no time is of its router's time as that took it, also where its reply comes later and its document is gone by then.
 pub fn found_as_taken()
     ensures right { IsToldRightly three_writes (finding_at 3) (is_shown_at 3 5 (changed_five ∷ []) 3) }
     ensures later { IsToldWrongly three_writes (finding_at 3) (is_shown_at 3 5 [] 4) }
@@ -198,7 +198,7 @@ pub fn wrong_replies()
     ensures not_taken { (next : List Cursor) → IsRightOf moments (creation ∷ []) both_entries [] [] [] first_told next → ⊥ }
 {}
 
-/// What is stale: a request that comes to a router, in the life in which it had told of a time, with a lower one, or with a lower one
+/// What is stale: a request that comes to a router, in the life in which it had returned a time, with a lower one, or with a lower one
 /// than an earlier request. At another router, or in another life, it is not.
 pub fn stale()
     ensures told { IsFresh (first_told ∷ []) (record third { time = timestamp 1000 1 }) → ⊥ }
@@ -219,7 +219,7 @@ pub fn known()
     ensures behind { IsKnown moments (creation ∷ []) both_entries (record third { time = 0 }) → ⊥ }
 {}
 
-/// How entries, collections and requests stand to each other.
+/// How entries, collections and requests relate to each other.
 pub fn related()
     ensures own { Sends first first_entry × (Sends second first_entry → ⊥) }
     ensures placed { IsPlaced (creation ∷ []) second_entry × (IsPlaced [] second_entry → ⊥) }

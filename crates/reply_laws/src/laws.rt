@@ -13,8 +13,8 @@ ghost use Rattle.reply_model.specs.Right.{AreTold, IsWhole, Sends, told_by};
 ghost use Rattle.reply_facts.specs.Earlier.{IsTold, WasTakenBefore, WasToldBefore};
 ghost use Rattle.reply_model.specs.OneHistory.{Given, OneHistory};
 
-/// What a write was told is what its statements may be told, one by one. Where its client gave no number it is whole in the history, and its
-/// answer is that of all its entries.
+/// The reply to a write has the outcomes that its statements may have, one by one. Where its client gave no number it is whole in the history, and its
+/// reply is that of all its entries.
 pub fn told_writes_stand()
     ensures statements { (given : List Given) (creations : List Creation) (history : List Entry) (asked : List Asked) (answered : List Answered) (t : Answered)
         (write : WriteCommand) → OneHistory given creations history asked answered → IsIn t answered → command_of t.request ≡ Ok (write_command write)
@@ -42,7 +42,7 @@ pub fn one_entry()
         → OneHistory given creations history asked answered → IsIn d history → IsIn e history → d.number ≡ e.number → d ≡ e }
 {}
 
-/// A statement that is sent again under its client's number, and is answered by what was done, is told the same again.
+/// A retry of a statement under its client's number that is answered by what was done returns the original outcome.
 pub fn retries_are_told_the_same()
     ensures { (given : List Given) (creations : List Creation) (history : List Entry) (asked : List Asked) (answered : List Answered) (s t : Answered)
         (write again : WriteCommand) (by : ClientNumber) (first second : List Done) (d e : Done) (before now : ℕ) (outcome other : Outcome)
@@ -59,7 +59,7 @@ pub fn one_answer()
         → OneHistory given creations history asked answered → IsIn a asked → IsIn b asked → a.id ≡ b.id → a ≡ b }
 {}
 
-/// An entry was made for a request: it is later than each time that the request's router had told before, and than the time of each request
+/// An entry was made for a request: it is later than each time that the request's router had returned before, and than the time of each request
 /// that it had taken before, in that life.
 pub fn writes_come_later()
     ensures { (given : List Given) (creations : List Creation) (history : List Entry) (asked : List Asked) (answered : List Answered) (e : Entry)
@@ -69,7 +69,7 @@ pub fn writes_come_later()
         × ((b : Asked) → WasTakenBefore asked a b → b.time < e.time) }
 {}
 
-/// A write whose client gave no number, and whose request came after its router had told a time, in that life, is told a later time.
+/// A write whose client gave no number, and whose request came after its router had returned a time, in that life, returns a later time.
 pub fn later_writes_tell_later()
     ensures { (given : List Given) (creations : List Creation) (history : List Entry) (asked : List Asked) (answered : List Answered) (a : Asked)
         (s t : Answered) (write : WriteCommand) (before now : ℕ) → OneHistory given creations history asked answered → IsTold asked answered a t

@@ -59,7 +59,7 @@ pub fn times_named()
     ensures read_ahead { IsToldWrongly grown (reads_all (concern_at 7)) (told_at (reads_all (concern_at 7)) 7 all_four) }
 {}
 
-/// A count tells how many there are at its time, of those that are not passed over, and no more than its limit, where that is not 0.
+/// A count returns how many there are at its time, of those that are not passed over, and no more than its limit, where that is not 0.
 pub fn counts()
     ensures all { IsToldRightly kept (counting no_fields) (told_count (counting no_fields) 3 4) }
     ensures too_few { IsToldWrongly kept (counting no_fields) (told_count (counting no_fields) 2 4) }

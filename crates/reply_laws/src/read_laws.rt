@@ -1,4 +1,4 @@
-//! The laws of what reads are told.
+//! The laws of replies to reads.
 
 ghost use Rattle.std.specs.Prelude.{◌≡◌, ◌⊎◌, codes, ◌<◌, ◌≤◌, ◌∷◌, ◌++◌, ℕ, List, [], Some, None, Ok, true, false};
 ghost use Rattle.std.specs.List.{AllByRecursion};
@@ -25,7 +25,7 @@ ghost use Rattle.reply_model.specs.Right.{IsReadRefused, Reads, usual_size};
 ghost use Rattle.reply_facts.specs.Earlier.{IsTold, WasToldBefore, found, touches};
 ghost use Rattle.reply_model.specs.OneHistory.{Given, OneHistory};
 
-/// A find or an aggregate is told a first batch, of no more documents than its size, of a list that it may give at a time that it may be
+/// A find or an aggregate returns a first batch, of no more documents than its size, of a list that it may return at a time that it may be
 /// of; or why it is refused.
 pub fn finds_are_answered()
     ensures { (given : List Given) (creations : List Creation) (history : List Entry) (asked : List Asked) (answered : List Answered) (a : Asked)
@@ -37,7 +37,7 @@ pub fn finds_are_answered()
         ⊎ IsReadRefused creations history answered a t find.reading }
 {}
 
-/// A count is told the number of the documents at a time that it may be of; or why it is refused.
+/// A count returns the number of the documents at a time that it may be of; or why it is refused.
 pub fn counts_are_answered()
     ensures { (given : List Given) (creations : List Creation) (history : List Entry) (asked : List Asked) (answered : List Answered) (a : Asked)
         (t : Answered) (reading : Reading) → OneHistory given creations history asked answered → IsTold asked answered a t
@@ -47,8 +47,8 @@ pub fn counts_are_answered()
         ⊎ IsReadRefused creations history answered a t reading }
 {}
 
-/// A read that names no time is of none before those that its router had told, in that life, before its request came; nor before the
-/// time that it is to reach. Nor is the greatest time that a read is told whose time is ahead.
+/// A read that names no time is of none before those that its router had returned, in that life, before its request came; nor before the
+/// time that it is to reach. Nor is the greatest time that is returned to a read whose time is ahead.
 pub fn reads_are_fresh()
     ensures now { (given : List Given) (creations : List Creation) (history : List Entry) (asked : List Asked) (answered : List Answered) (a : Asked)
         (s t : Answered) (reading : Reading) (before now : ℕ) → OneHistory given creations history asked answered → IsTold asked answered a t
@@ -88,7 +88,7 @@ pub fn reads_reach_writes()
         → Reads (command_of a.request) reading → reading.at ≡ None → operation_time (Some t.document) ≡ Some time → before ≤ time }
 {}
 
-/// What a read gives at a time it may give at an earlier one too, where no entry between the two wrote what may stand in its span.
+/// What a read returns at a time it may return at an earlier one too, where no entry between the two wrote what may be in its span.
 pub fn reads_stay()
     ensures { (given : List Given) (creations : List Creation) (history : List Entry) (asked : List Asked) (answered : List Answered)
         (reading : Reading) (before time : ℕ) (out : Outcome) → OneHistory given creations history asked answered
@@ -97,7 +97,7 @@ pub fn reads_stay()
         → MayGive history reading before out }
 {}
 
-/// A time that any router told a write of an entry of its own, before a request came, is not ahead of what the request reads.
+/// A time that any router returned to a write with an entry of its own, before a request came, is not ahead of what the request reads.
 pub fn told_times_are_never_ahead()
     ensures { (given : List Given) (creations : List Creation) (history : List Entry) (asked : List Asked) (answered : List Answered) (a : Asked)
         (s t : Answered) (write : WriteCommand) (index : ℕ) (e : Entry) (reading : Reading) (greatest : ℕ)

@@ -20,8 +20,8 @@ ghost use Rattle.reply_model.specs.OneHistory.{AreNumbered, IsReached, IsRightOf
 ghost use Rattle.reply_laws.specs.SampleExchanges.{entry_at, first_entry, moments, tells};
 ghost use Rattle.reply_laws.specs.SampleRetries.{IsToldJust, IsToldThen, IsUntold, both_answers, both_done, both_sent, delete_three, eights, ended, entry_under, errors_reply, failed, failing, failing_again, failing_sent, finding_two, first_answer, first_three, five_elsewhere, insert_elsewhere, insert_five, insert_six, inserted_five, inserts_under, late_two, newer, newer_entry, number_in, older_error, put_five, second_done, sent_again, sent_first, sent_two, six_as, then_three, three_done, three_sent, three_without, told_ahead, two_sent, unmodified_reply, unnumbered_six, unordered_later, until_removed, upsert_three, upserted_five, zero_sent};
 
-/// An insert that is sent again, at another router: it is done once, and told the same, also where the router knows of a later time. It is
-/// told nothing where its entry is lost, or later than what the router knows; it has no second entry; and an entry under a router's own number is not of it.
+/// An insert that is sent again, at another router: it is done once, and returns the same, also where the router knows of a later time. No
+/// reply is right where its entry is lost, or later than what the router knows; it has no second entry; and an entry under a router's own number is not of it.
 pub fn retried()
     ensures whole { OneHistory moments (creation ∷ []) (put_five ∷ []) both_sent both_answers }
     ensures same { IsToldJust (put_five ∷ []) both_sent sent_again 5 4 done_reply }
@@ -37,8 +37,8 @@ pub fn retried_error()
     ensures done_twice { AreNumbered (failed ∷ entry_under sevens 5 (pos 4) 0 (insert_operation (with_id long_five)) done ∷ []) → ⊥ }
 {}
 
-/// A number that is used again for another statement tells of the first one, by the command that is asked: what an upsert put in is told to
-/// updates alone. Without a number, by another number, and before the first one is sent, it is not told.
+/// A number that is used again for another statement returns the outcome of the first one, in the form of the command that is sent: what an upsert inserted is
+/// returned to updates alone. Without a number, by another number, and before the first one is sent, it is not returned.
 pub fn numbers_used_again()
     ensures insert { IsToldThen upserted_five (upsert_three five) insert_six done_reply }
     ensures delete { IsToldThen upserted_five (upsert_three five) (delete_three six) done_reply }
@@ -53,9 +53,9 @@ pub fn numbers_used_again()
     ensures another_session { IsUntold (entry_under eights 2 (pos 4) 0 (insert_operation (with_id five)) done ∷ []) both_sent sent_again 5 4 }
 {}
 
-/// Where the session has a greater transaction, that is told, at the router's time: to the first statement of an ordered command, to each of
-/// another. It is not told by another session's, nor by an entry whose request came later, nor to a request without a number; nor is a time
-/// told that nobody met. And no entry has a smaller transaction than an earlier one.
+/// Where the session has a greater transaction, that is returned, at the router's time: for the first statement of an ordered command, for each of
+/// another. It is not returned because of another session's, nor of an entry whose request came later, nor to a request without a number; nor is a time
+/// returned that nobody met. And no entry has a smaller transaction than an earlier one.
 pub fn older_transactions()
     ensures ordered { IsToldJust (newer_entry ∷ []) (newer ∷ late_two true ∷ []) (late_two true) 5 4 (errors_reply 0 4 (older_error (pos 5) 0 ∷ [])) }
     ensures unordered { IsToldJust (newer_entry ∷ []) (newer ∷ late_two false ∷ []) (late_two false) 5 4
@@ -79,8 +79,8 @@ pub fn new_statements()
     ensures another_session { AreNumbered (newer_entry ∷ entry_under eights 3 (pos 4) 0 (insert_operation (with_id six)) done ∷ []) }
 {}
 
-/// Where all who sent a statement are ordered, it is done behind those in front of it, none of which failed: not behind an error that is
-/// told again, nor behind one of another command under the number, nor with a gap. Who is not ordered may do it, and the other is told the error.
+/// Where all requests that sent a statement are ordered, it is done after those before it, none of which failed: not after an error that is
+/// returned again, nor after one of another command under the number, nor with a gap. A request that is not ordered may do it, and the other gets the error.
 pub fn reached_statements()
     ensures behind_error { IsReached both_done (two_sent 2 2 4 true ∷ two_sent 3 1 6 true ∷ []) (second_done 4) → ⊥ }
     ensures behind_another { IsReached both_done (failing ∷ two_sent 3 1 6 true ∷ []) (second_done 4) → ⊥ }
@@ -89,13 +89,13 @@ pub fn reached_statements()
     ensures ended { IsToldJust both_done (two_sent 2 2 4 true ∷ two_sent 3 1 6 false ∷ []) (two_sent 2 2 4 true) 9 5 duplicate_reply }
 {}
 
-/// Of two statements without order the first may be told what was done, and the second that it is too old; the time is that of the first.
+/// Of two statements without order the first may return what was done, and the second that it is too old; the time is that of the first.
 pub fn answered_together()
     ensures { IsRight (creation ∷ []) (put_five ∷ entry_under sevens 3 (pos 5) 0 (insert_operation (with_id six)) done ∷ [])
         (sent_two ∷ six_as (pos 5) ∷ []) [] [] sent_two (tells sent_two 7 4 (errors_reply 1 2 (older_error (pos 5) 1 ∷ []))) [] }
 {}
 
-/// A time that any router told a write with a number is not ahead; and an entry is not earlier than what its maker's router had told, though
+/// A time that any router returned to a write with a number is not ahead; and an entry is not earlier than what its maker's router had returned, though
 /// another request, that had ended by then, had sent its statement before.
 pub fn told_before()
     ensures ahead { (next : List Cursor)

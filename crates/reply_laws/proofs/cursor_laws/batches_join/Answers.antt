@@ -1,4 +1,4 @@
--- What remains of the cursor is behind what was shown.
+-- What remains of the cursor comes after what was shown.
 use Rattle.std.proofs.Common.{◌≡◌, ◌≢◌, ◌⊎◌, inl, inr, pos, List, [], ◌∷◌, ◌++◌, refl, ap, subst, ◌∙◌}
 use Rattle.bson_model.specs.Tree.{Fields}
 use Rattle.command_model.specs.Cursors.{Batch}

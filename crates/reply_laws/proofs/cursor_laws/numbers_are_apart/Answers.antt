@@ -1,4 +1,4 @@
--- A cursor stands there for good, if only with no documents.
+-- A cursor is there for good, if only with no documents.
 use Rattle.std.proofs.Common.{[], ◌∷◌, ◌++◌}
 use Rattle.reply_laws.proofs.CursorBatches.{behind, unrolled, opened, there_still}
 use Rattle.reply_laws.proofs.StandingCursors.{another_number}

@@ -1,4 +1,4 @@
--- The entries are the statements' own, and are told what they did.
+-- The entries are the statements' own, and their outcomes are what they did.
 use Rattle.std.proofs.Common.{◌≡◌, inl, List, [], ◌∷◌, refl, sym, ap, codes, arith}
 use Rattle.std.specs.Prelude.{false, true, None}
 use Rattle.command_laws.specs.SampleCommands.{change_one}

@@ -154,7 +154,7 @@ all_right =
     then_told [] [] first_told (second_told ∷ third_told ∷ []) first_right
     (then_told [] [] second_told (third_told ∷ []) second_right (then_told [] [] third_told [] third_right (nothing_told [])))
 
--- each router had its moment, and router 2 its own entry behind that
+-- each router had its moment, and router 2 its own entry after that
 first_known : IsKnown moments (creation ∷ []) both_entries first
 first_known = record { moment = refl; time = inr (inl (two_moment, in_first two_moment (three_moment ∷ []), refl)); reached = omega arith }
 

@@ -1,4 +1,4 @@
--- The entries are the statements' own, and are told what they did.
+-- The entries are the statements' own, and their outcomes are what they did.
 use Rattle.std.proofs.Common.{◌≡◌, ◌<◌, ℤ, pos, List, [], ◌∷◌, refl, sym, ap, ◌∙◌, codes, arith}
 use Rattle.std.specs.Prelude.{None, Some, false, true, int_lt}
 use Rattle.command_laws.specs.SampleRequests.{five, six, with_id}

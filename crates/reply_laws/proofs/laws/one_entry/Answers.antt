@@ -1,4 +1,4 @@
--- All entries stand on the first shard.
+-- All entries are on the first shard.
 use Rattle.reply_facts.proofs.Freshness.{one_entry}
 use Rattle.reply_laws.proofs.laws.one_entry.Goals as goal
 

@@ -1,4 +1,4 @@
--- Both are told the one entry of the number.
+-- Both return the outcome of the one entry of the number.
 use Rattle.reply_facts.proofs.Freshness.{told_again}
 use Rattle.reply_laws.proofs.laws.retries_are_told_the_same.Goals as goal
 

@@ -1,4 +1,4 @@
--- A router knew all that it had told.
+-- A router knew all times that it had returned.
 use Rattle.reply_facts.proofs.Freshness.{reads_at_least, reads_after, greatest_at_least}
 use Rattle.reply_laws.proofs.read_laws.reads_are_fresh.Goals as goal
 

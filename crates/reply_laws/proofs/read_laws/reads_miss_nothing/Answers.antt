@@ -1,4 +1,4 @@
--- What stands at a time is what the last entry of then left.
+-- What is stored at a time is what the last entry of then left.
 use Rattle.reply_laws.proofs.SpanReads.{runs_last, runs_none}
 use Rattle.reply_laws.proofs.read_laws.reads_miss_nothing.Goals as goal
 

@@ -1,4 +1,4 @@
--- A router knew the times of all that it had told.
+-- A router knew the times of all that it had returned.
 use Rattle.reply_facts.proofs.Freshness.{reaches}
 use Rattle.reply_laws.proofs.read_laws.reads_reach_writes.Goals as goal
 

@@ -1,4 +1,4 @@
--- What stands in a span at a time stands until an entry that touches it.
+-- What is in a span at a time stays until an entry that touches it.
 use Rattle.reply_laws.proofs.SpanReads.{gives_before}
 use Rattle.reply_laws.proofs.read_laws.reads_stay.Goals as goal
 

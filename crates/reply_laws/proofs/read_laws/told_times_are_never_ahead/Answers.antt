@@ -1,4 +1,4 @@
--- What is ahead is ahead of each entry that was told.
+-- What is ahead is ahead of each entry whose time was returned.
 use Rattle.reply_facts.proofs.Freshness.{never_ahead_of_told}
 use Rattle.reply_laws.proofs.read_laws.told_times_are_never_ahead.Goals as goal
 

@@ -1,4 +1,4 @@
--- The entry under the number tells what was done, and no other does.
+-- The entry under the number gives the outcome, and no other does.
 use Rattle.std.proofs.Common.{◌≡◌, ◌≤◌, pos, List, [], ◌∷◌, ◌++◌, refl, ap, ◌∙◌, codes, arith}
 use Rattle.std.specs.Prelude.{true, Some}
 use Rattle.bson_model.specs.Tree.{Fields}

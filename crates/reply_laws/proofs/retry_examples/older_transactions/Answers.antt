@@ -1,4 +1,4 @@
--- The entry with the greater transaction tells it, and it was sent before.
+-- The entry with the greater transaction gives the outcome, and it was sent before.
 use Rattle.std.proofs.Common.{◌≡◌, ◌≤◌, ℕ, pos, negsuc, inl, inr, [], ◌∷◌, refl, sym, ap, ◌∙◌, arith, codes}
 use Rattle.std.specs.Prelude.{Bool, true, false, Option, Some}
 use Rattle.bson_model.specs.Tree.{Fields}
@@ -114,7 +114,7 @@ returns-clause-below_zero c =
     )
     (omega arith) refl
 
--- NOT TOLD
+-- NOT RETURNED
 
 abbrev elsewhere : Entry
 elsewhere = record newer_entry { number = number_in eights (pos 5) 0 }

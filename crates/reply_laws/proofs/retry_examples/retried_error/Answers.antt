@@ -1,4 +1,4 @@
--- The entry that failed tells its error.
+-- The entry that failed gives its error.
 use Rattle.std.proofs.Common.{◌≡◌, pos, [], ◌∷◌, refl, arith}
 use Rattle.std.specs.Prelude.{true}
 use Rattle.command_laws.specs.SampleNumbers.{sevens}

@@ -1,4 +1,4 @@
--- Each statement has one entry, which both requests are told.
+-- Each statement has one entry, whose outcome both requests get.
 use Rattle.std.proofs.Common.{◌≡◌, ℕ, pos, List, [], ◌∷◌, refl, arith}
 use Rattle.std.specs.Prelude.{false}
 use Rattle.base_model.specs.Errors.{duplicate_key}

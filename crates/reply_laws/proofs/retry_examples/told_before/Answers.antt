@@ -1,4 +1,4 @@
--- A time that was told is wanted, and a request that has ended goes no further.
+-- A time that was returned is wanted, and a request that has ended proceeds no further.
 use Rattle.std.proofs.Common.{◌≡◌, ◌<◌, ℕ, pos, inl, [], ◌∷◌, List, refl, ap, subst, ◌∙◌, arith}
 use Rattle.std.specs.Prelude.{true, Option, Some, None}
 use Rattle.command_model.specs.Answers.{answer_document}
@@ -50,7 +50,7 @@ sent = two_sent 2 2 4 true ∷ unordered_later ∷ []
 abbrev two : WriteCommand
 two = inserts_under (pos 4) two_documents true
 
--- what the first request was told
+-- the outcomes of the first request
 abbrev one_done : List Done
 one_done = record { index = 0; answer = answer_by failed } ∷ []
 
@@ -62,7 +62,7 @@ told_one = (
   refl,
 )
 
--- an entry may be made for it behind all that it was told
+-- an entry may be made for it after all its outcomes
 abbrev GoesOn : (a : Asked) → Sends a early → Type 0
 GoesOn a sends =
     (t : Answered) (dones : List Done) → IsIn t (ended ∷ []) → t.id ≡ a.id → AreTold entries sent t sends.write 0 sends.write.operations dones
