@@ -20,10 +20,10 @@ use value_compare::{Key, KeyRange};
 const MOST_CHUNKS: usize = 0xffff_ffff;
 
 impl Table {
-    /// The table after a split at `middle`: the chunk that has it, and does not begin with it, becomes two. `None` where there is no
+    /// Returns the table after a split at `middle`: the chunk that has it, and does not begin with it, becomes two. `None` where there is no
     /// such chunk, which is where a bound is at `middle`.
     ///
-    /// Fails out of memory; and so where a number that a table keeps would pass the end of its type: its changes, a minor number, or
+    /// Fails if memory runs out; and so where a number that a table keeps would pass the end of its type: its changes, a minor number, or
     /// the chunks that a journal can encode.
     pub fn split(&self, alloc: Global, middle: &Key) -> Result<Option<Table>, Memory>
         requires writable { IsWritableBound (key_bound middle.now) }
@@ -49,17 +49,17 @@ impl Table {
         }))
     }
 
-    /// The chunk that has just this range, bounds being compared.
+    /// Returns the chunk that has just this range, bounds being compared.
     pub fn chunk_with(&self, range: &KeyRange) -> Option<&Chunk>
         ensures { option_map (λ chunk. chunk_view chunk.now) result ≡ chunk_with range.now self.now.chunks }
     {
         chunk_with(&self.chunks, range)
     }
 
-    /// The table after the chunk of this range got a new owner: it gets the next major number, and so does the lowest chunk that the
+    /// Returns the table after the chunk of this range got a new owner: it gets the next major number, and so does the lowest chunk that the
     /// donor still has.
     ///
-    /// Fails out of memory; and so where a number that a table keeps would pass the end of its type: its changes, the major number, or
+    /// Fails if memory runs out; and so where a number that a table keeps would pass the end of its type: its changes, the major number, or
     /// the owners of a chunk that a journal can encode.
     pub fn moved(
         &self,

@@ -23,7 +23,7 @@ use std::alloc::Global;
 use std::cmp::Ordering;
 use value_compare::{Bound, Key, KeyRange};
 
-// Whether a bound is at a key.
+// Returns whether a bound is at a key.
 #[tactic(auto, using(crate::proofs::Halves::no_key_is_least, crate::proofs::Halves::no_key_is_greatest))]
 fn is_at_key(bound: &Bound, key: &Key) -> bool
     ensures { result ≡ is_eq (order_bounds (bound_of bound.now) (key_bound key.now)) }
@@ -41,7 +41,7 @@ fn is_at_key(bound: &Bound, key: &Key) -> bool
     }
 }
 
-// Whether the range has the key, and does not begin with it.
+// Returns whether the range has the key, and does not begin with it.
 #[tactic(auto, using(crate::proofs::Halves::within))]
 fn is_strictly_inside(range: &KeyRange, key: &Key) -> bool
     ensures { result ≡ strictly_inside key.now range.now }
@@ -49,7 +49,7 @@ fn is_strictly_inside(range: &KeyRange, key: &Key) -> bool
     range.contains(key) && !is_at_key(range.min(), key)
 }
 
-/// Whether one of the chunks can be split at the key.
+/// Returns whether one of the chunks can be split at the key.
 pub(crate) fn can_split(chunks: &[Chunk], key: &Key) -> bool
     ensures { result ≡ can_split key.now (map chunk_view chunks.now) }
 {
@@ -61,7 +61,7 @@ pub(crate) fn can_split(chunks: &[Chunk], key: &Key) -> bool
     false
 }
 
-// The greatest minor number of the chunks with the major number; 0 where there is none.
+// Returns the greatest minor number of the chunks with the major number; 0 where there is none.
 fn greatest_minor(chunks: &[Chunk], major: u64) -> u64
     ensures { result ≡ greatest_minor 0 major (map chunk_view chunks.now) }
 {
@@ -75,7 +75,7 @@ fn greatest_minor(chunks: &[Chunk], major: u64) -> u64
     greatest
 }
 
-// The range from a bound to one above it.
+// Returns the range from a bound to one above it.
 fn range_between(min: Bound, max: Bound) -> KeyRange
     requires { order_bounds (bound_of min) (bound_of max) ≡ Less }
     ensures { result ≡ record { min = bound_of min; max = bound_of max } }
@@ -86,7 +86,7 @@ fn range_between(min: Bound, max: Bound) -> KeyRange
     range
 }
 
-// The halves of a chunk that can be split at the key. Fails out of memory, and where a minor number would pass 2^64 - 1.
+// Returns the halves of a chunk that can be split at the key. Fails if memory runs out, and where a minor number would pass 2^64 - 1.
 #[tactic(auto, using(crate::proofs::Halves::above_least, crate::proofs::Halves::below_greatest))]
 fn halves(alloc: Global, chunk: &Chunk, middle: &Key, minor: u64) -> Result<(Chunk, Chunk), Memory>
     requires inside { strictly_inside middle.now chunk.now.range ≡ true }
@@ -119,7 +119,7 @@ fn halves(alloc: Global, chunk: &Chunk, middle: &Key, minor: u64) -> Result<(Chu
     Ok((lower, upper))
 }
 
-/// The chunks, of which the one that can be split at the key is its halves. Fails out of memory.
+/// Returns the chunks, of which the one that can be split at the key is its halves. Fails if memory runs out.
 pub(crate) fn split_chunks(
     alloc: Global,
     chunks: &[Chunk],
@@ -141,7 +141,7 @@ pub(crate) fn split_chunks(
     Ok(split)
 }
 
-// Whether two ranges have the same bounds.
+// Returns whether two ranges have the same bounds.
 fn is_same_range(range: &KeyRange, other: &KeyRange) -> bool
     ensures { result ≡ same_range range.now other.now }
 {
@@ -149,7 +149,7 @@ fn is_same_range(range: &KeyRange, other: &KeyRange) -> bool
         && range.max().compare(other.max()) == Ordering::Equal
 }
 
-// A copy of the chunk; where it has the range, with the version and one owner more. Fails out of memory, and where a journal could
+// Returns a copy of the chunk; where it has the range, with the version and one owner more. Fails if memory runs out, and where a journal could
 // not encode the number of its owners.
 fn moved_chunk(
     alloc: Global,
@@ -172,7 +172,7 @@ fn moved_chunk(
     })
 }
 
-/// The chunk that has just this range, if one has it.
+/// Returns the chunk that has just this range, if one has it.
 pub(crate) fn chunk_with<'a>(chunks: &'a [Chunk], range: &KeyRange) -> Option<&'a Chunk>
     ensures { option_map (λ chunk. chunk_view chunk.now) result ≡ chunk_with range.now (map chunk_view chunks.now) }
 {
@@ -184,7 +184,7 @@ pub(crate) fn chunk_with<'a>(chunks: &'a [Chunk], range: &KeyRange) -> Option<&'
     None
 }
 
-// A copied chunk, with the version where it is the first that the donor has; and whether the donor's first was met.
+// Returns a copied chunk, with the version where it is the first that the donor has; and whether the donor's first was met.
 fn raised(chunk: Chunk, is_raised: bool, donor: NodeId, lowest: Version) -> (Chunk, bool)
     ensures rest { (rest : List tables.Chunk) → left_to_move is_raised donor.0 (version_view lowest) (chunk_view chunk ∷ rest) ≡ chunk_view result.0 ∷ left_to_move result.1 donor.0 (version_view lowest) rest }
     ensures same { (result.0.range ≡ chunk.range) × (result.0.history ≡ chunk.history) }
@@ -200,8 +200,8 @@ fn raised(chunk: Chunk, is_raised: bool, donor: NodeId, lowest: Version) -> (Chu
     (chunk, is_raised)
 }
 
-/// The chunks, of which the one with the range has the version `moved` and one owner more, and the first that the donor has then
-/// the version `lowest`. Fails out of memory, and where a journal could not encode the number of a chunk's owners.
+/// Returns the chunks, of which the one with the range has the version `moved` and one owner more, and the first that the donor has then
+/// the version `lowest`. Fails if memory runs out, and where a journal could not encode the number of a chunk's owners.
 pub(crate) fn moved_chunks(
     alloc: Global,
     chunks: &[Chunk],

@@ -52,21 +52,21 @@ impl Model for OwnedList {
 }
 
 impl OwnedList {
-    /// These owners, newest first.
+    /// Returns the list of these owners, newest first.
     pub fn of(owners: Vec<Owned>) -> OwnedList
         ensures { result ≡ map owned_view owners.items }
     {
         OwnedList { owners }
     }
 
-    /// The owners, newest first.
+    /// Returns the owners, newest first.
     pub fn as_slice(&self) -> &[Owned]
         ensures { map owned_view result.now ≡ self.now }
     {
         &self.owners
     }
 
-    /// The newest owner.
+    /// Returns the newest owner.
     pub fn newest(&self) -> Option<NodeId>
         ensures { option_map (λ shard. shard.0) result ≡ newest self.now }
     {
@@ -76,14 +76,14 @@ impl OwnedList {
         }
     }
 
-    /// The owner at a time: the newest that is not later, if there is one.
+    /// Returns the owner at a time: the newest that is not later, if there is one.
     pub fn at(&self, time: Time) -> Option<NodeId>
         ensures { option_map (λ shard. shard.0) result ≡ owner_among time.0 self.now }
     {
         owner_among(&self.owners, time)
     }
 
-    /// Whether the shard is the newest owner.
+    /// Returns whether the shard is the newest owner.
     pub(crate) fn has(&self, shard: NodeId) -> bool
         ensures { result ≡ is_owner shard.0 self.now }
     {
@@ -93,7 +93,7 @@ impl OwnedList {
         }
     }
 
-    /// A copy of the owners, after one that is newer. Fails out of memory, and where a journal could not encode their number.
+    /// Returns a copy of the owners, after one that is newer. Fails if memory runs out, and where a journal could not encode their number.
     pub(crate) fn followed_by(&self, alloc: Global, owned: Owned) -> Result<OwnedList, Memory>
         ensures owners { IfOk result (λ list. list ≡ owned_view owned ∷ self.now) }
         ensures count { IfOk result (λ list. length list < 2 ^ 32) }
@@ -116,7 +116,7 @@ impl OwnedList {
     }
 }
 
-// The first of the owners that is not later than the time.
+// Returns the first of the owners that is not later than the time.
 fn owner_among(owners: &[Owned], time: Time) -> Option<NodeId>
     ensures { option_map (λ shard. shard.0) result ≡ owner_among time.0 (map owned_view owners.now) }
 {
@@ -154,7 +154,7 @@ impl Chunk {
     }
 }
 
-/// The first of the chunks between whose bounds the value is, if it is of one.
+/// Returns the first of the chunks between whose bounds the value is, if there is one.
 pub(crate) fn chunk_of<'a>(chunks: &'a [Chunk], value: &Value) -> Option<&'a Chunk>
     ensures { option_map (λ chunk. chunk_view chunk.now) result ≡ chunk_of (datum_of value.now) (map chunk_view chunks.now) }
 {
@@ -166,7 +166,7 @@ pub(crate) fn chunk_of<'a>(chunks: &'a [Chunk], value: &Value) -> Option<&'a Chu
     None
 }
 
-/// The greatest of the version and those of the chunks.
+/// Returns the greatest of the version and those of the chunks.
 pub(crate) fn greatest_version(so_far: Version, chunks: &[Chunk]) -> Version
     ensures { version_view result ≡ greatest_version (version_view so_far) (map chunk_view chunks.now) }
 {
@@ -177,7 +177,7 @@ pub(crate) fn greatest_version(so_far: Version, chunks: &[Chunk]) -> Version
     greatest
 }
 
-/// The greatest of the version and those of the chunks that the shard has now.
+/// Returns the greatest of the version and those of the chunks that the shard has now.
 pub(crate) fn greatest_on(shard: NodeId, so_far: Version, chunks: &[Chunk]) -> Version
     ensures { version_view result ≡ greatest_version (version_view so_far) (chunks_on shard.0 (map chunk_view chunks.now)) }
 {
@@ -201,14 +201,14 @@ pub(crate) fn copy_all(alloc: Global, chunks: &[Chunk]) -> Result<Vec<Chunk>, Me
     Ok(copy)
 }
 
-// Whether the two bounds are one.
+// Returns whether the two bounds are one.
 fn is_at(bound: &Bound, other: &Bound) -> bool
     ensures { result ≡ is_eq (order_bounds (bound_of bound.now) (bound_of other.now)) }
 {
     bound.compare(other) == Ordering::Equal
 }
 
-/// Whether the chunks follow one another from below all keys to above them, and each has an owner.
+/// Returns whether the chunks follow one another from below all keys to above them, and each has an owner.
 pub(crate) fn follow(chunks: &[Chunk]) -> bool
     ensures { result ≡ follow_from min_bound (map chunk_view chunks.now) }
 {

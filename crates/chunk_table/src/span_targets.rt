@@ -14,7 +14,7 @@ use std::alloc::Global;
 use std::cmp::Ordering;
 use value_compare::{KeyRange, Span};
 
-// Whether two ranges overlap, by their bounds.
+// Returns whether two ranges overlap, by their bounds.
 fn overlap(range: &KeyRange, other: &KeyRange) -> bool
     ensures { result ≡ overlap range.now other.now }
 {
@@ -22,7 +22,7 @@ fn overlap(range: &KeyRange, other: &KeyRange) -> bool
         && other.min().compare(range.max()) == Ordering::Less
 }
 
-// Whether a range overlaps a span.
+// Returns whether a range overlaps a span.
 fn meets(range: &KeyRange, span: &Span) -> bool
     ensures { result ≡ meets range.now (span_of span.now) }
 {
@@ -32,7 +32,7 @@ fn meets(range: &KeyRange, span: &Span) -> bool
     }
 }
 
-// Whether a range overlaps one of the spans.
+// Returns whether a range overlaps one of the spans.
 fn meets_any(range: &KeyRange, spans: &[Span]) -> bool
     ensures { result ≡ meets_any range.now (map span_of spans.now) }
 {
@@ -44,7 +44,7 @@ fn meets_any(range: &KeyRange, spans: &[Span]) -> bool
     false
 }
 
-// Where a shard goes among others that rise; `None` where it is one of them.
+// Returns where a shard goes among others that rise; `None` where it is one of them.
 fn place_of(found: &[NodeId], shard: NodeId) -> Option<usize>
     ensures { PlacesShard shard.0 (map shard_number found.now) result }
 {
@@ -59,7 +59,7 @@ fn place_of(found: &[NodeId], shard: NodeId) -> Option<usize>
     Some(found.len())
 }
 
-// A shard among others that rise, each once. Fails out of memory; then they are as before.
+// Adds a shard to others that rise, each once. Fails if memory runs out; then they are as before.
 fn add_shard(found: &mut Vec<NodeId>, shard: NodeId) -> Result<(), Memory>
     ensures { IfOk result (λ _. map shard_number found.new.items ≡ with_shard shard.0 (map shard_number found.old.items)) }
 {
@@ -69,7 +69,7 @@ fn add_shard(found: &mut Vec<NodeId>, shard: NodeId) -> Result<(), Memory>
     Ok(())
 }
 
-// The owners at a time of the chunks that overlap the spans, rising, each once. Fails out of memory.
+// Returns the owners at a time of the chunks that overlap the spans, rising, each once. Fails if memory runs out.
 fn targets_among(
     alloc: Global,
     chunks: &[Chunk],
@@ -90,7 +90,7 @@ fn targets_among(
 }
 
 impl Table {
-    /// The shards that own keys of the spans at a time, by the bounds of the chunks that overlap these, rising, each once. Fails out of
+    /// Returns the shards that own keys of the spans at a time, by the bounds of the chunks that overlap these, rising, each once. Fails out of
     /// memory.
     pub fn targets(&self, spans: &[Span], time: Time) -> Result<Vec<NodeId>, Memory>
         ensures { IfOk result (λ found. map shard_number found.items ≡ targets self.now (map span_of spans.now) time.0) }

@@ -51,7 +51,7 @@ impl Model for Table {
 }
 
 impl Table {
-    /// The table of a collection that begins at `at`, as the collection of this epoch. Returns `Memory` if memory runs out.
+    /// Returns the table of a collection that is created at `at`, as the collection of this epoch. Returns `Memory` if memory runs out.
     pub fn first(alloc: Global, namespace: Namespace, epoch: u64, at: Time) -> Result<Table, Memory>
         ensures { IfOk result (λ table. table ≡ first_table (record { namespace = namespace; epoch = epoch; at = at.0 })) }
     {
@@ -127,21 +127,21 @@ impl Table {
         })
     }
 
-    /// The name of the collection.
+    /// Returns the name of the collection.
     pub fn namespace(&self) -> &Namespace
         ensures { result.now ≡ self.now.namespace }
     {
         &self.namespace
     }
 
-    /// Which of the collections of the name it is, from 1 on.
+    /// Returns which of the collections of the name it is, from 1 on.
     pub fn epoch(&self) -> u64
         ensures { result ≡ self.now.epoch }
     {
         self.epoch
     }
 
-    /// How many changes the table has seen, from 1 on.
+    /// Returns how many changes the table has seen, from 1 on.
     pub fn changes(&self) -> u64
         ensures { result ≡ self.now.changes }
     {
@@ -155,7 +155,7 @@ impl Table {
         self.oldest
     }
 
-    /// The chunks. A journal can spell each, and their number.
+    /// Returns the chunks. A journal can encode each, and their number.
     pub fn chunks(&self) -> &[Chunk]
         ensures chunks { map chunk_view result.now ≡ self.now.chunks }
         ensures count { length self.now.chunks < 2 ^ 32 }
@@ -164,7 +164,7 @@ impl Table {
         &self.chunks
     }
 
-    /// The shard that has the key now.
+    /// Returns the shard that has the key now.
     pub fn owner_now(&self, key: &Key) -> NodeId
         ensures { owner_now self.now key.now ≡ Some result.0 }
     {
@@ -178,7 +178,7 @@ impl Table {
         }
     }
 
-    /// The shard that has every key now, where the table has one chunk.
+    /// Returns the shard that has every key now, where the table has one chunk.
     pub fn sole_owner(&self) -> Option<NodeId>
         ensures { IfSome result (λ shard. (key : Datum) → is_key key ≡ true → owner_now self.now key ≡ Some shard.0) }
     {
@@ -188,7 +188,7 @@ impl Table {
         }
     }
 
-    /// The shard that had the key at a time; none before the collection began.
+    /// Returns the shard that had the key at a time; none before the collection was created.
     pub fn owner_at(&self, key: &Key, time: Time) -> Option<NodeId>
         ensures { option_map (λ shard. shard.0) result ≡ owner_at self.now key.now time.0 }
     {
@@ -206,21 +206,21 @@ impl Table {
         }
     }
 
-    /// The version of the whole table: the greatest of its chunks.
+    /// Returns the version of the whole table: the greatest of its chunks.
     pub fn version(&self) -> Version
         ensures { version_view result ≡ collection_version self.now }
     {
         greatest_version(Version::no_chunk(self.epoch), &self.chunks)
     }
 
-    /// The version of a shard: the greatest of the chunks that it has now; major number 0 where it has none.
+    /// Returns the version of a shard: the greatest of the chunks that it has now; major number 0 where it has none.
     pub fn shard_version(&self, shard: NodeId) -> Version
         ensures { version_view result ≡ shard_version self.now shard.0 }
     {
         greatest_on(shard, Version::no_chunk(self.epoch), &self.chunks)
     }
 
-    /// Whether it has seen more changes than the other.
+    /// Returns whether it has seen more changes than the other.
     pub fn longer_than(&self, other: &Table) -> bool
         ensures { result ≡ is_longer self.now other.now }
     {

@@ -20,7 +20,7 @@ pub struct Sent {
 }
 
 impl Sent {
-    /// What a router with the table sends to the shard.
+    /// Returns what a router with the table sends to the shard.
     pub fn of(table: &Table, shard: NodeId) -> Sent
         ensures { sent_view result ≡ sent_by table.now shard.0 }
     {
@@ -42,7 +42,7 @@ pub enum Verdict {
     RouterOld(Version),
 }
 
-/// What a shard with this table, if it has one, finds in what a router sent along.
+/// Returns what a shard with this table, if it has one, finds in what a router sent along.
 pub fn check(sent: &Sent, me: NodeId, table: Option<&Table>) -> Verdict
     ensures { verdict_view result ≡ verdict_of (sent_view sent.now) me.0 (option_map (λ t. t.now) table.entry) }
 {

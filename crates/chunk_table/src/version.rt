@@ -27,7 +27,7 @@ impl Version {
         }
     }
 
-    /// Whether both give each shard the same keys.
+    /// Returns whether both give each shard the same keys.
     pub(crate) fn agrees(self, other: Version) -> bool
         ensures { result ≡ agrees (version_view self) (version_view other) }
     {
@@ -41,14 +41,14 @@ impl Version {
         self.epoch > other.epoch || (self.epoch == other.epoch && self.major > other.major)
     }
 
-    /// Whether this one is the greater.
+    /// Returns whether this one is the greater.
     fn is_greater(self, other: Version) -> bool
         ensures { result ≡ is_greater (version_view self) (version_view other) }
     {
         self.is_later(other) || (self.agrees(other) && self.minor > other.minor)
     }
 
-    /// The greater of the two.
+    /// Returns the greater of the two.
     pub(crate) fn greater(self, other: Version) -> Version
         ensures { version_view result ≡ greater (version_view self) (version_view other) }
     {

@@ -68,7 +68,7 @@ pub enum Code {
 }
 
 impl Code {
-    /// The number, `code` of a reply.
+    /// Returns the number, `code` of a reply.
     pub fn number(self) -> i32
         ensures { result ≡ pos (meaning_of self).number }
     {
@@ -106,7 +106,7 @@ impl Code {
         }
     }
 
-    /// The name, `codeName` and `errmsg` of a reply.
+    /// Returns the name, `codeName` and `errmsg` of a reply.
     pub fn name(self) -> &'static str
         ensures { result.now ≡ (meaning_of self).name }
     {

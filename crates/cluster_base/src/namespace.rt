@@ -39,28 +39,28 @@ impl From<AllocError> for NameFault {
     }
 }
 
-/// Whether the database is one of those that hold no collections of clients: `admin`, `config` and `local`.
+/// Returns whether the database is one of those that hold no collections of clients: `admin`, `config` and `local`.
 pub fn is_reserved_database(database: &str) -> bool
     ensures { result ≡ is_reserved database.now }
 {
     database == "admin" || database == "config" || database == "local"
 }
 
-/// Whether a database's name may have the byte.
+/// Returns whether a database's name may have the byte.
 fn is_database_byte(b: u8) -> bool
     ensures { IsTrue result ↔ IsDatabaseByte b }
 {
     !matches!(b, b'.' | b' ' | b'"' | b'$' | b'/' | b'\\' | 0)
 }
 
-/// Whether a collection's name may have the byte.
+/// Returns whether a collection's name may have the byte.
 fn is_collection_byte(b: u8) -> bool
     ensures { IsTrue result ↔ IsCollectionByte b }
 {
     b != b'$' && b != 0
 }
 
-/// Whether the name consists of bytes that a database's name may have.
+/// Returns whether the name consists of bytes that a database's name may have.
 fn has_database_bytes(name: &[u8]) -> bool
     ensures { IsTrue result ↔ AllByRecursion IsDatabaseByte name.now }
 {
@@ -72,7 +72,7 @@ fn has_database_bytes(name: &[u8]) -> bool
     true
 }
 
-/// Whether the name consists of bytes that a collection's name may have.
+/// Returns whether the name consists of bytes that a collection's name may have.
 fn has_collection_bytes(name: &[u8]) -> bool
     ensures { IsTrue result ↔ AllByRecursion IsCollectionByte name.now }
 {
@@ -84,14 +84,14 @@ fn has_collection_bytes(name: &[u8]) -> bool
     true
 }
 
-/// Whether a database may have that name.
+/// Returns whether a database may have that name.
 fn is_database_name(name: &[u8]) -> bool
     ensures { IsTrue result ↔ IsDatabaseName name.now }
 {
     !name.is_empty() && name.len() <= DATABASE_BYTES && has_database_bytes(name)
 }
 
-/// Whether a collection may have that name.
+/// Returns whether a collection may have that name.
 fn is_collection_name(name: &[u8]) -> bool
     ensures { IsTrue result ↔ IsCollectionName name.now }
 {
@@ -101,7 +101,7 @@ fn is_collection_name(name: &[u8]) -> bool
     }
 }
 
-/// Whether the two names make a namespace.
+/// Returns whether the two names make a namespace.
 fn make_namespace(database: &str, collection: &str) -> bool
     ensures { IsTrue result ↔ MakeNamespace database.now collection.now }
 {
@@ -110,7 +110,7 @@ fn make_namespace(database: &str, collection: &str) -> bool
         && is_collection_name(collection.as_bytes())
 }
 
-/// Whether the text is the full name of a namespace.
+/// Returns whether the text is the full name of a namespace.
 fn is_namespace(text: &str) -> bool
     ensures { IsTrue result ↔ IsNamespace text.now }
 {
@@ -138,8 +138,8 @@ impl Model for Namespace {
 }
 
 impl Namespace {
-    /// The namespace of that full name. Answers `Form` exactly where the text is none, and `Memory` for want of
-    /// memory.
+    /// Returns the namespace of that full name. Returns `Form` exactly where the text is none, and `Memory` if
+    /// memory runs out.
     pub fn read(alloc: Global, text: &str) -> Result<Namespace, NameFault>
         ensures ok { IfOk result (λ n. (n ≡ text.now) × IsNamespace text.now) }
         ensures form { IsErrOf result NameFault.Form ↔ ¬ (IsNamespace text.now) }
@@ -165,7 +165,7 @@ impl Namespace {
         Ok(Namespace { text })
     }
 
-    /// The full name.
+    /// Returns the full name.
     pub fn as_str(&self) -> &str
         ensures text { result.now ≡ self.now }
         ensures namespace { IsNamespace self.now }

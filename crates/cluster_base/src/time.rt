@@ -13,14 +13,14 @@ const LAST_SECOND: u64 = 1 << 31;
 /// How many seconds of history are kept.
 const KEPT_SECONDS: u64 = 300;
 
-/// The least time of the second of `moment`, which is in milliseconds since 1970; of the second 2^31 at most.
+/// Returns the least time of the second of `moment`, which is in milliseconds since 1970; of the second 2^31 at most.
 pub fn moment_time(moment: u64) -> Time
     ensures { result.0 ≡ time_of_moment moment }
 {
     Time((moment / 1000).min(LAST_SECOND) << 32)
 }
 
-/// The oldest time that can still be read at `moment`, in milliseconds since 1970: 300 seconds before the time of
+/// Returns the oldest time that can still be read at `moment`, in milliseconds since 1970: 300 seconds before the time of
 /// that moment, and never below 0.
 pub fn retained(moment: u64) -> Time
     ensures { result.0 ≡ retained_at moment }

@@ -11,7 +11,7 @@ use std::alloc::Global;
 use std::env::Args;
 use std::io;
 
-/// Why a command line gives no arguments.
+/// Why a command line has no arguments.
 #[derive(Clone, Copy, Debug, PartialEq, Eq)]
 pub enum NoArguments {
     /// It can't be read, as where an argument is not UTF-8.
@@ -20,7 +20,7 @@ pub enum NoArguments {
     Memory,
 }
 
-/// The arguments as strings.
+/// Returns the arguments as strings.
 fn texts_of(alloc: Global, args: Args) -> Result<Vec<Text>, Memory>
     ensures { IfOk result (λ words. words.items ≡ map string_bytes (into_iter_items args)) }
 {

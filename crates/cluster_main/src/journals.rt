@@ -8,7 +8,7 @@ use outside::standard::FileDisk;
 use std::alloc::Global;
 use std::fs::Files;
 
-/// The name of a node's journal in the working folder: `node`, the node's number in two digits, and `.journal`. No two of the
+/// Returns the name of a node's journal in the working folder: `node`, the node's number in two digits, and `.journal`. No two of the
 /// first hundred nodes have one.
 pub fn name_of(alloc: Global, node: usize) -> Result<String, Memory>
     requires { node < 100 }
@@ -21,7 +21,7 @@ pub fn name_of(alloc: Global, node: usize) -> Result<String, Memory>
     Ok(name)
 }
 
-/// The disks over the journals' files of so many nodes, in order of the nodes, with no fault counted.
+/// Returns the disks over the journals' files of so many nodes, in order of the nodes, with no fault counted.
 pub fn file_disks<R: Files + Copy + Drop>(
     rt: R,
     alloc: Global,

@@ -40,7 +40,7 @@ fn lock_file<R: Files<File = File>>(rt: &R, name: &str) -> Result<File, NoLocks>
     }
 }
 
-/// Takes the exclusive lock on the journal's file of each of so many nodes, and gives the files, in order. The locks are
+/// Takes the exclusive lock on the journal's file of each of so many nodes, and returns the files, in order. The locks are
 /// held until the files are dropped. A file that is not there is made; no byte is read or written.
 ///
 /// No clause of the standard library says which file a name opens, nor who holds a lock: the contract says how many files
@@ -65,7 +65,7 @@ pub fn lock_journals<R: Files<File = File>>(
     Ok(files)
 }
 
-/// How many journals a command line asks for: one for each node that its arguments start, and none where they are refused.
+/// Returns how many journals a command line needs: one for each node that its arguments start, and none where they are refused.
 pub fn journal_count(words: &Result<Vec<Text>, NoArguments>) -> usize
     ensures nodes { IfOk words.now (λ given. result ≡ unwrap_or (node_count_of given.items) 0) }
     ensures refused { IsErr words.now → result ≡ 0 }

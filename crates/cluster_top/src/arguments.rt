@@ -9,7 +9,7 @@ use bson_values::Text;
 /// The most routers that a script may have.
 const MOST_ROUTERS: u64 = 8;
 
-/// What the arguments ask for.
+/// The command of the arguments.
 #[derive(Clone, Copy, Debug, PartialEq, Eq)]
 pub enum Command {
     /// One connection is served, by one router.
@@ -19,7 +19,7 @@ pub enum Command {
 }
 
 impl Command {
-    /// How many routers the command has.
+    /// Returns how many routers the command has.
     pub fn routers(self) -> u32
         ensures { result ≡ routers_of self }
     {
@@ -30,7 +30,7 @@ impl Command {
     }
 }
 
-/// The number that a word is: digits, which may follow a plus.
+/// Returns the number that an argument is: digits, which may follow a plus.
 fn read_number(word: &str) -> Option<u64>
     ensures { result ≡ number_in word.now }
 {
@@ -40,7 +40,7 @@ fn read_number(word: &str) -> Option<u64>
     }
 }
 
-/// The number of routers that a word says, from 1 to 8.
+/// Returns the number of routers that an argument gives, from 1 to 8.
 fn routers_in(word: &str) -> Option<u32>
     ensures { result ≡ within 1 most_routers (number_in word.now) }
 {
@@ -50,7 +50,7 @@ fn routers_in(word: &str) -> Option<u32>
     }
 }
 
-/// The script of as many routers as the word says, if it says a number from 1 to 8.
+/// Returns the script of as many routers as the argument says, if it gives a number from 1 to 8.
 fn script_in(word: &str) -> Option<Command>
     ensures { result ≡ script_of word.now }
 {
@@ -60,7 +60,7 @@ fn script_in(word: &str) -> Option<Command>
     }
 }
 
-/// The value of the option, where it is `--routers=` and a value.
+/// Returns the value of the option, where it is `--routers=` and a value.
 fn value_in(option: &str) -> Option<&str>
     ensures { option_map (λ value. value.now) result ≡ rest_after (codes "--routers=") option.now }
 {
@@ -89,7 +89,7 @@ pub fn read_command(words: &[Text]) -> Option<Command>
     }
 }
 
-/// How many nodes the arguments of the command line start, and so how many disks `run` wants: the catalogue, the shard and
+/// Returns how many nodes the arguments of the command line start, and so how many disks `run` takes: the catalogue, the shard and
 /// the routers. `None` exactly where these are refused.
 pub fn node_count(words: &[Text]) -> Option<usize>
     ensures count { result ≡ node_count_of words.now }

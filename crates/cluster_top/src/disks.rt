@@ -1,4 +1,4 @@
-//! The disks, in order of their nodes: asked for their lengths, opened as journals, and handed back.
+//! The disks, in order of their nodes: their lengths read, opened as journals, and returned.
 
 ghost use Rattle.std.specs.Prelude.{◌≡◌, ◌↔◌, ◌≤◌, ◌<◌, ◌+◌, ◌++◌, [], map, false, vec_len, vec_capacity, IsTrue, IfOk, IfErr, OnOk, OnErr, Some};
 ghost use Rattle.std.specs.List.{slice_get};
@@ -37,7 +37,7 @@ pub struct AllUnopened<D: Drop> {
     pub disks: Vec<D>,
 }
 
-/// Whether the disk's file has length 0.
+/// Returns whether the disk's file has length 0.
 ///
 /// # Errors
 /// `Failed` if the disk met a fault, which is counted.
@@ -55,7 +55,7 @@ fn is_empty<D: Disk>(disk: &mut D) -> Result<bool, Failed>
     Ok(length == 0)
 }
 
-/// Whether the file of the disk in this place has length 0; the other disks are left alone.
+/// Returns whether the file of the disk in this place has length 0; the other disks are left alone.
 ///
 /// # Errors
 /// `Failed` if the disk met a fault, which is counted.
@@ -71,7 +71,7 @@ fn is_empty_at<D: Disk>(disks: &mut Vec<D>, at: usize) -> Result<bool, Failed>
     is_empty(disk)
 }
 
-/// Whether all files have length 0. The disks are asked in order of their nodes, up to the first whose file has not.
+/// Returns whether all files have length 0. The lengths are read in order of the nodes, up to the first that is not 0.
 ///
 /// # Errors
 /// `Failed` if a disk met a fault, which is counted.
@@ -94,7 +94,7 @@ fn ask_all<D: Disk>(disks: &mut Vec<D>) -> Result<bool, Failed>
     Ok(true)
 }
 
-/// Whether all files have length 0, as `ask_all`: what a caller knows of the disks then.
+/// Returns whether all files have length 0, as `ask_all`: what a caller knows of the disks then.
 ///
 /// # Errors
 /// `Failed` if a disk met a fault, which is counted.
@@ -113,7 +113,7 @@ pub fn are_empty<D: Disk>(disks: &mut Vec<D>) -> Result<bool, Failed>
     ask_all(disks)
 }
 
-/// The journal that was opened; its records are let go.
+/// Returns the journal that was opened; its records are dropped.
 fn journal_of<D: Disk>(opened: (Journal<D>, RecordList)) -> Journal<D>
     ensures { result ≡ opened.0 }
 {
@@ -155,7 +155,7 @@ fn open_one<D: Disk>(alloc: Global, disk: D) -> Result<Journal<D>, Unopened<D>>
     }
 }
 
-/// Opens the journals on the disks, in order of their nodes, up to the first that is not opened: gives its status, if there is one. That disk and
+/// Opens the journals on the disks, in order of their nodes, up to the first that is not opened: returns its status, if there is one. That disk and
 /// those after it are put into `unopened`. Both vectors must have room for all.
 fn open_some<D: Disk>(
     alloc: Global,

@@ -7,7 +7,7 @@ ghost use Rattle.cluster_top.specs.OpenJournals.{AreAllOpen, IsDurable, disks_of
 use journal_frames::Journal;
 use outside::disk::Disk;
 
-/// The disk of a journal.
+/// Returns the disk of a journal.
 fn close_one<D: Disk>(journal: Journal<D>) -> D
     ensures disk { result ≡ journal.disk }
     ensures durable { IsTrue journal.is_open → IsTrue D.tells → IsDurable D.content D.may_leave result }

@@ -6,7 +6,7 @@ ghost use Rattle.node_model.specs.Tables.{first_shard};
 ghost use Rattle.node_model.specs.World.{Held, journal_at};
 ghost use Rattle.cluster_top.specs.Journals.{AreJournals, IsHistory};
 
-/// The files of the nodes keep one history at most, and one list of collections.
+/// The files of the nodes store one history at most, and one list of collections.
 pub fn one_history()
     ensures { (files : List (List ℕ)) (nodes others : List Held) → AreJournals files nodes → AreJournals files others → IsHistory nodes → IsHistory others →
         (creations_kept (journal_at nodes 0) ≡ creations_kept (journal_at others 0)) × (entries_kept (journal_at nodes first_shard) ≡ entries_kept (journal_at others first_shard)) }

@@ -1,4 +1,4 @@
-//! The top call of the cluster: it takes the bytes of a connection, or of a script, and answers bytes.
+//! The top call of the cluster: it takes the bytes of a connection, or of a script, and returns bytes.
 #![tactic(auto)]
 
 mod arguments;

@@ -29,7 +29,7 @@ pub fn put_in<N: Drop, D: Disk>(
     }
 }
 
-/// The disk of a node's journal.
+/// Returns the disk of a node's journal.
 fn disk_of<N: Drop, D: Disk>(seat: Seat<N, Journal<D>>) -> D
     ensures disk { result ≡ seat.log.disk }
     ensures durable { IsTrue seat.log.is_open → IsTrue D.tells → IsDurable D.content D.may_leave result }

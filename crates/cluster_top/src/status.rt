@@ -32,7 +32,7 @@ pub enum Status {
 }
 
 impl Status {
-    /// The status of a run whose connection ended with this one.
+    /// Returns the status of a run whose connection ended with this one.
     pub(crate) fn of(ending: Ending) -> Status
         ensures { result ≡ of_connection ending }
     {
@@ -47,7 +47,7 @@ impl Status {
         }
     }
 
-    /// The number that a process ends with.
+    /// Returns the number that a process ends with.
     pub fn number(self) -> u8
         ensures { result ≡ number_of self }
     {
@@ -65,7 +65,7 @@ impl Status {
         }
     }
 
-    /// The status with this number, if one has it.
+    /// Returns the status with this number, if one has it.
     pub fn with_number(number: u8) -> Option<Status>
         ensures { result ≡ with_number number }
     {

@@ -30,7 +30,7 @@ fn put_behind<M: Drop>(mail: MailList<M>, waiting: &mut VecDeque<M>) -> Result<(
 }
 
 impl<M: Drop> Network<M> {
-    /// No message and no reply.
+    /// Returns a network without messages and replies.
     pub fn new(alloc: Global) -> Network<M>
         ensures waiting { result.waiting.items ≡ [] }
         ensures replies { result.replies.items ≡ [] }
@@ -41,7 +41,7 @@ impl<M: Drop> Network<M> {
         }
     }
 
-    /// Takes in what a step gives out. Returns `Memory` if memory runs out; then messages or replies of that step may be missing.
+    /// Queues what a step sends and returns. Returns `Memory` if memory runs out; then messages or replies of that step may be missing.
     pub fn take(&mut self, outputs: Outputs<M>) -> Result<(), Memory>
         ensures waiting { OnOk result (self.new.waiting.items ≡ self.old.waiting.items ++ outputs.mail) }
         ensures replies { OnOk result (self.new.replies.items ≡ self.old.replies.items ++ outputs.replies) }

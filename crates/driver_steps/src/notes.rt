@@ -8,8 +8,8 @@ use node_traits::Node;
 use outside::log::Log;
 use outside::witness::Witness;
 
-/// Shows the disk of each log to the sink, in order of the nodes. All logs must be open, so that a crash at this moment leaves all that the nodes
-/// keep: what is written to the sink after it may depend on that.
+/// Shows the disk of each log to the sink, in order of the nodes. All logs must be open, so that all that the nodes wrote is in the file after a crash
+/// at this moment: what is written to the sink after it may depend on that.
 pub fn note_disks<N: Node, L: Log, K: Witness<L::Of>>(out: &mut K, seats: &Vec<Seat<N, L>>)
     requires open { AreOpen L.facts.is_open seats.now.items }
     ensures durable { AreDurable L.facts seats.now.items }

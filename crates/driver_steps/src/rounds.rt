@@ -52,7 +52,7 @@ pub fn open_all<N: Node, L: Log>(
     Ok(())
 }
 
-/// Gives each node the moment, in milliseconds since 1970, in order of their numbers.
+/// Advances the clock of each node to the moment, in milliseconds since 1970, in order of their numbers.
 ///
 /// # Errors
 /// The first fault, as `happen` has it.
@@ -90,7 +90,7 @@ pub fn give_moments<N: Node, L: Log>(
     Ok(())
 }
 
-/// Gives one node the moment, in milliseconds since 1970.
+/// Advances the clock of one node to the moment, in milliseconds since 1970.
 ///
 /// # Errors
 /// As `happen` has them.
@@ -125,7 +125,7 @@ pub fn give_moment<N: Node, L: Log>(
     }
 }
 
-/// A request comes to the router at a place, on a link; the number is that of its reply.
+/// Passes a request to the router at a place, on a link; the number is that of its reply.
 ///
 /// # Errors
 /// As `happen` has them.

@@ -14,7 +14,7 @@ use crate::seat::Seat;
 use node_traits::{Node, Outputs, StepFault};
 use outside::log::Log;
 
-/// The node at a place takes a step on the input; what it gives out is handed out.
+/// The node at a place takes a step on the input; what it sends and returns is the result.
 ///
 /// # Errors
 /// The fault of the step: `StepFault::Disk` only if the disk of that node's log met one.

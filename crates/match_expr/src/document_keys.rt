@@ -8,7 +8,7 @@ ghost use Rattle.query_model.specs.DocumentKeys.{key_asked_in, value_asked};
 use crate::operators::is_operator_document;
 use bson_values::{Document, Field, Value};
 
-// What a field's value asks the field to be equal to.
+// Returns the value that a field must equal by its operand.
 fn value_asked(value: &Value) -> Option<&Value>
     ensures { option_map (λ v. datum_of v.now) result ≡ value_asked (datum_of value.now) }
 {
@@ -24,7 +24,7 @@ fn value_asked(value: &Value) -> Option<&Value>
     }
 }
 
-// What one field asks `_id` to be equal to.
+// Returns the value that `_id` must equal by one field.
 fn asked_by(field: &Field) -> Option<&Value>
     ensures { option_map (λ v. datum_of v.now) result ≡ key_asked_in (tree.field field.now.name (datum_of field.now.value) tree.no_fields) }
 {
@@ -35,7 +35,7 @@ fn asked_by(field: &Field) -> Option<&Value>
     }
 }
 
-/// The operand of the first equality on `_id` among the fields of a document: a plain value, or the first `$eq` of an operator
+/// Returns the operand of the first equality on `_id` among the fields of a document: a plain value, or the first `$eq` of an operator
 /// document. The document need be no filter; of one that is, this is the key that the filter requests. Takes no memory.
 pub fn key_asked_in(document: &Document) -> Option<&Value>
     ensures { option_map (λ v. datum_of v.now) result ≡ key_asked_in document.now }

@@ -61,14 +61,14 @@ impl Expr {
         Ok(Expr { query, key })
     }
 
-    // The query that it is.
+    // Returns the query that it is.
     pub(crate) fn query(&self) -> &Clauses
         ensures { result.now ≡ self.now }
     {
         &self.query
     }
 
-    // Its clauses, in order.
+    // Returns its clauses, in order.
     pub(crate) fn clauses(&self) -> &[Clause]
         ensures { query_before result.now no_clauses ≡ self.now }
     {
@@ -76,7 +76,7 @@ impl Expr {
     }
 }
 
-// The key that a query asks for. Returns `Memory` if memory runs out.
+// Returns the key that a query requests, or `Memory` if memory runs out.
 fn key_of(query: &Clauses) -> Result<Option<Key>, Memory>
     ensures { IfOk result (λ k. k ≡ key_equal query.now) }
 {
@@ -93,21 +93,21 @@ pub fn holds(e: &Expr, document: &Document) -> bool
     query_holds(&e.query, document)
 }
 
-/// The operand of the first equality on `_id` at the top, whether it may be a key or not.
+/// Returns the operand of the first equality on `_id` at the top, whether it may be a key or not.
 pub fn key_asked(e: &Expr) -> Option<&Value>
     ensures { option_map (λ v. datum_of v.now) result ≡ key_asked e.now }
 {
     keys::key_asked(&e.query)
 }
 
-/// The key that the first equality on `_id` at the top asks for; none where its value is no key.
+/// Returns the key that the first equality on `_id` at the top requests; none where its value is no key.
 pub fn key_equal(e: &Expr) -> Option<&Key>
     ensures { option_map (λ k. k.now) result ≡ key_equal e.now }
 {
     e.key.as_ref()
 }
 
-/// The ranges and points outside which the filter matches no document. Returns `Memory` if memory runs out.
+/// Returns the ranges and points outside which the filter matches no document, or `Memory` if memory runs out.
 pub fn key_span(alloc: Global, e: &Expr) -> Result<SpanList, Memory>
     ensures { IfOk result (λ s. s ≡ span_of e.now) }
 {

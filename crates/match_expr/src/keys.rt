@@ -12,7 +12,7 @@ use bson_values::{Memory, Value};
 use field_paths::Path;
 use value_compare::Key;
 
-/// Whether a path is `_id`.
+/// Returns whether a path is `_id`.
 pub fn is_id(path: &Path) -> bool
     ensures { result ≡ is_id path.now }
 {
@@ -22,7 +22,7 @@ pub fn is_id(path: &Path) -> bool
     }
 }
 
-// The operand of the first `$eq`.
+// Returns the operand of the first `$eq`.
 fn equality_in(tests: &Tests) -> Option<&Value>
     ensures { option_map (λ v. datum_of v.now) result ≡ equality_in tests.now }
 {
@@ -34,7 +34,7 @@ fn equality_in(tests: &Tests) -> Option<&Value>
     None
 }
 
-// What a clause asks of `_id`: the operand of its first equality.
+// Returns the value that `_id` must equal by a clause: the operand of its first equality.
 fn asked_by(clause: &Clause) -> Option<&Value>
     ensures { option_map (λ v. datum_of v.now) result ≡ key_asked (queries.clause (clause_of clause.now) queries.no_clauses) }
 {
@@ -51,7 +51,7 @@ fn asked_by(clause: &Clause) -> Option<&Value>
     }
 }
 
-/// The operand of the first equality on `_id` at the top of a query.
+/// Returns the operand of the first equality on `_id` at the top of a query.
 pub fn key_asked(query: &Clauses) -> Option<&Value>
     ensures { option_map (λ v. datum_of v.now) result ≡ key_asked query.now }
 {
@@ -63,7 +63,7 @@ pub fn key_asked(query: &Clauses) -> Option<&Value>
     None
 }
 
-/// A copy of a value as a key; none where it is no key. Returns `Memory` if memory runs out.
+/// Returns a copy of a value as a key; none where it is no key, or `Memory` if memory runs out.
 pub fn as_key(value: &Value) -> Result<Option<Key>, Memory>
     ensures { IfOk result (λ k. k ≡ (if is_key (datum_of value.now) then Some (datum_of value.now) else None)) }
 {

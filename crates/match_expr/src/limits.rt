@@ -59,7 +59,7 @@ fn add_key(keys: &mut BTreeSet<Key>, value: &Value) -> Result<(), Memory>
     Ok(())
 }
 
-// The values of an array that may be keys, in order and each once. Returns `Memory` if memory runs out.
+// Returns the values of an array that may be keys, in order and each once. Returns `Memory` if memory runs out.
 fn keys_among(alloc: Global, array: &Array) -> Result<BTreeSet<Key>, Memory>
     ensures { IfOk result (λ s. s.keys ≡ with_keys [] (elements array.now)) }
 {
@@ -70,7 +70,7 @@ fn keys_among(alloc: Global, array: &Array) -> Result<BTreeSet<Key>, Memory>
     Ok(keys)
 }
 
-// The key alone, if the value may be one. Returns `Memory` if memory runs out.
+// Returns the key alone, if the value may be one. Returns `Memory` if memory runs out.
 fn key_alone(alloc: Global, value: &Value) -> Result<BTreeSet<Key>, Memory>
     ensures { IfOk result (λ s. s.keys ≡ with_key [] (datum_of value.now)) }
 {
@@ -88,7 +88,7 @@ fn is_within(least: &Bound, greatest: &Bound, with_greatest: bool, key: &Key) ->
     from_least && (to_greatest.is_gt() || (with_greatest && to_greatest.is_eq()))
 }
 
-// The keys within the bounds, as points. Returns `Memory` if memory runs out.
+// Returns the keys within the bounds, as points. Returns `Memory` if memory runs out.
 fn points_within(
     alloc: Global,
     least: &Bound,
@@ -107,7 +107,7 @@ fn points_within(
     Ok(SpanList::of(spans))
 }
 
-// The range between the bounds, if the least is below the greatest. Returns `Memory` if memory runs out.
+// Returns the range between the bounds, if the least is below the greatest. Returns `Memory` if memory runs out.
 fn range_between(alloc: Global, least: Bound, greatest: Bound) -> Result<Vec<Span>, Memory>
     ensures { IfOk result (λ s. map span_of s.items ≡ range_between (bound_of least) (bound_of greatest)) }
 {
@@ -119,7 +119,7 @@ fn range_between(alloc: Global, least: Bound, greatest: Bound) -> Result<Vec<Spa
     Ok(spans)
 }
 
-// The spans, followed by the point at a bound, if it is wanted and the bound is a key. Returns `Memory` if memory runs out.
+// Returns the spans, followed by the point at a bound, if it is wanted and the bound is a key. Returns `Memory` if memory runs out.
 fn with_end(spans: Vec<Span>, end: Bound, is_wanted: bool) -> Result<Vec<Span>, Memory>
     ensures { IfOk result (λ s. map span_of s.items ≡ map span_of spans.items ++ (if is_wanted then point_at (bound_of end) else [])) }
 {
@@ -140,7 +140,7 @@ fn reaches_end(least: &Bound, greatest: &Bound, with_greatest: bool) -> bool
     with_greatest && least.compare(greatest).is_le()
 }
 
-// The range between the bounds and the point at the greatest, as far as these exist. Returns `Memory` if memory runs out.
+// Returns the range between the bounds and the point at the greatest, as far as these exist. Returns `Memory` if memory runs out.
 fn range_within(
     alloc: Global,
     least: Bound,
@@ -157,7 +157,7 @@ fn range_within(
 }
 
 impl KeyLimits {
-    /// Nothing is known.
+    /// Returns limits of which nothing is known.
     pub fn new(alloc: Global) -> KeyLimits
         ensures { result ≡ no_limits }
     {
@@ -297,7 +297,7 @@ impl KeyLimits {
         Ok(())
     }
 
-    /// The ranges and points where the keys are. Returns `Memory` if memory runs out.
+    /// Returns the ranges and points where the keys are, or `Memory` if memory runs out.
     pub fn into_spans(self) -> Result<SpanList, Memory>
         ensures { IfOk result (λ s. s ≡ spans_of self) }
     {

@@ -15,7 +15,7 @@ use crate::tests::{Comparison, Place};
 use crate::tree::{Clause, Clauses, Connective, Queries, Test, Tests};
 use bson_values::{Array, Document, Text, Value};
 
-/// Whether the query holds of the document.
+/// Returns whether the document matches the query.
 #[cycle(holds)]
 pub fn query_holds(query: &Clauses, document: &Document) -> bool
     ensures { result ≡ holds query.now document.now }
@@ -28,7 +28,7 @@ pub fn query_holds(query: &Clauses, document: &Document) -> bool
     true
 }
 
-// Whether one clause holds.
+// Returns whether the document matches one clause.
 #[cycle(holds)]
 #[tactic(auto, using(crate::proofs::Elemental::some_hold, crate::proofs::Elemental::none_fails))]
 fn clause_holds(clause: &Clause, document: &Document) -> bool
@@ -48,7 +48,7 @@ fn clause_holds(clause: &Clause, document: &Document) -> bool
     }
 }
 
-// Whether one of the queries gives this answer.
+// Returns whether one of the queries has this result.
 #[cycle(holds)]
 fn some_answer(queries: &Queries, document: &Document, answer: bool) -> bool
     ensures { result ≡ some_answer answer queries.now document.now }
@@ -61,14 +61,14 @@ fn some_answer(queries: &Queries, document: &Document, answer: bool) -> bool
     false
 }
 
-// Whether a query that holds so gives this answer.
+// Returns whether a query that matches so has this result.
 fn is_answer(answer: bool, holds: bool) -> bool
     ensures { result ≡ same_answer answer holds }
 {
     if answer { holds } else { !holds }
 }
 
-// Whether the tests hold of what is there.
+// Returns whether the tests hold of what is there.
 #[cycle(holds)]
 fn tests_hold(tests: &Tests, place: &Place) -> bool
     ensures { result ≡ tests_hold tests.now (found_of place.now) }
@@ -81,7 +81,7 @@ fn tests_hold(tests: &Tests, place: &Place) -> bool
     true
 }
 
-// Whether one test holds.
+// Returns whether one test holds.
 #[cycle(holds)]
 #[tactic(auto, using(crate::proofs::Elemental::query_passes, crate::proofs::Elemental::tests_pass))]
 fn test_holds(test: &Test, place: &Place) -> bool
@@ -105,7 +105,7 @@ fn test_holds(test: &Test, place: &Place) -> bool
     }
 }
 
-// Whether an element of the arrays that are there passes a test of elements.
+// Returns whether an element of the arrays that are there passes a test of elements.
 #[cycle(holds)]
 fn any_element(test: &Test, place: &Place) -> bool
     ensures { result ≡ list_any (value_passes (test_of test.now)) (found_of place.now).values }
@@ -119,7 +119,7 @@ fn any_element(test: &Test, place: &Place) -> bool
     }
 }
 
-// Whether one passes among the values at the path from a value on.
+// Returns whether one passes among the values at the path from a value on.
 #[cycle(holds)]
 fn any_from(parts: &[Text], value: &Value, test: &Test) -> bool
     ensures { result ≡ list_any (value_passes (test_of test.now)) (values_from parts.now (datum_of value.now)) }
@@ -134,7 +134,7 @@ fn any_from(parts: &[Text], value: &Value, test: &Test) -> bool
     }
 }
 
-// The same from the first field of that name on.
+// Returns the same from the first field of that name on.
 #[cycle(holds)]
 fn any_in_document(part: &Text, others: &[Text], document: &Document, test: &Test) -> bool
     ensures { result ≡ list_any (value_passes (test_of test.now)) (values_from (part.now ∷ others.now) (document_value document.now)) }
@@ -145,7 +145,7 @@ fn any_in_document(part: &Text, others: &[Text], document: &Document, test: &Tes
     }
 }
 
-// The same of the documents in an array.
+// Returns the same of the documents in an array.
 #[cycle(holds)]
 fn any_in_array(part: &Text, others: &[Text], array: &Array, test: &Test) -> bool
     ensures { result ≡ list_any (value_passes (test_of test.now)) (values_from (part.now ∷ others.now) (array_value array.now)) }
@@ -160,7 +160,7 @@ fn any_in_array(part: &Text, others: &[Text], array: &Array, test: &Test) -> boo
     false
 }
 
-// Whether a value is an array with an element that passes.
+// Returns whether a value is an array with an element that passes.
 #[cycle(holds)]
 fn has_element(value: &Value, test: &Test) -> bool
     ensures { result ≡ value_passes (test_of test.now) (datum_of value.now) }
@@ -171,7 +171,7 @@ fn has_element(value: &Value, test: &Test) -> bool
     }
 }
 
-// Whether an element of an array passes.
+// Returns whether an element of an array passes.
 #[cycle(holds)]
 fn any_passes(array: &Array, test: &Test) -> bool
     ensures { result ≡ list_any (element_passes (test_of test.now)) (elements array.now) }
@@ -184,7 +184,7 @@ fn any_passes(array: &Array, test: &Test) -> bool
     false
 }
 
-// Whether an element passes.
+// Returns whether an element passes.
 #[cycle(holds)]
 fn element_passes(value: &Value, test: &Test) -> bool
     ensures { result ≡ element_passes (test_of test.now) (datum_of value.now) }

@@ -37,7 +37,7 @@ impl Model for OperandList {
 }
 
 impl OperandList {
-    /// The values of an array. Returns `Memory` if memory runs out.
+    /// Returns the values of an array, or `Memory` if memory runs out.
     pub fn of(alloc: Global, array: &Array) -> Result<OperandList, Memory>
         ensures { IfOk result (λ o. o ≡ array.now) }
     {
@@ -47,14 +47,14 @@ impl OperandList {
         Ok(OperandList { listed, sorted })
     }
 
-    /// The operands as they were listed.
+    /// Returns the operands as they were listed.
     pub fn listed(&self) -> &Array
         ensures { result.now ≡ self.now }
     {
         &self.listed
     }
 
-    /// Whether one of the operands equals a value: a search by halving.
+    /// Returns whether one of the operands equals a value: a search by halving.
     pub fn contains(&self, value: &Value) -> bool
         ensures { result ≡ list_any (λ x. same_value x (datum_of value.now)) (elements self.now) }
     {
@@ -64,7 +64,7 @@ impl OperandList {
     }
 }
 
-// The values of an array. Returns `Memory` if memory runs out.
+// Returns the values of an array, or `Memory` if memory runs out.
 fn copies(alloc: Global, array: &Array) -> Result<Vec<Value>, Memory>
     ensures { IfOk result (λ s. map (λ v. datum_of v) s.items ≡ elements array.now) }
 {

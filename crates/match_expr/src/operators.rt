@@ -47,7 +47,7 @@ pub enum Operator {
     Nested(Nested),
 }
 
-/// The operator of that name.
+/// Returns the operator of that name.
 pub fn operator_named(name: &str) -> Option<Operator>
     ensures { option_map operator_of result ≡ named operators name.now }
 {
@@ -68,7 +68,7 @@ pub fn operator_named(name: &str) -> Option<Operator>
     }
 }
 
-// The operator of that name, of those that do more than compare with one value.
+// Returns the operator of that name, of those that do more than compare with one value.
 fn further_operator_named(name: &str) -> Option<Operator>
     ensures { option_map operator_of result ≡ named (drop 6 operators) name.now }
 {
@@ -91,7 +91,7 @@ fn further_operator_named(name: &str) -> Option<Operator>
     }
 }
 
-/// The connective of that name.
+/// Returns the connective of that name.
 pub fn connective_named(name: &str) -> Option<Connective>
     ensures { option_map connective_of result ≡ named connectives name.now }
 {
@@ -106,7 +106,7 @@ pub fn connective_named(name: &str) -> Option<Connective>
     }
 }
 
-/// Whether a name begins with `$`.
+/// Returns whether a name begins with `$`.
 pub fn begins_with_dollar(name: &str) -> bool
     ensures { result ≡ begins_with_dollar name.now }
 {
@@ -116,7 +116,7 @@ pub fn begins_with_dollar(name: &str) -> bool
     }
 }
 
-/// Whether the first name of a document begins with `$`.
+/// Returns whether the first name of a document begins with `$`.
 pub fn is_operator_document(document: &Document) -> bool
     ensures { result ≡ is_operator_document document.now }
 {
@@ -126,7 +126,7 @@ pub fn is_operator_document(document: &Document) -> bool
     }
 }
 
-/// The operator document that a value is, if it is one.
+/// Returns the operator document that a value is, if it is one.
 pub fn operator_document(value: &Value) -> Option<&Document>
     ensures { option_map (λ d. d.now) result ≡ operator_document (datum_of value.now) }
 {
@@ -142,7 +142,7 @@ pub fn operator_document(value: &Value) -> Option<&Document>
     }
 }
 
-// Whether each value of an array is a document.
+// Returns whether each value of an array is a document.
 fn has_documents_only(array: &Array) -> bool
     ensures { result ≡ is_some (all_documents (elements array.now)) }
 {
@@ -154,7 +154,7 @@ fn has_documents_only(array: &Array) -> bool
     true
 }
 
-/// The array of documents, with at least one, that a value is.
+/// Returns the array of documents, with at least one, that a value is.
 #[tactic(auto, using(crate::proofs::Operands::documents_alone))]
 pub fn some_documents(value: &Value) -> Option<&Array>
     ensures { option_map (λ a. filter_map as_document (elements a.now)) result ≡ some_documents (datum_of value.now) }
@@ -171,7 +171,7 @@ pub fn some_documents(value: &Value) -> Option<&Array>
     }
 }
 
-/// The test by an operator that holds no queries and no tests. Fails with `BadOperand` where it takes no such operand, and for want
+/// Returns the test by an operator that holds no queries and no tests. Fails with `BadOperand` where it takes no such operand, and for want
 /// of memory.
 pub fn plain_test(alloc: Global, operator: Plain, value: &Value) -> Result<Test, ParseFault>
     ensures gives { (inner : Fields → Result Query QueryFault) (tests : Fields → Result queries.Tests QueryFault) →

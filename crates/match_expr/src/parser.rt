@@ -34,7 +34,7 @@ pub fn parse_within(
     parse_clauses(alloc, levels - 1, document)
 }
 
-// The clauses of a query, with so many levels left for what is in them.
+// Returns the clauses of a query, with so many levels left for what is in them.
 #[cycle(parse)]
 fn parse_clauses(alloc: Global, levels: usize, document: &Document) -> Result<Clauses, ParseFault>
     ensures gives { Gives (λ q. q) result (read_clauses (read_within levels) (read_tests_within levels) document.now) }
@@ -49,7 +49,7 @@ fn parse_clauses(alloc: Global, levels: usize, document: &Document) -> Result<Cl
     Ok(Clauses { clauses })
 }
 
-// One field of a query.
+// Reads one field of a query.
 #[cycle(parse)]
 fn parse_clause(
     alloc: Global,
@@ -68,7 +68,7 @@ fn parse_clause(
     parse_asked(alloc, levels, path, value)
 }
 
-// A field `$and`, `$or` or `$nor`.
+// Reads a field `$and`, `$or` or `$nor`.
 #[cycle(parse)]
 fn parse_connective(
     alloc: Global,
@@ -91,7 +91,7 @@ fn parse_connective(
     })
 }
 
-// The queries that the documents of an array are.
+// Returns the queries that the documents of an array are.
 #[cycle(parse)]
 fn parse_queries(alloc: Global, levels: usize, documents: &Array) -> Result<Queries, ParseFault>
     ensures gives { Gives (λ q. q) result
@@ -110,7 +110,7 @@ fn parse_queries(alloc: Global, levels: usize, documents: &Array) -> Result<Quer
     Ok(Queries { queries })
 }
 
-// What is asked of a path: the tests of an operator document, or equality with any other value.
+// Returns the tests of a path: those of an operator document, or equality with any other value.
 #[cycle(parse)]
 fn parse_asked(
     alloc: Global,
@@ -128,7 +128,7 @@ fn parse_asked(
     Ok(Clause::Equal { path, operand })
 }
 
-// The tests of an operator document inside another, with so many levels left for it and what is in it.
+// Returns the tests of an operator document inside another, with so many levels left for it and what is in it.
 #[cycle(parse)]
 fn parse_tests_within(
     alloc: Global,
@@ -143,7 +143,7 @@ fn parse_tests_within(
     parse_tests(alloc, levels - 1, document)
 }
 
-// The tests of an operator document, with so many levels left for what is in it.
+// Returns the tests of an operator document, with so many levels left for what is in it.
 #[cycle(parse)]
 fn parse_tests(alloc: Global, levels: usize, document: &Document) -> Result<Tests, ParseFault>
     ensures gives { Gives (λ t. t) result (read_tests (read_within levels) (read_tests_within levels) document.now) }
@@ -158,7 +158,7 @@ fn parse_tests(alloc: Global, levels: usize, document: &Document) -> Result<Test
     Ok(Tests { tests })
 }
 
-// One field of an operator document.
+// Reads one field of an operator document.
 #[cycle(parse)]
 fn parse_test(alloc: Global, levels: usize, name: &str, value: &Value) -> Result<Test, ParseFault>
     ensures gives { Gives test_of result (read_field_test (read_within levels) (read_tests_within levels) name.now (datum_of value.now)) }

@@ -32,14 +32,14 @@ impl<'a> Sieve<'a> {
     }
 }
 
-// Whether a value is null.
+// Returns whether a value is null.
 fn is_null(value: &Value) -> bool
     ensures { result ≡ is_null (datum_of value.now) }
 {
     matches!(value, Value::Null)
 }
 
-// What tests begin with, if that is an equality with a value that is not null.
+// Returns what tests begin with, if that is an equality with a value that is not null.
 fn first_equality(tests: &Tests) -> Option<&Value>
     ensures { IfSome result (λ x. NeedsEqual tests.now (datum_of x.now)) }
 {
@@ -55,7 +55,7 @@ fn first_equality(tests: &Tests) -> Option<&Value>
     }
 }
 
-// The sieve of a clause.
+// Returns the sieve of a clause.
 fn clause_sieve(clause: &Clause) -> Option<Sieve<'_>>
     ensures { IfSome result (λ s. (document : Fields) → clause_holds (clause_of clause.now) document ≡ true → lets_pass s document ≡ true) }
 {
@@ -75,7 +75,7 @@ fn clause_sieve(clause: &Clause) -> Option<Sieve<'_>>
     }
 }
 
-/// The equality that the filter begins with, if it begins with one, and not with null.
+/// Returns the equality that the filter begins with, if it begins with one, and not with null.
 pub fn sieve_of(filter: &Expr) -> Option<Sieve<'_>>
     ensures { IfSome result (λ s. (document : Fields) → holds filter.now document ≡ true → lets_pass s document ≡ true) }
 {

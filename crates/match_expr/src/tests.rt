@@ -26,7 +26,7 @@ pub enum Place<'a> {
     Alone(&'a Value),
 }
 
-/// Whether one of the values meets the visitor.
+/// Returns whether one of the values satisfies the visitor.
 pub fn any_value<V: Visitor>(place: &Place, visitor: &V) -> bool
     ensures { result ≡ list_any (V.accepts visitor.now) (found_of place.now).values }
 {
@@ -36,7 +36,7 @@ pub fn any_value<V: Visitor>(place: &Place, visitor: &V) -> bool
     }
 }
 
-// Whether there is a gap.
+// Returns whether there is a gap.
 fn has_gap(place: &Place) -> bool
     ensures { result ≡ (found_of place.now).gap }
 {
@@ -56,7 +56,7 @@ pub enum Comparison {
 }
 
 impl Comparison {
-    // Whether a value that compares so with the operand passes.
+    // Returns whether a value that compares so with the operand passes.
     fn passes(self, order: Ordering) -> bool
         ensures { result ≡ passes self order }
     {
@@ -69,21 +69,21 @@ impl Comparison {
     }
 }
 
-// Whether a value is MinKey or MaxKey, which compare with values of every class.
+// Returns whether a value is MinKey or MaxKey, which compare with values of every class.
 fn is_end(value: &Value) -> bool
     ensures { result ≡ is_end (datum_of value.now) }
 {
     matches!(value, Value::MinKey | Value::MaxKey)
 }
 
-// Whether a value equals the operand.
+// Returns whether a value equals the operand.
 fn is_same(operand: &Value, value: &Value) -> bool
     ensures { result ≡ same_value (datum_of operand.now) (datum_of value.now) }
 {
     compare(operand, value) == Ordering::Equal
 }
 
-// Whether a value is of the operand's class and compares so with it.
+// Returns whether a value is of the operand's class and compares so with it.
 fn is_ordered(comparison: Comparison, operand: &Value, value: &Value) -> bool
     ensures { result ≡ is_ordered comparison (datum_of operand.now) (datum_of value.now) }
 {
@@ -91,7 +91,7 @@ fn is_ordered(comparison: Comparison, operand: &Value, value: &Value) -> bool
         && comparison.passes(compare(value, operand))
 }
 
-// Whether an element equals the operand.
+// Returns whether an element equals the operand.
 fn has_same(operand: &Value, array: &Array) -> bool
     ensures { result ≡ list_any (same_value (datum_of operand.now)) (elements array.now) }
 {
@@ -103,7 +103,7 @@ fn has_same(operand: &Value, array: &Array) -> bool
     false
 }
 
-// Whether an element compares so with the operand.
+// Returns whether an element compares so with the operand.
 fn has_ordered(comparison: Comparison, operand: &Value, array: &Array) -> bool
     ensures { result ≡ list_any (is_ordered comparison (datum_of operand.now)) (elements array.now) }
 {
@@ -152,14 +152,14 @@ impl<'a> Visitor for Ordered<'a> {
     }
 }
 
-// Whether the operand is null and there is a gap.
+// Returns whether the operand is null and there is a gap.
 fn null_in_gap(operand: &Value, place: &Place) -> bool
     ensures { result ≡ null_in_gap (datum_of operand.now) (found_of place.now) }
 {
     matches!(operand, Value::Null) && has_gap(place)
 }
 
-// Whether a candidate equals the operand.
+// Returns whether a candidate equals the operand.
 #[tactic(auto, using(crate::proofs::Candidates::at_path, bson_model::proofs::Booleans::or_false))]
 fn any_same(operand: &Value, place: &Place) -> bool
     ensures { result ≡ list_any (same_value (datum_of operand.now)) (found_of place.now).candidates }
@@ -170,14 +170,14 @@ fn any_same(operand: &Value, place: &Place) -> bool
     }
 }
 
-/// Whether what is there equals a value.
+/// Returns whether what is there equals a value.
 pub fn is_equal(operand: &Value, place: &Place) -> bool
     ensures { result ≡ is_equal (datum_of operand.now) (found_of place.now) }
 {
     any_same(operand, place) || null_in_gap(operand, place)
 }
 
-/// Whether what is there compares so with a value.
+/// Returns whether what is there compares so with a value.
 #[tactic(auto, using(crate::proofs::Candidates::at_path, bson_model::proofs::Booleans::or_false))]
 pub fn compares(comparison: Comparison, operand: &Value, place: &Place) -> bool
     ensures { result ≡ compares (passes comparison) (datum_of operand.now) (found_of place.now) }
@@ -195,14 +195,14 @@ pub fn compares(comparison: Comparison, operand: &Value, place: &Place) -> bool
     }
 }
 
-/// The same, or both are null.
+/// Returns the same, or whether both are null.
 pub fn compares_or_null(comparison: Comparison, operand: &Value, place: &Place) -> bool
     ensures { result ≡ (compares (passes comparison) (datum_of operand.now) (found_of place.now) || null_in_gap (datum_of operand.now) (found_of place.now)) }
 {
     compares(comparison, operand, place) || null_in_gap(operand, place)
 }
 
-// Whether an element equals one of the operands.
+// Returns whether an element equals one of the operands.
 fn has_listed(operands: &OperandList, array: &Array) -> bool
     ensures { result ≡ list_any (is_listed operands.now) (elements array.now) }
 {
@@ -232,7 +232,7 @@ impl<'a> Visitor for Listed<'a> {
     }
 }
 
-// Whether a candidate equals one of the operands.
+// Returns whether a candidate equals one of the operands.
 #[tactic(auto, using(crate::proofs::Candidates::at_path, bson_model::proofs::Booleans::or_false))]
 fn any_listed(operands: &OperandList, place: &Place) -> bool
     ensures { result ≡ list_any (is_listed operands.now) (found_of place.now).candidates }
@@ -243,21 +243,21 @@ fn any_listed(operands: &OperandList, place: &Place) -> bool
     }
 }
 
-// Whether null is one of the operands and there is a gap.
+// Returns whether null is one of the operands and there is a gap.
 fn null_listed_in_gap(operands: &OperandList, place: &Place) -> bool
     ensures { result ≡ (is_listed operands.now null_value && (found_of place.now).gap) }
 {
     operands.contains(&Value::Null) && has_gap(place)
 }
 
-/// Whether what is there equals one of the values. Each candidate is looked for among them by halving.
+/// Returns whether what is there equals one of the values. Each candidate is looked for among them by halving.
 pub fn equals_one(operands: &OperandList, place: &Place) -> bool
     ensures { result ≡ list_any (λ x. is_equal x (found_of place.now)) (elements operands.now) }
 {
     any_listed(operands, place) || null_listed_in_gap(operands, place)
 }
 
-/// Whether what is there equals each of the values, of which there is one at least.
+/// Returns whether what is there equals each of the values, of which there is one at least.
 #[tactic(auto, using(crate::proofs::Candidates::count_elements))]
 pub fn equals_all(operands: &Array, place: &Place) -> bool
     ensures { result ≡ (nat_lt 0 (length (elements operands.now)) && list_all (λ x. is_equal x (found_of place.now)) (elements operands.now)) }
@@ -286,7 +286,7 @@ impl Visitor for OfSize {
     }
 }
 
-// Whether a count is this number.
+// Returns whether a count is this number.
 fn is_count(count: usize, n: i64) -> bool
     ensures { result ≡ int_eq (pos count) n }
 {
@@ -296,14 +296,14 @@ fn is_count(count: usize, n: i64) -> bool
     }
 }
 
-/// Whether one of the values is an array of so many elements.
+/// Returns whether one of the values is an array of so many elements.
 pub fn has_size(n: i64, place: &Place) -> bool
     ensures { result ≡ list_any (has_size n) (found_of place.now).values }
 {
     any_value(place, &OfSize(n))
 }
 
-/// Whether there is a value, or, where none is expected, whether there is none.
+/// Returns whether there is a value, or, where none is expected, whether there is none.
 pub fn exists(expected: bool, place: &Place) -> bool
     ensures { result ≡ (if expected then is_there (found_of place.now) else not (is_there (found_of place.now))) }
 {
@@ -326,7 +326,7 @@ impl Visitor for Any {
     }
 }
 
-// Whether there is a value.
+// Returns whether there is a value.
 #[tactic(auto, using(crate::proofs::Candidates::any_is_there))]
 fn is_there(place: &Place) -> bool
     ensures { result ≡ is_there (found_of place.now) }

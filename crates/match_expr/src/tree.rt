@@ -143,7 +143,7 @@ impl Model for Tests {
 }
 
 impl Clauses {
-    // The clauses, in order.
+    // Returns the clauses, in order.
     #[tactic(auto, using(crate::proofs::Views::clauses_inside))]
     pub(crate) fn clauses(&self) -> &[Clause]
         ensures clauses { query_before result.now no_clauses ≡ self.now }
@@ -154,7 +154,7 @@ impl Clauses {
 }
 
 impl Queries {
-    // The queries, in order.
+    // Returns the queries, in order.
     #[tactic(auto, using(crate::proofs::Views::queries_inside))]
     pub(crate) fn queries(&self) -> &[Clauses]
         ensures queries { queries_before result.now no_queries ≡ self.now }
@@ -165,7 +165,7 @@ impl Queries {
 }
 
 impl Tests {
-    // The tests, in order.
+    // Returns the tests, in order.
     #[tactic(auto, using(crate::proofs::Views::tests_inside))]
     pub(crate) fn tests(&self) -> &[Test]
         ensures tests { tests_before result.now no_tests ≡ self.now }

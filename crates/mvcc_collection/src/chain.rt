@@ -43,7 +43,7 @@ impl Model for Chain {
 }
 
 impl Chain {
-    /// No version, with room for one.
+    /// Returns a chain of no version, with room for one.
     pub(crate) fn new(alloc: Global) -> Chain
         ensures empty { result.versions ≡ [] }
         ensures room { 1 ≤ result.room }
@@ -77,7 +77,7 @@ impl Chain {
         self.last = Some(Version { time, document });
     }
 
-    /// The document of the last version up to the time, if that is one.
+    /// Returns the document of the last version up to the time, if that is one.
     pub(crate) fn document_at(&self, time: Time) -> Option<&Arc<Document, Global>>
         ensures { option_map (λ d. arc_value d.now) result ≡ document_left self.now.versions time.0 }
     {
@@ -87,7 +87,7 @@ impl Chain {
         }
     }
 
-    /// The time of the last version, if there is one.
+    /// Returns the time of the last version, if there is one.
     pub(crate) fn latest(&self) -> Option<Time>
         ensures { option_map (λ t. t.0) result ≡ last_time self.now.versions }
     {
@@ -98,7 +98,7 @@ impl Chain {
     }
 }
 
-// The time of the last of the versions, if there is one.
+// Returns the time of the last of the versions, if there is one.
 fn latest_among(versions: &[Version]) -> Option<Time>
     ensures { option_map (λ t. t.0) result ≡ last_time (map dated versions.now) }
 {
@@ -106,7 +106,7 @@ fn latest_among(versions: &[Version]) -> Option<Time>
     Some(last.time)
 }
 
-// The document of the last of the versions up to the time, if that is one, found by halving.
+// Returns the document of the last of the versions up to the time, if that is one, found by halving.
 fn document_among(versions: &[Version], time: Time) -> Option<&Arc<Document, Global>>
     requires { IsNonDecreasingBy (λ v. v.time.0) versions.now }
     ensures { option_map (λ d. arc_value d.now) result ≡ document_left (map dated versions.now) time.0 }

@@ -40,7 +40,7 @@ impl Collection {
     ghost use Rattle.mvcc_collection.specs.Collections.{PutsAre, at_in, document_in, last_in, put_view, room_in};
     ghost use Rattle.std.specs.List.{slice_get};
 
-    /// No documents.
+    /// Returns a collection of no documents.
     pub fn new(alloc: Global) -> Collection
         ensures empty { PutsAre result [] }
         ensures last { (k : Datum) → last_in result k ≡ None }
@@ -97,7 +97,7 @@ impl Collection {
         self.document_at(*place as usize, time)
     }
 
-    /// The documents with keys in the ranges and points at the time, in key order. Returns `Memory` if memory runs out.
+    /// Returns the documents with keys in the ranges and points at the time, in key order. Returns `Memory` if memory runs out.
     pub fn scan_at<'a>(
         &'a self,
         spans: &SpanList,
@@ -132,7 +132,7 @@ impl Collection {
         Ok(())
     }
 
-    // The document of the chain at the place at the time, if there is one.
+    // Returns the document of the chain at the place at the time, if there is one.
     fn document_at(&self, place: usize, time: Time) -> Option<&Arc<Document, Global>>
         ensures { option_map (λ d. arc_value d.now) result ≡ document_in (slice_get self.now.chains.items place) time.0 }
     {
@@ -140,7 +140,7 @@ impl Collection {
     }
 }
 
-// The edges of the span among keys.
+// Returns the edges of the span among keys.
 fn edges(span: &Span) -> (ops::Bound<&Key>, ops::Bound<&Key>)
     ensures first { bound_map (λ x. x.now) result.0 ≡ first_edge (span_of span.now) }
     ensures last { bound_map (λ x. x.now) result.1 ≡ last_edge (span_of span.now) }

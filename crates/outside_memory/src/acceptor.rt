@@ -28,7 +28,7 @@ impl Model for MemAcceptor {
 }
 
 impl MemAcceptor {
-    /// An acceptor of these links, in their order. `failing` holds the numbers, from 0, of the calls that fail, of
+    /// Returns an acceptor of these links, in their order. `failing` holds the numbers, from 0, of the calls that fail, of
     /// `listen` and `next` together.
     pub fn new(links: Vec<MemLink>, failing: Vec<u64>) -> MemAcceptor
         ensures { result ≡ record { links = links.items; plan = fresh_plan failing.items } }

@@ -18,14 +18,14 @@ impl Model for Piece {
 }
 
 impl Piece {
-    /// A piece of these bytes.
+    /// Returns a piece of these bytes.
     pub(crate) fn new(bytes: Vec<u8>) -> Piece
         ensures { result ≡ bytes.items }
     {
         Piece { bytes }
     }
 
-    /// The bytes.
+    /// Returns the bytes.
     pub fn as_slice(&self) -> &[u8]
         ensures { result.now ≡ self.now }
     {

@@ -31,7 +31,7 @@ impl Model for CallList {
 }
 
 impl CallList {
-    /// No call.
+    /// Returns a list of no call.
     pub(crate) fn new(alloc: Global) -> CallList
         ensures { result ≡ record { start = None; calls = []; room = 0 } }
     {
@@ -94,7 +94,7 @@ impl CallList {
         }
     }
 
-    /// The calls, in order.
+    /// Returns the calls, in order.
     pub(crate) fn as_slice(&self) -> &[Call]
         ensures { result.now ≡ self.now.calls }
     {

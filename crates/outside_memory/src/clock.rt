@@ -36,7 +36,7 @@ impl Model for ListClock {
 }
 
 impl ListClock {
-    /// A clock that gives these moments.
+    /// Returns a clock that gives these moments.
     pub fn new(moments: Vec<u64>) -> ListClock
         ensures { result ≡ moments.items }
     {
@@ -47,7 +47,7 @@ impl ListClock {
     }
 }
 
-/// The moment in this place, or the last, or 0 where there is none.
+/// Returns the moment in this place, or the last, or 0 where there is none.
 fn moment_at(moments: &[u64], place: usize) -> u64
     ensures { IsOfList moments.now result }
 {

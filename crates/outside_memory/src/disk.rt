@@ -47,7 +47,7 @@ impl Model for MemDisk {
 }
 
 impl MemDisk {
-    /// A disk of these bytes. `failing` holds the numbers, from 0, of the calls that fail; every call of a method of
+    /// Returns a disk of these bytes. `failing` holds the numbers, from 0, of the calls that fail; every call of a method of
     /// `Disk` but `faults` has a number.
     pub fn new(bytes: Vec<u8>, failing: Vec<u64>) -> MemDisk
         ensures { result ≡ fresh_disk bytes.items (vec_capacity bytes) failing.items }
@@ -60,7 +60,7 @@ impl MemDisk {
         }
     }
 
-    /// The bytes of the disk: those that it was made of, after its calls.
+    /// Returns the bytes of the disk: those that it was made of, after its calls.
     pub fn bytes(&self) -> &[u8]
         ensures bytes { result.now ≡ self.now.bytes }
         ensures replayed { result.now ≡ replayed self.now.start self.now.calls }
@@ -68,7 +68,7 @@ impl MemDisk {
         self.bytes.as_slice()
     }
 
-    /// The calls that changed the disk or made it stay, in order. A call that failed is none of them.
+    /// Returns the calls that changed the disk or made it durable, in order. A call that failed is none of them.
     pub fn calls(&self) -> &[Call]
         ensures { result.now ≡ self.now.calls }
     {

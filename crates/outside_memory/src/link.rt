@@ -26,7 +26,7 @@ impl Model for MemLink {
 }
 
 impl MemLink {
-    /// A link of these bytes. The lists hold the numbers, from 0, of the calls of `take` and of `put` that fail. The
+    /// Returns a link of these bytes. The lists hold the numbers, from 0, of the calls of `take` and of `put` that fail. The
     /// allocator of `failing_puts` is the one for what is put.
     pub fn new(bytes: Vec<u8>, failing_takes: Vec<u64>, failing_puts: Vec<u64>) -> MemLink
         ensures source { result.source ≡ record { left = bytes.items; plan = fresh_plan failing_takes.items } }
@@ -38,7 +38,7 @@ impl MemLink {
         }
     }
 
-    /// The bytes that were put.
+    /// Returns the bytes that were put.
     pub fn bytes(&self) -> &[u8]
         ensures { result.now ≡ self.now.sink.held }
     {

@@ -23,7 +23,7 @@ impl Model for FaultPlan {
 }
 
 impl FaultPlan {
-    /// The plan before the first call.
+    /// Returns the plan before the first call.
     pub(crate) fn new(failing: Vec<u64>) -> FaultPlan
         ensures { result ≡ fresh_plan failing.items }
     {
@@ -56,7 +56,7 @@ impl FaultPlan {
         self.faults = self.faults.saturating_add(1);
     }
 
-    /// How many faults there were, at most 2^64 - 1.
+    /// Returns how many faults there were, at most 2^64 - 1.
     pub(crate) fn faults(&self) -> u64
         ensures { result ≡ self.now.faults }
     {

@@ -31,7 +31,7 @@ impl Model for MemSink {
 }
 
 impl MemSink {
-    /// An empty sink. `failing` holds the numbers, from 0, of the calls that fail, and its allocator is the sink's.
+    /// Returns an empty sink. `failing` holds the numbers, from 0, of the calls that fail, and its allocator is the sink's.
     pub fn new(failing: Vec<u64>) -> MemSink
         ensures { result ≡ fresh_sink failing.items }
     {
@@ -43,7 +43,7 @@ impl MemSink {
         }
     }
 
-    /// The bytes that were put.
+    /// Returns the bytes that were put.
     pub fn bytes(&self) -> &[u8]
         ensures { result.now ≡ self.now.held }
     {

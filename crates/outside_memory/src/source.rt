@@ -29,7 +29,7 @@ impl Model for MemSource {
 }
 
 impl MemSource {
-    /// A source of these bytes. `failing` holds the numbers, from 0, of the calls that fail.
+    /// Returns a source of these bytes. `failing` holds the numbers, from 0, of the calls that fail.
     pub fn new(bytes: Vec<u8>, failing: Vec<u64>) -> MemSource
         ensures { result ≡ record { left = bytes.items; plan = fresh_plan failing.items } }
     {

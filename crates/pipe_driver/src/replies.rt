@@ -63,7 +63,7 @@ pub fn replied_after(more: bool, replied: u64) -> u64
     if more { replied } else { replied + 1 }
 }
 
-/// The number of the next reply, where so many were put; the first one has 1.
+/// Returns the number of the next reply, where so many were put; the first one has 1.
 pub fn next_number(replied: u64) -> i32
     requires { replied < 2 ^ 63 }
     ensures { result ≡ number_behind replied }

@@ -23,7 +23,7 @@ pub const FIRST_ROUTER: usize = 2;
 /// The number of the connection's link.
 const FIRST_LINK: u32 = 0;
 
-/// A round: all nodes are given the moment, in milliseconds since 1970, the router with this number takes the request, whose reply has this number, and all
+/// Serves a round: all nodes get the moment, in milliseconds since 1970, the router with this number takes the request, whose reply has this number, and all
 /// messages are delivered. The replies wait to be handed on.
 ///
 /// # Errors

@@ -25,7 +25,7 @@ pub enum Status {
 }
 
 impl Status {
-    /// The status of a fault of a step.
+    /// Returns the status of a fault of a step.
     pub fn of(fault: StepFault) -> Status
         ensures { result ≡ status_for fault }
     {

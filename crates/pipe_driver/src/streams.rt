@@ -12,7 +12,7 @@ use crate::status::Status;
 use outside::streams::{Failed, Sink, Source};
 use std::alloc::{AllocError, Global};
 
-/// The most bytes that are asked of a source at once.
+/// The most bytes that are taken from a source at once.
 pub const PIECE: usize = 65_536;
 
 /// Puts the whole piece; what is taken in part is put on from where it stopped. Fails where the sink does, after a prefix
@@ -32,7 +32,7 @@ pub fn put_all<K: Sink>(out: &mut K, piece: &[u8]) -> Result<(), Failed>
     Ok(())
 }
 
-/// A piece that bytes are taken into, again and again: it is made once, and has room for `PIECE` bytes. Returns `Memory` if memory runs out.
+/// Returns a piece that bytes are taken into, again and again: it is made once, and has room for `PIECE` bytes. Returns `Memory` if memory runs out.
 pub fn new_piece(alloc: Global) -> Result<Vec<u8>, AllocError>
     ensures { IfOk result (λ piece. vec_len piece ≡ piece_room) }
 {

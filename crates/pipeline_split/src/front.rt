@@ -11,7 +11,7 @@ use pipeline_lang::Stage;
 use std::alloc::Global;
 use value_compare::SpanList;
 
-// Whether a stage acts on each document by itself.
+// Returns whether a stage acts on each document by itself.
 fn acts_alone(stage: &Stage) -> bool
     ensures { result ≡ acts_alone (stage_of stage.now) }
 {
@@ -36,7 +36,7 @@ pub(crate) fn front_length(stages: &[Stage]) -> usize
     stages.len()
 }
 
-/// The ranges and points where the keys of the documents are that pass the leading filters. Returns `Memory` if memory runs out.
+/// Returns the ranges and points where the keys of the documents are that pass the leading filters, or `Memory` if memory runs out.
 pub(crate) fn span_of_stages(alloc: Global, stages: &[Stage]) -> Result<SpanList, Memory>
     ensures { IfOk result (λ s. s ≡ span_of_stages (map stage_of stages.now)) }
 {

@@ -10,8 +10,8 @@ use bson_values::Memory;
 use pipeline_lang::{Half, Merge, Pipeline};
 use std::alloc::Global;
 
-/// The half that each part of the documents gets of a pipeline, and the merge that goes on from what the halves give. What the stages
-/// ask for is shared. Returns `Memory` if memory runs out.
+/// Returns the half that each part of the documents gets of a pipeline, and the merge that proceeds from what the halves
+/// return. What the stages need is shared. Returns `Memory` if memory runs out.
 pub fn split(alloc: Global, pipeline: &Pipeline) -> Result<(Half, Merge), Memory>
     ensures half { IfOk result (λ parts. half_of parts.0 ≡ (split pipeline.now).0) }
     ensures merge { IfOk result (λ parts. merge_of parts.1 ≡ (split pipeline.now).1) }

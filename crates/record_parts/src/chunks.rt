@@ -42,7 +42,7 @@ pub fn read_bound(alloc: Global, bytes: &[u8]) -> Result<(Bound, &[u8]), RecordF
     }
 }
 
-/// The range between two bounds.
+/// Returns the range between two bounds.
 #[tactic(auto, using(crate::proofs::Tests::order_tests))]
 fn range_between(min: Bound, max: Bound) -> Result<KeyRange, RecordFault>
     requires min { IsWritableBound (bound_of min) }
@@ -181,7 +181,7 @@ fn read_chunks(alloc: Global, bytes: &[u8]) -> Result<(Vec<Chunk>, &[u8]), Recor
     read_each_chunk(alloc, count, rest)
 }
 
-/// The table of these chunks.
+/// Returns the table of these chunks.
 #[tactic(auto, using(crate::proofs::Held::table_held, crate::proofs::Held::chunks_writable, crate::proofs::Tests::some_true))]
 fn table_of(
     namespace: Namespace,

@@ -65,7 +65,7 @@ pub fn read_u64(bytes: &[u8]) -> Result<(u64, &[u8]), RecordFault>
     Ok((LittleEndian::read_u64(number), rest))
 }
 
-/// The namespace of that full name.
+/// Returns the namespace of that full name.
 #[tactic(auto, using(crate::proofs::Names::name_tests))]
 fn namespace_of(alloc: Global, name: &[u8]) -> Result<Namespace, RecordFault>
     ensures found { Finds (λ n. n) result (name_in name.now) }
@@ -94,7 +94,7 @@ pub fn read_namespace(alloc: Global, bytes: &[u8]) -> Result<(Namespace, &[u8]),
     Ok((namespace, rest))
 }
 
-/// The fault of a record whose bytes have that fault.
+/// Returns the fault of a record whose bytes have that fault.
 fn fault_of(fault: BsonFault) -> RecordFault
     ensures { result ≡ fault_view fault }
 {
@@ -135,7 +135,7 @@ pub fn read_document(alloc: Global, bytes: &[u8]) -> Result<(Document, &[u8]), R
     Ok((document, &bytes[length..]))
 }
 
-/// The key of the document.
+/// Returns the key of the document.
 fn key_in(alloc: Global, document: &Document) -> Result<Key, RecordFault>
     ensures found { Finds (λ key. key) result (key_in (valid_key document.now)) }
     ensures key { IfOk result (λ key. valid_key document.now ≡ Ok key) }

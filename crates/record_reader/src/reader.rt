@@ -195,7 +195,7 @@ fn is_spelled(alloc: Global, kept: &Record, bytes: &[u8]) -> Result<bool, Memory
     Ok(spelling.as_slice() == bytes)
 }
 
-/// What is kept, where it is known to be the same.
+/// Returns what is kept, where it is known to be the same.
 fn kept_if<T: Drop>(kept: T, same: Result<bool, Memory>) -> Result<T, RecordFault>
     ensures { IsDecided kept same result }
 {

@@ -123,7 +123,7 @@ fn read_list(alloc: Global, bytes: &[u8]) -> Result<(Vec<SessionRecord>, &[u8]),
     read_each_session(alloc, count, rest)
 }
 
-/// Whether the bytes come first.
+/// Returns whether the bytes come first.
 #[tactic(auto, using(crate::proofs::Orders::same_byte, crate::proofs::Orders::other_byte))]
 fn bytes_before(bytes: &[u8; 16], others: &[u8; 16]) -> bool
     ensures { result ≡ bytes_before bytes.now others.now }
@@ -136,7 +136,7 @@ fn bytes_before(bytes: &[u8; 16], others: &[u8; 16]) -> bool
     false
 }
 
-/// Whether a session comes before another.
+/// Returns whether a session comes before another.
 fn is_before(session: &Session, other: &Session) -> bool
     ensures { result ≡ session_before (session_view session.now) (session_view other.now) }
 {
@@ -163,7 +163,7 @@ fn is_before(session: &Session, other: &Session) -> bool
     }
 }
 
-/// Whether an index may come after the last one.
+/// Returns whether an index may come after the last one.
 fn is_next_index(last: Option<u32>, index: u32) -> bool
     ensures { result ≡ is_next nat_lt last index }
 {
@@ -173,7 +173,7 @@ fn is_next_index(last: Option<u32>, index: u32) -> bool
     }
 }
 
-/// Whether a session may come after the last one.
+/// Returns whether a session may come after the last one.
 fn is_next_session(last: &Option<Session>, session: &Session) -> bool
     ensures { result ≡ is_next session_before (option_map session_view last.now) (session_view session.now) }
 {
@@ -183,7 +183,7 @@ fn is_next_session(last: &Option<Session>, session: &Session) -> bool
     }
 }
 
-/// Whether the indices of statements rise.
+/// Returns whether the indices of statements rise.
 fn indices_rise(statements: &[StatementRecord]) -> bool
     ensures { result ≡ indices_rise None (map statement_record_view statements.now) }
 {
@@ -197,7 +197,7 @@ fn indices_rise(statements: &[StatementRecord]) -> bool
     true
 }
 
-/// Whether the sessions are in order, each once, and so the indices of each.
+/// Returns whether the sessions are in order, each once, and so the indices of each.
 fn are_in_order(sessions: &[SessionRecord]) -> bool
     ensures { result ≡ are_in_order (map session_record_view sessions.now) }
 {
@@ -211,7 +211,7 @@ fn are_in_order(sessions: &[SessionRecord]) -> bool
     true
 }
 
-/// The sessions, if they are in order.
+/// Returns the sessions, if they are in order.
 fn in_order(sessions: Vec<SessionRecord>) -> Result<Sessions, RecordFault>
     requires count { length sessions.items < 2 ^ 32 }
     requires held { AllByRecursion IsWritableSession (map session_record_view sessions.items) }

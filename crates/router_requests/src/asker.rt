@@ -1,4 +1,4 @@
-//! Who asks.
+//! The node that sends requests.
 
 use bson_values::Memory;
 use cluster_base::{Namespace, NodeId, RequestId, Time};
@@ -26,7 +26,7 @@ impl Asker {
     ghost use Rattle.protocol_model.specs.Messages.{letter_of};
     ghost use Rattle.router_requests.specs.Askers.{asker_view};
 
-    /// The id of the request that it took with this count.
+    /// Returns the id of the request that it took with this count.
     pub fn id(self, count: u64) -> RequestId
         ensures { id_view result ≡ rows.id_of (asker_view self) count }
     {
@@ -37,7 +37,7 @@ impl Asker {
         }
     }
 
-    /// What it says to a node at a time.
+    /// Returns the message that it sends to a node at a time.
     pub(crate) fn says(self, receiver: NodeId, time: Time, body: Body) -> Message
         ensures { letter_of result ≡ rows.says (asker_view self) receiver.0 time.0 (body_view body) }
     {
@@ -49,7 +49,7 @@ impl Asker {
         }
     }
 
-    /// What a write asks the catalogue for: its table, and that its collection begins. Returns `Memory` if memory runs out.
+    /// Returns what a write requests of the catalogue: its table, and that its collection is created. Returns `Memory` if memory runs out.
     pub fn asks_to_begin(self, time: Time, namespace: &Namespace) -> Result<Message, Memory>
         ensures { IfOk result (λ m. letter_of m ≡ rows.says (asker_view self) 0 time.0 (table_ask namespace.now true no_time)) }
     {
@@ -61,7 +61,7 @@ impl Asker {
         Ok(self.says(CATALOGUE, time, Body::TableAsk(ask)))
     }
 
-    /// What a read at a time asks the catalogue for: its table. Returns `Memory` if memory runs out.
+    /// Returns what a read at a time requests of the catalogue: its table. Returns `Memory` if memory runs out.
     pub fn asks_table_at(
         self,
         time: Time,

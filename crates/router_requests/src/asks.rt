@@ -1,4 +1,4 @@
-//! What requests ask the shards for.
+//! What open requests request of the shards.
 
 ghost use Rattle.std.specs.Prelude.{◌≡◌, ◌∷◌, [], IfOk, Option, Some, map};
 ghost use Rattle.std.specs.Option.{option_map};
@@ -29,7 +29,7 @@ use std::sync::Arc;
 /// The turn of a request that met no stale table.
 const FIRST_TURN: u32 = 1;
 
-/// Whether a statement goes to a shard. Returns `Memory` if memory runs out.
+/// Returns whether a statement goes to a shard, or `Memory` if memory runs out.
 fn goes_to(
     alloc: Global,
     table: &Table,
@@ -43,7 +43,7 @@ fn goes_to(
     Ok(owner.0 == shard.0)
 }
 
-/// The first of the statements, as far as they go to a shard; their documents are shared. Returns `Memory` if memory runs out.
+/// Returns the first of the statements, as far as they go to a shard; their documents are shared. Returns `Memory` if memory runs out.
 fn run_to(
     alloc: Global,
     table: &Table,
@@ -65,7 +65,7 @@ fn run_to(
     Ok(run)
 }
 
-/// The statements that are not answered.
+/// Returns the statements that are not answered.
 fn unanswered<'a>(statements: &'a [Statement], answers: &[Done]) -> &'a [Statement]
     ensures { (given : Option writes.ClientNumber) (id : identities.RequestId) → map (λ s. statement_view given id s) result.now
         ≡ rows.unanswered (map (λ s. statement_view given id s) statements.now) (map done_view answers.now) }
@@ -78,7 +78,7 @@ fn unanswered<'a>(statements: &'a [Statement], answers: &[Done]) -> &'a [Stateme
 }
 
 impl Asker {
-    /// What these statements of a write ask the shard for that has the first of them. Returns `Memory` if memory runs out.
+    /// Returns what these statements of a write request of the shard that has the first of them. Returns `Memory` if memory runs out.
     pub(crate) fn asks_to_write(
         self,
         alloc: Global,
@@ -111,7 +111,7 @@ impl Asker {
         Ok(Some(self.says(shard, time, Body::WriteAsk(ask))))
     }
 
-    /// What a read asks the shard for that had what it reads, if one had it. Returns `Memory` if memory runs out.
+    /// Returns what a read requests of the shard that had what it reads, if one had it. Returns `Memory` if memory runs out.
     pub(crate) fn asks_to_read(
         self,
         time: Time,
@@ -138,7 +138,7 @@ impl Asker {
         Ok(Some(self.says(shard, time, Body::ReadAsk(ask))))
     }
 
-    /// What work asks the shards for, by a table. Returns `Memory` if memory runs out.
+    /// Returns what work requests of the shards, by a table. Returns `Memory` if memory runs out.
     pub fn asks_shards(
         self,
         alloc: Global,
@@ -170,7 +170,7 @@ impl Asker {
         }
     }
 
-    /// What work asks the catalogue for: its table, and a write that its collection begins. Returns `Memory` if memory runs out.
+    /// Returns what work requests of the catalogue: its table, and a write that its collection is created. Returns `Memory` if memory runs out.
     pub fn asks_table(
         self,
         time: Time,
@@ -186,8 +186,8 @@ impl Asker {
         }
     }
 
-    /// What the statements of a write that are not answered ask for, by its table, if that is there: the shard that has the first of
-    /// them, or else the catalogue. Returns `Memory` if memory runs out.
+    /// Returns what the statements of a write that are not answered request, by its table, if that is there: of the shard that has the first of
+    /// them, or else of the catalogue. Returns `Memory` if memory runs out.
     pub fn asks_rest(
         self,
         alloc: Global,
@@ -238,8 +238,8 @@ impl Asker {
         }
     }
 
-    /// What work asks for by the table that it can go on with, if that is there: the shards, or else the catalogue. Fails for want of
-    /// memory.
+    /// Returns what work requests by the table that it can proceed with, if that is there: of the shards, or else of the catalogue. Returns
+    /// `Memory` if memory runs out.
     pub fn asks_by(
         self,
         alloc: Global,

@@ -36,7 +36,7 @@ impl OpenList {
     ghost use Rattle.router_requests.specs.Turns.{settled};
     ghost use Rattle.router_requests.specs.Works.{open_view, wait_view};
 
-    /// No request was taken.
+    /// Returns the list before a request was taken.
     pub fn new(alloc: Global) -> OpenList
         ensures taken { taken_of result ≡ 0 }
         ensures opens { (router life : ℕ) → opens_of router life result ≡ [] }
@@ -47,21 +47,21 @@ impl OpenList {
         }
     }
 
-    /// How many requests were taken.
+    /// Returns how many requests were taken.
     pub fn taken(&self) -> u64
         ensures { result ≡ taken_of self.now }
     {
         self.taken
     }
 
-    /// The open requests, in the order in which they were taken.
+    /// Returns the open requests, in the order in which they were taken.
     pub fn as_slice(&self) -> &[OpenRequest]
         ensures { (router life : ℕ) → map (λ q. open_view router life q) result.now ≡ opens_of router life self.now }
     {
         &self.requests
     }
 
-    /// The open request with this count.
+    /// Returns the open request with this count.
     pub fn find(&self, count: u64) -> Option<&OpenRequest>
         ensures { (router life : ℕ) → option_map (λ q. open_view router life q.now) result ≡ states.open_with count (opens_of router life self.now) }
     {

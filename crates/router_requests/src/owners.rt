@@ -24,7 +24,7 @@ use protocol_model::{NewChange, Operation, Statement};
 use std::alloc::Global;
 use value_compare::{Key, OpWords, key_of};
 
-/// What words ask the key of their document to be; none where they ask for no key.
+/// Returns the value that operands want the key of their document to equal; none where they want none.
 fn key_asked(words: &OpWords) -> Option<&Value>
     ensures { option_map (λ v. datum_of v.now) result ≡ key_asked_by (operation_view words.now) }
 {
@@ -35,7 +35,7 @@ fn key_asked(words: &OpWords) -> Option<&Value>
     }
 }
 
-/// The key that a change writes. Returns `Memory` if memory runs out.
+/// Returns the key that a change writes, or `Memory` if memory runs out.
 #[tactic(auto, using(crate::proofs::Keys::key_by_words))]
 fn key_changed(change: &NewChange) -> Result<Key, Memory>
     ensures { IfOk result (λ key. key_written change.now ≡ Some key) }
@@ -50,7 +50,7 @@ fn key_changed(change: &NewChange) -> Result<Key, Memory>
     }
 }
 
-/// The key that an operation writes. Returns `Memory` if memory runs out.
+/// Returns the key that an operation writes, or `Memory` if memory runs out.
 #[tactic(auto, using(crate::proofs::Keys::key_by_document))]
 fn key_of_operation(alloc: Global, operation: &Operation) -> Result<Key, Memory>
     ensures { IfOk result (λ key. key_written (protocol.operation_view operation.now) ≡ Some key) }
@@ -80,8 +80,8 @@ fn writes_key(operation: &Operation)
     }
 }
 
-/// The shard that has the key that a statement writes: that of all keys, or else that of the chunk with the key. Fails for want of
-/// memory.
+/// Returns the shard that has the key that a statement writes: that of all keys, or else that of the chunk with the key. Returns
+/// `Memory` if memory runs out.
 #[tactic(auto, using(crate::proofs::Keys::owner_by_key, crate::proofs::Keys::owner_by_sole))]
 pub(crate) fn owner_of_statement(
     alloc: Global,
@@ -106,7 +106,7 @@ pub fn owner_of_half(table: &Table, at: Time, _half: &Half) -> Option<NodeId>
     table.owner_of_value(&Value::Null, at)
 }
 
-/// Whether a table says who had what a half is of at a time.
+/// Returns whether a table says who had what a half is of at a time.
 pub fn is_enough(table: &Table, at: Time, half: &Half) -> bool
     ensures { result ≡ is_some (rows.owner_of_span table.now at.0 (half_of half.now).span) }
 {

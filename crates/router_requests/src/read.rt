@@ -31,7 +31,7 @@ impl Parts {
     ghost use Rattle.pipeline_lang.specs.Halves.{half_of, merge_of};
     ghost use Rattle.router_requests.specs.Works.{stages_of};
 
-    /// A pipeline with its parts. Returns `Memory` if memory runs out.
+    /// Returns a pipeline with its parts, or `Memory` if memory runs out.
     pub fn of(alloc: Global, pipeline: Pipeline) -> Result<Parts, Memory>
         ensures { IfOk result (λ parts. stages_of parts ≡ pipeline) }
     {
@@ -44,14 +44,14 @@ impl Parts {
         })
     }
 
-    /// What each shard makes of its documents.
+    /// Returns what each shard makes of its documents.
     pub fn half(&self) -> &Arc<Half, Global>
         ensures { half_of (arc_value result.now) ≡ (split (stages_of self.now)).0 }
     {
         &self.half
     }
 
-    /// How the shards' rows are put together.
+    /// Returns how the shards' rows are merged.
     pub fn merge(&self) -> &Merge
         ensures { merge_of result.now ≡ (split (stages_of self.now)).1 }
     {
@@ -85,7 +85,7 @@ impl OpenRead {
     ghost use Rattle.node_model.specs.RouterRows as rows;
     ghost use Rattle.router_requests.specs.Works.{read_at, read_view};
 
-    /// The time that it reads at, where the router's has come to this: its own, where that was named.
+    /// Returns the time that it reads at, where the router's has come to this: its own, where that was named.
     pub fn at_reached(&self, time: Time) -> Time
         ensures { read_at self.now result.0 ≡ rows.reached time.0 (read_view self.now) }
     {

@@ -23,7 +23,7 @@ use protocol_model::At;
 pub enum Next {
     /// It stays as it is.
     Stays,
-    /// It asks the shards.
+    /// It sends to the shards.
     GoesOn,
     /// It is answered so that nothing is there, at this time.
     IsTold(Time, Telling),
@@ -39,14 +39,14 @@ fn is_for(told: At, at: Time) -> bool
     }
 }
 
-/// Whether a request waits for the table of this collection.
+/// Returns whether a request waits for the table of this collection.
 fn waits_for(request: &OpenRequest, namespace: &Namespace) -> bool
     ensures { result ≡ (rows.is_for_table (wait_view request.now.wait) && bytes_eq request.now.namespace namespace.now) }
 {
     request.wait == Wait::ForTable && request.namespace.as_str() == namespace.as_str()
 }
 
-/// Whether work can go on with this table, if it is known.
+/// Returns whether work can proceed with this table, if it is known.
 #[tactic(auto, using(crate::proofs::Nexts::some_owner))]
 fn can_go_on(known: Option<&Table>, work: &Work) -> bool
     ensures { (id : identities.RequestId) → result ≡ is_some (rows.enough_of (option_map (λ t. t.now) known.entry) (work_view id work.now)) }

@@ -5,7 +5,7 @@ ghost use Rattle.script_lines.specs.Kinds.{is_among, kinds};
 
 use std::str;
 
-/// Whether a word names a kind, in its own case.
+/// Returns whether a word names a kind, in its own case.
 pub(crate) fn is_kind(word: &[u8]) -> bool
     ensures { result ≡ is_among kinds word.now }
 {
@@ -15,7 +15,7 @@ pub(crate) fn is_kind(word: &[u8]) -> bool
     }
 }
 
-// The same of a text.
+// Returns the same of a text.
 fn is_first_kind(word: &str) -> bool
     ensures { result ≡ is_among kinds word.now }
 {
@@ -31,7 +31,7 @@ fn is_first_kind(word: &str) -> bool
         || is_second_kind(word)
 }
 
-// The same of the kinds from `WriteDone` on.
+// Returns the same of the kinds from `WriteDone` on.
 fn is_second_kind(word: &str) -> bool
     ensures { result ≡ is_among (drop 9 kinds) word.now }
 {
@@ -47,7 +47,7 @@ fn is_second_kind(word: &str) -> bool
         || is_third_kind(word)
 }
 
-// The same of the kinds from `ReceiveReady` on.
+// Returns the same of the kinds from `ReceiveReady` on.
 fn is_third_kind(word: &str) -> bool
     ensures { result ≡ is_among (drop 18 kinds) word.now }
 {

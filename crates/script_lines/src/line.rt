@@ -39,7 +39,7 @@ pub enum LineFault {
     Memory,
 }
 
-/// The line that bytes encode, without its newline.
+/// Returns the line that bytes encode, without its newline.
 ///
 /// # Errors
 /// - `LineFault::Refused` if they encode none.
@@ -69,7 +69,7 @@ pub fn read_line(alloc: Global, line: &[u8]) -> Result<Line, LineFault>
     Err(LineFault::Refused)
 }
 
-/// The line of bytes without a space.
+/// Returns the line of bytes without a space.
 fn settle_of(line: &[u8]) -> Result<Line, LineFault>
     requires { HasNone 32 line.now }
     ensures says { IfOk result (λ read. Says line.now (meaning_of read)) }
@@ -82,7 +82,7 @@ fn settle_of(line: &[u8]) -> Result<Line, LineFault>
     }
 }
 
-/// The line of a word `client` and what comes after it.
+/// Returns the line of a word `client` and what comes after it.
 fn client_of(alloc: Global, rest: &[u8]) -> Result<Line, LineFault>
     ensures says { IfOk result (λ read. Says (codes "client" ++ 32 ∷ rest.now) (meaning_of read)) }
     ensures refused { result ≡ Err faults.Refused → (other : said.Line) → ¬ Says (codes "client" ++ 32 ∷ rest.now) other }
@@ -99,7 +99,7 @@ fn client_of(alloc: Global, rest: &[u8]) -> Result<Line, LineFault>
     }
 }
 
-/// The line of a word `deliver` and what comes after it.
+/// Returns the line of a word `deliver` and what comes after it.
 fn deliver_of(rest: &[u8]) -> Result<Line, LineFault>
     ensures says { IfOk result (λ read. Says (codes "deliver" ++ 32 ∷ rest.now) (meaning_of read)) }
     ensures refused { result ≡ Err faults.Refused → (other : said.Line) → ¬ Says (codes "deliver" ++ 32 ∷ rest.now) other }
@@ -110,7 +110,7 @@ fn deliver_of(rest: &[u8]) -> Result<Line, LineFault>
     }
 }
 
-/// The line of a word `moment` and what comes after it.
+/// Returns the line of a word `moment` and what comes after it.
 fn moment_of(rest: &[u8]) -> Result<Line, LineFault>
     ensures says { IfOk result (λ read. Says (codes "moment" ++ 32 ∷ rest.now) (meaning_of read)) }
     ensures refused { result ≡ Err faults.Refused → (other : said.Line) → ¬ Says (codes "moment" ++ 32 ∷ rest.now) other }
@@ -121,7 +121,7 @@ fn moment_of(rest: &[u8]) -> Result<Line, LineFault>
     }
 }
 
-/// The line of a word `settle` and what comes after it.
+/// Returns the line of a word `settle` and what comes after it.
 fn except_of(alloc: Global, rest: &[u8]) -> Result<Line, LineFault>
     ensures says { IfOk result (λ read. Says (codes "settle" ++ 32 ∷ rest.now) (meaning_of read)) }
     ensures refused { result ≡ Err faults.Refused → (other : said.Line) → ¬ Says (codes "settle" ++ 32 ∷ rest.now) other }
@@ -138,7 +138,7 @@ fn except_of(alloc: Global, rest: &[u8]) -> Result<Line, LineFault>
     Err(LineFault::Refused)
 }
 
-/// The line of a word `next` and what comes after it.
+/// Returns the line of a word `next` and what comes after it.
 fn next_of(alloc: Global, rest: &[u8]) -> Result<Line, LineFault>
     ensures says { IfOk result (λ read. Says (codes "next" ++ 32 ∷ rest.now) (meaning_of read)) }
     ensures refused { result ≡ Err faults.Refused → (other : said.Line) → ¬ Says (codes "next" ++ 32 ∷ rest.now) other }
@@ -149,7 +149,7 @@ fn next_of(alloc: Global, rest: &[u8]) -> Result<Line, LineFault>
     }
 }
 
-/// The bytes that a word encodes in hexadecimal.
+/// Returns the bytes that a word encodes in hexadecimal.
 fn bytes_of(alloc: Global, word: &[u8]) -> Result<Vec<u8>, LineFault>
     ensures is { IfOk result (λ bytes. IsHex word.now bytes.items) }
     ensures refused { result ≡ Err faults.Refused → (bytes : List ℕ) → ¬ IsHex word.now bytes }
@@ -164,7 +164,7 @@ fn bytes_of(alloc: Global, word: &[u8]) -> Result<Vec<u8>, LineFault>
     }
 }
 
-/// The kind that a word names.
+/// Returns the kind that a word names.
 fn kind_of(alloc: Global, word: &[u8]) -> Result<Vec<u8>, LineFault>
     ensures is { IfOk result (λ kind. (kind.items ≡ word.now) × IsKind word.now) }
     ensures refused { result ≡ Err faults.Refused → ¬ IsKind word.now }

@@ -20,7 +20,7 @@ pub fn cut_at(byte: u8, bytes: &[u8]) -> Option<(&[u8], &[u8])>
     None
 }
 
-/// The number that a word writes.
+/// Returns the number that a word writes.
 pub(crate) fn number_of(word: &[u8]) -> Option<u64>
     ensures is { IfSome result (λ n. IsNumber word.now n) }
     ensures only { (n : ℕ) → IsNumber word.now n → result ≡ Some n }
@@ -39,7 +39,7 @@ pub(crate) fn number_of(word: &[u8]) -> Option<u64>
     }
 }
 
-/// The two numbers that words write.
+/// Returns the two numbers that words write.
 pub(crate) fn numbers_of(words: &[u8]) -> Option<(u64, u64)>
     ensures are { IfSome result (λ x. AreNumbers words.now x.0 x.1) }
     ensures none { IsNone result → (m n : ℕ) → ¬ AreNumbers words.now m n }

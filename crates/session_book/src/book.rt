@@ -36,7 +36,7 @@ pub enum Seen<'a> {
     Older(i64),
 }
 
-// Whether the identifiers are one. They are compared for each statement, which is cheaper byte by byte than as slices of any length.
+// Returns whether the identifiers are one. They are compared for each statement, which is cheaper byte by byte than as slices of any length.
 fn same_id(id: &[u8; 16], other: &[u8; 16]) -> bool
     ensures { IsTrue result → id.now ≡ other.now }
 {
@@ -48,7 +48,7 @@ fn same_id(id: &[u8; 16], other: &[u8; 16]) -> bool
     true
 }
 
-// Whether both are a session of one identifier, or one of a router's.
+// Returns whether both are a session of one identifier, or one of a router's.
 fn is_same(session: &Session, other: &Session) -> bool
     ensures { IsTrue result → session_view session.now ≡ session_view other.now }
 {
@@ -85,7 +85,7 @@ impl Book {
     ghost use Rattle.session_book.specs.Books.{NotesAre, is_new, kept_of, note_view, room_in, seen_in, seen_view};
     ghost use Rattle.session_book.specs.Records.{session_notes};
 
-    /// A book in which nothing is noted.
+    /// Returns a book in which nothing is noted.
     pub fn new(alloc: Global) -> Book
         ensures so_far { NotesAre result [] }
     {
@@ -107,14 +107,14 @@ impl Book {
         }
     }
 
-    /// Whether the statement is new.
+    /// Returns whether the statement is new.
     pub fn is_new(&self, s: &Stmt) -> bool
         ensures { result ≡ is_new (seen_in self.now (number_view s.now)) }
     {
         matches!(self.look(s), Seen::New)
     }
 
-    /// Each session of which a statement was noted, with its greatest transaction and all statements that were noted of that, in the
+    /// Returns each session of which a statement was noted, with its greatest transaction and all statements that were noted of that, in the
     /// order of sessions and of indexes: what the whole book is.
     ///
     /// # Errors
@@ -132,7 +132,7 @@ impl Book {
         Ok(Sessions { sessions })
     }
 
-    // The place of what is kept of a session, if something is.
+    // Returns the place of what is stored of a session, if something is.
     fn place(&self, session: &Session) -> Option<u32>
         ensures { result ≡ place_of self.now.places.entries (session_view session.now) }
     {
@@ -178,7 +178,7 @@ impl Book {
         Ok(())
     }
 
-    // Keeps this of a session of which nothing is kept. Returns `Memory` if memory runs out, and where 2^32 are known; then all is as it was.
+    // Stores this of a session of which nothing is stored. Returns `Memory` if memory runs out, and where 2^32 are known; then all is as it was.
     fn begin(&mut self, s: Session, kept: Kept) -> Result<(), Memory>
         requires { place_of self.old.places.entries (session_view s) ≡ None }
         ensures ok { OnOk result ((x : history.Session) → kept_of self.new x ≡ (if same_session (session_view s) x then Some kept else kept_of self.old x)) }

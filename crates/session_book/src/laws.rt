@@ -17,7 +17,7 @@ pub fn merged_floors_cover()
         → (n : StatementNumber) → seen_in after n ≡ new_statement → (seen_in own n ≡ new_statement) × (seen_in other n ≡ new_statement) }
 {}
 
-/// The floors of a book, merged into a new one, make a book that answers as the first does.
+/// The floors of a book, merged into a new one, make a book that returns the same as the first.
 pub fn floors_make_the_book()
     ensures { (own other after : Book) (floors : Sessions) → NotesAre own [] → NotesAre other (session_notes floors.sessions.items) → IsMerged own floors after
         → (n : StatementNumber) → seen_in after n ≡ seen_in other n }

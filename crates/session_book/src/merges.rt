@@ -90,7 +90,7 @@ impl Book {
     }
 }
 
-// How many statements of the record's session there are in it and in those before it, which were counted. Fails when out of memory.
+// Returns how many statements of the record's session there are in it and in those before it, which were counted. Fails when out of memory.
 fn added(counts: &mut BTreeMap<Session, usize>, record: &SessionRecord) -> Result<usize, Memory>
     ensures count { IfOk result (λ count. count ≡ counted counts.new.entries (session_view record.now.session)) }
     ensures counts { OnOk result ((x : history.Session) → counted counts.new.entries x ≡ counted counts.old.entries x + count_of x (record.now ∷ [])) }

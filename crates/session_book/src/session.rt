@@ -44,7 +44,7 @@ impl Model for Kept {
 }
 
 impl Kept {
-    /// A session in which nothing was done yet, with room for a statement.
+    /// Returns a session in which nothing was done yet, with room for a statement.
     pub fn new(alloc: Global, txn: i64) -> Kept
         ensures none { result.notes ≡ [] }
         ensures room { 1 ≤ result.room }
@@ -56,7 +56,7 @@ impl Kept {
         }
     }
 
-    /// A session in which nothing was done yet, with room for so many statements. Returns `Memory` if memory runs out.
+    /// Returns a session in which nothing was done yet, with room for so many statements. Returns `Memory` if memory runs out.
     pub fn with_room(alloc: Global, txn: i64, count: usize) -> Result<Kept, Memory>
         ensures none { IfOk result (λ k. k.notes ≡ []) }
         ensures room { IfOk result (λ k. count ≤ k.room) }
@@ -69,7 +69,7 @@ impl Kept {
         })
     }
 
-    /// What a statement of the session is.
+    /// Returns what a statement of the session is.
     pub fn look(&self, txn: i64, index: u32) -> Seen
         ensures { seen_view result ≡ seen_among self.now txn index }
     {
@@ -88,7 +88,7 @@ impl Kept {
         }
     }
 
-    /// The greatest transaction.
+    /// Returns the greatest transaction.
     pub fn transaction(&self) -> i64
         ensures { result ≡ self.now.transaction }
     {
@@ -108,7 +108,7 @@ impl Kept {
         Ok(copies)
     }
 
-    // The statement of that index of the greatest transaction.
+    // Returns the statement of that index of the greatest transaction.
     fn find(&self, index: u32) -> Option<&StatementRecord>
         ensures { option_map (λ n. n.now) result ≡ with_index index self.now.notes }
     {
@@ -251,7 +251,7 @@ fn copy_of(reply: &Reply) -> Result<Reply, Memory>
     })
 }
 
-// The statement of that index.
+// Returns the statement of that index.
 fn find_among(notes: &[StatementRecord], index: u32) -> Option<&StatementRecord>
     requires { IsRising notes.now }
     ensures { option_map (λ n. n.now) result ≡ with_index index notes.now }

@@ -1,4 +1,4 @@
-//! A shard: the node that keeps documents, and serves statements and reads on them.
+//! A shard: the node that stores documents, and serves statements and reads on them.
 #![tactic(auto)]
 
 mod node;

@@ -24,7 +24,7 @@ pub struct ShardNode {
     pub(crate) time: Time,
     pub(crate) tables: TableList,
     pub(crate) store: ShardStore,
-    // The asks that wait for a table, in order.
+    // The requests that wait for a table, in order.
     pub(crate) parked: Vec<Message>,
     // No entry is later than the node.
     ghost entered: { last_of store ≤ time.0 },
@@ -35,7 +35,7 @@ pub struct ShardNode {
 impl ShardNode {
     ghost use Rattle.shard_node.specs.State.{state_of};
 
-    /// The shard with this number, with no record.
+    /// Returns the shard with this number, with no record.
     pub fn open(alloc: Global, me: NodeId) -> ShardNode
         ensures state { state_of result ≡ shard_state (new_shard me.0) }
         ensures steps { result.steps ≡ 0 }

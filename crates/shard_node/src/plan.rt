@@ -17,7 +17,7 @@ use std::sync::Arc;
 pub(crate) enum Change {
     /// Not at all.
     Nothing,
-    /// The ask waits for a table.
+    /// The request waits for a table.
     Park(Message),
     /// The table is known, and what waited for it waits no longer.
     Learn(Arc<Table, Global>),
@@ -38,7 +38,7 @@ pub(crate) struct StepPlan {
 }
 
 impl StepPlan {
-    /// Nothing but the time.
+    /// Returns the plan of nothing but the time.
     pub(crate) fn of_time(alloc: Global, time: Time) -> StepPlan
         ensures time { result.time ≡ time }
         ensures mail { map letter_of result.mail ≡ [] }
@@ -53,7 +53,7 @@ impl StepPlan {
         }
     }
 
-    /// One message, and nothing else but the time.
+    /// Returns the plan of one message, and nothing else but the time.
     pub(crate) fn of_message(alloc: Global, time: Time, message: Message) -> StepPlan
         ensures time { result.time ≡ time }
         ensures mail { map letter_of result.mail ≡ letter_of message ∷ [] }
@@ -68,7 +68,7 @@ impl StepPlan {
         }
     }
 
-    /// These messages, and nothing else but the time.
+    /// Returns the plan of these messages, and nothing else but the time.
     pub(crate) fn of_mail(alloc: Global, time: Time, mail: MailList<Message>) -> StepPlan
         ensures time { result.time ≡ time }
         ensures mail { map letter_of result.mail ≡ map letter_of mail }

@@ -22,7 +22,7 @@ use shard_requests::answer_half;
 use std::sync::Arc;
 
 impl ShardNode {
-    // A message from this shard, at a time.
+    // Returns a message from this shard, at a time.
     pub(crate) fn message(&self, to: NodeId, time: Time, body: Body) -> Message
         ensures { letter_of result ≡ says (shard_view self.now) to.0 time.0 (body_view body) }
     {
@@ -34,8 +34,8 @@ impl ShardNode {
         }
     }
 
-    // The documents of a read on the table that it was sent with, taken to make its half of: those that the filter at the head of the half
-    // keeps, since it costs less to ask it than to share a document. Returns `Memory` if memory runs out.
+    // Returns the plan for a read on the table that it was sent with: its documents, to make its half of, are those that match the filter at the head of the
+    // half, since it costs less to test it than to share a document. Returns `Memory` if memory runs out.
     pub(crate) fn plan_read(&self, time: Time, ask: &ReadAsk) -> Result<StepPlan, Memory>
         requires fits { verdict_of (sent_view ask.now.sent) self.now.me.0 (table_of ask.now.namespace self.now.tables.tables) ≡ fits }
         ensures planned { (m : Letter) → m.body ≡ read_ask_view ask.now → time.0 ≡ heard (shard_view self.now) m →
@@ -59,7 +59,7 @@ impl ShardNode {
         Ok(StepPlan::of_message(self.alloc, time, message))
     }
 
-    // The half of the documents of a read. Returns `Memory` if memory runs out.
+    // Returns the plan for the half of the documents of a read, or `Memory` if memory runs out.
     pub(crate) fn plan_rows(&self, time: Time, ask: HalfAsk) -> Result<StepPlan, Memory>
         ensures planned { (m : Letter) → m.body ≡ half_ask_view ask → time.0 ≡ heard (shard_view self.now) m →
             IfOk result (λ p. IsPlanned (shard_view self.now) (letter_input m) p) }

@@ -49,7 +49,7 @@ impl ShardNode {
         }
     }
 
-    // An ask that was sent with a later table than the shard knows.
+    // Returns the plan for a request that was sent with a later table than the shard knows.
     fn plan_unknown(&self, time: Time, message: Message) -> Result<StepPlan, Memory>
         requires time { time.0 ≡ heard (shard_view self.now) (letter_of message) }
         requires stands { Stands self.now.me.0 self.now.tables.tables ShardOld (letter_of message).body }
@@ -62,7 +62,7 @@ impl ShardNode {
         }
     }
 
-    // An ask that was sent with an older table.
+    // Returns the plan for a request that was sent with an older table.
     fn plan_older(&self, time: Time, message: &Message, met: Version) -> Result<StepPlan, Memory>
         requires time { time.0 ≡ heard (shard_view self.now) (letter_of message.now) }
         requires stands { Stands self.now.me.0 self.now.tables.tables (RouterOld met) (letter_of message.now).body }
@@ -75,7 +75,7 @@ impl ShardNode {
         }
     }
 
-    // An ask of documents that was sent with the table that the shard knows.
+    // Returns the plan for a request of documents that was sent with the table that the shard knows.
     fn plan_fitting(&self, time: Time, body: Body) -> Result<StepPlan, Memory>
         requires early { time.0 < last_time }
         requires later { last_of self.now.store ≤ time.0 }
@@ -98,7 +98,7 @@ impl ShardNode {
         }
     }
 
-    // Returns the plan for a table that arrives, or the news that there is none. Returns `Memory` if memory runs out.
+    // Returns the plan for a table that arrives, or for the answer that there is none. Returns `Memory` if memory runs out.
     fn plan_told(&self, time: Time, told: TableTold) -> Result<StepPlan, Memory>
         ensures planned { (m : Letter) → m.body ≡ table_told_view told → time.0 ≡ heard (shard_view self.now) m →
             IfOk result (λ p. IsPlanned (shard_view self.now) (letter_input m) p) }
@@ -132,7 +132,7 @@ impl ShardNode {
         }
     }
 
-    // A message to this shard.
+    // Returns the plan for a message to this shard.
     fn plan_message(&self, message: Message) -> Result<StepPlan, Memory>
         requires early { self.now.time.0 < last_time }
         requires brought { message.time.0 < last_time }
@@ -148,7 +148,7 @@ impl ShardNode {
         }
     }
 
-    // What an input comes to.
+    // Returns the plan for an input.
     fn plan_input(&self, input: Input) -> Result<StepPlan, Memory>
         requires early { self.now.time.0 < last_time }
         requires brought { time_in (input_of input) < last_time }
@@ -184,7 +184,7 @@ impl ShardNode {
         Ok(())
     }
 
-    // What an input comes to, with room for it. Else nothing changes.
+    // Returns the plan for an input, with room for it. Else nothing changes.
     pub(crate) fn plan(&mut self, input: Input) -> Result<StepPlan, Memory>
         requires early { self.old.time.0 < last_time }
         requires brought { time_in (input_of input) < last_time }

@@ -1,4 +1,4 @@
-//! Tables at a shard, and the asks that wait for them.
+//! Tables at a shard, and the requests that wait for them.
 
 ghost use Rattle.std.specs.Prelude.{◌≡◌, ◌++◌, ◌∷◌, [], ℕ, Bool, List, IfOk, OnOk, Some, false, true, filter, map};
 ghost use Rattle.std.specs.Arc.{arc_value};
@@ -27,7 +27,7 @@ use std::sync::Arc;
 const CATALOGUE: NodeId = NodeId(0);
 
 impl ShardNode {
-    // The ask for a table. Returns `Memory` if memory runs out.
+    // Returns the message that requests a table, or `Memory` if memory runs out.
     fn ask_table(&self, time: Time, namespace: &Namespace) -> Result<Message, Memory>
         ensures { IfOk result (λ m. letter_of m ≡ asks_table (shard_view self.now) time.0 namespace.now) }
     {
@@ -39,7 +39,7 @@ impl ShardNode {
         Ok(self.message(CATALOGUE, time, Body::TableAsk(ask)))
     }
 
-    // An ask that wants a table waits for it, and the table is asked for once. Returns `Memory` if memory runs out.
+    // Returns the plan for a request that waits for a table, which is requested once. Returns `Memory` if memory runs out.
     pub(crate) fn plan_wait(&self, time: Time, message: Message) -> Result<StepPlan, Memory>
         requires time { time.0 ≡ heard (shard_view self.now) (letter_of message) }
         requires unseen { was_seen (letter_of message).body (shard_view self.now).entries ≡ false }
@@ -63,7 +63,7 @@ impl ShardNode {
         })
     }
 
-    // An ask that was sent with an older table is not served.
+    // Returns the plan for a request that was sent with an older table: it is not served.
     pub(crate) fn plan_stale(&self, time: Time, message: &Message, met: Version) -> StepPlan
         requires time { time.0 ≡ heard (shard_view self.now) (letter_of message.now) }
         requires unseen { was_seen (letter_of message.now).body (shard_view self.now).entries ≡ false }
@@ -99,7 +99,7 @@ impl ShardNode {
         Ok(())
     }
 
-    // At a moment the table of each ask that waits is asked again. Returns `Memory` if memory runs out.
+    // Returns the plan for a moment: the table of each request that waits is requested again. Returns `Memory` if memory runs out.
     pub(crate) fn plan_moment(&self, moment: u64) -> Result<StepPlan, Memory>
         ensures planned { IfOk result (λ p. IsPlanned (shard_view self.now) (moment_input moment) p) }
         ensures follows { IfOk result (λ p. Follows self.now p) }
@@ -130,7 +130,7 @@ impl ShardNode {
         Ok(())
     }
 
-    // All that waited for the table of a collection, in order, as messages to the shard itself. Returns `Memory` if memory runs out.
+    // Returns all that waited for the table of a collection, in order, as messages to the shard itself. Returns `Memory` if memory runs out.
     fn tries(&self, time: Time, namespace: &Namespace) -> Result<MailList<Message>, Memory>
         ensures { IfOk result (λ mail. map letter_of mail
             ≡ tries (shard_view self.now) time.0 (filter (wants_table namespace.now) (shard_view self.now).parked)) }

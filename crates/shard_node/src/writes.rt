@@ -30,7 +30,7 @@ use protocol_model::{Body, Statement, WriteAsk, WriteDone};
 use shard_requests::{StatementResult, WriteReply, done_of, ends, entry_bytes, lend_words};
 use shard_store::{EntryPlan as Entries, StatementOutcome, statement_number};
 
-/// So many statements of an ask are served in one step at most.
+/// So many statements of a request are served in one step at most.
 const MOST_SERVED: usize = 100_000;
 
 impl ShardNode {
@@ -127,7 +127,7 @@ impl ShardNode {
         Ok(!ended)
     }
 
-    // Serves the statements of an ask in order, as many as one step may, and at least one of them. Returns `Memory` if memory runs out.
+    // Serves the statements of a request in order, as many as one step may, and at least one of them. Returns `Memory` if memory runs out.
     fn serve_all(&self, entries: &mut Entries, ask: &WriteAsk) -> Result<WriteReply, Memory>
         requires plan { IsPlan (entries_of self.now.store) (last_of self.now.store) ask.now.namespace entries.old }
         requires id { entries.old.id ≡ ask.now.id }
@@ -150,8 +150,8 @@ impl ShardNode {
         Ok(all)
     }
 
-    // The statements of an ask are served on the table that it was sent with, or as many of them as one step may. Fails for want of
-    // memory.
+    // Returns the plan for the statements of a request, which are served on the table that it was sent with, or as many of them as one step may. Returns
+    // `Memory` if memory runs out.
     pub(crate) fn plan_write(&self, time: Time, ask: WriteAsk) -> Result<StepPlan, Memory>
         requires fits { verdict_of (sent_view ask.sent) self.now.me.0 (table_of ask.namespace self.now.tables.tables) ≡ fits }
         requires early { time.0 < last_time }
@@ -179,7 +179,8 @@ impl ShardNode {
         })
     }
 
-    // A first statement that is not new is answered so on any table: it alone is looked up, and what is left of the request is requested again.
+    // Returns the plan for a first statement that is not new, which is answered so on any table: it alone is looked up, and what is left of the request is
+    // requested again. Returns `Memory` if memory runs out.
     pub(crate) fn plan_repeat(&self, time: Time, ask: &WriteAsk) -> Result<Option<StepPlan>, Memory>
         requires old { (a : Ask) → ask_in (write_ask_view ask.now) ≡ Some a →
             verdict_of a.sent self.now.me.0 (table_of a.namespace self.now.tables.tables) ≢ fits }

@@ -19,7 +19,7 @@ pub struct MovedDocument {
 }
 
 impl MovedDocument {
-    /// Returns a copy of it; the document is shared. Fails out of memory.
+    /// Returns a copy of it; the document is shared. Fails if memory runs out.
     pub fn copy(&self) -> Result<MovedDocument, Memory>
         ensures { IfOk result (λ m. moved_view m ≡ moved_view self.now) }
     {
@@ -53,28 +53,28 @@ impl Model for MovedList {
 }
 
 impl MovedList {
-    /// These documents, in order. Takes no memory.
+    /// Returns the list of these documents, in order. Takes no memory.
     pub fn of(docs: Vec<MovedDocument>) -> MovedList
         ensures { result ≡ map moved_view docs.items }
     {
         MovedList { docs }
     }
 
-    /// The documents, in order.
+    /// Returns the documents, in order.
     pub fn as_slice(&self) -> &[MovedDocument]
         ensures { map moved_view result.now ≡ self.now }
     {
         &self.docs
     }
 
-    /// The documents themselves, in order. Takes no memory.
+    /// Returns the documents themselves, in order. Takes no memory.
     pub fn into_docs(self) -> Vec<MovedDocument>
         ensures { map moved_view result.items ≡ self }
     {
         self.docs
     }
 
-    /// Returns a copy of the documents, shared. Fails out of memory.
+    /// Returns a copy of the documents, shared. Fails if memory runs out.
     pub fn copy(&self, alloc: Global) -> Result<MovedList, Memory>
         ensures { IfOk result (λ list. list ≡ self.now) }
     {
@@ -83,7 +83,7 @@ impl MovedList {
     }
 }
 
-// Returns a copy of the documents, shared. Fails out of memory.
+// Returns a copy of the documents, shared. Fails if memory runs out.
 fn copy_all(alloc: Global, docs: &[MovedDocument]) -> Result<Vec<MovedDocument>, Memory>
     ensures { IfOk result (λ copy. map moved_view copy.items ≡ map moved_view docs.now) }
 {
@@ -106,7 +106,7 @@ pub struct MoveBatch {
 }
 
 impl MoveBatch {
-    /// Returns a copy of the batch; its documents are shared. Fails out of memory.
+    /// Returns a copy of the batch; its documents are shared. Fails if memory runs out.
     pub fn copy(&self, alloc: Global) -> Result<MoveBatch, Memory>
         ensures { IfOk result (λ batch. batch_view batch ≡ batch_view self.now) }
     {

@@ -1,4 +1,4 @@
-//! What the catalogue keeps of its changes, as values (MongoDB manual, "Data Partitioning with Chunks", "Sharded Cluster Balancer").
+//! What the catalogue stores of its changes, as values (MongoDB manual, "Data Partitioning with Chunks", "Sharded Cluster Balancer").
 
 use cluster_base::{Namespace, NodeId, RequestId, Time};
 use value_compare::{Key, KeyRange};

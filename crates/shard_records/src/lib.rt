@@ -1,4 +1,4 @@
-//! What a node keeps in its journal: records as values, and as bytes in a format that is own.
+//! What a node stores in its journal: records as values, and as bytes in a format that is own.
 #![tactic(auto)]
 
 mod batch;

@@ -1,4 +1,4 @@
-//! What the shards of a move of a chunk keep, as values (MongoDB manual, "Sharded Cluster Balancer", chunk migration procedure).
+//! What the shards of a move of a chunk store, as values (MongoDB manual, "Sharded Cluster Balancer", chunk migration procedure).
 
 use crate::batch::MoveBatch;
 use chunk_table::{Table, Version};
@@ -56,7 +56,7 @@ pub struct ReceiveStart {
     pub namespace: Namespace,
     /// The keys of the chunk.
     pub range: KeyRange,
-    /// The shard that gives it.
+    /// The donor.
     pub from: NodeId,
     /// The table as of then.
     pub table: Table,
@@ -75,7 +75,7 @@ pub struct ReceivedBatch {
     pub batch: MoveBatch,
 }
 
-/// The recipient has all documents, and what the donor keeps of sessions.
+/// The recipient has all documents, and what the donor stores of sessions.
 #[derive(Drop)]
 pub struct ReceiveDone {
     /// The move.
@@ -84,7 +84,7 @@ pub struct ReceiveDone {
     pub sessions: Sessions,
 }
 
-/// What a shard keeps of a range below a time is deleted.
+/// What a shard stores of a range below a time is deleted.
 #[derive(Drop)]
 pub struct Deletion {
     /// The collection.

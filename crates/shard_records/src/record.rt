@@ -13,7 +13,7 @@ use chunk_table::Table;
 use cluster_base::{Namespace, RequestId, Stmt, Time};
 use value_compare::{OpWords, Reply};
 
-/// What a node keeps.
+/// What a node stores.
 #[derive(Drop)]
 pub enum Record {
     /// A shard's table of a collection, whole.
@@ -24,7 +24,7 @@ pub enum Record {
         time: Time,
         /// The collection that it is of.
         namespace: Namespace,
-        /// The statement that asked for it.
+        /// The statement that requested it.
         statement: Stmt,
         /// What it does.
         op: OpWords,
@@ -47,11 +47,11 @@ pub enum Record {
     ReceiveStart(ReceiveStart),
     /// The recipient stores a batch of documents.
     Batch(ReceivedBatch),
-    /// The recipient has all documents, and what the donor keeps of sessions.
+    /// The recipient has all documents, and what the donor stores of sessions.
     ReceiveDone(ReceiveDone),
     /// The recipient's part in a move ends.
     ReceiveEnd(MoveEnd),
-    /// What a shard keeps of a range below a time is deleted.
+    /// What a shard stores of a range below a time is deleted.
     Deleted(Deletion),
     /// A collection begins.
     Create {
@@ -83,7 +83,7 @@ pub enum Record {
 pub enum WordsRef<'a> {
     /// Inserts a document.
     Insert(&'a Document),
-    /// Changes the first document that meets the filter; with `upsert`, puts one in where none does.
+    /// Changes the first document that matches the filter; with `upsert`, inserts one where none does.
     Update {
         filter: &'a Document,
         change: &'a Document,
@@ -96,7 +96,7 @@ pub enum WordsRef<'a> {
 }
 
 impl<'a> WordsRef<'a> {
-    /// These words, lent.
+    /// Returns these operands, borrowed.
     pub fn of(op: &'a OpWords) -> WordsRef<'a>
         ensures { operation_lent result ≡ operation_view op.now }
     {

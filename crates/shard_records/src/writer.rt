@@ -69,7 +69,7 @@ pub fn write_entry(
     cut_after_err(done, len, out)
 }
 
-/// What was done; after an `Err` the bytes are cut to that length.
+/// Returns what was done; after an `Err` the bytes are cut to that length.
 pub(crate) fn cut_after_err(
     done: Result<(), Memory>,
     len: usize,

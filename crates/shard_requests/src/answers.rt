@@ -90,7 +90,7 @@ pub fn ends(ordered: bool, done: &Done) -> bool
 }
 
 impl WriteReply {
-    /// No statement.
+    /// Returns the list of no statement.
     pub fn new(alloc: Global) -> WriteReply
         ensures dones { result.dones.items ≡ [] }
         ensures records { result.records.items ≡ [] }

@@ -1,4 +1,4 @@
-//! Asks of documents.
+//! Requests of documents.
 
 ghost use Rattle.std.specs.Prelude.{◌≡◌, filter, map, not};
 ghost use Rattle.std.specs.Option.{option_map};
@@ -11,7 +11,7 @@ use chunk_table::Sent;
 use cluster_base::{Namespace, RequestId};
 use protocol_model::{Body, Message};
 
-/// Which ask of documents a message is: of which request, in which turn, from which statement on (a read has none), and the
+/// Which request of documents a message is: of which client's request, in which turn, from which statement on (a read has none), and the
 /// collection whose table it wants, with the versions that were sent.
 #[derive(Drop)]
 pub struct Ask<'a> {
@@ -22,7 +22,7 @@ pub struct Ask<'a> {
     pub sent: Sent,
 }
 
-/// The ask of documents that a message is, if it is one. An ask to write no statement is none.
+/// Returns the request of documents that a message is, if it is one. A request to write no statement is none.
 pub fn ask_in(body: &Body) -> Option<Ask<'_>>
     ensures { option_map ask_view result ≡ ask_in (body_view body.now) }
 {
@@ -55,7 +55,7 @@ pub fn ask_in(body: &Body) -> Option<Ask<'_>>
     }
 }
 
-// Whether both begin with the same statement, or with none.
+// Returns whether both begin with the same statement, or with none.
 fn same_first(a: Option<u32>, b: Option<u32>) -> bool
     ensures { result ≡ same_index a b }
 {
@@ -66,7 +66,7 @@ fn same_first(a: Option<u32>, b: Option<u32>) -> bool
     }
 }
 
-// Whether both are one ask.
+// Returns whether both are one request.
 fn same_ask(a: &Ask<'_>, b: &Ask<'_>) -> bool
     ensures { result ≡ same_ask (ask_view a.now) (ask_view b.now) }
 {
@@ -77,7 +77,7 @@ fn same_ask(a: &Ask<'_>, b: &Ask<'_>) -> bool
         && same_first(a.first, b.first)
 }
 
-// Whether a message is that ask.
+// Returns whether a message is that request.
 fn is_ask(ask: &Ask<'_>, message: &Message) -> bool
     ensures { result ≡ is_ask (ask_view ask.now) (letter_of message.now) }
 {
@@ -87,7 +87,7 @@ fn is_ask(ask: &Ask<'_>, message: &Message) -> bool
     }
 }
 
-/// Whether a message waits for the table of the collection.
+/// Returns whether a message waits for the table of the collection.
 pub fn wants_table(message: &Message, namespace: &Namespace) -> bool
     ensures { result ≡ wants_table namespace.now (letter_of message.now) }
 {
@@ -97,7 +97,7 @@ pub fn wants_table(message: &Message, namespace: &Namespace) -> bool
     }
 }
 
-/// Whether an ask waits already: one of these messages is it.
+/// Returns whether a request waits already: one of these messages is it.
 pub fn is_parked(parked: &[Message], ask: &Ask<'_>) -> bool
     ensures { result ≡ is_parked (ask_view ask.now) (map letter_of parked.now) }
 {

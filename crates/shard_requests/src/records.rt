@@ -19,7 +19,7 @@ use shard_records::{WordsRef, write_entry, write_table};
 use shard_store::{EntryResult, LentWords};
 use std::alloc::Global;
 
-// What a statement does, lent; it may be kept.
+// Returns what a statement does, borrowed; it can be stored.
 fn words_of(operation: &Operation) -> WordsRef<'_>
     ensures words { operation_lent result ≡ operation_view operation.now }
     ensures keepable { IsKeepable (operation_view operation.now) }
@@ -33,7 +33,7 @@ fn words_of(operation: &Operation) -> WordsRef<'_>
     }
 }
 
-/// What a statement does, lent; it may be kept.
+/// Returns what a statement does, borrowed; it can be stored.
 pub fn lend_words(operation: &Operation) -> LentWords<'_>
     ensures words { operation_in result ≡ operation_view operation.now }
     ensures keepable { IsKeepable (operation_view operation.now) }

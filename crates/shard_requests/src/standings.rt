@@ -26,7 +26,7 @@ pub enum Standing {
     RouterOld(Version),
 }
 
-// What a shard finds in the versions that were sent along, for a collection.
+// Returns what a shard finds in the versions that were sent along, for a collection.
 fn verdict_on(me: NodeId, tables: &TableList, namespace: &Namespace, sent: &Sent) -> Verdict
     ensures { verdict_view result ≡ verdict_of (sent_view sent.now) me.0 (table_of namespace.now tables.now.tables) }
 {
@@ -63,7 +63,7 @@ pub fn is_news(tables: &TableList, table: &Table) -> bool
     }
 }
 
-/// The greater of two times.
+/// Returns the greater of two times.
 pub fn later(own: Time, other: Time) -> Time
     ensures { result.0 ≡ max own.0 other.0 }
 {

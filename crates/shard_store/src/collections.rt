@@ -33,7 +33,7 @@ impl Collections {
     ghost use Rattle.shard_store.specs.Collections.{last_under, room_under, shown_in};
     ghost use Rattle.shard_store.specs.Entries.{is_other, put_of};
 
-    /// No collections.
+    /// Returns a list of no collections.
     pub fn new(alloc: Global) -> Collections
         ensures shown { (n : List ℕ) (k : Datum) (t : ℕ) → shown_in result n k t ≡ None }
         ensures last { (n : List ℕ) (k : Datum) → last_under result n k ≡ None }
@@ -51,7 +51,7 @@ impl Collections {
         self.by_name.get(namespace)?.get_at(key, time)
     }
 
-    /// The documents in the namespace with keys in the ranges and points at the time, in key order. Returns `Memory` if memory runs out.
+    /// Returns the documents in the namespace with keys in the ranges and points at the time, in key order. Returns `Memory` if memory runs out.
     pub fn scan_at<'a>(
         &'a self,
         namespace: &str,

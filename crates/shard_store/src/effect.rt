@@ -75,7 +75,7 @@ fn left_of(alloc: Global, count: u32, after: Option<Document>) -> Result<Left, M
 impl Effect {
     ghost use Rattle.shard_store.specs.Effects.{Does};
 
-    // Nothing is changed.
+    // Returns the effect of a statement that fails: nothing is changed.
     fn refused(key: Key, fault: WriteFault) -> Effect
         ensures key { result.key ≡ key }
         ensures left { result.left ≡ Same }

@@ -11,21 +11,21 @@ use std::alloc::Global;
 use std::sync::Arc;
 use value_compare::{Key, OpWords};
 
-/// What a statement does, in the words of the client, shared with whoever else has them.
+/// What a statement does, by the operands of the client, shared with all others that have them.
 #[derive(Drop)]
 pub enum Words {
-    /// Puts the document in.
+    /// Inserts the document.
     Insert(Arc<Document, Global>),
-    /// Does what the words say: mostly an update or a delete, since the document of an insert is copied.
+    /// Does what the operands say: mostly an update or a delete, since the document of an insert is copied.
     Change(Arc<OpWords, Global>),
 }
 
-/// What a statement does, in words that are lent: only those of an entry are shared.
+/// What a statement does, by operands that are borrowed: only those of an entry are shared.
 #[derive(Clone, Copy)]
 pub enum LentWords<'a> {
-    /// Puts the document in.
+    /// Inserts the document.
     Insert(&'a Arc<Document, Global>),
-    /// Does what the words say.
+    /// Does what the operands say.
     Change(&'a Arc<OpWords, Global>),
 }
 
@@ -33,7 +33,7 @@ impl LentWords<'_> {
     ghost use Rattle.std.specs.Prelude.{◌≡◌, IfOk};
     ghost use Rattle.shard_store.specs.Entries.{operation_in, operation_of};
 
-    // The same words, shared. Returns `Memory` if memory runs out.
+    // Returns the same operands, shared. Returns `Memory` if memory runs out.
     pub(crate) fn share(self) -> Result<Words, Memory>
         ensures { IfOk result (λ words. operation_of words ≡ operation_in self.entry) }
     {
@@ -70,7 +70,7 @@ pub struct Planned {
     pub outcome: EntryOutcome,
 }
 
-/// The number of the statement with this index of a request: the client's, or where that gave none, one of the router's own session for
+/// Returns the number of the statement with this index of a request: the client's, or where that gave none, one of the router's own session for
 /// the request.
 pub fn statement_number(number: Option<ClientNumber>, id: RequestId, index: u32) -> Stmt
     ensures { result ≡ statement_of number id index }

@@ -55,7 +55,7 @@ impl WriteFault {
         }
     }
 
-    // The fault whose error has that number, if one has.
+    // Returns the fault whose error has that number, if one has.
     pub(crate) fn told(code: i32) -> Option<WriteFault>
         ensures { result ≡ fault_told code }
     {

@@ -1,4 +1,4 @@
-//! What a shard keeps of its entries, and the entries that it is about to make.
+//! What a shard stores of its entries, and the entries that it is about to make.
 #![tactic(auto)]
 
 mod collections;

@@ -52,7 +52,7 @@ fn copy_key(key: &Option<Key>) -> Result<Option<Key>, Memory>
 impl EntryOutcome {
     ghost use Rattle.shard_store.specs.Outcomes.{outcome_view, reply_view};
 
-    // So many documents were put in, met or taken out, so many of them changed, this key was put in, and this is the fault.
+    // So many documents were inserted, matched or removed, so many of them changed, this key was inserted, and this is the fault.
     fn new(n: u32, modified: u32, upserted: Option<Key>, fault: Option<WriteFault>) -> EntryOutcome
         ensures { outcome_view result ≡ record { count = n; modified = modified; upserted = upserted; error = option_map error_view fault } }
     {
@@ -65,14 +65,14 @@ impl EntryOutcome {
         EntryOutcome { reply, fault }
     }
 
-    // One document was put in.
+    // Returns the outcome of an insert: one document was inserted.
     pub(crate) fn inserted() -> EntryOutcome
         ensures { outcome_view result ≡ done }
     {
         EntryOutcome::new(1, 0, None, None)
     }
 
-    // Nothing was changed.
+    // Returns the outcome of a statement that fails: nothing was changed.
     pub(crate) fn refused(fault: WriteFault) -> EntryOutcome
         ensures { outcome_view result ≡ fails_with (error_view fault) }
     {

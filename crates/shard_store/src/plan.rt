@@ -48,7 +48,7 @@ impl EntryPlan {
         }
     }
 
-    /// The entries, in order.
+    /// Returns the entries, in order.
     pub fn planned(&self) -> &[Planned]
         ensures { result.now ≡ planned_in self.now }
     {
@@ -62,7 +62,7 @@ impl EntryPlan {
         self.last
     }
 
-    // Whether an entry has the key already.
+    // Returns whether an entry has the key already.
     pub(crate) fn has_key(&self, key: &Key) -> bool
         ensures { (entries : List Entry) (last : ℕ) (namespace : List ℕ) → IsPlan entries last namespace self.now
             → result ≡ list_any (λ (p : Planned). same_value p.key key.now) (planned_in self.now) }

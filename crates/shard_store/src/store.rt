@@ -61,7 +61,7 @@ pub struct ShardStore {
 impl ShardStore {
     ghost use Rattle.shard_store.specs.Stores.{HasRoom, entries_of, last_of, shard_of};
 
-    /// The store of a shard without entries.
+    /// Returns the store of a shard without entries.
     pub fn new(alloc: Global, shard: NodeId) -> ShardStore
         ensures entries { entries_of result ≡ [] }
         ensures last { last_of result ≡ 0 }
@@ -99,14 +99,14 @@ impl ShardStore {
         }
     }
 
-    /// The document that the entries leave in the namespace under the key, if they leave one.
+    /// Returns the document that the entries leave in the namespace under the key, if they leave one.
     pub fn document(&self, namespace: &Namespace, key: &Key) -> Option<&Arc<Document, Global>>
         ensures { option_map (λ d. arc_value d.now) result ≡ document_left namespace.now (Some key.now) (entries_of self.now) }
     {
         self.collections.get_at(namespace.as_str(), key, self.last)
     }
 
-    /// The documents that were in the namespace at a time and may be in the ranges and points, in key order. Returns `Memory` if memory
+    /// Returns the documents that were in the namespace at a time and may be in the ranges and points, in key order. Returns `Memory` if memory
     /// runs out.
     pub fn documents_at<'a>(
         &'a self,
@@ -148,7 +148,7 @@ impl ShardStore {
         ensures { IfOk result (λ e. IsEffect (entries_of self.now) namespace.now (operation_view (arc_value words.now)) e.key e.left e.outcome) }
     {
         let Ok(op) = Op::read(alloc, words) else {
-            // Words that may be kept read as a statement.
+            // Operands that can be stored read as a statement.
             return Err(Memory);
         };
         let key = key_of_op(alloc, &op)?;

@@ -20,14 +20,14 @@ use pipe_driver::{Status, next_number, replied_after};
 /// So many replies are not counted on one link.
 const MOST_REPLIES: u64 = 1 << 62;
 
-/// What came of the bytes on a link: how many replies its requests get, and whether what comes after them is no request.
+/// The result of the bytes on a link: how many replies its requests get, and whether what comes after them is no request.
 #[derive(Clone, Copy, Debug, PartialEq, Eq)]
 pub struct Asked {
     pub replied: u64,
     pub malformed: bool,
 }
 
-/// The whole requests that the framer gives come to the router at a place, in order, on a link whose requests got so many replies.
+/// The whole requests that the framer returns are passed to the router at a place, in order, on a link whose requests got so many replies.
 ///
 /// # Errors
 /// - `Status::DiskFailed` if a disk failed.

@@ -25,7 +25,7 @@ use std::collections::VecDeque;
 use std::marker::Sync;
 use std::thread::Threads;
 
-/// A copy of the message at a place. Fails if out of memory.
+/// Returns a copy of the message at a place. Fails if out of memory.
 fn copy_at<M: Mail>(alloc: Global, sent: &VecDeque<M>, at: usize) -> Result<M, Memory>
     requires { at < deque_len sent.now }
     ensures { IfOk result (λ message. slice_get (map M.letter sent.now.items) at ≡ Some (M.letter message)) }
@@ -39,7 +39,7 @@ fn copy_at<M: Mail>(alloc: Global, sent: &VecDeque<M>, at: usize) -> Result<M, M
     }
 }
 
-/// The node that the message at a place goes to.
+/// Returns the node that the message at a place goes to.
 fn receiver_at<M: Mail>(sent: &VecDeque<M>, at: usize) -> u64
     requires { at < deque_len sent.now }
     ensures { IsReceiverAt (map M.letter sent.now.items) at result }
@@ -50,7 +50,7 @@ fn receiver_at<M: Mail>(sent: &VecDeque<M>, at: usize) -> u64
     }
 }
 
-/// The place of the k-th message, from 0, to a node among all that were sent.
+/// Returns the place of the k-th message, from 0, to a node among all that were sent.
 pub fn find<M: Mail>(sent: &VecDeque<M>, node: u64, k: u64) -> Option<usize>
     ensures place { result ≡ place_from 0 node k (map M.letter sent.now.items) }
     ensures within { IfSome result (λ at. at < deque_len sent.now) }
@@ -112,7 +112,7 @@ pub fn deliver_at<R: Threads + Sync, N: Node, L: Log>(
     }
 }
 
-/// Whether the message at a place is of the kind.
+/// Returns whether the message at a place is of the kind.
 fn is_of_kind<M: Mail>(sent: &VecDeque<M>, at: usize, kind: &[u8]) -> bool
     requires { at < deque_len sent.now }
     ensures { IsOfKindAt (map M.letter sent.now.items) at kind.now result }
@@ -123,7 +123,7 @@ fn is_of_kind<M: Mail>(sent: &VecDeque<M>, at: usize, kind: &[u8]) -> bool
     }
 }
 
-/// Whether the message at a place is passed over: it was delivered, or is of the kind that is excepted.
+/// Returns whether the message at a place is passed over: it was delivered, or is of the kind that is excepted.
 fn is_passed<M: Mail>(
     sent: &VecDeque<M>,
     at: usize,
@@ -142,7 +142,7 @@ fn is_passed<M: Mail>(
     }
 }
 
-/// Whether the message at a place is of the kind, and was not delivered.
+/// Returns whether the message at a place is of the kind, and was not delivered.
 fn is_next<M: Mail>(sent: &VecDeque<M>, at: usize, kind: &[u8], delivered: &Delivered) -> bool
     requires { at < deque_len sent.now }
     ensures { IsNextAt (map M.letter sent.now.items) at kind.now delivered.now result }
@@ -153,7 +153,7 @@ fn is_next<M: Mail>(sent: &VecDeque<M>, at: usize, kind: &[u8], delivered: &Deli
     is_of_kind(sent, at, kind)
 }
 
-/// The place of the first message of the kind that was not delivered, from a place before which all were.
+/// Returns the place of the first message of the kind that was not delivered, from a place before which all were.
 pub fn find_next<M: Mail>(
     sent: &VecDeque<M>,
     first: usize,

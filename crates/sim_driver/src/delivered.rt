@@ -39,7 +39,7 @@ fn mark(flags: &mut Vec<bool>, place: usize) -> Result<(), Memory>
     Ok(())
 }
 
-/// The first place, from `next` on, of a message that was not delivered.
+/// Returns the first place, from `next` on, of a message that was not delivered.
 fn first_of(flags: &Vec<bool>, next: usize) -> usize
     requires { AreDelivered next flags.now.items }
     ensures { AreDelivered result flags.now.items }
@@ -69,7 +69,7 @@ impl Delivered {
         mark(&mut self.flags, place)
     }
 
-    /// Whether the message at a place was delivered.
+    /// Returns whether the message at a place was delivered.
     pub fn has(&self, place: usize) -> bool
         ensures { result ≡ is_delivered self.now place }
     {
@@ -79,7 +79,7 @@ impl Delivered {
         self.flags[place]
     }
 
-    /// A place before which all were delivered.
+    /// Returns a place before which all were delivered.
     pub fn next(&mut self) -> usize
         ensures before { AreDelivered result self.old }
         ensures same { self.new ≡ self.old }

@@ -1,4 +1,4 @@
-//! Requests and moments that a line gives.
+//! Requests and moments of a line.
 
 ghost use Rattle.std.specs.Prelude.{◌≡◌, ◌≢◌, ◌+◌, ◌≤◌, List, None, Some, length, vec_len, IfErr, IfOk, OnOk, Err};
 ghost use Rattle.node_model.specs.World.{World};
@@ -80,7 +80,7 @@ pub fn play_client<N: Node<Request = Request>, L: Log>(
     Ok(Some(router))
 }
 
-/// A node is given a moment, in milliseconds since 1970.
+/// A node gets a moment, in milliseconds since 1970.
 ///
 /// # Errors
 /// - `Status::BadInput` if the node does not exist; nothing happened.

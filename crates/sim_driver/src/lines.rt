@@ -28,13 +28,13 @@ use std::alloc::Global;
 use std::marker::Sync;
 use std::thread::Threads;
 
-/// The line that bytes say is played, and what it prints is put.
+/// The line that bytes encode is played, and what it prints is put.
 ///
 /// # Errors
 /// - `Status::BadInput` if the bytes say no line, or one that names what is not there; nothing happened.
 /// - `Status::WriteFailed` if a write failed; the line was played.
-/// - `Status::DiskFailed` if a disk failed: of the line nothing was put.
-/// - `Status::OutOfMemory` if out of memory, or where a node is at its last step: of the line nothing was put.
+/// - `Status::DiskFailed` if a disk failed: nothing of the line was put.
+/// - `Status::OutOfMemory` if out of memory, or where a node is at its last step: nothing of the line was put.
 pub fn answer_line<R: Threads + Sync, N: Node<Request = Request>, L: Log, K: Witness<L::Of>>(
     rt: &R,
     alloc: Global,

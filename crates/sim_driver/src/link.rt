@@ -43,7 +43,7 @@ impl Model for Link {
 }
 
 impl Link {
-    /// A link with this number, on which nothing came.
+    /// Returns a link with this number, on which nothing came.
     pub fn new(alloc: Global, number: u32) -> Link
         ensures { result ≡ new_link number }
     {
@@ -54,7 +54,7 @@ impl Link {
         }
     }
 
-    /// Its number.
+    /// Returns its number.
     pub fn number(&self) -> u32
         ensures { result ≡ self.now.number }
     {

@@ -1,4 +1,4 @@
-//! Deliveries that a line gives.
+//! Deliveries of a line.
 
 ghost use Rattle.std.specs.Prelude.{◌≡◌, ◌≢◌, ◌≤◌, List, None, length, option_map, vec_len, IfErr, IfOk, OnOk, Err};
 ghost use Rattle.node_model.specs.World.{World};

@@ -98,7 +98,7 @@ pub fn play_said<R: Threads + Sync, N: Node<Request = Request>, L: Log>(
     }
 }
 
-/// The line that bytes say is played. Returns the router whose link was closed, if one was.
+/// The line that bytes encode is played. Returns the router whose link was closed, if one was.
 ///
 /// # Errors
 /// - `Status::BadInput` if the bytes say no line, or one that names what does not exist; nothing happened.

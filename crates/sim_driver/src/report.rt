@@ -18,7 +18,7 @@ use pipe_driver::put_all;
 use script_lines::{put_closed, put_reply};
 use std::alloc::Global;
 
-/// The numbers of links, in order. Fails if out of memory.
+/// Returns the numbers of links, in order. Fails if out of memory.
 pub fn numbers_of(alloc: Global, links: &[Link]) -> Result<Vec<u32>, Memory>
     ensures { IfOk result (λ numbers. numbers.items ≡ numbers_of links.now) }
 {
@@ -32,7 +32,7 @@ pub fn numbers_of(alloc: Global, links: &[Link]) -> Result<Vec<u32>, Memory>
     Ok(numbers)
 }
 
-/// The router whose link has this number.
+/// Returns the router whose link has this number.
 fn router_of(numbers: &[u32], number: u32) -> Option<usize>
     ensures { result ≡ router_from 0 numbers.now number }
 {
@@ -75,7 +75,7 @@ fn put_lines(
     Ok(())
 }
 
-/// The text that is printed for a line, which gave these replies while links with these numbers were open, and closed that router's link or none.
+/// Returns the text that is printed for a line, which made these replies while links with these numbers were open, and closed that router's link or none.
 /// Fails if out of memory.
 pub fn text_of(
     alloc: Global,

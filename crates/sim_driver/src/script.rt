@@ -20,7 +20,7 @@ pub struct Script {
     pub delivered: Delivered,
 }
 
-/// So many new links, numbered from 0.
+/// Returns so many new links, numbered from 0.
 fn new_links(alloc: Global, count: u32) -> Result<Vec<Link>, Memory>
     ensures { IfOk result (λ links. links.items ≡ links_from 0 count) }
 {
@@ -32,7 +32,7 @@ fn new_links(alloc: Global, count: u32) -> Result<Vec<Link>, Memory>
 }
 
 impl Script {
-    /// What a script has before its first line. Fails if out of memory, or where links can't be counted.
+    /// Returns what a script has before its first line. Fails if out of memory, or where links can't be counted.
     pub fn new(alloc: Global, routers: usize) -> Result<Script, Memory>
         ensures view { IfOk result (λ script. script_view script ≡ new_script routers) }
         ensures links { IfOk result (λ script. vec_len script.links ≡ routers) }

@@ -28,7 +28,7 @@ use std::alloc::Global;
 use std::marker::Sync;
 use std::thread::Threads;
 
-/// The status of a script whose input gives no more, with this cause, after the beginning of a line.
+/// Returns the status of a script whose input has no more, with this cause, after the beginning of a line.
 fn unended(cause: Status, begun: &[u8]) -> Status
     ensures none { begun.now ≡ [] → result ≡ cause }
     ensures some { begun.now ≢ [] → cause ≡ statuses.InputEnded → result ≡ statuses.BadInput }

@@ -15,7 +15,7 @@ impl Rows for Databases {
     }
 }
 
-// Whether the namespace and its copy have that name; or there is none, where no name is wanted.
+// Returns whether the namespace and its copy have that name; or there is none, where no name is wanted.
 fn has_name(found: Result<Namespace, NameFault>, wanted: Option<&str>) -> Result<bool, RowFault> {
     match found {
         Ok(namespace) => is_named(&namespace, wanted),

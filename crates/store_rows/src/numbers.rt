@@ -34,7 +34,7 @@ impl Rows for Codes {
     }
 }
 
-// The code that the manual gives the number.
+// Returns the code that the manual gives the number.
 fn code_of(number: i32) -> Option<Code> {
     match number {
         2 => Some(Code::BadValue),

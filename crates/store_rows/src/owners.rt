@@ -66,7 +66,7 @@ fn versions_hold(table: &Table, first: &Table, row: &str) -> Result<bool, RowFau
     )
 }
 
-/// A version in three numbers.
+/// Returns a version in three numbers.
 pub fn read_version(words: &str) -> Result<Version, RowFault> {
     let Some((epoch, rest)) = words.split_once(' ') else {
         return Err(RowFault::Form);

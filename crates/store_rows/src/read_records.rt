@@ -28,7 +28,7 @@ impl Rows for Others {
     }
 }
 
-// The record that the bytes spell, if they spell one.
+// Returns the record that the bytes encode, if they encode one.
 fn record_in(alloc: Global, bytes: &[u8]) -> Result<Option<Record>, RowFault> {
     match read_record(alloc, bytes) {
         Ok(found) => Ok(Some(found)),
@@ -68,7 +68,7 @@ fn kind_of(found: &Record) -> &'static str {
     }
 }
 
-// Whether the bytes are a record of that kind.
+// Returns whether the bytes are a record of that kind.
 fn is_read(alloc: Global, kind: &str, bytes: &[u8]) -> Result<bool, RowFault> {
     match record_in(alloc, bytes)? {
         Some(found) => Ok(kind_of(&found) == kind),

@@ -49,7 +49,7 @@ fn outcome_holds(alloc: Global, time: Time, statement: Stmt, row: &str) -> Resul
     is_spelled(alloc, &entry, wanted)
 }
 
-// A client's session; or that of router 2 in its first life for its first request.
+// Returns a client's session; or that of router 2 in its first life for its first request.
 fn session_of(word: &str) -> Result<Session, RowFault> {
     match word {
         "client" => Ok(Session::Client([
@@ -64,7 +64,7 @@ fn session_of(word: &str) -> Result<Session, RowFault> {
     }
 }
 
-// The key of that number; none at `none`.
+// Returns the key of that number; none at `none`.
 fn key_of(word: &str) -> Result<Option<Key>, RowFault>
     ensures { IfOk result (λ k. IsWritableKey k) }
 {

@@ -54,7 +54,7 @@ impl Steps {
         self.put_at(&key, time, document)
     }
 
-    // Whether the time is later than those before, so that it is put.
+    // Returns whether the time is later than those before, so that it is put.
     fn put_at(
         &mut self,
         key: &Key,
@@ -136,13 +136,13 @@ fn document_of(alloc: Global, n: &str) -> Result<Option<Arc<Document, Global>>, 
     Ok(Some(Arc::new(alloc, document)?))
 }
 
-// Whether the document is `{_id: n}`.
+// Returns whether the document is `{_id: n}`.
 fn is_numbered(document: &Document, n: &str) -> Result<bool, RowFault> {
     let n: i32 = number(n)?;
     Ok(matches!(document.get("_id"), Some(Value::Int32(found)) if found.content == n))
 }
 
-// Whether the documents are `{_id: n}` of these numbers, in order.
+// Returns whether the documents are `{_id: n}` of these numbers, in order.
 fn are_numbered(documents: &[&Arc<Document, Global>], numbers: &str) -> Result<bool, RowFault> {
     let mut wanted = numbers.split_whitespace();
     for document in documents {

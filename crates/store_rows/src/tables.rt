@@ -31,7 +31,7 @@ impl Rows for Bounds {
     }
 }
 
-/// The table of that name: `first` begins at 10; `moved` is it after the keys from 5 on went to shard 2 at 20.
+/// Returns the table of that name: `first` begins at 10; `moved` is it after the keys from 5 on went to shard 2 at 20.
 pub fn table_of(alloc: Global, name: &str) -> Result<Table, RowFault> {
     match name {
         "first" => Ok(Table::first(alloc, namespace(alloc)?, 1, Time(10))?),
@@ -57,7 +57,7 @@ fn moved(alloc: Global) -> Result<Table, RowFault> {
     }
 }
 
-// The keys below 5: shard 1's since 10.
+// Returns the keys below 5: shard 1's since 10.
 fn lower(alloc: Global) -> Result<Chunk, RowFault>
     ensures { IfOk result (λ c. IsWritableChunk (chunk_view c)) }
 {
@@ -65,7 +65,7 @@ fn lower(alloc: Global) -> Result<Chunk, RowFault>
     chunk_of(Bound::MinKey, at(5)?, version(2, 1), owners)
 }
 
-// The keys from 5 on: shard 2's since 20, and shard 1's since 10.
+// Returns the keys from 5 on: shard 2's since 20, and shard 1's since 10.
 fn upper(alloc: Global) -> Result<Chunk, RowFault>
     ensures { IfOk result (λ c. IsWritableChunk (chunk_view c)) }
 {
@@ -88,7 +88,7 @@ fn version(major: u64, minor: u64) -> Version {
     }
 }
 
-// A chunk of two bounds, which is shard 1's since 10.
+// Returns a chunk of two bounds, which is shard 1's since 10.
 fn chunk_between(alloc: Global, bounds: &str) -> Result<Chunk, RowFault>
     ensures { IfOk result (λ c. IsWritableChunk (chunk_view c)) }
 {
@@ -135,7 +135,7 @@ fn chunk_of(min: Bound, max: Bound, version: Version, owners: Vec<Owned>) -> Res
     }
 }
 
-// The table of two chunks after three changes, if they make one.
+// Returns the table of two chunks after three changes, if they make one.
 fn two_chunks(alloc: Global, lower: Chunk, upper: Chunk) -> Result<Option<Table>, RowFault>
     requires lower { IsWritableChunk (chunk_view lower) }
     requires upper { IsWritableChunk (chunk_view upper) }

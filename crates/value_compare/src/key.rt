@@ -41,7 +41,7 @@ impl Model for Key {
     ghost invariant = { λ k. IsTrue (is_key (datum_of k.value)) };
 }
 
-// Whether a value is of a kind that keys are.
+// Returns whether a value is of a kind that keys are.
 fn is_key(value: &Value) -> bool
     ensures { result ≡ is_key (datum_of value.now) }
 {
@@ -102,7 +102,7 @@ impl Key {
         }
     }
 
-    /// The value.
+    /// Returns the value.
     pub fn value(&self) -> &Value
         ensures value { datum_of result.now ≡ self.now }
         ensures key { is_key self.now ≡ true }

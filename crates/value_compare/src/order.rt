@@ -10,7 +10,7 @@ ghost use Rattle.value_model.specs.Order.{class_of, order, order_items, order_fi
 use bson_values::{Array, Document, Field, Value};
 use std::cmp::Ordering;
 
-/// The class of a value, from 0 for the least: values of two classes compare by them alone (MongoDB manual,
+/// Returns the class of a value, from 0 for the least: values of two classes compare by them alone (MongoDB manual,
 /// "Comparison/Sort Order").
 pub fn class(value: &Value) -> u8
     ensures { result ≡ class_of (datum_of value.now) }
@@ -31,7 +31,7 @@ pub fn class(value: &Value) -> u8
     }
 }
 
-/// Which of two values is less, by class and then within it (MongoDB manual, "Comparison/Sort Order"). Documents compare field
+/// Returns which of two values is less, by class and then within it (MongoDB manual, "Comparison/Sort Order"). Documents compare field
 /// by field, by the value's class, the name and then the value.
 #[cycle(order)]
 pub fn compare(a: &Value, b: &Value) -> Ordering

@@ -25,7 +25,7 @@ pub enum Bound {
 }
 
 impl Bound {
-    /// Which of two bounds is less.
+    /// Returns which of two bounds is less.
     pub fn compare(&self, other: &Bound) -> Ordering
         ensures { result ≡ order_bounds (bound_of self.now) (bound_of other.now) }
     {
@@ -50,14 +50,14 @@ impl Bound {
         }
     }
 
-    /// Which of this bound and one at the key is less.
+    /// Returns which of this bound and one at the key is less.
     pub fn compare_to_key(&self, key: &Key) -> Ordering
         ensures { result ≡ order_bounds (bound_of self.now) (key_bound key.now) }
     {
         self.compare_to_value(key.value())
     }
 
-    // Which of this bound and one at the value is less.
+    // Returns which of this bound and one at the value is less.
     fn compare_to_value(&self, value: &Value) -> Ordering
         ensures { result ≡ order_bounds (bound_of self.now) (key_bound (datum_of value.now)) }
     {
@@ -103,7 +103,7 @@ impl Model for KeyRange {
 }
 
 impl KeyRange {
-    /// The range from `min` to `max`; `None` where `min` is not below `max`.
+    /// Returns the range from `min` to `max`; `None` where `min` is not below `max`.
     pub fn new(min: Bound, max: Bound) -> Option<KeyRange>
         ensures range { IfSome result (λ r. r ≡ record { min = bound_of min; max = bound_of max }) }
         ensures none { (result ≡ None) ↔ (order_bounds (bound_of min) (bound_of max) ≢ Less) }
@@ -115,7 +115,7 @@ impl KeyRange {
         }
     }
 
-    /// Where the range begins, which is below its end.
+    /// Returns where the range begins, which is below its end.
     pub fn min(&self) -> &Bound
         ensures min { bound_of result.now ≡ self.now.min }
         ensures below { IsRange self.now }
@@ -123,7 +123,7 @@ impl KeyRange {
         &self.min
     }
 
-    /// Where the range ends.
+    /// Returns where the range ends.
     pub fn max(&self) -> &Bound
         ensures max { bound_of result.now ≡ self.now.max }
         ensures below { IsRange self.now }

@@ -30,7 +30,7 @@ impl Model for SpanList {
 }
 
 impl SpanList {
-    /// The list of these spans, each of which is before those after it.
+    /// Returns the list of these spans, each of which is before those after it.
     pub fn of(spans: Vec<Span>) -> SpanList
         requires ascending { AreAscending (map span_of spans.items) }
         ensures { result ≡ map span_of spans.items }
@@ -38,7 +38,7 @@ impl SpanList {
         SpanList { spans }
     }
 
-    /// The spans, in the order of their keys.
+    /// Returns the spans, in the order of their keys.
     pub fn spans(&self) -> &[Span]
         ensures spans { map span_of result.now ≡ self.now }
         ensures ascending { AreAscending self.now }

@@ -11,7 +11,7 @@ use value_compare::Key;
 impl Collection {
     ghost use Rattle.mvcc_collection.specs.Collections.{last_in};
 
-    /// The time of the key's last version, which may be of no document; `None` where it has none.
+    /// Returns the time of the key's last version, which may be of no document; `None` where it has none.
     pub fn last_at(&self, key: &Key) -> Option<Time>
         ensures { option_map (λ t. t.0) result ≡ last_in self.now key.now }
     {
