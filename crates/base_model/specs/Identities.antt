@@ -1,4 +1,4 @@
--- Who asks: the requests of routers, each of which also names the move of a chunk that it asks for (own).
+-- Who sends a request: the requests of routers, each of which also names the move of a chunk that it requests (own).
 use Rattle.std.specs.Prelude.{ℕ, Bool, ◌==◌, ◌&&◌}
 
 -- which request it is: that of a router, in one of its lives, as the how many-th that it took

@@ -9,7 +9,7 @@ use Rattle.chunk_model.specs.Versions.{Version}
 use Rattle.chunk_model.specs.Tables.{Chunk, Table, is_owner}
 use Rattle.chunk_model.specs.Changes.{Change, create_change, split_change, commit_change, known_table, creations, is_committed, can_split, chunk_with}
 
--- what a donor asks for: the move of this id, of the chunk of this range and version, from its owner to another shard
+-- what a donor requests: the move of this id, of the chunk of this range and version, from its owner to another shard
 pub record CommitWords : Type 0 where
   pub id : RequestId
   pub namespace : List ℕ
@@ -20,7 +20,7 @@ pub record CommitWords : Type 0 where
 
 pub data CatalogueAnswer : Type 0 where
   changed : Change → CatalogueAnswer
-  -- what was asked for exists
+  -- what was requested exists
   unchanged : CatalogueAnswer
   -- the move was committed before
   settled : Bool → CatalogueAnswer

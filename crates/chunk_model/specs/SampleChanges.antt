@@ -47,7 +47,7 @@ move_away = record {
   at = 30;
 }
 
--- as its donor asks for it
+-- as its donor requests it
 abbrev pub asked_move : CommitWords
 asked_move = record {
   id = move_away.id;

@@ -4,7 +4,7 @@ use Rattle.std.specs.Prelude.{ℕ, Option, Some, None, if◌then◌else◌}
 use Rattle.chunk_model.specs.Versions.{Version, agrees, is_later}
 use Rattle.chunk_model.specs.Tables.{Table, collection_version, shard_version}
 
--- what a router sends along: the versions of the shard that it asks, and of the whole table
+-- what a router sends along: the versions of the shard that it sends to, and of the whole table
 pub record Sent : Type 0 where
   pub shard : Version
   pub collection : Version

@@ -7,7 +7,7 @@ ghost use Rattle.chunk_model.specs.Catalogue.{Creation};
 ghost use Rattle.chunk_model.specs.Tables.{Table, first_shard, first_table, owner_at, owner_now};
 ghost use Rattle.chunk_model.specs.Verdicts.{Sent, fits, sent_by, shard_is_old, verdict_of};
 
-/// A collection's first table names no owner but the first shard, and none before the collection began; it gives every key to
+/// A collection's first table names no owner but the first shard, and none before the collection was created; it gives every key to
 /// that shard, from just then on.
 #[tactic(auto, using(crate::proofs::FirstTables::only_now, crate::proofs::FirstTables::only_at, crate::proofs::FirstTables::every_key, crate::proofs::FirstTables::every_key_at))]
 pub fn first_tables()
@@ -17,7 +17,7 @@ pub fn first_tables()
     ensures keys_at { (c : Creation) (key : Datum) (time : ℕ) → is_key key ≡ true → (owner_at (first_table c) key time ≡ Some first_shard) ↔ (c.at ≤ time) }
 {}
 
-/// What a router sends along fits where the shard that it asks has the router's table, whatever shard and table it is; and where
+/// What a router sends along fits where the shard that it sends to has the router's table, whatever shard and table it is; and where
 /// that has none it is the shard that is old.
 #[tactic(auto, using(crate::proofs::OwnTables::own_table))]
 pub fn own_table_fits()

@@ -1,4 +1,4 @@
-//! The catalogue: which collections began, and which shard has which of their keys. Definitions, and the laws between them: a law is
+//! The catalogue: which collections were created, and which shard has which of their keys. Definitions, and the laws between them: a law is
 //! a function that does nothing, whose contract is the law.
 #![tactic(auto)]
 

@@ -13,7 +13,7 @@ use cluster_base::NodeId;
 /// What a router sends along.
 #[derive(Clone, Copy, Debug, PartialEq, Eq)]
 pub struct Sent {
-    /// The version of the shard that it asks.
+    /// The version of the shard that it sends to.
     pub shard: Version,
     /// The version of the whole table.
     pub collection: Version,

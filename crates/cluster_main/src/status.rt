@@ -38,7 +38,7 @@ pub struct Served<D: Drop> {
     pub disks: Vec<D>,
 }
 
-/// Returns a run that ended before it began.
+/// Returns the result of a run that ended before its start.
 fn unstarted<D: Drop>(status: Status, disks: Vec<D>) -> Stopped<D>
     ensures status { result.status ≡ number_of status }
     ensures disks { result.disks ≡ disks }

@@ -13,7 +13,7 @@ use Rattle.cluster_top.specs.Journals.{AreJournals}
 use Rattle.cluster_top.specs.declared.arguments.Command.{Command}
 use Rattle.cluster_top.specs.declared.arguments.Command.TheVariants.{Pipe, Sim}
 
--- what the catalogue and the shard of a world keep, and what was asked and answered, is one history
+-- what the catalogue and the shard of a world store, and the requests and replies, are one history
 abbrev pub MakesOneHistory : World → Type 0
 MakesOneHistory end = OneHistory end.given (creations_kept (journal_at end.nodes 0)) (entries_kept (journal_at end.nodes first_shard)) end.asked end.answered
 

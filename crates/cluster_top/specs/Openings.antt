@@ -1,4 +1,4 @@
--- One disk after another: asked for its length, and opened as a journal.
+-- One disk after another: its length is read, and it is opened as a journal.
 use Rattle.std.specs.Prelude.{◌≡◌, ◌⊎◌, ◌≤◌, ℕ, Bool, IsTrue, List, [], ◌∷◌, ◌++◌, Option, Some, None}
 use Rattle.outside.specs.Disks.{Outcomes, Within}
 use Rattle.journal_frames.specs.Files.{Stands}
@@ -38,7 +38,7 @@ InPairs R [] [] = Unit {0}
 InPairs R (a ∷ xs) (b ∷ ys) = R a b × InPairs R xs ys
 InPairs R xs ys = ⊥
 
--- The disk was asked for its length, or left alone: its file is as it was, and a crash leaves no other.
+-- The length of the disk was read, or it was left alone: its file is as it was, and the file after a crash is no other.
 pub record IsAsked {D : Type 0} (facts : DiskFacts D) (before after : D) : Type 0 where
   pub same : IsTrue facts.tells → facts.content after ≡ facts.content before
   pub crash : IsTrue facts.tells → Within (facts.may_leave before) (facts.may_leave after)

@@ -1,4 +1,4 @@
--- One field of an operator document, as a test, and what is asked of a path, as a clause.
+-- One field of an operator document, as a test, and the tests of a path, as a clause.
 use Rattle.std.specs.Prelude.{ℕ, List, Result, Ok, ok_or}
 use Rattle.bson_values.specs.Tree.{Datum, Fields}
 use Rattle.query_model.specs.Paths.{Path}

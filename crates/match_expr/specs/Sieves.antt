@@ -1,4 +1,4 @@
--- What a sieve asks.
+-- What a sieve tests.
 use Rattle.std.specs.Prelude.{◌≡◌, Bool, true, false}
 use Rattle.std.specs.List.{list_any}
 use Rattle.bson_values.specs.View.{datum_of}

@@ -1,4 +1,4 @@
-//! The key that a document asks for, before it is read as a filter (MongoDB manual, "Targeted Operations vs. Broadcast Operations").
+//! The key that a document targets, before it is read as a filter (MongoDB manual, "Targeted Operations vs. Broadcast Operations").
 
 ghost use Rattle.std.specs.Prelude.{◌≡◌, option_map};
 ghost use Rattle.bson_values.specs.Tree as tree;
@@ -36,7 +36,7 @@ fn asked_by(field: &Field) -> Option<&Value>
 }
 
 /// Returns the operand of the first equality on `_id` among the fields of a document: a plain value, or the first `$eq` of an operator
-/// document. The document need be no filter; of one that is, this is the key that the filter requests. Takes no memory.
+/// document. The document need be no filter; of one that is, this is the key that the filter targets. Takes no memory.
 pub fn key_asked_in(document: &Document) -> Option<&Value>
     ensures { option_map (λ v. datum_of v.now) result ≡ key_asked_in document.now }
 {

@@ -76,7 +76,7 @@ impl Expr {
     }
 }
 
-// Returns the key that a query requests, or `Memory` if memory runs out.
+// Returns the key that a query targets, or `Memory` if memory runs out.
 fn key_of(query: &Clauses) -> Result<Option<Key>, Memory>
     ensures { IfOk result (λ k. k ≡ key_equal query.now) }
 {
@@ -100,7 +100,7 @@ pub fn key_asked(e: &Expr) -> Option<&Value>
     keys::key_asked(&e.query)
 }
 
-/// Returns the key that the first equality on `_id` at the top requests; none where its value is no key.
+/// Returns the key that the first equality on `_id` at the top targets; none where its value is no key.
 pub fn key_equal(e: &Expr) -> Option<&Key>
     ensures { option_map (λ k. k.now) result ≡ key_equal e.now }
 {

@@ -1,4 +1,4 @@
-//! The key that a filter asks for (MongoDB manual, "Targeted Operations vs. Broadcast Operations").
+//! The key that a filter targets (MongoDB manual, "Targeted Operations vs. Broadcast Operations").
 
 ghost use Rattle.std.specs.Prelude.{◌≡◌, IfOk, None, Some, if◌then◌else◌, option_map};
 ghost use Rattle.bson_values.specs.View.{datum_of};

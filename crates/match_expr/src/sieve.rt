@@ -13,7 +13,7 @@ use crate::tree::{Clause, Test, Tests};
 use bson_values::{Document, Value};
 use field_paths::{Path, any_at};
 
-/// A path and a value that equals one there, or an element of one, in each document of which a filter holds. To ask for it alone takes
+/// A path and a value that equals one there, or an element of one, in each document that matches a filter. To test it alone takes
 /// a part of what the filter takes.
 #[derive(Clone, Copy, Drop)]
 pub struct Sieve<'a> {

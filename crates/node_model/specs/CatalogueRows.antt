@@ -12,12 +12,12 @@ use Rattle.node_model.specs.States.{Catalogue}
 abbrev pub heard : Catalogue → Letter → ℕ
 heard c m = max c.time m.time
 
--- a message that asks nothing of the catalogue
+-- a message that requests nothing of the catalogue
 abbrev pub AsksNothing : Body → Type 0
 AsksNothing (table_ask namespace create at) = ⊥
 AsksNothing body = Unit {0}
 
--- the answer to an ask, at this time
+-- the answer to a request, at this time
 abbrev pub told : Catalogue → Letter → (time : ℕ) → (namespace : List ℕ) → (create : Bool) → At → Option Table → Letter
 told c m time namespace create at table = record { sender = c.me; receiver = m.sender; time = time; body = table_told namespace create at table }
 

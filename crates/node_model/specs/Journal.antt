@@ -29,7 +29,7 @@ entries_kept (kept_creation c ∷ kept) = entries_kept kept
 entries_kept (kept_life n ∷ kept) = entries_kept kept
 entries_kept (kept_block n ∷ kept) = entries_kept kept
 
--- the collections that began, in order
+-- the collections that were created, in order
 abbrev pub creations_kept : List Kept → List Creation
 creations_kept [] = []
 creations_kept (kept_creation c ∷ kept) = c ∷ creations_kept kept

@@ -12,7 +12,7 @@ use Rattle.base_model.specs.Identities.{RequestId}
 use Rattle.reply_model.specs.Outcomes.{Done}
 use Rattle.node_model.specs.Journal.{Kept}
 
--- for which time a table is asked: for none, or for a read at this one
+-- for which time a table is requested: for none, or for a read at this one
 pub data At : Type 0 where
   no_time : At
   at_time : ℕ → At
@@ -43,7 +43,7 @@ pub data Body : Type 0 where
   half_ask : RequestId → (turn : ℕ) → (namespace : List ℕ) → (at : ℕ) → Half → List Fields → Body
   -- the answer: the rows, or why there are none
   read_rows : RequestId → (turn : ℕ) → Result Rows HalfFault → Body
-  -- the answer to an ask that was sent with an older table than the shard's; the version of that
+  -- the answer to a request that was sent with an older table than the shard's; the version of that
   stale : RequestId → (turn : ℕ) → Version → Body
   -- to a shard, for a read of a time that the router has not reached: its time; and the answer
   time_ask : RequestId → Body

@@ -78,7 +78,7 @@ plan_of r id silent (Ok (count_command read)) = plan_read r read as_number
 plan_of r id silent (Ok (more_command more)) = needs_batch more
 plan_of r id silent (Ok (kill_command kill)) = needs_end kill
 
--- WHAT IT ASKS FOR
+-- WHAT IT REQUESTS
 
 abbrev pub owner_of_statement : Table → Statement → Option ℕ
 owner_of_statement t s = elim (key_written s.operation) [ None ↦ None | Some key ↦ owner_now t key ]
@@ -113,12 +113,12 @@ asks_to_read r time id namespace t at half = elim (owner_of_span t at half.span)
   | Some shard ↦ says r shard time (read_ask id 1 namespace at half (sent_by t shard)) ∷ []
 ]
 
--- what a request asks the shards for, by a table
+-- what a request sends to the shards, by a table
 abbrev pub asks_shards : Router → ℕ → (count : ℕ) → (namespace : List ℕ) → Table → Work → List Letter
 asks_shards r time count namespace t (writing kind ordered statements answers) = asks_to_write r time (id_of r count) namespace t ordered (unanswered statements answers)
 asks_shards r time count namespace t (reading named at stages telling) = asks_to_read r time (id_of r count) namespace t at (split stages).0
 
--- what it asks the catalogue for: a write begins its collection
+-- what it sends to the catalogue: a write creates its collection
 abbrev pub asks_table : Router → ℕ → (namespace : List ℕ) → Work → Letter
 asks_table r time namespace (writing kind ordered statements answers) = says r 0 time (table_ask namespace true no_time)
 asks_table r time namespace (reading named at stages telling) = says r 0 time (table_ask namespace false (at_time at))
@@ -132,7 +132,7 @@ abbrev pub enough_of : Option Table → Work → Option Table
 enough_of None work = None
 enough_of (Some t) work = if is_enough t work then Some t else None
 
--- the table that a request can go on with
+-- the table that a request can proceed with
 abbrev pub table_for : List Table → (namespace : List ℕ) → Work → Option Table
 table_for tables namespace work = enough_of (table_of namespace tables) work
 
@@ -150,7 +150,7 @@ abbrev pub reached : ℕ → Work → Work
 reached time (writing kind ordered statements answers) = writing kind ordered statements answers
 reached time (reading named at stages telling) = reading named (if named then at else time) stages telling
 
--- by the table that it can go on with, if that is there
+-- by the table that it can proceed with, if that is there
 abbrev pub wait_by : Option Table → Wait
 wait_by None = for_table
 wait_by (Some t) = for_shards
@@ -159,7 +159,7 @@ abbrev pub asks_by : Router → ℕ → (count : ℕ) → (namespace : List ℕ)
 asks_by r time count namespace work None = asks_table r time namespace work ∷ []
 asks_by r time count namespace work (Some t) = asks_shards r time count namespace t work
 
--- what work waits for at a time of the router, and what is asked for it: the time that it reads at, its table, or the shards
+-- what work waits for at a time of the router, and what is requested for it: the time that it reads at, its table, or the shards
 abbrev pub wait_of : Router → ℕ → (namespace : List ℕ) → Work → Wait
 wait_of r time namespace work = if is_ahead time work then for_time else wait_by (table_for r.tables namespace work)
 
@@ -194,7 +194,7 @@ is_answered ordered (s ∷ statements) (d ∷ answers) = if ends ordered d then 
 abbrev pub with_work : Open → Wait → Work → Open
 with_work q wait work = record { count = q.count; link = q.link; number = q.number; request = q.request; namespace = q.namespace; wait = wait; work = work }
 
--- an open request goes on with this work at a time of the router
+-- an open request proceeds with this work at a time of the router
 abbrev pub going_on : Router → ℕ → Open → Work → Open
 going_on r time q work = with_work q (wait_of r time q.namespace work) work
 
@@ -258,7 +258,7 @@ knows r time tables requests = record { me = r.me; time = time; life = r.life; b
 
 -- AT A MOMENT
 
--- what an open request waits for is asked again
+-- what an open request waits for is requested again
 abbrev pub asks_again : Router → ℕ → Open → List Letter
 asks_again r time q = elim q.wait [
   | for_time ↦ asks_times r time (id_of r q.count)
@@ -368,7 +368,7 @@ pub data Tells (r : Router) (q : Open) (at : ℕ) : Telling → Outcome → Answ
   tells_excess : (telling : Telling) (documents : List Fields) (n : ℕ) → excess_of_answer documents ≡ Some n
       → Tells r q at telling (listed documents) (refusal_answer (too_much n)) (as_before r)
   tells_number : (n : ℕ) → Tells r q at as_number (listed (count_documents (codes "n") n)) (count_answer n at) (as_before r)
-  -- all documents, or as many as are asked for
+  -- all documents, or as many as are requested
   tells_batch : (size : ℕ) (single : Bool) (documents batch : List Fields) → excess_of_answer documents ≡ None → IsBatch (Some size) documents batch
       → (drop (length batch) documents ≡ []) ⊎ (single ≡ true)
       → Tells r q at (in_batches size single) (listed documents) (first_answer (batch_of q at (pos 0) batch)) (as_before r)
@@ -386,7 +386,7 @@ pub data RouterRow : Router → Input → Effect → Router → Type 0 where
   router_plain : (r : Router) (link : ℕ) (number : ℤ) (request : Request) (answer : Answer) → r.begun ≡ true
       → plan_of r (id_of r (r.count + 1)) request.more (command_of request) ≡ at_once answer
       → RouterRow r (client_input link number request) (answers_at_once r link number request answer) (takes r [])
-  -- the next batch of a cursor is asked for; a request that gets no reply leaves it as it is
+  -- the next batch of a cursor is requested; a request that gets no reply leaves it as it is
   router_more : (r : Router) (link : ℕ) (number : ℤ) (request : Request) (more : GetMore) (c : Cursor) (batch : Batch) (next : List Cursor) → r.begun ≡ true
       → plan_of r (id_of r (r.count + 1)) request.more (command_of request) ≡ needs_batch more
       → open_cursor (id_of r (r.count + 1)) more.cursor more.namespace r.cursors ≡ Some c → ShowsNext (id_of r (r.count + 1)) more.size r.cursors c batch next
@@ -416,7 +416,7 @@ pub data RouterRow : Router → Input → Effect → Router → Type 0 where
         replies = flat_map (λ q. replies_in (next_of r (heard r m) (adopted table r.tables) namespace at q)) r.requests;
       })
       (knows r (heard r m) (adopted table r.tables) (flat_map (λ q. stay_in (next_of r (heard r m) (adopted table r.tables) namespace at q)) r.requests))
-  -- the time that a read waited for is reached, and it goes on
+  -- the time that a read waited for is reached, and it proceeds
   router_reach : (r : Router) (m : Letter) (id : RequestId) (q : Open) (named : Bool) (at : ℕ) (stages : List Stage) (telling : Telling) → m.body ≡ time_told id
       → open_of r id ≡ Some q → q.work ≡ reading named at stages telling → q.wait ≡ for_time → at ≤ heard r m
       → RouterRow r (letter_input m) (sends (asks_for r (heard r m) q.count q.namespace (reached (heard r m) q.work)))
@@ -426,7 +426,7 @@ pub data RouterRow : Router → Input → Effect → Router → Type 0 where
       → open_of r id ≡ Some q → q.work ≡ reading named at stages telling → q.wait ≡ for_time → heard r m < at
       → RouterRow r (letter_input m) (answers_now (reply_to r (heard r m) q (refusal_answer (time_ahead (heard r m)))))
       (knows r (heard r m) r.tables (without q.count r.requests))
-  -- some statements are answered, and the next are asked for
+  -- some statements are answered, and the next are requested
   router_note : (r : Router) (m : Letter) (id : RequestId) (dones : List Done) (q : Open) (kind : WriteKind) (ordered : Bool) (statements : List Statement) (answers : List Done) → m.body ≡ write_done id dones
       → open_of r id ≡ Some q → q.work ≡ writing kind ordered statements answers
       → noted answers dones ≢ answers → is_answered ordered statements (noted answers dones) ≡ false

@@ -30,7 +30,7 @@ at_later s time = record { me = s.me; time = time; tables = s.tables; entries = 
 abbrev pub says : Shard → (to time : ℕ) → Body → Letter
 says s to time body = record { sender = s.me; receiver = to; time = time; body = body }
 
--- a message that asks nothing of a shard
+-- a message that requests nothing of a shard
 abbrev pub AsksNothing : Body → Type 0
 AsksNothing (write_ask id turn ordered namespace statements sent) = ⊥
 AsksNothing (read_ask id turn namespace at half sent) = ⊥
@@ -39,7 +39,7 @@ AsksNothing (table_told namespace create at table) = ⊥
 AsksNothing (time_ask id) = ⊥
 AsksNothing body = Unit {0}
 
--- Which ask of documents a message is: of which request, in which turn, from which statement on (a read has none), and the
+-- Which request of documents a message is: of which client's request, in which turn, from which statement on (a read has none), and the
 -- collection whose table it wants, with the versions that were sent.
 pub record Ask : Type 0 where
   pub id : RequestId
@@ -48,7 +48,7 @@ pub record Ask : Type 0 where
   pub namespace : List ℕ
   pub sent : Sent
 
--- an ask to write no statement is none
+-- a request to write no statement is none
 abbrev pub ask_in : Body → Option Ask
 ask_in (write_ask id turn ordered namespace (s ∷ statements) sent) = Some (record { id = id; turn = turn; first = Some s.number.index; namespace = namespace; sent = sent })
 ask_in (read_ask id turn namespace at half sent) = Some (record { id = id; turn = turn; first = None; namespace = namespace; sent = sent })
@@ -65,7 +65,7 @@ same_ask a b = same_request a.id b.id && ((a.turn == b.turn) && same_index a.fir
 abbrev pub is_ask : Ask → Letter → Bool
 is_ask a m = elim (ask_in m.body) [ None ↦ false | Some b ↦ same_ask b a ]
 
--- the ask waits already
+-- the request waits already
 abbrev pub is_parked : Ask → List Letter → Bool
 is_parked a parked = list_any (is_ask a) parked
 
@@ -84,7 +84,7 @@ tries s time parked = map (λ (m : Letter). says s s.me time m.body) parked
 abbrev pub asks_table : Shard → (time : ℕ) → (namespace : List ℕ) → Letter
 asks_table s time namespace = says s 0 time (table_ask namespace false no_time)
 
--- the table of each ask that waits is asked again, in the order of parking
+-- the table of each request that waits is requested again, in the order of parking
 abbrev pub asks_again : Shard → (time : ℕ) → List Letter → List Letter
 asks_again s time [] = []
 asks_again s time (m ∷ parked) = elim (ask_in m.body) [ None ↦ asks_again s time parked | Some a ↦ asks_table s time a.namespace ∷ asks_again s time parked ]
@@ -115,10 +115,10 @@ pub data ShardRow : Shard → Input → Effect → Shard → Type 0 where
       → m.body ≡ write_ask id turn ordered namespace statements sent → verdict_of sent s.me (table_of namespace s.tables) ≢ fits
       → Repeats ordered s.entries statements (d ∷ dones)
       → ShardRow s (letter_input m) (sends (says s id.router (heard s m) (write_done id (d ∷ dones)) ∷ [])) (at_later s (heard s m))
-  -- an ask to write no statement has no answer
+  -- a request to write no statement has no answer
   shard_empty : (s : Shard) (m : Letter) (id : RequestId) (turn : ℕ) (ordered : Bool) (namespace : List ℕ) (sent : Sent)
       → m.body ≡ write_ask id turn ordered namespace [] sent → ShardRow s (letter_input m) nothing (at_later s (heard s m))
-  -- an ask that wants a table waits for it, and the table is asked for once
+  -- a request that wants a table waits for it, and the table is requested once
   shard_park : (s : Shard) (m : Letter) (a : Ask) → ask_in m.body ≡ Some a → was_seen m.body s.entries ≡ false
       → verdict_of a.sent s.me (table_of a.namespace s.tables) ≡ shard_is_old → is_parked a s.parked ≡ false
       → ShardRow s (letter_input m) (sends (asks_table s (heard s m) a.namespace ∷ []))
@@ -127,7 +127,7 @@ pub data ShardRow : Shard → Input → Effect → Shard → Type 0 where
   shard_waits : (s : Shard) (m : Letter) (a : Ask) → ask_in m.body ≡ Some a → was_seen m.body s.entries ≡ false
       → verdict_of a.sent s.me (table_of a.namespace s.tables) ≡ shard_is_old → is_parked a s.parked ≡ true
       → ShardRow s (letter_input m) nothing (at_later s (heard s m))
-  -- an ask that was sent with an older table is not served
+  -- a request that was sent with an older table is not served
   shard_stale : (s : Shard) (m : Letter) (a : Ask) (met : Version) → ask_in m.body ≡ Some a → was_seen m.body s.entries ≡ false
       → verdict_of a.sent s.me (table_of a.namespace s.tables) ≡ router_is_old met
       → ShardRow s (letter_input m) (sends (says s a.id.router (heard s m) (stale a.id a.turn met) ∷ [])) (at_later s (heard s m))

@@ -14,7 +14,7 @@ pub record Catalogue : Type 0 where
   pub time : ℕ
   pub tables : List Table
 
--- `parked`: the asks that wait for a table
+-- `parked`: the requests that wait for a table
 pub record Shard : Type 0 where
   pub me : ℕ
   pub time : ℕ

@@ -1,4 +1,4 @@
--- What it means that whatever was asked is answered.
+-- What it means that every request is answered.
 use Rattle.std.specs.Prelude.{◌≡◌, List, [], None, Ok}
 use Rattle.std.specs.List.{AllByRecursion}
 use Rattle.command_model.specs.Writes.{WriteCommand}
@@ -13,7 +13,7 @@ use Rattle.node_model.specs.Journal.{entries_kept}
 use Rattle.node_model.specs.States.{NodeState, catalogue_state, shard_state, router_state}
 use Rattle.node_model.specs.World.{Held, World, journal_at}
 
--- no request is open, and no ask waits for a table
+-- no request is open, and none waits for a table
 abbrev pub IsQuiet : NodeState → Type 0
 IsQuiet (catalogue_state c) = Unit {0}
 IsQuiet (shard_state s) = s.parked ≡ []

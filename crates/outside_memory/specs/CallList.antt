@@ -2,7 +2,7 @@
 use Rattle.std.specs.Prelude.{ℕ, ◌+◌, List, Option, None, Some, if◌then◌else◌, nat_lt}
 use Rattle.outside_memory.specs.declared.call.Call.{Call}
 
--- The bytes that the calls began on, where they are kept; the calls in order; and the room: the list has memory for one
+-- The bytes before the first of the calls, where they are kept; the calls in order; and the room: the list has memory for one
 -- more call if its piece is shorter than this.
 pub record ListState : Type 0 where
   pub start : Option (List ℕ)

@@ -10,7 +10,7 @@ pub record SourceState : Type 0 where
   pub left : List ℕ
   pub plan : PlanState
 
--- A disk: its bytes, how many it has room for before it asks for memory, and the plan of its calls; the bytes that it was
+-- A disk: its bytes, how many it has room for before it allocates, and the plan of its calls; the bytes that it was
 -- made of, the calls that changed it or made it stay, and the room of their list, which has memory for one more call if
 -- its piece is shorter than this.
 pub record DiskState : Type 0 where
@@ -21,7 +21,7 @@ pub record DiskState : Type 0 where
   pub calls : List Call
   pub list_room : ℕ
 
--- a sink: the bytes that it holds, how many it has room for before it asks for memory, the plan of its calls, and
+-- a sink: the bytes that it holds, how many it has room for before it allocates, the plan of its calls, and
 -- the disks that were noted, as they were, each with the length of what it held
 pub record SinkState : Type 0 where
   pub held : List ℕ

@@ -8,7 +8,7 @@ use std::alloc::{AllocError, Global};
 use std::marker::Model;
 use std::mem;
 
-/// The calls in order, with the bytes that they began on as soon as there is room for a call, and memory that is ready
+/// The calls in order, with the bytes before the first as soon as there is room for a call, and memory that is ready
 /// for the next one.
 #[derive(Drop)]
 pub(crate) struct CallList {

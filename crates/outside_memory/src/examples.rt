@@ -17,7 +17,7 @@ pub fn crashes()
     ensures no_other { left_after (1 ∷ 2 ∷ 3 ∷ []) (CutTo 1 ∷ []) (1 ∷ 9 ∷ []) → ⊥ }
 {}
 
-/// Time goes on by one call.
+/// Time advances by one call.
 pub fn time()
     ensures goes_on { Elapses 0 1 (left_after_some [] []) (left_after_some [] (Write 0 (1 ∷ []) ∷ []))
         (left_after [] (Write 0 (1 ∷ []) ∷ [])) }

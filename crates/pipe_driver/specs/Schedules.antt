@@ -44,6 +44,6 @@ pub data Came (routers : ℕ) (gives : ℕ → Type 0) (router : ℕ) : (rounds 
       → Came routers gives router rounds (request ∷ []) u w
 
 -- The world up to which a crash may have left what the nodes keep: the end, and where a disk failed maybe one event more, with which the
--- schedule goes on.
+-- schedule proceeds.
 abbrev pub IsLast : Status → (goes_on : World → Type 0) → (end last : World) → Type 0
 IsLast status goes_on end last = (last ≡ end) ⊎ ((status ≡ statuses.DiskFailed) × goes_on last × (e : Event) × Happens end e last)

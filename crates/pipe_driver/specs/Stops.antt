@@ -32,7 +32,7 @@ AfterOne (Ok replied) view seats network gives router routers tells noted held_b
 AfterOne (Err status) view seats network gives router routers tells noted held_before held consumed =
     StopsAtRequest view seats gives router routers tells noted held_before held consumed status
 
--- the bytes begin with no request, however they go on
+-- the bytes begin with no request, however they continue
 abbrev pub IsMalformed : List ℕ → Type 0
 IsMalformed bytes = (fault : FrameFault) × (outline bytes ≡ faulty_outline fault)
 

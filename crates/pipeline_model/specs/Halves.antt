@@ -73,7 +73,7 @@ abbrev pub count_in_part : Rows → ℕ
 count_in_part (counted_rows n) = n
 count_in_part rows = 0
 
--- what a merge goes on from
+-- what a merge proceeds from
 pub data Joins : Joining → List Rows → Outcome → Type 0 where
   in_order : (spec : SortSpec) (parts : List Rows) (sorted : List Fields) →
       IsPermutation (flat_map documents_in_part parts) sorted → IsSortedBy (comes_before spec) sorted → Joins (joined_in_order spec) parts (listed sorted)
@@ -88,7 +88,7 @@ abbrev pub GoesOn : List Stage → Outcome → Outcome → Type 0
 GoesOn stages (listed docs) out = Runs stages docs out
 GoesOn stages overflowed out = out ≡ overflowed
 
--- the parts are put together, and the stages go on from there
+-- the parts are merged, and the stages proceed from there
 pub record Merges (merge : Merge) (parts : List Rows) (out : Outcome) : Type 0 where
   pub start : Outcome
   pub joins : Joins merge.joining parts start

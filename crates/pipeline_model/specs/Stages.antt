@@ -60,7 +60,7 @@ as_natural (negsuc n) = Err bad_operand
 abbrev pub read_natural : Datum → Result ℕ QueryFault
 read_natural d = ok_or (whole_number d) bad_operand >>= as_natural
 
--- not empty, without $ in front, and without dot and 00
+-- not empty, without $ at the front, and without dot and 00
 abbrev pub may_count : List ℕ → Bool
 may_count name = nat_lt 0 (length name) && not (begins_with_dollar name) && not (list_any (λ b. (b == byte ".") || (b == 0)) name)
 

@@ -17,7 +17,7 @@ acts_alone stage = false
 abbrev pub cut_of : Cut → model.Cut
 cut_of c = record { stages = map stage_of c.stages.items; last = end_of c.last; merge = merge_of c.merge }
 
--- how many documents in front are enough for stages that begin with a limit, or with a skip and a limit
+-- how many documents at the front are enough for stages that begin with a limit, or with a skip and a limit
 abbrev pub limit_in : List Stage → Option ℕ
 limit_in (limit_stage n ∷ rest) = Some n
 limit_in (skip_stage s ∷ limit_stage n ∷ rest) = Some (reach s n)

@@ -34,7 +34,7 @@ pub(crate) fn share_all(alloc: Global, stages: &[Stage]) -> Result<Vec<Stage>, M
     Ok(all)
 }
 
-// Returns how many documents in front are enough for stages that begin with so many to be skipped.
+// Returns how many documents at the front are enough for stages that begin with so many to be skipped.
 fn limit_behind(skipped: u64, stages: &[Stage]) -> Option<u64>
     ensures { result ≡ limit_in (skip_stage skipped ∷ map stage_of stages.now) }
 {
@@ -47,7 +47,7 @@ fn limit_behind(skipped: u64, stages: &[Stage]) -> Option<u64>
     }
 }
 
-// Returns how many documents in front are enough, where the stages begin with a limit, or with a skip and a limit.
+// Returns how many documents at the front are enough, where the stages begin with a limit, or with a skip and a limit.
 fn limit_in(stages: &[Stage]) -> Option<u64>
     ensures { result ≡ limit_in (map stage_of stages.now) }
 {

@@ -1,4 +1,4 @@
-//! The stages in front that act on each document by itself, and the keys that they ask for.
+//! The stages at the front that act on each document by itself, and the keys that they target.
 
 ghost use Rattle.std.specs.Prelude.{◌≡◌, ◌≤◌, IfOk, drop, length, map, take};
 ghost use Rattle.pipeline_model.specs.Split.{behind_front, front, span_of_stages};

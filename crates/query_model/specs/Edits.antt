@@ -39,7 +39,7 @@ abbrev pub with_field : List ℕ → Datum → Fields → Fields
 with_field name value no_fields = field name value no_fields
 with_field name value (field first d ms) = if bytes_eq first name then field first value ms else field first d (with_field name value ms)
 
--- the first field of that name is taken out
+-- the first field of that name is removed
 abbrev pub without_field : List ℕ → Fields → Fields
 without_field name no_fields = no_fields
 without_field name (field first d ms) = if bytes_eq first name then ms else field first d (without_field name ms)
@@ -135,7 +135,7 @@ abbrev pub edited_by : List (Path × Edit) → Fields → Result Fields WriteFau
 edited_by [] document = Ok document
 edited_by (e ∷ es) document = edited e.0 e.1 document >>= edited_by es
 
--- a replacement without `_id` has the old one in front
+-- a replacement without `_id` has the old one first
 abbrev pub with_old_key : Fields → Option Datum → Option Datum → Fields
 with_old_key document None (Some key) = field (codes "_id") key document
 with_old_key document own old = document

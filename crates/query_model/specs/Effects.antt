@@ -15,7 +15,7 @@ use Rattle.query_model.specs.Writes.{Write, insert_write, update_write, delete_w
 -- what a write results in: the document, and its outcome
 pub record Effect : Type 0 where
   pub after : Option Fields
-  -- how many documents it put in, met or took out
+  -- how many documents it inserted, matched or removed
   pub count : ℕ
   -- how many it changed
   pub modified : ℕ

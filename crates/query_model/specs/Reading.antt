@@ -64,7 +64,7 @@ module _ (read_inner : Fields → Result Query QueryFault) (read_inner_tests : F
     others ← read_tests ms
     Ok (test first others)
 
-  -- what is asked of a path: the tests of an operator document, or equality with any other value
+  -- the tests of a path: those of an operator document, or equality with any other value
   abbrev pub read_asked : Datum → Result Tests QueryFault
   read_asked (document_value ms) = if is_operator_document ms then read_tests ms else Ok (test (eq_test (document_value ms)) no_tests)
   read_asked d = Ok (test (eq_test d) no_tests)

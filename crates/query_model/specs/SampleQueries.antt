@@ -69,7 +69,7 @@ documents_with_b =
 abbrev pub answers_at_b : String → Datum → Result (List Bool) QueryFault
 answers_at_b name operand = answers (one "a.b" (inner name operand)) documents_with_b
 
--- the first equality on _id, the key that it asks for, and the span
+-- the first equality on _id, the key that it targets, and the span
 abbrev pub asked_of : Fields → Result (Option Datum) QueryFault
 asked_of filter = read_query filter >>= λ asked. Ok (key_asked asked)
 

@@ -59,12 +59,12 @@ start_of no_clauses = no_fields
 start_of (clause (path_clause (part ∷ []) tests) others) = with_equalities part tests (start_of others)
 start_of (clause first others) = start_of others
 
--- what an update begins with: of an upsert a document from a query that asks for a key
+-- what an update begins with: of an upsert a document from a query that targets a key
 abbrev pub read_start : Bool → Query → Result (Option Fields) QueryFault
 read_start false asked = Ok None
 read_start true asked = if is_plain_query asked && is_some (key_equal asked) then Ok (Some (start_of asked)) else Err bad_operand
 
--- an update of these words: the first fault of the filter, of the change, and of what the two ask of an upsert
+-- an update with these operands: the first fault of the filter, of the change, and of what the two need for an upsert
 abbrev pub read_update : Fields → Fields → Bool → Result Write QueryFault
 read_update filter words upsert = do
   asked ← read_query filter

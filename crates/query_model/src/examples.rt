@@ -79,7 +79,7 @@ pub fn plain_values()
         ≡ Ok false }
 {}
 
-/// The first equality on `_id` is asked for, also one by `$eq` beside other operators, and none inside an operator.
+/// The first equality on `_id` is targeted, also one by `$eq` beside other operators, and none inside an operator.
 pub fn keys()
     ensures plain { (asked_of (one "_id" (number 5)) ≡ Ok (Some (number 5)))
         × (asked_of (two "x" (number 1) "_id" (number 5)) ≡ Ok (Some (number 5)))
@@ -118,7 +118,7 @@ pub fn keys()
         × (span_of_filter (one "$or" (array (inner "_id" (number 5) ∷ []))) ≡ Ok (whole_span ∷ [])) }
 {}
 
-/// A document asks for a key whatever else it has, also where it is no query.
+/// A document targets a key whatever else it has, also where it is no query.
 pub fn keys_in_documents()
     ensures plain { (key_asked_in (one "_id" (number 5)) ≡ Some (number 5))
         × (key_asked_in (two "$foo" (number 1) "_id" (number 5)) ≡ Some (number 5))

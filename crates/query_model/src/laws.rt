@@ -28,7 +28,7 @@ pub fn keys_in_span()
     ensures ascending { (asked : Query) → AreAscending (span_of asked) }
 {}
 
-/// A document that reads as a query asks for the key that the query asks for.
+/// A document that reads as a query targets the key that the query targets.
 pub fn keys_of_documents()
     ensures { (document : Fields) (asked : Query) → read_query document ≡ Ok asked → key_asked_in document ≡ key_asked asked }
 {}
@@ -64,7 +64,7 @@ pub fn edits_in_order()
     ensures { (document : Fields) (es : List (Path × Edit)) → read_change document ≡ Ok (edits es) → IsStrictlySortedBy path_order (keys_of es) }
 {}
 
-/// A change of a document with a key leaves one whose key compares equal; an upsert begins with the key that its filter asks for.
+/// A change of a document with a key results in one whose key compares equal; an upsert begins with the key that its filter targets.
 pub fn changes_keep_keys()
     ensures changes { (change : Change) (before after : Fields) (key : Datum) → valid_key before ≡ Ok key → changed change before ≡ Ok after
         → (k : Datum) × (valid_key after ≡ Ok k) × (same_value k key ≡ true) }

@@ -89,7 +89,7 @@ pub fn faults_of_words()
     ensures start { read_update (two "_id" (number 1) "a.b" (number 1)) (setting "a" (number 1)) true ≡ Err bad_operand }
 {}
 
-/// An insert wants a document with a key to be kept under, and an upsert a filter that asks for one; an update without one meets nothing.
+/// An insert needs a document with a key to be stored under, and an upsert a filter that targets one; an update without one matches nothing.
 pub fn keys_of_writes()
     ensures insert { read_insert (kept "a" (number 1)) ≡ Ok (insert_write (kept "a" (number 1))) }
     ensures no_insert { (read_insert (one "x" (number 1)) ≡ Err bad_operand) × (read_insert (one "_id" (array [])) ≡ Err bad_operand) }

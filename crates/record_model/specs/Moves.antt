@@ -1,5 +1,5 @@
 -- What the shards of a move of a chunk keep (MongoDB manual, "Sharded Cluster Balancer", chunk migration procedure). The records are
--- own. A move has the identifier of the request that asked for it.
+-- own. A move has the identifier of the request that requested it.
 use Rattle.std.specs.Prelude.{ℕ, List, Option, Bool}
 use Rattle.bson_model.specs.Tree.{Datum, Fields}
 use Rattle.base_model.specs.Identities.{RequestId}

@@ -1,4 +1,4 @@
--- What the records of a journal keep: a shard's its entries, and the catalogue's the collections that began.
+-- What the records of a journal store: a shard's its entries, and the catalogue's the collections that were created.
 use Rattle.std.specs.Prelude.{◌≡◌, ℕ, ℤ, pos, List, [], ◌∷◌, Option, Some, None, if◌then◌else◌}
 use Rattle.std.specs.Ordering.{int_eq}
 use Rattle.base_model.specs.Errors.{ErrorCode, bad_value, failed_to_parse, type_mismatch, overflow, illegal_operation, invalid_bson, path_not_viable, cursor_not_found, max_time_expired, command_not_found, shard_key_not_found, immutable_field, shard_not_found, invalid_options, invalid_namespace, shutdown_in_progress, operation_failed, write_conflict, conflicting_operation, namespace_not_sharded, exceeded_memory_limit, zone_not_found, range_overlap_conflict, transaction_too_old, snapshot_too_old, change_stream_history_lost, query_exceeded_memory, object_too_large, duplicate_key, stale_config}
@@ -36,7 +36,7 @@ KeepEntries shard [] entries = entries ≡ []
 KeepEntries shard (entry_record w ∷ records) entries = (e : Entry) × (later : List Entry) × (entries ≡ e ∷ later) × Keeps shard w e × KeepEntries shard records later
 KeepEntries shard (other ∷ records) entries = KeepEntries shard records entries
 
--- the collections that began, in order
+-- the collections that were created, in order
 abbrev pub creates_of : List Record → List Creation
 creates_of [] = []
 creates_of (create_record c ∷ records) = c ∷ creates_of records

@@ -38,7 +38,7 @@ insert_bytes = 0x01 ∷ 0x02 ∷ 0x02 ∷ 0x00 ∷ 0x00 ∷ 0x00 ∷ 0xE8 ∷ 0x
 abbrev pub update : Entry
 update = record insert { time = timestamp 1000 3; operation = update_operation (id_document (pos 1)) (id_document (pos 1)) true }
 
--- it is taken out
+-- it is deleted
 abbrev pub delete : Entry
 delete = record insert { time = timestamp 1000 4; operation = delete_operation (id_document (pos 1)) }
 

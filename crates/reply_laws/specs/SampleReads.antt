@@ -139,7 +139,7 @@ first_replies =
     ∷ told_gone (going_on false 2 4 (codes "c") no_fields)
     ∷ []
 
--- and then {_id: 3} is taken out at Timestamp(1000, 5), and {_id: 4} put in at Timestamp(1000, 6)
+-- and then {_id: 3} is deleted at Timestamp(1000, 5), and {_id: 4} inserted at Timestamp(1000, 6)
 abbrev pub four : Datum
 four = int32_value (pos 4)
 

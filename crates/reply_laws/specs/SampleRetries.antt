@@ -36,7 +36,7 @@ entry_under session counter transaction index operation outcome = record {
   outcome = outcome;
 }
 
--- {insert: "c", documents: [..], ordered: .., lsid: {id: sevens}, txnNumber: .., $db: "d"}, and what it asks for
+-- {insert: "c", documents: [..], ordered: .., lsid: {id: sevens}, txnNumber: .., $db: "d"}, and what it requests
 abbrev pub insert_under : ℤ → List Fields → Bool → Fields
 insert_under transaction documents ordered =
     field (codes "insert") (string_value (codes "c"))

@@ -13,7 +13,7 @@ ghost use Rattle.reply_model.specs.Right.{IsRight};
 ghost use Rattle.reply_laws.specs.SampleExchanges.{IsToldRightly, IsToldWrongly, moments};
 ghost use Rattle.reply_laws.specs.SampleReads.{Turns, TurnsNever, all_three, asks_more, finds_sorted, going_on, kept, killing, of_size, one, open_with, sorting, three, told_first, told_gone, told_killed, told_next, two, another_router, changed_later, first_asked, first_replies, four, single_batch, told_later};
 
-/// What the requests ask for.
+/// What the requests are.
 pub fn asked_of_cursors()
     ensures find { command_of (sorting false 2 no_fields).request ≡ Ok (find_command (finds_sorted 2 false)) }
     ensures single { command_of (sorting false 1 single_batch).request ≡ Ok (find_command (finds_sorted 1 true)) }
@@ -63,7 +63,7 @@ pub fn no_documents()
     ensures open { IsToldWrongly [] (sorting false 0 no_fields) (told_first (sorting false 0 no_fields) (pos 1) []) }
 {}
 
-/// Where no other batch is asked for, none is kept; so it is where the request gets no reply.
+/// Where no other batch is requested, none is kept; so it is where the request gets no reply.
 pub fn single_batches()
     ensures one { Turns [] (sorting false 1 single_batch) (told_first (sorting false 1 single_batch) (pos 0) (with_id one ∷ [])) [] }
     ensures none { Turns [] (sorting false 0 single_batch) (told_first (sorting false 0 single_batch) (pos 0) []) [] }

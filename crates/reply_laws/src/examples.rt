@@ -21,7 +21,7 @@ ghost use Rattle.reply_model.specs.Cursors.{Cursor};
 ghost use Rattle.reply_model.specs.Right.{IsPart, IsWhole, Sends};
 ghost use Rattle.reply_laws.specs.SampleExchanges.{IsToldRightly, IsToldWrongly, find_of, all_asked, all_told, both_entries, changed_five, changed_reply, changing, changing_entry, deep_asked, deep_entry, deleted_reply, deleting, entry_at, finding, finding_later, first, first_entry, first_told, greeted, id_at, is_shown, is_shown_later, moments, second, second_entry, second_told, tells, third, third_told, three_asked, three_entries, three_writes, two_entries, finding_at, is_shown_at, unmet_delete, unmet_entries, upserting, upserting_entries, upserting_reply};
 
-/// What the requests ask for.
+/// What the requests are.
 pub fn asked()
     ensures insert { command_of first.request
         ≡ Ok (write_command (record {

@@ -11,7 +11,7 @@ ghost use Rattle.reply_laws.specs.SampleExchanges.{IsToldRightly, IsToldWrongly,
 ghost use Rattle.reply_laws.specs.SampleReads.{all_three, batch, kept, one, three, two};
 ghost use Rattle.reply_laws.specs.SampleTimes.{all_four, at_most_two, by_x, concern_after, concern_at, counting, few_of, find_in, grown, least_one, reading_of, reads_all, told_ahead, told_at, told_count};
 
-/// What the requests ask for.
+/// What the requests are.
 pub fn asked_of_reads()
     ensures whole { command_of (reads_all no_fields).request ≡ Ok (find_command (find_in (reading_of [] None None))) }
     ensures after { command_of (reads_all (concern_after 5)).request ≡ Ok (find_command (find_in (reading_of [] None (Some (timestamp 1000 5))))) }

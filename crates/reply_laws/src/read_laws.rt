@@ -63,7 +63,7 @@ pub fn reads_are_fresh()
         → operation_time (Some s.document) ≡ Some before → t.document ≡ answer_document (refusal_answer (time_ahead greatest)) → before ≤ greatest }
 {}
 
-/// What a read that asks for one key gives is what its stages make of what the last entry under the key left, of those that are not later than
+/// What a read that targets one key returns is what its stages make of what the last entry under the key left, of those that are not later than
 /// the time.
 pub fn reads_miss_nothing()
     ensures last { (given : List Given) (creations : List Creation) (earlier later : List Entry) (asked : List Asked) (answered : List Answered)

@@ -1,4 +1,4 @@
--- Who asks, and what is asked for.
+-- Who sends requests, and what is requested.
 use Rattle.std.specs.Prelude.{ℕ, List, [], ◌∷◌, Option, Some, None, true}
 use Rattle.node_model.specs.Letters.{Letter}
 use Rattle.node_model.specs.States.{Router}
@@ -6,7 +6,7 @@ use Rattle.protocol_model.specs.Messages.{letter_of}
 use Rattle.protocol_model.specs.declared.message.Message.{Message}
 use Rattle.router_requests.specs.declared.asker.Asker.{Asker}
 
--- a router of this number, in this of its lives, that knows nothing: what it asks for by a table does not hang on what it knows
+-- a router of this number, in this of its lives, that knows nothing: what it requests by a table does not depend on what it knows
 abbrev pub asking : (router life : ℕ) → Router
 asking router life =
     record { me = router; time = 0; life = life; begun = true; moment = 0; count = 0; tables = []; requests = []; cursors = []; blocks = 0; gave = 0 }
@@ -14,7 +14,7 @@ asking router life =
 abbrev pub asker_view : Asker → Router
 asker_view a = asking a.me.0 a.life
 
--- the letter, if there is one
+-- the message, if there is one
 abbrev pub letters_of : Option Message → List Letter
 letters_of None = []
 letters_of (Some m) = letter_of m ∷ []

@@ -119,7 +119,7 @@ impl OpenList {
         self.requests.push_reserved(request);
     }
 
-    /// Takes out the request with this count.
+    /// Removes the request with this count.
     #[tactic(auto, using(crate::proofs::Places::rises_removed, crate::proofs::Places::without_at, crate::proofs::Places::none_out))]
     pub fn remove(&mut self, count: u64)
         ensures taken { taken_of self.new ≡ taken_of self.old }

@@ -13,7 +13,7 @@ pub record IsCutAt (byte : ℕ) (bytes before behind : List ℕ) : Type 0 where
   pub whole : bytes ≡ before ++ byte ∷ behind
   pub first : HasNone byte before
 
--- a number in decimal digits, without a zero in front
+-- a number in decimal digits, without a leading zero
 pub record IsNumber (word : List ℕ) (n : ℕ) : Type 0 where
   pub digits : word ≡ decimal n
   pub fits : n < 2 ^ 64

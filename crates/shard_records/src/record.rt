@@ -89,7 +89,7 @@ pub enum WordsRef<'a> {
         change: &'a Document,
         upsert: bool,
     },
-    /// Takes out the first document that meets the filter.
+    /// Deletes the first document that matches the filter.
     Delete {
         filter: &'a Document,
     },

@@ -1,4 +1,4 @@
--- The asks of the definitions that those of the program are.
+-- The requests of the definitions that those of the program are.
 use Rattle.chunk_table.specs.VerdictMeanings.{sent_view}
 use Rattle.node_model.specs.ShardRows as rows
 use Rattle.node_traits.specs.Ids.{id_view}

@@ -8,7 +8,7 @@ use Rattle.node_model.specs.ShardRows.{Ask, ask_in}
 use Rattle.shard_requests.specs.declared.standings.Standing.{Standing}
 use Rattle.shard_requests.specs.declared.standings.Standing.TheVariants.{NoAsk, Fits, ShardOld, RouterOld}
 
--- it asks for documents, and this is found in the versions that it was sent with
+-- it requests documents, and this is found in the versions that it was sent with
 abbrev pub Finds : ℕ → List Table → Verdict → Body → Type 0
 Finds me tables verdict b = (a : Ask) × (ask_in b ≡ Some a) × (verdict_of a.sent me (table_of a.namespace tables) ≡ verdict)
 

@@ -49,7 +49,7 @@ pub(crate) fn key_of_op(alloc: Global, op: &Op) -> Result<Key, Memory>
     }
 }
 
-// Returns the key that a filter requests, or `Memory` if memory runs out.
+// Returns the key that a filter targets, or `Memory` if memory runs out.
 fn asked_key(filter: &Expr) -> Result<Key, Memory>
     ensures { IfOk result (λ key. key_equal filter.now ≡ Some key) }
 {

@@ -8,7 +8,7 @@ use fixtures::{RowFault, Rows, field, number};
 use std::alloc::Global;
 use value_compare::Key;
 
-/// `TABLE | KEY | SHARD | TIME | SHARD or none`: who has the key now, and who had it at the time; asked of a copy of the table.
+/// `TABLE | KEY | SHARD | TIME | SHARD or none`: who has the key now, and who had it at the time; read from a copy of the table.
 #[derive(Drop)]
 pub struct Owners;
 

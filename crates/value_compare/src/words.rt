@@ -14,7 +14,7 @@ pub enum OpWords {
         change: Document,
         upsert: bool,
     },
-    /// Takes out the first document that meets the filter.
+    /// Deletes the first document that matches the filter.
     Delete {
         filter: Document,
     },
