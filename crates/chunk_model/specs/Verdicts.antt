@@ -1,4 +1,4 @@
--- What a shard finds where a router's version of a table meets its own (MongoDB manual, "Sharded Cluster Query Routing", stale
+-- What a shard finds where it compares a router's version of a table with its own (MongoDB manual, "Sharded Cluster Query Routing", stale
 -- versions).
 use Rattle.std.specs.Prelude.{ℕ, Option, Some, None, if◌then◌else◌}
 use Rattle.chunk_model.specs.Versions.{Version, agrees, is_later}

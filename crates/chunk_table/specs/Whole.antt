@@ -1,5 +1,5 @@
 -- What each table of the program keeps: its chunks give every key an owner (MongoDB manual, "Data Partitioning with Chunks"), and a
--- journal can spell it.
+-- journal can encode it.
 use Rattle.std.specs.Prelude.{◌≡◌, ◌<◌, ◌^◌, List, [], ◌∷◌, Bool, true, ◌&&◌, codes, is_some, length}
 use Rattle.std.specs.Ordering.{is_eq}
 use Rattle.std.specs.List.{AllByRecursion}

@@ -23,7 +23,7 @@ use value_compare::{Bound, Key, KeyRange};
 /// The first shard, which has all keys of a collection when it begins.
 const FIRST_SHARD: NodeId = NodeId(1);
 
-/// The chunks of a collection. Each key has an owner, and a journal can spell it.
+/// The chunks of a collection. Each key has an owner, and a journal can encode it.
 #[derive(Drop)]
 pub struct Table {
     pub(crate) namespace: Namespace,

@@ -1,4 +1,4 @@
-//! What a shard finds where a router's version of a table meets its own (MongoDB manual, "Sharded Cluster Query Routing", stale
+//! What a shard finds where it compares a router's version of a table with its own (MongoDB manual, "Sharded Cluster Query Routing", stale
 //! versions).
 
 ghost use Rattle.std.specs.Prelude.{◌≡◌};

@@ -30,7 +30,7 @@ LeaveTheWay routers tells moment left_since befores afters w =
     IsTrue tells → LeaveSuch moment left_since (λ at file. IsOfTheWay routers w at file) befores afters
 
 -- Each byte that was written is acknowledged: before it was written the disks were noted, in a world on the way in which all bytes up to it were
--- given, and no crash from then on leaves of a disk less than what its node keeps in that world.
+-- given, and after a crash from then on the file of a disk has no less than what its node stores in that world.
 abbrev pub AreDurableBefore : {D : Type 0} → (tells_bytes tells_files : Bool) → (D → List ℕ) → (D → ℕ) → (D → ℕ → Outcomes) → Command → List Note
     → (held_before : List ℕ) → List D → World → (put : List ℕ) → Type 0
 AreDurableBefore tells_bytes tells_files place moment left_since command notes held_before disks last put =

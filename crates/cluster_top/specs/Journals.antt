@@ -20,7 +20,7 @@ AreJournals [] [] = Unit {0}
 AreJournals (file ∷ files) (h ∷ nodes) = IsJournal file h.kept × AreJournals files nodes
 AreJournals files nodes = ⊥
 
--- what the shard keeps is a legal history, of collections that the catalogue keeps
+-- what the shard stores is a legal history, of collections that the catalogue stores
 pub record IsHistory (nodes : List Held) : Type 0 where
   pub legal : Legal (entries_kept (journal_at nodes first_shard))
   pub placed : AllByRecursion (IsPlaced (creations_kept (journal_at nodes 0))) (entries_kept (journal_at nodes first_shard))

@@ -41,12 +41,12 @@ seat_since state_of facts since seat = record {
   leaves = leaves_kept facts since seat.log;
 }
 
--- an opening of the log finds what is kept, and nothing else
+-- an opening of the log finds what is stored, and nothing else
 pub record Keeps (seat : SeatView) (kept : List Kept) : Type 0 where
   pub sound : AreSound kept
   pub found : IsTrue seat.tells → seat.holds (spellings kept)
 
--- the node is in this state, and its log has what its journal keeps
+-- the node is in this state, and its log has what its journal stores
 pub record IsHeld (seat : SeatView) (held : Held) : Type 0 where
   pub same : held.state ≡ seat.state
   pub written : IsTrue seat.tells → seat.records ≡ spellings held.kept

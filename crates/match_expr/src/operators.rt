@@ -171,8 +171,8 @@ pub fn some_documents(value: &Value) -> Option<&Array>
     }
 }
 
-/// Returns the test by an operator that holds no queries and no tests. Fails with `BadOperand` where it takes no such operand, and for want
-/// of memory.
+/// Returns the test by an operator that holds no queries and no tests. Fails with `BadOperand` where it takes no such operand, and with
+/// `Memory` if memory runs out.
 pub fn plain_test(alloc: Global, operator: Plain, value: &Value) -> Result<Test, ParseFault>
     ensures gives { (inner : Fields → Result Query QueryFault) (tests : Fields → Result queries.Tests QueryFault) →
         Gives test_of result (read_test inner tests (plain_of operator) (datum_of value.now)) }

@@ -1,4 +1,4 @@
--- What a node keeps in its journal, record by record, with a shard's entries as the history has them.
+-- What a node stores in its journal, record by record, with a shard's entries as the history has them.
 use Rattle.std.specs.Prelude.{ℕ, List, [], ◌∷◌, max}
 use Rattle.reply_model.specs.Catalogue.{Creation}
 use Rattle.reply_model.specs.Tables.{Table}
@@ -12,7 +12,7 @@ pub data Kept : Type 0 where
   kept_life : ℕ → Kept
   kept_block : ℕ → Kept
 
--- the record that keeps it
+-- the record that stores it
 abbrev pub record_kept : Kept → Record
 record_kept (kept_table t) = table_record t
 record_kept (kept_entry e) = record_of e
@@ -20,7 +20,7 @@ record_kept (kept_creation c) = create_record c
 record_kept (kept_life n) = life_record n
 record_kept (kept_block n) = block_record n
 
--- the entries that are kept, in order
+-- the entries that are stored, in order
 abbrev pub entries_kept : List Kept → List Entry
 entries_kept [] = []
 entries_kept (kept_entry e ∷ kept) = e ∷ entries_kept kept

@@ -1,4 +1,4 @@
--- How a shard serves statements and reads on what it keeps.
+-- How a shard serves statements and reads on what it stores.
 use Rattle.std.specs.Prelude.{◌≡◌, ℕ, ◌+◌, List, [], ◌∷◌, ◌++◌, Bool, true, false, Option, Some, None, filter, if◌then◌else◌}
 use Rattle.reply_model.specs.Tree.{Fields}
 use Rattle.reply_model.specs.Notes.{Seen, new_statement, done_before, older_than, notes_of, seen}

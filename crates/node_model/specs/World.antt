@@ -9,7 +9,7 @@ use Rattle.node_model.specs.Letters.{Letter, Input, client_input, letter_input, 
 use Rattle.node_model.specs.States.{Router, NodeState, catalogue_state, shard_state, router_state, new_catalogue, new_shard, new_router}
 use Rattle.node_model.specs.Steps.{Step}
 
--- a node and what its journal keeps
+-- a node and what its journal stores
 pub record Held : Type 0 where
   pub state : NodeState
   pub kept : List Kept
@@ -102,7 +102,7 @@ start routers = record {
   now = 0;
 }
 
--- what the journal at a place keeps
+-- what the journal at a place stores
 abbrev pub journal_at : List Held → ℕ → List Kept
 journal_at [] at = []
 journal_at (h ∷ nodes) zero = h.kept

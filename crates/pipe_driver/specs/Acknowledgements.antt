@@ -25,7 +25,7 @@ pub record IsNotedBefore {D : Type 0} (finds : List ℕ → List (List ℕ) → 
   pub left : (file : List ℕ) → left_since disk note.moment file → Passes given last (λ v. finds file (spellings (journal_at v.nodes at)))
 
 -- The byte at an offset of what was written is acknowledged: in a world on the way of the run all bytes up to it were given, and each disk was noted
--- before it was written, at a moment from which on no crash leaves less than what its node keeps in that world.
+-- before it was written, at a moment from which on the file after a crash has no less than what its node stores in that world.
 pub record IsAcknowledged {D : Type 0} (finds : List ℕ → List (List ℕ) → Type 0) (place : D → List ℕ) (moment : D → ℕ) (left_since : D → ℕ → Outcomes)
     (output : World → List ℕ → Type 0) (start : World) (notes : List Note) (held_before : List ℕ) (disks : List D) (last : World) (put : List ℕ)
     (offset : ℕ) : Type 0 where

@@ -145,7 +145,7 @@ abbrev pub changed_by : Change → Fields → Result Fields WriteFault
 changed_by (replacement document) before = if_same_key before (with_old_key document (key_of document) (key_of before))
 changed_by (edits es) before = edited_by es before
 
--- A document is kept where it has at most 16 mebibytes and 100 levels (MongoDB manual, "MongoDB Limits and Thresholds", BSON
+-- A document is stored where it has at most 16 mebibytes and 100 levels (MongoDB manual, "MongoDB Limits and Thresholds", BSON
 -- document size and nested depth).
 abbrev pub is_too_large : Fields → Bool
 is_too_large document = nat_lt most_bytes_kept (length (written document)) || nat_lt most_depth_kept (document_depth document)

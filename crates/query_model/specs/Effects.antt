@@ -19,7 +19,7 @@ pub record Effect : Type 0 where
   pub count : ℕ
   -- how many it changed
   pub modified : ℕ
-  -- the `_id` of the document that an upsert put in
+  -- the `_id` of the document that an upsert inserted
   pub upserted : Option Datum
 
 abbrev pub inserted : Fields → Effect

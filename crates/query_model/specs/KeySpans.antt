@@ -1,5 +1,5 @@
--- The keys that a query asks for (MongoDB manual, "Targeted Operations vs. Broadcast Operations"; "Comparison Query Operators"). A query asks
--- for one key by an equality on `_id` at the top of the query, and not inside an operator; of several the first is taken (own).
+-- The keys that a query targets (MongoDB manual, "Targeted Operations vs. Broadcast Operations"; "Comparison Query Operators"). A query targets
+-- one key by an equality on `_id` at the top of the query, and not inside an operator; of several the first is taken (own).
 -- The documents of which a query holds have their keys in the query's span, a list of ranges and points: of `$eq`, `$in`, `$gt`, `$gte`, `$lt` and
 -- `$lte` on `_id`, at the top and inside `$and`. The range goes from the greatest operand of `$gt` and `$gte` to the least of `$lt` and `$lte`. It has
 -- its least key also where that is of `$gt`, and it does not end where another kind of values begins: other keys in it do no harm (own). The points are

@@ -13,7 +13,7 @@ pub data PathFault : Type 0 where
   digits_part : PathFault
   -- a part begins with $
   dollar_part : PathFault
-  -- more parts than are kept
+  -- more parts than are supported
   too_long : PathFault
 
 -- the names of the fields to go through, outermost first

@@ -71,7 +71,7 @@ pub fn changes_keep_keys()
     ensures upserts { (asked : Query) → key_of (start_of asked) ≡ key_asked asked }
 {}
 
-/// Documents that their spellings spell are one where these are: so an update counts as modified just what became other data.
+/// Documents that are determined by their encodings are equal where these are: so an update counts as modified just what became other data.
 #[tactic(auto, using(crate::proofs::EditOrder::one_spelling))]
 pub fn modified_is_other_data()
     ensures { (before after : Fields) → ReadsAs (written before) before → ReadsAs (written after) after → bytes_eq (written before) (written after) ≡ true

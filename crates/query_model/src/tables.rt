@@ -78,7 +78,7 @@ pub fn counted_at_a()
     ensures exists_not { answers_at_a "$exists" (boolean_value false) ≡ Ok (false ∷ false ∷ false ∷ false ∷ false ∷ false ∷ true ∷ []) }
 {}
 
-/// One element by itself meets all operators of `$elemMatch`; its own elements are none of it. `$not` holds where not all hold.
+/// One element by itself passes all operators of `$elemMatch`; its own elements are none of it. `$not` holds where not all hold.
 pub fn elements_at_a()
     ensures element { answers_at_a "$elemMatch" (inner "$gt" (number 5)) ≡ Ok (false ∷ true ∷ false ∷ false ∷ false ∷ false ∷ false ∷ []) }
     ensures element_size { answers_at_a "$elemMatch" (inner "$size" (number 2)) ≡ Ok (false ∷ false ∷ true ∷ false ∷ false ∷ false ∷ false ∷ []) }
@@ -119,7 +119,7 @@ pub fn arrays_at_b()
     ensures negated { answers_at_b "$not" (inner "$eq" (number 5)) ≡ Ok (false ∷ true ∷ true ∷ true ∷ false ∷ false ∷ []) }
 {}
 
-/// `$elemMatch` with a query: one element, which is a document, meets all of it. `{}` is met by any document.
+/// `$elemMatch` with a query: one element, which is a document, matches all of it. `{}` is matched by any document.
 pub fn documents_at_a()
     ensures one_document { answers (one "a" (inner "$elemMatch" (inner "b" (number 5)))) documents_with_b
         ≡ Ok (true ∷ false ∷ false ∷ false ∷ false ∷ true ∷ []) }

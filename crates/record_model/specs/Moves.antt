@@ -57,12 +57,12 @@ pub record ReceivedBatch : Type 0 where
   pub time : ℕ
   pub batch : Batch
 
--- the recipient has all documents, and what the donor keeps of sessions
+-- the recipient has all documents, and what the donor stores of sessions
 pub record ReceiveDone : Type 0 where
   pub id : RequestId
   pub sessions : List SessionRecord
 
--- what a shard keeps of a range below a time is deleted
+-- what a shard stores of a range below a time is deleted
 pub record Deletion : Type 0 where
   pub namespace : List ℕ
   pub range : Range

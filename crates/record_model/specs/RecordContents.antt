@@ -24,7 +24,7 @@ error_among (error ∷ errors) code = if int_eq (pos error.number) code then Som
 abbrev pub IsKnown : Option ErrorCode → Type 0
 IsKnown error = error ≡ error_among known_errors (code_of error)
 
--- the record keeps the entry, of this shard
+-- the record stores the entry, of this shard
 pub record Keeps (shard : ℕ) (w : EntryWords) (e : Entry) : Type 0 where
   pub own : record_of e ≡ entry_record w
   pub place : e.shard ≡ shard

@@ -1,4 +1,4 @@
--- What a node keeps in its journal. The records are own; an entry's words are those of the client (MongoDB manual, "insert",
+-- What a node stores in its journal. The records are own; an entry's operands are those of the client (MongoDB manual, "insert",
 -- "update" and "delete").
 use Rattle.std.specs.Prelude.{ℕ, ℤ, pos, List, Option, Some, None}
 use Rattle.base_model.specs.Errors.{ErrorCode}

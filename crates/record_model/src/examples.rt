@@ -24,7 +24,7 @@ pub fn spellings()
 {}
 
 /// These records keep the collection and, in order, the insert, the update and the delete, and tables, lives and blocks keep nothing;
-/// a shard of another number keeps no such entries.
+/// a shard of another number stores no such entries.
 pub fn what_is_kept()
     ensures entries { KeepEntries 1 records (insert ∷ update ∷ delete ∷ []) }
     ensures creates { creates_of records ≡ creation ∷ [] }

@@ -8,7 +8,7 @@ ghost use Rattle.record_model.specs.RecordContents.{IsKnown, KeepEntries};
 ghost use Rattle.record_model.specs.Records.{Record, record_of};
 ghost use Rattle.record_model.specs.RecordFormat.{IsSound, spelled};
 
-/// Bytes spell one record at most, in the newest format.
+/// Bytes encode one record at most, in the newest format.
 #[tactic(auto, using(crate::proofs::OneRecord::one_record))]
 pub fn one_record()
     ensures { (a b : Record) → IsSound a → IsSound b → spelled 1 a ≡ spelled 1 b → a ≡ b }

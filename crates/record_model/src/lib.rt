@@ -1,4 +1,4 @@
-//! What the journal of a node keeps, and which bytes spell it. Definitions, and the laws between them: a law is a function
+//! What the journal of a node stores, and which bytes encode it. Definitions, and the laws between them: a law is a function
 //! that does nothing, whose contract is the law.
 #![tactic(auto)]
 

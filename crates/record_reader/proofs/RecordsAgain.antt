@@ -66,7 +66,7 @@ pub record_again : (r : Record) → IsSound r → IsHeld r → record_at (spelle
 unfolding record_at byte_at
 record_again r sound held = fields_again r sound held
 
--- What a call found in bytes that spell a record is that record.
+-- What a call found in bytes that encode a record is that record.
 pub found_record : {X : Type 0} (view : X → Record) (x : X) (bytes : List ℕ) (r : Record) → record_at bytes ≡ Some (view x) → IsSound r → IsHeld r →
     spelled 1 r ≡ bytes → Path (Option Record) (Some r) (Some (view x))
 found_record view x bytes r found sound held same = sym (record_again r sound held) ∙ ap record_at same ∙ found

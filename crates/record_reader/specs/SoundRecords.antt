@@ -30,7 +30,7 @@ IsHeld (resolve_record r) = IsUtf8 r.namespace × IsHeldRange r.range
 IsHeld (purge_record p) = IsUtf8 p.namespace
 IsHeld other = Unit {0}
 
--- what is kept is the result where it is the same, and none is where it is another
+-- the result is what was read where it is the same, and there is none where it is another
 abbrev pub IsDecided : {T : Type 0} → T → Result Bool Memory → Result T RecordFault → Type 0
 IsDecided kept (Ok true) result = result ≡ Ok kept
 IsDecided kept (Ok false) result = result ≡ Err fault.NoRecord

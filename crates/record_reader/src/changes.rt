@@ -1,4 +1,4 @@
-//! Reading what the catalogue keeps of its changes.
+//! Reading what the catalogue stores of its changes.
 
 ghost use Rattle.std.specs.Prelude.{IfOk};
 ghost use Rattle.shard_records.specs.Meanings.{record_view};

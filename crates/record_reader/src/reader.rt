@@ -86,7 +86,7 @@ fn read_block(bytes: &[u8]) -> Result<Record, RecordFault>
     Ok(Record::Block(number))
 }
 
-/// Reads the fields of a record of that kind: what a shard keeps outside of moves.
+/// Reads the fields of a record of that kind: what a shard stores outside of moves.
 #[tactic(auto, unfolding(crate::specs::RecordReaders::shard_fields_at))]
 fn read_shard_fields(alloc: Global, kind: u8, bytes: &[u8]) -> Result<Record, RecordFault>
     ensures found { Finds (λ r. record_view r) result (shard_fields_at kind bytes.now) }
@@ -101,7 +101,7 @@ fn read_shard_fields(alloc: Global, kind: u8, bytes: &[u8]) -> Result<Record, Re
     }
 }
 
-/// Reads the fields of a record of that kind: what a shard keeps of moves.
+/// Reads the fields of a record of that kind: what a shard stores of moves.
 #[tactic(auto, unfolding(crate::specs::RecordReaders::move_fields_at))]
 fn read_move_fields(alloc: Global, kind: u8, bytes: &[u8]) -> Result<Record, RecordFault>
     ensures found { Finds (λ r. record_view r) result (move_fields_at kind bytes.now) }
@@ -121,7 +121,7 @@ fn read_move_fields(alloc: Global, kind: u8, bytes: &[u8]) -> Result<Record, Rec
     }
 }
 
-/// Reads the fields of a record of that kind: what the catalogue keeps.
+/// Reads the fields of a record of that kind: what the catalogue stores.
 #[tactic(auto, unfolding(crate::specs::RecordReaders::catalogue_fields_at))]
 fn read_catalogue_fields(alloc: Global, kind: u8, bytes: &[u8]) -> Result<Record, RecordFault>
     ensures found { Finds (λ r. record_view r) result (catalogue_fields_at kind bytes.now) }
@@ -138,7 +138,7 @@ fn read_catalogue_fields(alloc: Global, kind: u8, bytes: &[u8]) -> Result<Record
     }
 }
 
-/// Reads the fields of a record of that kind: what a router keeps.
+/// Reads the fields of a record of that kind: what a router stores.
 #[tactic(auto, unfolding(crate::specs::RecordReaders::router_fields_at))]
 fn read_router_fields(kind: u8, bytes: &[u8]) -> Result<Record, RecordFault>
     ensures found { Finds (λ r. record_view r) result (router_fields_at kind bytes.now) }
@@ -168,7 +168,7 @@ fn read_fields(alloc: Global, kind: u8, bytes: &[u8]) -> Result<Record, RecordFa
     }
 }
 
-/// Reads the record that bytes begin with, if they spell one.
+/// Reads the record that bytes begin with, if they encode one.
 #[tactic(auto, unfolding(crate::specs::RecordReaders::record_at))]
 fn record_in(alloc: Global, bytes: &[u8]) -> Result<Record, RecordFault>
     ensures found { Finds (λ r. record_view r) result (record_at bytes.now) }
@@ -195,7 +195,7 @@ fn is_spelled(alloc: Global, kept: &Record, bytes: &[u8]) -> Result<bool, Memory
     Ok(spelling.as_slice() == bytes)
 }
 
-/// Returns what is kept, where it is known to be the same.
+/// Returns what was read, where it is known to be the same.
 fn kept_if<T: Drop>(kept: T, same: Result<bool, Memory>) -> Result<T, RecordFault>
     ensures { IsDecided kept same result }
 {
@@ -216,7 +216,7 @@ pub fn read_record(alloc: Global, bytes: &[u8]) -> Result<Record, RecordFault>
     ensures spelled { IfOk result (λ r. spelled 1 (record_view r) ≡ bytes.now) }
     ensures sound { IfOk result (λ r. IsSound (record_view r)) }
     ensures held { IfOk result (λ r. IsHeld (record_view r)) }
-    // The record that the bytes spell is read, unless memory runs out.
+    // The record that the bytes encode is read, unless memory runs out.
     ensures only { (r : records.Record) → IsSound r → IsHeld r → spelled 1 r ≡ bytes.now → Finds (λ x. record_view x) result (Some r) }
 {
     let kept = record_in(alloc, bytes)?;

@@ -1,4 +1,4 @@
-//! Reading what is kept of sessions.
+//! Reading what is stored of sessions.
 
 ghost use Rattle.std.specs.Prelude.{◌≡◌, ◌<◌, ◌^◌, None, length, map, nat_lt, true, IfOk};
 ghost use Rattle.std.specs.List.{AllByRecursion};
@@ -74,7 +74,7 @@ fn read_statements(
     read_each_statement(alloc, count, rest)
 }
 
-/// Reads what is kept of a session.
+/// Reads what is stored of a session.
 #[tactic(auto, unfolding(crate::specs::RecordReaders::session_record_at), using(crate::proofs::Held::session_held))]
 fn read_session_record(alloc: Global, bytes: &[u8]) -> Result<(SessionRecord, &[u8]), RecordFault>
     ensures found { Finds (λ x. (session_record_view x.0, x.1.now)) result (session_record_at bytes.now) }

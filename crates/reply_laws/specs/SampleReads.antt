@@ -29,7 +29,7 @@ two = int32_value (pos 2)
 abbrev pub three : Datum
 three = int32_value (pos 3)
 
--- {_id: 1}, {_id: 2} and {_id: 3}, put in at Timestamp(1000, 2), (1000, 3) and (1000, 4)
+-- {_id: 1}, {_id: 2} and {_id: 3}, inserted at Timestamp(1000, 2), (1000, 3) and (1000, 4)
 abbrev pub kept : List Entry
 kept = entry_at 2 2 1 0 one done ∷ entry_at 3 2 1 1 two done ∷ entry_at 4 2 1 2 three done ∷ []
 

@@ -20,7 +20,7 @@ use Rattle.reply_laws.specs.SampleReads.{batch, one, two}
 abbrev pub valued : Datum → Datum → Fields
 valued key value = field (codes "_id") key (field (codes "v") value no_fields)
 
--- {_id: 1, v: first} and {_id: 2, v: second} are put in at Timestamp(1000, 2) and (1000, 3)
+-- {_id: 1, v: first} and {_id: 2, v: second} are inserted at Timestamp(1000, 2) and (1000, 3)
 abbrev pub both_valued : (first second : Datum) → List Entry
 both_valued first second =
     record (entry_at 2 2 1 0 one done) { operation = insert_operation (valued one first) }

@@ -15,7 +15,7 @@ use Rattle.reply_model.specs.Exchanges.{Asked, Answered}
 use Rattle.reply_laws.specs.SampleExchanges.{asks, entry_at, tells}
 use Rattle.reply_laws.specs.SampleReads.{one, two, three, four}
 
--- {_id: 1}, {_id: 2}, {_id: 3} and {_id: 4} are put in at Timestamp(1000, 2) to (1000, 5)
+-- {_id: 1}, {_id: 2}, {_id: 3} and {_id: 4} are inserted at Timestamp(1000, 2) to (1000, 5)
 abbrev pub grown : List Entry
 grown = entry_at 2 2 1 0 one done ∷ entry_at 3 2 1 1 two done ∷ entry_at 4 2 1 2 three done ∷ entry_at 5 3 1 0 four done ∷ []
 

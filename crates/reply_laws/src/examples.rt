@@ -67,7 +67,7 @@ pub fn one_history()
 {}
 
 /// Of three documents the second has the key of the first. The error ends the insert where it is ordered, and else the third document
-/// is put in. With moreToCome it is answered just so, and nothing is put.
+/// is inserted. With moreToCome it is answered just so, and no reply is put.
 pub fn many_statements()
     ensures ordered { IsToldRightly two_entries (three_asked false true) (tells (three_asked false true) 3 3 (second_fails 1 3)) }
     ensures unordered { IsToldRightly three_entries (three_asked false false) (tells (three_asked false false) 3 4 (second_fails 2 4)) }

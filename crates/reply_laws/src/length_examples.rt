@@ -1,4 +1,4 @@
-//! Worked values of what is too long: documents of 16777216 bytes, the most that is kept, and a longer one.
+//! Worked values of what is too long: documents of 16777216 bytes, the most that is stored, and a longer one.
 
 ghost use Rattle.std.specs.Prelude.{◌≡◌, ◌∷◌, ℕ, List, []};
 ghost use Rattle.pipeline_model.specs.SortKeys.{SortSpec};
@@ -15,7 +15,7 @@ pub fn whole_answers()
         → IsTooLong history (sort_stage spec ∷ limit_stage 6 ∷ []) n → ⊥ }
 {}
 
-/// A document of an answer that is longer than one that is kept is too long, with its own bytes.
+/// A document of an answer that is longer than one that is stored is too long, with its own bytes.
 pub fn single_documents()
     ensures longer { (history : List Entry) → Holds 1 16777217 history → IsTooLong history [] 16777217 }
     ensures longer_alone { (history : List Entry) (n : ℕ) → Holds 1 16777217 history → IsTooLong history [] n → n ≡ 16777217 }

@@ -31,7 +31,7 @@ pub fn retried()
     ensures own_number { Sends sent_again (entry_at 3 3 1 0 five (fails_with duplicate_key)) → ⊥ }
 {}
 
-/// One that failed fails the same when it is sent again, though its document could be put in by then.
+/// One that failed fails the same when it is sent again, though its document could be inserted by then.
 pub fn retried_error()
     ensures same { IsToldJust until_removed failing_sent failing_again 9 5 duplicate_reply }
     ensures done_twice { AreNumbered (failed ∷ entry_under sevens 5 (pos 4) 0 (insert_operation (with_id long_five)) done ∷ []) → ⊥ }

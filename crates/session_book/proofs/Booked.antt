@@ -13,7 +13,7 @@ use Rattle.statement_views.specs.Views.{session_view}
 use Rattle.session_book.specs.Statements.{Statements, seen_among, seen_after}
 use Rattle.session_book.specs.Books.{seen_of, room_of, note_view}
 
--- what is kept of a session, where w is what is kept of s from now on, and was what was before
+-- what is stored of a session, where w is what is stored of s from now on, and was what was before
 pub record Changes (s : history.Session) (old : history.Session → Option Statements) (new : history.Session → Option Statements) (was : Option Statements) (w : Statements) : Type 0 where
   pub here : old s ≡ was
   pub changed : (x : history.Session) → new x ≡ (if same_session s x then Some w else old x)

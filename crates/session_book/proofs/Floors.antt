@@ -1,4 +1,4 @@
--- What is kept of all sessions, as notes.
+-- What is stored of all sessions, as notes.
 use Rattle.std.proofs.Common.{◌≡◌, ◌<◌, ◌≤◌, ℕ, List, [], ◌∷◌, ◌++◌, length, append_assoc, refl, sym, ap, ◌∙◌}
 use Rattle.std.specs.Prelude.{Bool, true, false, Option, Some, None, if◌then◌else◌}
 use Rattle.std.specs.List.{AllByRecursion, slice_get, slice_index_or}
@@ -22,7 +22,7 @@ use Rattle.session_book.proofs.Merging.{kept_notes, other_session, seen_kept}
 use Rattle.session_book.proofs.Places.{itself}
 use Rattle.session_book.proofs.Sessions.{place_at, session_order}
 
--- the notes of what is kept of each of these sessions, in their order
+-- the notes of what is stored of each of these sessions, in their order
 abbrev pub floor_notes : List Statements → List (Session × ℕ) → List (Note Reply)
 floor_notes kept [] = []
 floor_notes kept (e ∷ entries) = kept_notes (session_view e.0) (statements_at kept (Some e.1)) ++ floor_notes kept entries

@@ -1,4 +1,4 @@
--- What a number is against what is kept of a session, as against notes; and once one more statement was merged.
+-- What a number is against what is stored of a session, as against notes; and once one more statement was merged.
 use Rattle.std.proofs.Common.{◌≡◌, ◌≢◌, ℕ, ℤ, List, [], ◌∷◌, refl, sym, ap, subst, ◌∙◌, arith}
 use Rattle.std.specs.Prelude.{Bool, true, false, ◌&&◌, Option, Some, None, ◌==◌, int_lt, if◌then◌else◌}
 use Rattle.std.specs.Int.{int_max}
@@ -100,7 +100,7 @@ seen_some n t ns true is some =
     ∙ ap (λ (g : Option ℤ). seen_beside n g (noted_if (int_eq t n.transaction) n.session t (with_index n.index ns))) (sym (greatest_is n.session t ns ∙ ap (λ (b : Bool). greatest_if b t) is))
     ∙ ap (λ (f : Option (Note Reply)). seen_beside n (greatest_of n.session (statement_notes n.session t ns)) f) (sym (noted_is n t ns))
 
--- a number against what is kept of its session is what it is against these notes
+-- a number against what is stored of its session is what it is against these notes
 pub seen_kept : (o : Option Statements) (n : StatementNumber) → seen_of o n ≡ seen (kept_notes n.session o) n
 seen_kept None n = refl
 seen_kept (Some w) n = by_notes_there w.notes refl

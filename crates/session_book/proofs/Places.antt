@@ -1,4 +1,4 @@
--- What is kept of sessions once other is kept at one place, or one place more.
+-- What is stored of sessions once other is kept at one place, or one place more.
 use Rattle.std.proofs.Common.{◌≡◌, ◌≢◌, ◌+◌, ◌<◌, ℕ, List, [], ◌∷◌, ◌++◌, length, refl, sym, ap, ◌∙◌, arith}
 use Rattle.std.specs.Prelude.{Bool, true, false, Option, Some, None, if◌then◌else◌}
 use Rattle.std.specs.List.{slice_get, slice_set, slice_index_or}
@@ -30,7 +30,7 @@ differ s x apart same = no (sym (itself s) ∙ ap (λ (y : history.Session). sam
     no : true ≢ false
     no h = cc
 
--- what is kept of each session, by its place
+-- what is stored of each session, by its place
 abbrev pub kept_by : List (Session × ℕ) → List Statements → history.Session → Option Statements
 kept_by places kept x = statements_at kept (place_of places x)
 

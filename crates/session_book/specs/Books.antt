@@ -1,4 +1,4 @@
--- What the book answers, by what it keeps of each session.
+-- What the book returns, by what it stores of each session.
 use Rattle.std.specs.Prelude.{◌≡◌, ℕ, Bool, true, false, List, Option, Some, None}
 use Rattle.cluster_base.specs.declared.identity.Session.{Session}
 use Rattle.cluster_base.specs.declared.identity.Stmt.{Stmt}
@@ -27,7 +27,7 @@ is_new seen = false
 abbrev pub note_view : Stmt → Time → Reply → Note Reply
 note_view s time reply = record { number = number_view s; time = time.0; told = reply }
 
--- what is kept of a session
+-- what is stored of a session
 abbrev pub kept_of : Book → history.Session → Option Statements
 kept_of book session = statements_at book.kept.items (place_of book.places.entries session)
 

@@ -1,4 +1,4 @@
--- What is kept of one session (MongoDB manual, "Server Sessions"): of its greatest transaction the statements that were done.
+-- What is stored of one session (MongoDB manual, "Server Sessions"): of its greatest transaction the statements that were done.
 use Rattle.std.specs.Prelude.{◌≡◌, ◌≢◌, ◌+◌, ◌<◌, ◌≤◌, ℕ, ℤ, List, [], ◌∷◌, length, slice_index_or, Bool, true, false, ◌&&◌, ◌==◌, Option, Some, None, int_lt, if◌then◌else◌}
 use Rattle.std.specs.Ordering.{int_eq}
 use Rattle.history_model.specs.Notes.{Seen, new_statement, done_before, older_than}

@@ -58,7 +58,7 @@ fn is_same(session: &Session, other: &Session) -> bool
     }
 }
 
-/// A session, and the place of what is kept of it.
+/// A session, and the place of what is stored of it.
 #[derive(Clone, Copy)]
 struct Place {
     session: Session,

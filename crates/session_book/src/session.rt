@@ -1,4 +1,4 @@
-//! What is kept of one session.
+//! What is stored of one session.
 
 ghost use Rattle.std.specs.Prelude.{◌≡◌, ◌<◌, ◌≤◌, ◌+◌, ◌++◌, ◌∷◌, ◌⊎◌, ◌==◌, ℕ, ℤ, [], Some, None, IfOk, IfErr, IfSome, OnOk, if◌then◌else◌};
 ghost use Rattle.std.specs.List.{insert};
@@ -189,7 +189,7 @@ impl Kept {
     }
 }
 
-// Adds what is kept of a session, if something is, after others. Fails when out of memory.
+// Adds what is stored of a session, if something is, after others. Fails when out of memory.
 pub fn push_session(
     sessions: &mut Vec<SessionRecord>,
     session: Session,

@@ -66,5 +66,5 @@ IsWritableRecord (deletion_record d) = IsWritableRange d.range
 IsWritableRecord (split_record s) = IsWritable (key_document s.middle)
 IsWritableRecord (commit_record c) = IsWritableRange c.range
 IsWritableRecord (resolve_record r) = IsWritableRange r.range
--- numbers and names are, and a table's type keeps it
+-- numbers and names are, and a table is by its type
 IsWritableRecord other = Unit {0}

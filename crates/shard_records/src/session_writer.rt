@@ -60,7 +60,7 @@ fn put_transaction(kept: &SessionRecord, out: &mut Vec<u8>) -> Result<(), Memory
     put_u64(kept.txn.cast_unsigned(), out)
 }
 
-/// Writes what is kept of a session.
+/// Writes what is stored of a session.
 pub(crate) fn put_session_record(kept: &SessionRecord, out: &mut Vec<u8>) -> Result<(), Memory>
     requires { IsWritableSession (session_record_view kept.now) }
     ensures ok { OnOk result (out.new.items ≡ out.old.items ++ spelled_session_record (session_record_view kept.now)) }

@@ -36,7 +36,7 @@ pub(crate) const NEWEST_FORMAT: u8 = 0x01;
 pub fn write_record(kept: &Record, out: &mut Vec<u8>) -> Result<(), Memory>
     requires { IsWritableRecord (record_view kept.now) }
     ensures ok { OnOk result (out.new.items ≡ out.old.items ++ spelled 1 (record_view kept.now)) }
-    // Where it is sound, its bytes spell no other record.
+    // Where it is sound, its bytes encode no other record.
     ensures sound { OnOk result (IsSound (record_view kept.now)) }
     ensures err { OnErr result (out.new.items ≡ out.old.items) }
 {

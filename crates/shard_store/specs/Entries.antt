@@ -1,4 +1,4 @@
--- The entries that a shard keeps and plans, as the history has them.
+-- The entries that a shard stores and plans, as the history has them.
 use Rattle.std.specs.Prelude.{ℕ, List, map, Bool, true, false, Option, None}
 use Rattle.std.specs.Arc.{arc_value}
 use Rattle.std.specs.Option.{option_map}
@@ -25,7 +25,7 @@ abbrev pub operation_of : Words → Operation
 operation_of (Insert document) = insert_operation (arc_value document)
 operation_of (Change words) = operation_view (arc_value words)
 
--- what a statement does whose words are lent
+-- what a statement does whose operands are borrowed
 abbrev pub operation_in : LentWords → Operation
 operation_in (lent.Insert document) = insert_operation (arc_value document.now)
 operation_in (lent.Change words) = operation_view (arc_value words.now)
@@ -46,7 +46,7 @@ entry_view shard namespace p = record {
   outcome = outcome_view p.outcome;
 }
 
--- what is kept of an entry: its namespace, and what was planned
+-- what is stored of an entry: its namespace, and what was planned
 abbrev pub Kept : Type 0
 Kept = List ℕ × Planned
 

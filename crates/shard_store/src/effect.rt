@@ -24,7 +24,7 @@ use std::sync::Arc;
 use update_ops::{Applied, Op, apply};
 use value_compare::{Key, key_of};
 
-/// A document that is kept has at most so many bytes (MongoDB manual, "MongoDB Limits and Thresholds", BSON document size).
+/// A document that is stored has at most so many bytes (MongoDB manual, "MongoDB Limits and Thresholds", BSON document size).
 const MOST_BYTES: usize = 16_777_216;
 
 /// What a statement does: the key that it acts under, what it leaves there, and its outcome.

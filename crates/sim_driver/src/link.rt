@@ -65,7 +65,7 @@ impl Link {
     /// link must be closed.
     ///
     /// # Errors
-    /// As `ask_all` has them; `Status::OutOfMemory` also where the bytes find no room.
+    /// As `ask_all` has them; `Status::OutOfMemory` also if memory runs out for the bytes.
     pub fn take<N: Node<Request = Request>, L: Log>(
         &mut self,
         alloc: Global,

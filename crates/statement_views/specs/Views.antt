@@ -1,4 +1,4 @@
--- What sessions, numbers of statements and the words of statements are by the definitions of the history, and what is kept of sessions.
+-- What sessions, numbers of statements and the operands of statements are by the definitions of the history, and what is stored of sessions.
 use Rattle.std.specs.Prelude.{List, map}
 use Rattle.cluster_base.specs.declared.identity.Session.{Session}
 use Rattle.cluster_base.specs.declared.identity.Session.TheVariants.{Client, Router}

@@ -1,4 +1,4 @@
-//! What the sessions, numbers and words of write statements are by the definitions of the history; and what is kept of sessions, as plain
+//! What the sessions, numbers and operands of write statements are by the definitions of the history; and what is stored of sessions, as plain
 //! data.
 #![tactic(auto)]
 

@@ -1,4 +1,4 @@
-//! What is kept of sessions, as plain data (MongoDB manual, "Retryable Writes", "Server Sessions").
+//! What is stored of sessions, as plain data (MongoDB manual, "Retryable Writes", "Server Sessions").
 
 use cluster_base::{Session, Time};
 use value_compare::Reply;
@@ -25,7 +25,7 @@ pub struct SessionRecord {
     pub statements: Vec<StatementRecord>,
 }
 
-/// What is kept of sessions.
+/// What is stored of sessions.
 #[derive(Drop)]
 pub struct Sessions {
     /// The sessions; in order, each comes after the last one: clients' by their bytes, then routers' by node, life and request.

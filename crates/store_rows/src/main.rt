@@ -1,4 +1,4 @@
-//! Checks rows of data about what is kept: names, codes and times, the bytes of records, tables of chunks, and a collection with its past
+//! Checks rows of data about what is stored: names, codes and times, the bytes of records, tables of chunks, and a collection with its past
 //! versions. For each file it prints how many rows hold, and each row that does not.
 #![tactic(auto)]
 

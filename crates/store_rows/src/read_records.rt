@@ -1,4 +1,4 @@
-//! Bytes that spell a record, and bytes that spell none.
+//! Bytes that encode a record, and bytes that encode none.
 
 use fixtures::{RowFault, Rows, bytes_of, field};
 use record_reader::{RecordFault, read_record};

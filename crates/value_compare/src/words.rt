@@ -6,9 +6,9 @@ use bson_values::Document;
 /// What one write statement does.
 #[derive(Drop)]
 pub enum OpWords {
-    /// Puts a document in.
+    /// Inserts a document.
     Insert(Document),
-    /// Changes the first document that meets the filter; with `upsert`, puts one in where none does.
+    /// Changes the first document that matches the filter; with `upsert`, inserts one where none does.
     Update {
         filter: Document,
         change: Document,
@@ -23,11 +23,11 @@ pub enum OpWords {
 /// The outcome of one write statement.
 #[derive(Drop)]
 pub struct Reply {
-    /// How many documents it met or put in.
+    /// How many documents it matched or inserted.
     pub n: u32,
     /// How many documents it changed.
     pub modified: u32,
-    /// The key of the document that an upsert put in.
+    /// The key of the document that an upsert inserted.
     pub upserted: Option<Key>,
     /// The number of its error, 0 for none (MongoDB manual, "Error Codes").
     pub code: i32,
