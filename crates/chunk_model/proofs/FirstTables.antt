@@ -46,7 +46,7 @@ owned_at_by : (c : Creation) (time : ℕ) (has : Bool) (shard : ℕ) → c.at �
 owned_at_by c time true shard later e = from_then c.at time later
 owned_at_by c time false shard later e = absurd (cc e)
 
--- who owns a key owns it since the collection began
+-- who owns a key owns it since the collection was created
 pub owned_at : (c : Creation) (key : Datum) (time shard : ℕ) → c.at ≤ time → owner_now (first_table c) key ≡ Some shard
     → owner_at (first_table c) key time ≡ Some first_shard
 owned_at c key time shard later e = owned_at_by c time _ shard later e

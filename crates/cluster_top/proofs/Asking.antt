@@ -1,4 +1,4 @@
--- Disks that are asked one after another.
+-- Disks whose lengths are read one after another.
 use Rattle.std.specs.Prelude.{◌≡◌, ◌↔◌, ℕ, zero, suc, ◌+◌, ◌<◌, Bool, true, false, IsTrue, List, [], ◌∷◌, length, map, Some, Result, Ok, Err, IfOk, OnOk, OnErr}
 use Rattle.std.proofs.Common.{refl, sym, subst, ◌∙◌, below_more, arith}
 use Rattle.std.specs.List.{slice_get}

@@ -1,4 +1,4 @@
--- What a crash leaves of disks: asked for their lengths, opened as journals, and written by nodes.
+-- The files of disks after a crash: their lengths read, opened as journals, and written by nodes.
 use Rattle.std.specs.Prelude.{◌≡◌, ◌⊎◌, ℕ, zero, suc, ◌+◌, ◌≤◌, Some, Bool, IsTrue, List, [], ◌∷◌, length, map}
 use Rattle.std.proofs.Common.{refl, sym, subst, inl, inr, arith}
 use Rattle.std.specs.List.{slice_get}
@@ -117,7 +117,7 @@ none_at_start routers zero = refl
 none_at_start routers (suc zero) = refl
 none_at_start routers (suc (suc at)) = none_of_routers 2 routers at
 
--- no record is what each node keeps at the start
+-- no record is what each node stores at the start
 pub of_the_start : (routers : ℕ) (w : World) (at : ℕ) (file : List ℕ) → LeadsTo (start routers) w → Stands file [] → IsOfTheWay routers w at file
 of_the_start routers w at file on stands = record {
   world = start routers;

@@ -1,4 +1,4 @@
--- Disks one after another: asked for their lengths, and opened as journals.
+-- Disks one after another: their lengths read, and opened as journals.
 use Rattle.std.specs.Prelude.{◌≡◌, ◌⊎◌, ℕ, zero, suc, ◌+◌, ◌<◌, ◌≤◌, Bool, IsTrue, List, [], ◌∷◌, ◌++◌, length, map, Some}
 use Rattle.std.proofs.Common.{refl, sym, ap, subst, ◌∙◌, inl, inr, arith}
 use Rattle.std.specs.List.{AllByRecursion, slice_get, slice_set}
@@ -50,7 +50,7 @@ other_at R (x ∷ xs) (y ∷ ys) (suc at) a are got =
     let there = other_at R xs ys at a are.1 got in
     record { b = there.b; here = there.here; are = there.are }
 
--- ASKED FOR THEIR LENGTHS
+-- THEIR LENGTHS READ
 
 module _ {D : Type 0} (facts : DiskFacts D) where
   asked_alone : (disk : D) → IsAsked facts disk disk

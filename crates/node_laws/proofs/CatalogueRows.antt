@@ -39,7 +39,7 @@ no_answers v asked answered cursors same = subst (λ l. AnswersFit v asked answe
 
 -- WHAT TABLES SAY
 
--- the table of a name is that of a collection that began, of this name
+-- the table of a name is that of a collection that was created, of this name
 pub record FromCreation (namespace : List ℕ) (creations : List Creation) (t : Table) : Type 0 where
   pub creation : Creation
   pub begun : IsIn creation creations
@@ -134,7 +134,7 @@ still w book at kept c d mail good fits le new met letters = record {
   };
 }
 
--- the answer to an ask is true
+-- the answer to a request is true
 tell_fits : (v : View) (asked : List Asked) (me time : ℕ) (kept : List Kept) (m : Letter) (c : Catalogue) (namespace : List ℕ) (create : Bool) (at : At)
     → CatalogueFits asked 0 kept c → v.journal 0 ≡ kept → v.bound 0 ≡ max c.time m.time → AtFits at m.time
     → TableFits v (max c.time m.time) namespace at (table_of namespace c.tables)

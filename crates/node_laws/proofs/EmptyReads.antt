@@ -26,7 +26,7 @@ use Rattle.node_laws.proofs.KnownTables.{FoundTable, table_found, table_there, o
 span_owned : (c : Creation) (at : ℕ) (span : List Span) → c.at ≤ at → owner_of_span (first_table c) at span ≡ None → ⊥
 span_owned c at span before none = some_none (sym ((every_key_at c null_value at refl).1 before) ∙ none)
 
--- the one collection of a name began after the time
+-- the one collection of a name was created after the time
 begins_after : (v : View) (namespace : List ℕ) (time : ℕ) (c : Creation) → AreBegun (v.bound 0) (creations_in v) → IsIn c (creations_in v)
     → c.namespace ≡ namespace → time < c.at
     → NoneBegan v namespace time

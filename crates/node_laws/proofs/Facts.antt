@@ -63,7 +63,7 @@ pub record IsWriteOf (v : View) (asked : List Asked) (receiver time : ℕ) (id :
   pub owned : AllByRecursion (IsOwned v time namespace receiver) statements
   pub fresh : request.time ≤ time
 
--- a collection of this name began by a time
+-- a collection of this name was created by a time
 pub record HasBegun (v : View) (time : ℕ) (namespace : List ℕ) : Type 0 where
   pub creation : Creation
   pub begun : IsIn creation (creations_in v)
@@ -132,7 +132,7 @@ pub record CatalogueFits (asked : List Asked) (at : ℕ) (kept : List Kept) (c :
   pub names : AreDifferentNames (creations_kept kept)
   pub wanted : AllByRecursion (WasWanted asked) (creations_kept kept)
 
--- an ask that waits for a table: it fits as the message that it came in, which is not of a later time than the shard's
+-- a request that waits for a table: it fits as the message that it came in, which is not of a later time than the shard's
 abbrev pub ParkedFits : View → List Asked → ℕ → Letter → Type 0
 ParkedFits v asked time m = LetterFits v asked m × (m.time ≤ time) × (m.receiver ≡ first_shard)
 
@@ -321,7 +321,7 @@ TellsAll v time body = Unit {0}
 
 -- WHAT THE CATALOGUE AND THE SHARD KEEP
 
--- what collections the catalogue began
+-- what collections the catalogue created
 pub record AreBegun (time : ℕ) (creations : List Creation) : Type 0 where
   pub names : AreDifferentNames creations
   pub past : AllByRecursion (λ (c : Creation). c.at ≤ time) creations

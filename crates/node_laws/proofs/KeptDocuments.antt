@@ -71,7 +71,7 @@ documents_unchanged namespace time history more all =
 
 -- WHOSE DOCUMENTS THEY ARE
 
--- a document has a key that may be one, in a collection that began by the time
+-- a document has a key that may be one, in a collection that was created by the time
 pub record IsStanding (creations : List Creation) (namespace : List ℕ) (time : ℕ) (document : Fields) : Type 0 where
   pub creation : Creation
   pub key : Datum

@@ -79,7 +79,7 @@ few_answers history time write id index (d ∷ dones) all le =
     let rest = few_answers history time write id (index + 1) dones all.2 (omega (arith, at, within)) in
     omega (arith, rest)
 
--- WHAT GOES ON WAS DONE
+-- WHAT PROCEEDS WAS DONE
 
 no_error : (o : Option ErrorCode) → is_some (elim o as (λ (x : Option ErrorCode). Option Refusal)
     [ None ↦ None | Some error ↦ Some (without_evidence error) ]) ≡ false

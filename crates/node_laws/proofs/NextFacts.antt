@@ -67,7 +67,7 @@ module _ (v : View) (asked : List Asked) (answered said : List Answered) (cursor
     (table : Option Table)
     (tables : List Table) (n : NeighboursFit v asked) (met : IsMet v given s.time) (later : r.time ≤ s.time) (fits : TableFits v told_at namespace told table)
     (known : AllByRecursion (IsKnownTable v s.time) (adopted table tables)) where
-  -- how an open request goes on
+  -- how an open request proceeds
   abbrev Goes : Next → Type 0
   Goes next = NextIs (IsOpenOf v asked answered (with_own r s)) (IsSaid v asked given) (IsToldRightly v asked said cursors s.time now) next
 

@@ -43,7 +43,7 @@ ahead_later a b (reading named at stages telling) le not_ahead = by_test (nat_lt
         absurd (omega arith)
     by_test false h = h
 
--- an open request goes on, with other work
+-- an open request proceeds, with other work
 pub open_goes : (v : View) (asked : List Asked) (answered : List Answered) (r s : Router) (q : Open) (wait : Wait) (work : Work) → r.time ≤ s.time
     → (o : IsOpenOf v asked answered r q)
     → HasTime v o.request (id_of r q.count) s.time wait work

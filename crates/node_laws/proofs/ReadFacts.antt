@@ -24,7 +24,7 @@ use Rattle.node_model.specs.Service.{documents_at}
 use Rattle.node_model.specs.ShardRows.{IsTold}
 use Rattle.node_laws.proofs.Views.{View, entries_in, creations_in, chosen_time}
 
--- no collection of this name began at or below a time, nor will one
+-- no collection of this name was created at or below a time, nor will one be
 abbrev pub NoneBegan : View → (namespace : List ℕ) → ℕ → Type 0
 NoneBegan v namespace time = (time ≤ v.bound 0) × AllByRecursion (λ (c : Creation). c.namespace ≡ namespace → time < c.at) (creations_in v)
 

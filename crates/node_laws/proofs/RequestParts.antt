@@ -68,7 +68,7 @@ owned_placed v time namespace receiver e (shard, name, o) later =
 
 -- STATEMENTS OF A REQUEST
 
--- the statements of an ask are those of its request
+-- the statements of a message are those of its request
 pub ask_own : (v : View) (asked : List Asked) (receiver time : ℕ) (id : RequestId) (ordered : Bool) (namespace : List ℕ) (statements : List Statement)
     → (a : IsWriteOf v asked receiver time id ordered namespace statements) → AreOf a.write id statements
 ask_own v asked receiver time id ordered namespace statements a =

@@ -1,4 +1,4 @@
--- What a router asks for fits.
+-- What a router requests fits.
 use Rattle.std.proofs.Common.{◌≡◌, ◌≢◌, inl, inr, ℕ, ◌≤◌, List, [], ◌∷◌, ◌++◌, refl, sym, ap, subst, ◌∙◌, arith, Bool}
 use Rattle.std.specs.Prelude.{Option, Some, None, true, false, drop, length, if◌then◌else◌}
 use Rattle.std.specs.List.{AllByRecursion}
@@ -93,7 +93,7 @@ pub only_span : (c : Creation) (at shard : ℕ) (span : List Span) → owner_of_
 only_span c at shard span e = (only_at c null_value at shard e).0
 
 module _ (v : View) (asked : List Asked) (given : List Given) (r : Router) (time : ℕ) (met : IsMet v given time) where
-  -- WHAT SHARDS ARE ASKED
+  -- WHAT IS REQUESTED OF SHARDS
 
   writes_fit : (id : RequestId) (namespace : List ℕ) (t : Table) (kind : WriteKind) (ordered : Bool) (statements : List Statement) (answers : List Done)
       (left : List Statement)
@@ -169,7 +169,7 @@ module _ (v : View) (asked : List Asked) (given : List Given) (r : Router) (time
       writes_fit (id_of r count) namespace t kind ordered statements answers (unanswered statements answers) a k name refl
   shards_fit count namespace t (reading named at stages telling) a k name reached = reads_fit (id_of r count) namespace t named at stages telling a k reached
 
-  -- WHAT THE CATALOGUE IS ASKED
+  -- WHAT IS REQUESTED OF THE CATALOGUE
 
   pub table_ask_fits : (id : RequestId) (namespace : List ℕ) (work : Work) → IsAsking v asked id time namespace work → is_ahead time work ≡ false
       → IsSaid v asked given (asks_table r time namespace work)
@@ -178,7 +178,7 @@ module _ (v : View) (asked : List Asked) (given : List Given) (r : Router) (time
       ((tt, record { request = a.request; taken = a.taken; writes = record { write = work.0; asks = work.1; name = sym work.3 }; past = a.past }), met, tt)
   table_ask_fits id namespace (reading named at stages telling) a reached = (ltb-false time at reached, met, tt)
 
-  -- WHAT A REQUEST ASKS FOR
+  -- WHAT A REQUEST REQUESTS
 
   pub table_for_found : (tables : List Table) (namespace : List ℕ) (work : Work) (t : Table) → table_for tables namespace work ≡ Some t
       → FoundTable namespace tables t

@@ -50,7 +50,7 @@ waits_not r time namespace work reached = by_ahead (is_ahead time work) reached
     by_ahead true e = absurd (cc)
     by_ahead false e = by_table (table_for r.tables namespace work)
 
--- what a request goes on with fits
+-- what a request proceeds with fits
 pub record GoesOn (v : View) (request : Asked) (id : RequestId) (time : ℕ) (namespace : List ℕ) (work : Work) : Type 0 where
   pub does : WorkFits request namespace work
   pub decided : IsDecided v id work
@@ -132,7 +132,7 @@ module _ (w : World) (book : Book) (at : ℕ) (kept : List Kept) (r : Router) (g
         times = tt;
       })
 
-  -- at a moment all is asked for again
+  -- at a moment all is requested again
   pub again_owes : (moment : ℕ) → IsMet (view_of w.nodes book) w.given (time_of_moment moment)
       → Owes w book at (record { state = router_state r; kept = kept })
       (tells (as_before r) (flat_map (λ q. asks_again r (max r.time (time_of_moment moment)) q) r.requests) [])
@@ -166,7 +166,7 @@ module _ (w : World) (book : Book) (at : ℕ) (kept : List Kept) (r : Router) (g
           (known_tables v behind (max r.time (time_of_moment moment)) (omega arith)) o.reached)
           (each_again v behind moment met requests all.1)
 
-  -- an open request goes on with this work, of a time that is decided
+  -- an open request proceeds with this work, of a time that is decided
   pub goes_on_owes : (q : Open) (work : Work) (time : ℕ) (news : List Choice) → (o : IsOpenOf (view_of w.nodes book) w.asked w.answered r q)
       → IsIn q r.requests → r.time ≤ time → IsMet (view_of w.nodes book) w.given time
       → is_ahead time work ≡ false → AllByRecursion (λ (c : Choice). (c.id.router ≡ at) × IsIn c.id (ids_asked w.asked)) news

@@ -102,7 +102,7 @@ module _ (v : View) (r : Router) (a : Asked) (time : a.time ≡ r.time) where
   planned silent namespace work (Ok (count_command read)) asks more plan =
       subst (λ p. IsPlanned v r a p) plan (planned_read read as_number (tells_count read asks))
 
--- the time of a read that can go on
+-- the time of a read that can proceed
 abbrev pub choice_of : RequestId → Work → List Choice
 choice_of id (writing kind ordered statements answers) = []
 choice_of id (reading named at stages telling) = record { id = id; at = at } ∷ []

@@ -112,7 +112,7 @@ tells_again w book at kept s m id ordered namespace statements d dones is comes 
       tt,
     ))
 
--- an ask waits
+-- a request waits
 parks : (w : World) (book : Book) (at : ℕ) (kept : List Kept) (s : Shard) (m : Letter) (a : Ask) → Stood w book at kept s → InputFits w book (letter_input m)
     → ask_in m.body ≡ Some a
     → Owes w book at (held_shard s kept) (record { written = []; mail = asks_table s (heard s m) a.namespace ∷ []; taken = []; replies = [] })

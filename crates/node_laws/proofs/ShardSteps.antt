@@ -1,4 +1,4 @@
--- What a step of a shard owes: quiet steps, later times, asks that wait, and what is found of a read.
+-- What a step of a shard owes: quiet steps, later times, requests that wait, and what is found of a read.
 use Rattle.std.proofs.Common.{◌≡◌, ℕ, ◌≤◌, List, [], ◌∷◌, ◌++◌, refl, sym, subst, ◌∙◌, arith, append-nil, Bool}
 use Rattle.std.specs.Prelude.{Option, Some, None, Ok, true, false}
 use Rattle.std.specs.List.{AllByRecursion}
@@ -109,12 +109,12 @@ shard_later u v asked at time kept s later le f = record {
   parked = all_weaken (ParkedFits u asked s.time) (ParkedFits v asked time) s.parked (λ m p. parked_later u v asked s.time time m later le p) f.parked;
 }
 
--- ASKS
+-- REQUESTS
 
 no_ask : {X : Type 0} {x : X} → None ≡ Some x → ⊥
 no_ask e = cc
 
--- an ask is for the first shard
+-- a request is for the first shard
 pub ask_receiver : (v : View) (asked : List Asked) (sender receiver time : ℕ) (b : Body) (a : Ask) → ask_in b ≡ Some a
     → BodyFits v asked sender receiver time b → receiver ≡ first_shard
 ask_receiver v asked sender receiver time (write_ask id turn ordered namespace [] sent) a is f = absurd (no_ask is)
@@ -175,7 +175,7 @@ retried_fits v asked s early time namespace m own le p wants =
     ask_retried v asked m.sender s.me s.me m.time time m.body a.0 a.1 (omega arith)
     (subst (λ r. BodyFits v asked m.sender r m.time m.body) (p.2 ∙ sym own) p.0)
 
--- messages that ask for tables fit at a time that was met
+-- messages that request tables fit at a time that was met
 pub asks_again_fit : (v : View) (asked : List Asked) (given : List Given) (s : Shard) (time : ℕ) (parked : List Letter) → IsMet v given time
     → AllByRecursion (IsSaid v asked given) (asks_again s time parked)
 asks_again_fit v asked given s time [] met = tt
@@ -214,7 +214,7 @@ told_done u v asked sender time id history dones later same t = record {
   begun = begun_grows u v time t.write.namespace later t.begun;
 }
 
--- a collection began where statements are asked of the shard that owns them
+-- a collection was created where statements are sent to the shard that owns them
 pub begun_owned : (v : View) (early time : ℕ) (namespace other : List ℕ) (receiver : ℕ) (s : Statement) → early ≤ time → namespace ≡ other
     → IsOwned v early namespace receiver s → HasBegun v time other
 begun_owned v early time namespace other receiver s le name o =

@@ -1,4 +1,4 @@
--- Where a shard serves an ask and keeps its entries, all facts stay.
+-- Where a shard serves a request and stores its entries, all facts stay.
 use Rattle.std.proofs.Common.{◌≡◌, ◌⊎◌, inl, inr, ℕ, ◌+◌, ◌<◌, ◌≤◌, List, [], ◌∷◌, ◌++◌, refl, sym, ap, subst, ◌∙◌, arith, append-nil, Bool}
 use Rattle.std.specs.Prelude.{Some, None, true, map, length, drop}
 use Rattle.std.specs.List.{AllByRecursion, slice_get}
@@ -50,7 +50,7 @@ entries_only (e ∷ made) = ap (λ l. e ∷ l) (entries_only made)
 kept_above : (time : ℕ) (made : List Entry) → AllByRecursion (λ (e : Entry). time < e.time) made → AllByRecursion (IsAbove time) (map kept_entry made)
 kept_above time made all = all_mapped (IsAbove time) kept_entry made all
 
--- what is served of an ask that fits
+-- what is served of a request that fits
 pub record Served (w : World) (book : Book) (at : ℕ) (s : Shard) (time : ℕ) (id : RequestId) (dones : List Done) (made : List Entry) (last : ℕ) : Type 0 where
   pub rises : Rises time made last
   pub past : AreUpTo last (s.entries ++ made)

@@ -20,7 +20,7 @@ pub record Book : Type 0 where
   pub chosen : List Choice
   pub cursors : List Cursor
 
--- by place: what the journal keeps, and the time up to which it says all; and what is noted
+-- by place: what the journal stores, and the time up to which it says all; and what is noted
 pub record View : Type 0 where
   pub journal : ℕ → List Kept
   pub bound : ℕ → ℕ
@@ -43,7 +43,7 @@ view_of nodes book = record { journal = λ at. journal_at nodes at; bound = λ a
 abbrev pub entries_in : View → ℕ → List Entry
 entries_in v at = entries_kept (v.journal at)
 
--- the collections that began
+-- the collections that were created
 abbrev pub creations_in : View → List Creation
 creations_in v = creations_kept (v.journal 0)
 

@@ -1,4 +1,4 @@
--- What a router asks for leads on to the answer.
+-- What a router requests leads on to the answer.
 use Rattle.std.proofs.Common.{◌≡◌, ℕ, zero, suc, ◌+◌, List, [], ◌∷◌, length, drop, refl, sym, ap, subst, ◌∙◌, arith, Bool}
 use Rattle.std.specs.Prelude.{Option, Some, None, true, false, if◌then◌else◌}
 use Rattle.std.specs.List.{AllByRecursion}
@@ -32,7 +32,7 @@ pub record Sends (mail : List Letter) (P : Letter → Type 0) : Type 0 where
   pub is : mail ≡ letter ∷ []
   pub leads : P letter
 
--- the table with which a collection began
+-- the table with which a collection was created
 abbrev pub IsFirst : Table → Type 0
 IsFirst t = (c : Creation) × (t ≡ first_table c)
 
@@ -76,7 +76,7 @@ span_owner t at span (c, same) enough = by_owner (owner_of_span t at span) refl 
     by_owner (Some shard) is enough = ap (λ n. Some n) (only_span c at shard span (ap (λ u. owner_of_span u at span) (sym same) ∙ is))
 
 module _ (r u : Router) (time : ℕ) (q : Open) (me : u.me ≡ r.me) (own : id_of u q.count ≡ id_of r q.count) where
-  -- by its table, the shard is asked for what comes next
+  -- by its table, what comes next is requested of the shard
   pub shards_lead : (t : Table) → table_of q.namespace u.tables ≡ Some t → IsFirst t → IsGoing q.work → is_enough t q.work ≡ true
       → Sends (asks_shards r time q.count q.namespace t q.work) (Leads u q [])
   shards_lead t there first going enough = by_work q.work refl going enough

@@ -1,4 +1,4 @@
--- What leads on to the answer of the one request that is open: the one message that is not delivered yet, and an ask that is parked at
+-- What leads on to the answer of the one request that is open: the one message that is not delivered yet, and a request that is parked at
 -- the shard, if one is.
 use Rattle.std.proofs.Common.{◌≡◌, ◌⊎◌, ℕ, List, [], ◌∷◌, length, drop, Bool}
 use Rattle.std.specs.Prelude.{Option, Some, None, true, false}
@@ -36,7 +36,7 @@ abbrev pub IsNext : Work → ℕ → Type 0
 IsNext (writing kind ordered statements answers) index = index ≡ length answers
 IsNext (reading named at stages telling) index = ⊥
 
--- ASKS
+-- REQUESTS
 
 -- there is the table of the collection whose versions these are
 pub record HasSent (tables : List Table) (namespace : List ℕ) (sent : Sent) : Type 0 where
@@ -44,7 +44,7 @@ pub record HasSent (tables : List Table) (namespace : List ℕ) (sent : Sent) : 
   pub there : table_of namespace tables ≡ Some table
   pub versions : sent ≡ sent_by table first_shard
 
--- the message asks the shard for what comes next of an open request
+-- the message requests of the shard what comes next of an open request
 abbrev pub IsAskOf : Router → Open → Body → Type 0
 IsAskOf r q (write_ask id turn ordered namespace [] sent) = ⊥
 IsAskOf r q (write_ask id turn ordered namespace (s ∷ more) sent) =
@@ -60,7 +60,7 @@ IsAskOf r q (stale id turn met) = ⊥
 IsAskOf r q (time_ask id) = ⊥
 IsAskOf r q (time_told id) = ⊥
 
--- a table is asked for as the work wants it
+-- a table is requested as the work wants it
 abbrev pub AskFits : (create : Bool) → At → Work → Type 0
 AskFits create at (writing kind ordered statements answers) = create ≡ true
 AskFits create at (reading named time stages telling) = (create ≡ false) × (is_for at time ≡ true)
@@ -103,13 +103,13 @@ Fetches q to from (time_ask id) = ⊥
 Fetches q to from (time_told id) = ⊥
 Fetches q to from (stale id turn met) = ⊥
 
--- with these asks parked, the message leads on
+-- with these requests parked, the message leads on
 abbrev pub Leads : Router → Open → (parked : List Letter) → Letter → Type 0
 Leads r q [] m = LeadsBody r q m.receiver m.sender m.body
 Leads r q (p ∷ []) m = IsAskOf r q p.body × ((t : Table) × (table_of q.namespace r.tables ≡ Some t)) × Fetches q m.receiver m.sender m.body
 Leads r q (p ∷ other ∷ more) m = ⊥
 
--- just these asks are parked at the shard, where it has no table of the collection
+-- just these requests are parked at the shard, where it has no table of the collection
 abbrev pub Parks : (parked : List Letter) → (namespace : List ℕ) → Shard → Type 0
 Parks parked namespace s = (s.parked ≡ parked) × ((parked ≡ []) ⊎ (table_of namespace s.tables ≡ None))
 

@@ -18,7 +18,7 @@ goes_body r q to from (time_ask id) leads = inr (inl leads.0)
 goes_body r q to from (time_told id) leads = inr (inr leads.0)
 goes_body r q to from (stale id turn met) leads = absurd leads
 
--- where an ask is parked it goes to the catalogue or to the shard
+-- where a request is parked it goes to the catalogue or to the shard
 pub fetches_body : (q : Open) (to from : ℕ) (b : Body) → Fetches q to from b → (to ≡ 0) ⊎ (to ≡ 1)
 fetches_body q to from (table_ask namespace create at) leads = inl leads.0
 fetches_body q to from (table_told namespace create at table) leads = inr leads.0

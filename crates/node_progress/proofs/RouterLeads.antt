@@ -151,7 +151,7 @@ learn_goes r q m namespace create at table one first l =
     (record { me = refl; own = refl; tables = refl; firsts = all_adopted IsFirst table r.tables first one.tables; fits = l.3; going = one.going })
     (table_for (adopted table r.tables) q.namespace q.work) refl)
 
--- A REQUEST GOES ON WITH OTHER WORK
+-- A REQUEST PROCEEDS WITH OTHER WORK
 
 going_goes : (r : Router) (q p : Open) (time : ℕ) (work : Work) → HasOne r q → p ≡ q → IsGoing work
     → Goes r q (sends (asks_for r time p.count p.namespace work)) (knows r time r.tables (replaced (going_on r time p work) r.requests))

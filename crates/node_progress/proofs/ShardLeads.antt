@@ -26,7 +26,7 @@ AreOne r q s = (t u : Table) → table_of q.namespace r.tables ≡ Some t → ta
 own_table : (t : Table) → verdict_of (sent_by t first_shard) first_shard (Some t) ≡ fits
 own_table t = table_fits t first_shard
 
--- an ask is served, but where there is no table
+-- a request is served, but where there is no table
 is_served : (r : Router) (q : Open) (s : Shard) (namespace : List ℕ) (sent : Sent) → s.me ≡ 1 → AreOne r q s → namespace ≡ q.namespace
     → HasSent r.tables q.namespace sent
     → (table_of q.namespace s.tables ≡ None) ⊎ (verdict_of sent s.me (table_of namespace s.tables) ≡ fits)
@@ -55,7 +55,7 @@ not_stale s q namespace sent met name old (inl none) =
     cc (old, v)
 not_stale s q namespace sent met name old (inr fit) = cc (old, fit)
 
--- ASKS
+-- REQUESTS
 
 record AskParts (r : Router) (q : Open) (b : Body) (a : Ask) : Type 0 where
   ask : IsAskOf r q b
@@ -93,7 +93,7 @@ fetch_no_ask q to from (time_ask id) a is leads = leads
 fetch_no_ask q to from (time_told id) a is leads = leads
 fetch_no_ask q to from (stale id turn met) a is leads = leads
 
--- an ask leads on as a message to the shard
+-- a request leads on as a message to the shard
 ask_leads : (r : Router) (q : Open) (to from : ℕ) (b : Body) → to ≡ 1 → IsAskOf r q b → LeadsBody r q to from b
 ask_leads r q to from (write_ask id turn ordered namespace [] sent) place ask = absurd ask
 ask_leads r q to from (write_ask id turn ordered namespace (s ∷ more) sent) place ask = (place, ask)
@@ -332,7 +332,7 @@ table_known s q p (Some t) namespace has (inr none) old =
     let news : is_news t (table_of t.namespace s.tables) ≡ true = ap (λ o. is_news t o) there in
     cc (news, old)
 
--- with an ask parked
+-- with a request parked
 parked_one : (r : Router) (q : Open) (p : Letter) (s : Shard) (m : Letter) (f : Effect) (t : Shard) → m.receiver ≡ 1 → s.me ≡ 1 → Parks (p ∷ []) q.namespace s
     → IsAskOf r q p.body → Fetches q m.receiver m.sender m.body → ShardRow s (letter_input m) f t → ShardGoes r q t f
 parked_one r q p _ _ _ _ place me parks ask leads (shard_write s m id turn ordered namespace statements sent d dones made last is verdict serves) =

@@ -35,7 +35,7 @@ use Rattle.node_progress.proofs.Asks.{IsFirst}
 use Rattle.node_progress.proofs.RouterLeads.{IsStated, HasOne, Goes, goes_on, is_over, router_leads}
 use Rattle.node_progress.proofs.Idle.{Idle}
 
--- the node at a place, while a request of the router at another is under way: other routers have none, and these asks are parked
+-- the node at a place, while a request of the router at another is under way: other routers have none, and these requests are parked
 abbrev pub IsElse : (at : ℕ) → (parked : List Letter) → (namespace : List ℕ) → ℕ → NodeState → Type 0
 IsElse at parked namespace j (catalogue_state c) = Unit {0}
 IsElse at parked namespace j (shard_state s) = j ≡ 1 → Parks parked namespace s

@@ -1,4 +1,4 @@
--- What a framer gives and keeps, beside the bytes that were taken.
+-- What a framer returns and keeps, beside the bytes that were taken.
 use Rattle.std.specs.Prelude.{◌⊎◌, Option, Some, None, Ok, Err}
 use Rattle.std.proofs.Common.{◌≡◌, ℕ, ◌+◌, inl, inr, List, ◌++◌, length, sym, ap, ◌∙◌, subst, append_assoc, length-append}
 use Rattle.opmsg_frames.specs.Requests.{Request}

@@ -50,7 +50,7 @@ module _ (routers limit : ℕ) (gives : ℕ → Type 0) (router : ℕ) (put : Li
   cause_run at_end taken fault status (no_request is all) = all_run all
   cause_run at_end taken fault status (too_long long none all) = all_run all
 
--- whatever was asked, and however the connection ended
+-- whatever was requested, and however the connection ended
 module _ (source : SourceCall) (sink : SinkCall) (gives : ℕ → Type 0) (router : ℕ) (kept : List Held → Type 0) (leaves : World → Type 0)
     (owed : World → List ℕ → Type 0) (routers limit : ℕ) (status : Status) (rest : ℕ) where
   pub piped_run : (piped : IsPiped source sink gives router kept leaves owed routers limit status rest) → (events : List Event) × Run (start routers) events piped.end

@@ -1,4 +1,4 @@
--- A document that reads as a query asks for the key that the query asks for.
+-- A document that reads as a query targets the key that the query targets.
 use Rattle.std.proofs.Common.{◌≡◌, ℕ, List, [], ◌∷◌, refl, sym, ap, subst, ◌∙◌}
 use Rattle.std.specs.Prelude.{Bool, true, false, Option, Some, None, Result, Ok, Err, ok_or, if◌then◌else◌, codes}
 use Rattle.std.specs.List.{AllByRecursion, join_with_byte}

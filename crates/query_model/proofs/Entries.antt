@@ -1,4 +1,4 @@
--- Entries in the order of their keys, with one put in or taken out: they stay in order, and each key finds what it is to find.
+-- Entries in the order of their keys, with one inserted or removed: they stay in order, and each key finds what it is to find.
 use Rattle.std.proofs.Common.{◌≡◌, List, [], ◌∷◌, refl, sym, ap, ◌∙◌, Ordering, Less, Equal, Greater}
 use Rattle.std.specs.Prelude.{Bool, true, false, cond, Option, Some, None}
 use Rattle.std.specs.BTreeMap.{insert_entry, is_at}

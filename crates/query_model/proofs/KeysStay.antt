@@ -1,4 +1,4 @@
--- A change leaves the key of a document, and an upsert begins with the key that its filter asks for.
+-- A change keeps the key of a document, and an upsert begins with the key that its filter targets.
 use Rattle.std.proofs.Common.{◌≡◌, ◌⊎◌, inl, inr, ℕ, List, [], ◌∷◌, refl, sym, ap, ◌∙◌}
 use Rattle.std.specs.Prelude.{Bool, true, false, Option, Some, None, Result, Ok, Err, codes, is_some, if◌then◌else◌}
 use Rattle.std.specs.Option.{option_or}
@@ -159,7 +159,7 @@ begins_with_key (clause (path_clause (part ∷ []) tests) others) =
 begins_with_key (clause (path_clause (part ∷ next ∷ parts) tests) others) = begins_with_key others
 begins_with_key (clause (connective_clause _ _) others) = begins_with_key others
 
--- As reading gives it: an insert's document has a key, and an update's start is none, or that of its filter, which asks for a key.
+-- As reading gives it: an insert's document has a key, and an update's start is none, or that of its filter, which targets a key.
 abbrev pub BeginsAsRead : Write → Type 0
 BeginsAsRead (insert_write document) = is_ok (valid_key document) ≡ true
 BeginsAsRead (update_write asked change start) = (start ≡ None) ⊎ ((start ≡ Some (start_of asked)) × (is_some (key_equal asked) ≡ true))

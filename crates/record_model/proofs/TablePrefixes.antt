@@ -28,7 +28,7 @@ same_owned a b xs ys p q e =
     let n = same_four a.shard b.shard xs ys p.1 q.1 t.1 in
     (λ i. record { since = t.0 i; shard = n.0 i }, n.1)
 
--- equal bytes have one item in front
+-- equal bytes have one item at the front
 abbrev pub EndsItself : {X : Type 0} → (X → List ℕ) → (X → Type 0) → Type 0
 EndsItself {X = X} spelled_item IsSoundItem =
     (a b : X) (xs ys : List ℕ) → IsSoundItem a → IsSoundItem b → spelled_item a ++ xs ≡ spelled_item b ++ ys → (a ≡ b) × (xs ≡ ys)

@@ -23,7 +23,7 @@ use Rattle.record_parts.specs.Readers.{◌>>=◌, Found, byte_at, bytes_at, four
 use Rattle.record_parts.proofs.Documents.{found_whole, flat_key}
 use Rattle.record_parts.proofs.Names.{name_again}
 
--- a step finds something, and the next ones go on with it
+-- a step finds something, and the next ones proceed with it
 pub stepped : {A B : Type 0} {found : Option A} {x : A} {y : Option B} (f : A → Option B) → found ≡ Some x → f x ≡ y → (found >>= f) ≡ y
 stepped f e next = ap (λ o. o >>= f) e ∙ next
 

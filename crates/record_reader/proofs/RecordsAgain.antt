@@ -82,7 +82,7 @@ no_other view x bytes false r found tells other sound held same =
     absurd (cc (tells.1 (ap (λ (s : Record). spelled 1 s) (sym one) ∙ same)))
 no_other view x bytes true r found tells other sound held same = absurd (cc (other))
 
--- Bytes in which a call found none spell no record.
+-- Bytes in which a call found none encode no record.
 pub found_err : {X : Type 0} (view : X → Record) (e : RecordFault) (bytes : List ℕ) (r : Record) → Finds view (Err e) (record_at bytes) → IsSound r →
     IsHeld r → spelled 1 r ≡ bytes → Finds view (Err e) (Some r)
 found_err view NoRecord bytes r found sound held same = sym (record_again r sound held) ∙ ap record_at same ∙ found

@@ -95,7 +95,7 @@ module _ (creations : List Creation) (history : List Entry) (asked : List Asked)
   refused_by r reading (find_reads find) refused = inr (refused, refl)
   refused_by r reading (count_reads other) refused = inr (refused, refl)
 
-  -- an answer is right by what its request asks for
+  -- a reply is right by what its request is
   pub right_by : (next : List Cursor) → IsRight creations history asked answered cursors a t next → RightBy (command_of a.request) next
   right_by next (right_write write dones c wants tells whole begun name at says) =
       subst (λ r. RightBy r cursors) (sym wants) (record { dones = dones; tells = tells; whole = whole; says = says }, refl)

@@ -83,6 +83,6 @@ module _ (history : List Entry) (asked : List Asked) (t : Answered) (write : Wri
           (one_number history numbered (λ e i. all_at (λ (d : Entry). d.shard ≡ first_shard) e history first i))
           0 write.operations told.dones (entries_by t.id history) told.tells whole.part whole.all (λ e i. (by_in t.id history e i).0)
 
--- a request asks for one write
+-- a request is for one write
 pub same_write : (f g : WriteCommand) → Path (Result Command Refusal) (Ok (write_command f)) (Ok (write_command g)) → f ≡ g
 same_write f g e = cc

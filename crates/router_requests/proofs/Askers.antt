@@ -1,4 +1,4 @@
--- What a router asks for by a table does not hang on what else it knows.
+-- What a router requests by a table does not depend on what else it knows.
 use Rattle.std.proofs.Common.{◌≡◌, refl, ap, ℕ, List, [], ◌∷◌, Bool}
 use Rattle.std.specs.Prelude.{Option, Some, None}
 use Rattle.base_model.specs.Identities.{RequestId}

@@ -18,7 +18,7 @@ use Rattle.value_model.specs.Keys.{is_key, valid_key}
 pub key_by_document : (document : Fields) (key : Datum) → valid_key document ≡ Ok key → key_written (insert_operation document) ≡ Some key
 key_by_document document key valid = insert_key document key valid
 
--- an operation that may be kept writes the key that it asks for
+-- an operation that can be stored writes the key that it targets
 pub key_by_words : (operation : Operation) (key : Datum) → IsKeepable operation → key_asked_by operation ≡ Some key → is_key key ≡ true → key_written operation ≡ Some key
 key_by_words operation key keepable asked is =
     ap key_read keepable.reads ∙ key_of_write operation keepable.write key keepable.reads asked is

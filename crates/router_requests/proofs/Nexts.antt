@@ -66,7 +66,7 @@ module _ (r : Router) (time : ℕ) (after : List Table) (namespace : List ℕ) (
   none_of None e = refl
   none_of (Some t) e = absurd (cc e)
 
-  -- one that can go on
+  -- one that can proceed
   pub goes_on : (known : Option Table) → table_of namespace after ≡ known
       → (is_for_table q.wait && bytes_eq q.namespace namespace) ≡ true → is_some (enough_of known q.work) ≡ true
       → (t : Table) × (known ≡ Some t) × (next_of r time after namespace told q ≡ stays (with_work q for_shards q.work) (asks_shards r time q.count q.namespace t q.work))
@@ -78,7 +78,7 @@ module _ (r : Router) (time : ℕ) (after : List Table) (namespace : List ℕ) (
       → next_of r time after namespace told q ≡ next_without r time told q
   can_not known is meets none = waiting known is meets ∙ ap (λ (o : Option Table). next_waiting r time told q o) (none_of (enough_of known q.work) none)
 
-  -- what is so of work that can't go on
+  -- what is so of work that can't proceed
   pub next_kept : (known : Option Table) (fate other : Next) (n : becomes.Next) → fate ≡ other → IsNext r time None q other n → IsNext r time known q fate n
   next_kept known fate other Stays same is = same ∙ is
   next_kept known fate other GoesOn same is = absurd (cc is.1)

@@ -31,7 +31,7 @@ rises_pushed least greatest [] q e next = and (lt-ltb least q.count (omega (arit
 rises_pushed least greatest (p ∷ items) q e next =
     let h = both (nat_lt least p.count) (rises p.count greatest items) e in and h.0 (rises_pushed p.count greatest items q h.1 next)
 
--- a request is taken out
+-- a request is removed
 pub rises_removed : (least greatest place : ℕ) (items : List OpenRequest) → rises least greatest items ≡ true → rises least greatest (remove items place) ≡ true
 rises_removed least greatest place [] e = removed_nothing place where
   removed_nothing : (n : ℕ) → rises least greatest (remove [] n) ≡ true
@@ -72,7 +72,7 @@ module _ (router life count : ℕ) where
         by_hit true hit next = sym (without_none q.count greatest items p.1 (omega (arith, eqb-true q.count count hit)))
         by_hit false hit next = ap (λ l. open_view router life q ∷ l) next
 
-  -- where none has the count, none is taken out
+  -- where none has the count, none is removed
   pub none_out : (items : List OpenRequest) → length items ≤ place_of count items → without count (map (λ q. open_view router life q) items) ≡ map (λ q. open_view router life q) items
   none_out [] le = refl
   none_out (q ∷ items) le = by_hit (q.count == count) refl (none_out items) le where

@@ -77,7 +77,7 @@ told_planned s i p to t time body l timed is none unwritten sent said row =
     sends_planned s i p time (says s to time body ∷ []) (timed ∙ is) none unwritten
     (sym (sent ∙ ap (λ (x : Letter). x ∷ []) (said ∙ ap (λ (u : ℕ). says s to u body) is))) row
 
--- the tables that are asked again, message by message
+-- the tables that are requested again, message by message
 pub again_cons : (s : Shard) (time : ℕ) (m : Letter) (parked : List Letter) → asks_again s time (m ∷ []) ++ asks_again s time parked ≡ asks_again s time (m ∷ parked)
 again_cons s time m parked = by_ask (ask_in m.body)
   where
@@ -186,7 +186,7 @@ none_told s m p told body none timed still unwritten unsent =
     (shard_known s m told.namespace told.create (at_view told.at) None
     (body ∙ ap (λ o. table_told told.namespace told.create (at_view told.at) (option_map (λ t. arc_value t) o)) none) tt)
 
--- an ask to write no statement
+-- a request to write no statement
 pub empty_planned : (s : Shard) (m : Letter) (p : StepPlan) (ask : WriteAsk) (body : bodies.Body) → body ≡ variants.WriteAsk ask → ask_in (body_view body) ≡ None → m.body ≡ body_view body
     → p.time.0 ≡ heard s m → p.change ≡ Nothing → p.records.items ≡ [] → map letter_of p.mail ≡ [] → IsPlanned s (letter_input m) p
 empty_planned s m p ask body is none said timed still unwritten unsent =
@@ -201,7 +201,7 @@ empty_planned s m p ask body is none said timed still unwritten unsent =
     no_statement [] e = refl
     no_statement (x ∷ items) e = absurd cc
 
--- a message that asks nothing
+-- a message that requests nothing
 pub skip_planned : (s : Shard) (m : Letter) (p : StepPlan) (body b : bodies.Body) → body ≡ b → AsksNothing (body_view b) → m.body ≡ body_view body
     → p.time.0 ≡ s.time → p.change ≡ Nothing → p.records.items ≡ [] → map letter_of p.mail ≡ [] → IsPlanned s (letter_input m) p
 skip_planned s m p body b is nothing_asked said timed still unwritten unsent =

@@ -191,7 +191,7 @@ repeats_first ordered entries given id items seen x d same some first told =
         subst (λ (z : Asked). Repeats ordered entries (rust.statement_view given id z ∷ map (rust.statement_view given id) l) (d ∷ [])) is
         (by_end (rust.statement_view given id x) (map (rust.statement_view given id) l) (ends ordered d) (sym told) refl)
 
--- an ask of statements whose table does not fit
+-- a request of statements whose table does not fit
 pub not_fitting : (me : ℕ) (tables : List Table) (given : Option ClientNumber) (id : RequestId) (turn : ℕ) (ordered : Bool) (namespace : List ℕ) (items seen : List Asked)
     (sent : Sent) → seen ≡ items → 0 < length seen
     → ((a : Ask) → ask_in (write_ask id turn ordered namespace (map (rust.statement_view given id) items) sent) ≡ Some a → verdict_of a.sent me (table_of a.namespace tables) ≢ fits)

@@ -1,11 +1,11 @@
--- Messages and their letters.
+-- Messages and their views.
 use Rattle.std.proofs.Common.{◌≡◌, List, [], ◌∷◌, refl, ap}
 use Rattle.std.specs.Prelude.{map, filter, Bool, true, false, if◌then◌else◌}
 use Rattle.node_model.specs.Letters.{Letter}
 use Rattle.protocol_model.specs.Messages.{letter_of}
 use Rattle.protocol_model.specs.declared.message.Message.{Message}
 
--- messages that pass a test of their letters
+-- messages that pass a test of their views
 pub filter_view : (test : Letter → Bool) (ms : List Message) → map letter_of (filter (λ (m : Message). test (letter_of m)) ms) ≡ filter test (map letter_of ms)
 filter_view test [] = refl
 filter_view test (m ∷ ms) = by_test (test (letter_of m)) (filter_view test ms)

@@ -1,4 +1,4 @@
--- A script goes on by one line, or stops at it.
+-- A script proceeds by one line, or stops at it.
 use Rattle.std.proofs.Common.{◌≡◌, inl, inr, ℕ, ◌+◌, ◌-◌, ◌≤◌, IsTrue, List, [], ◌∷◌, ◌++◌, length, refl, arith, length-append, sym, ap, subst, ◌∙◌, append_assoc, append-nil}
 use Rattle.std.specs.Prelude.{Bool, Option}
 use Rattle.std.proofs.lemmas.Grind.{flat_map-append}

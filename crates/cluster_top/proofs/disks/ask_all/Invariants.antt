@@ -4,7 +4,7 @@ use Rattle.std.specs.List.{slice_get}
 use Rattle.cluster_top.specs.Openings.{InPairs, IsAsked, disk_facts}
 use Rattle.cluster_top.proofs.disks.ask_all.Given as goal
 
--- the first disks were asked, and their files are empty
+-- the lengths of the first disks were read, and their files are empty
 abbrev pub invariant-loop-at : goal.invariant-loop-at
 invariant-loop-at g l = record {
   len : vec_len l.disks ≡ vec_len l.fn.disks;

@@ -1,4 +1,4 @@
--- What is left of the fields asks for the key of the whole.
+-- What is left of the fields targets the key of the whole.
 use Rattle.std.proofs.Common.{◌≡◌, drop}
 use Rattle.bson_values.specs.View.{fields_of}
 use Rattle.query_model.specs.DocumentKeys.{key_asked_in}

@@ -1,4 +1,4 @@
--- What is left of the clauses asks for the key of the whole.
+-- What is left of the clauses targets the key of the whole.
 use Rattle.std.proofs.Common.{◌≡◌, drop}
 use Rattle.query_model.specs.KeySpans.{key_asked}
 use Rattle.query_model.specs.Queries.{no_clauses}

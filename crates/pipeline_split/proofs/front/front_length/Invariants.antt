@@ -1,4 +1,4 @@
--- The stages that were passed are in front, and the others go on.
+-- The stages that were passed are at the front, and the others follow.
 use Rattle.std.proofs.Common.{◌≡◌, ◌++◌, drop, map, take}
 use Rattle.pipeline_lang.specs.View.{stage_of}
 use Rattle.pipeline_model.specs.Split.{behind_front, front}

@@ -22,7 +22,7 @@ use Rattle.reply_laws.proofs.retry_examples.reached_statements.Goals as goal
 abbrev four : ClientNumber
 four = record { session = sevens; transaction = pos 4 }
 
--- a request that asks for an ordered write sends it as that
+-- a request for an ordered write sends it as that
 ordered_by : (a : Asked) (write : WriteCommand) → command_of a.request ≡ Ok (write_command write) → write.ordered ≡ true → (sends : Sends a (second_done 4))
     → sends.write.ordered ≡ true
 ordered_by a write asks ordered sends = ap (λ (w : WriteCommand). w.ordered) (sym (same_write write sends.write (sym asks ∙ sends.asks))) ∙ ordered
