@@ -15,7 +15,7 @@ fn close_one<D: Disk>(journal: Journal<D>) -> D
     journal.into_disk()
 }
 
-/// Puts the disks of the journals, in order, into an empty vector that has room for them.
+/// Moves the disks of the journals, in order, into an empty vector that has room for them.
 pub fn close_all<D: Disk>(journals: Vec<Journal<D>>, back: &mut Vec<D>)
     requires empty { back.old.items ≡ [] }
     requires room { vec_len journals ≤ vec_capacity back.old }

@@ -9,7 +9,7 @@ use driver_steps::Seat;
 use journal_frames::Journal;
 use outside::disk::Disk;
 
-/// Puts each node with the journal in its place, in order of their numbers, into an empty vector that has room for them.
+/// Moves each node with the journal in its place, in order of their numbers, into an empty vector that has room for them.
 pub fn put_in<N: Drop, D: Disk>(
     seats: &mut Vec<Seat<N, Journal<D>>>,
     nodes: Vec<N>,
@@ -38,7 +38,7 @@ fn disk_of<N: Drop, D: Disk>(seat: Seat<N, Journal<D>>) -> D
     log.into_disk()
 }
 
-/// Puts the disks of the journals of nodes, in order of their numbers, into an empty vector that has room for them.
+/// Moves the disks of the journals of nodes, in order of their numbers, into an empty vector that has room for them.
 pub fn take_disks<N: Drop, D: Disk>(seats: Vec<Seat<N, Journal<D>>>, back: &mut Vec<D>)
     requires empty { back.old.items ≡ [] }
     requires room { vec_len seats ≤ vec_capacity back.old }

@@ -95,7 +95,7 @@ where
         (AreDurableBefore K.tells D.tells D.place D.moment D.left_since command (K.noted out.new) (K.held out.old) result.disks.items)
         (C.gives clock.now) ending result.rest))) }
 
-    // But where a disk failed, each file is a journal, byte for byte, with nothing after its closed gate, and a crash leaves just that; or memory
+    // But where a disk failed, each file is a journal, byte for byte, with nothing after its closed gate, and a crash results in just that; or memory
     // ended before all journals were open, and then nothing was taken or put, and no file has a record.
     ensures durable { IsSome (node_count_of words.now) → IsTrue D.tells → IsEmptyAll D.tells (map D.content disks.items) →
         result.status ≢ 5 → AllByRecursion (IsDurable D.content D.may_leave) result.disks.items

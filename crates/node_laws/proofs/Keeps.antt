@@ -149,7 +149,7 @@ times_told v asked answered sender receiver time (read_rows id turn rows) fits a
 times_told v asked answered sender receiver time (stale id turn met) fits all = tt
 times_told v asked answered sender receiver time (time_ask id) fits all = tt
 
--- and proceeds to
+-- and continues to fit
 module _ (v w : View) (asked more : List Asked) (answered news : List Answered) (now : ℕ) (g : Grows v w asked more answered news now)
     (closed : AllByRecursion (IsClosed v w) answered) where
   past_grows : (a : Asked) (time : ℕ) → IsIn a asked → IsPast v answered a time → IsPast w (answered ++ news) a time

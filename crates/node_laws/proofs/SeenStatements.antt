@@ -91,7 +91,7 @@ abbrev IsGreatest : Session → List Entry → Option ℤ → Type 0
 IsGreatest session entries None = AllByRecursion (λ (e : Entry). e.number.session ≢ session) entries
 IsGreatest session entries (Some greatest) = HasGreatest session entries greatest
 
--- not to be below passes on
+-- not to be below is transitive
 below_none : (a b c : ℤ) → int_lt a b ≡ false → int_lt b c ≡ false → int_lt a c ≡ false
 below_none a b c h k = by_test (int_lt a c) refl
   where

@@ -92,7 +92,7 @@ pub fn read_statement(bytes: &[u8]) -> Result<(Stmt, &[u8]), RecordFault>
     Ok((statement, rest))
 }
 
-/// Reads the words of an insert.
+/// Reads the operands of an insert.
 #[tactic(auto, unfolding(crate::specs::Readers::insert_at))]
 fn read_insert(alloc: Global, bytes: &[u8]) -> Result<(OpWords, &[u8]), RecordFault>
     ensures found { Finds (λ x. (operation_view x.0, x.1.now)) result (insert_at bytes.now) }
@@ -102,7 +102,7 @@ fn read_insert(alloc: Global, bytes: &[u8]) -> Result<(OpWords, &[u8]), RecordFa
     Ok((OpWords::Insert(document), rest))
 }
 
-/// Reads the words of an update.
+/// Reads the operands of an update.
 #[tactic(auto, unfolding(crate::specs::Readers::update_at))]
 fn read_update(alloc: Global, bytes: &[u8]) -> Result<(OpWords, &[u8]), RecordFault>
     ensures found { Finds (λ x. (operation_view x.0, x.1.now)) result (update_at bytes.now) }
@@ -119,7 +119,7 @@ fn read_update(alloc: Global, bytes: &[u8]) -> Result<(OpWords, &[u8]), RecordFa
     Ok((op, rest))
 }
 
-/// Reads the words of a delete.
+/// Reads the operands of a delete.
 #[tactic(auto, unfolding(crate::specs::Readers::delete_at))]
 fn read_delete(alloc: Global, bytes: &[u8]) -> Result<(OpWords, &[u8]), RecordFault>
     ensures found { Finds (λ x. (operation_view x.0, x.1.now)) result (delete_at bytes.now) }

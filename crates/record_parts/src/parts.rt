@@ -110,7 +110,7 @@ fn fault_of(fault: BsonFault) -> RecordFault
     }
 }
 
-/// Reads a document, and gives how many bytes it has.
+/// Reads a document, and returns how many bytes it has.
 fn read_whole(alloc: Global, bytes: &[u8]) -> Result<(Document, usize), RecordFault>
     ensures found { Finds (λ x. x) result (whole_in (whole_at bytes.now)) }
     ensures depth { IfOk result (λ x. IsWithinDepth x.0) }

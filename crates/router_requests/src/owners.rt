@@ -41,7 +41,7 @@ fn key_changed(change: &NewChange) -> Result<Key, Memory>
     ensures { IfOk result (λ key. key_written change.now ≡ Some key) }
 {
     let Some(value) = key_asked(change.words()) else {
-        // A change that may be kept has a key.
+        // A change that can be stored has a key.
         return Err(Memory);
     };
     match Key::of(value.copy()?) {
@@ -58,14 +58,14 @@ fn key_of_operation(alloc: Global, operation: &Operation) -> Result<Key, Memory>
     match operation {
         Operation::Insert(document) => match key_of(alloc, document.document()) {
             Ok(key) => Ok(key),
-            // A document that may be kept has a key.
+            // A document that can be stored has a key.
             Err(_) => Err(Memory),
         },
         Operation::Change(change) => key_changed(change),
     }
 }
 
-/// An operation writes a key, since it may be kept. For proofs alone: it does nothing.
+/// An operation writes a key, since it can be stored. For proofs alone: it does nothing.
 #[tactic(auto, using(crate::proofs::Keys::key_kept))]
 fn writes_key(operation: &Operation)
     ensures { (key : Datum) × (key_written (protocol.operation_view operation.now) ≡ Some key) × (is_key key ≡ true) }

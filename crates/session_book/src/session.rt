@@ -165,7 +165,7 @@ impl Kept {
         }
     }
 
-    // Puts a statement whose index none has, where there is room.
+    // Inserts a statement whose index none has, where there is room.
     fn put(&mut self, noted: StatementRecord)
         requires room { 1 ≤ self.old.room }
         requires new { with_index noted.index self.old.notes ≡ None }
@@ -308,7 +308,7 @@ fn place_among(notes: &[StatementRecord], index: u32) -> Result<usize, usize>
     }
 }
 
-// Puts a statement at its place, where there is room.
+// Inserts a statement at its place, where there is room.
 fn put_at(notes: &mut Vec<StatementRecord>, at: usize, noted: StatementRecord)
     requires place { at ≤ vec_len notes.old }
     requires room { vec_len notes.old < vec_capacity notes.old }

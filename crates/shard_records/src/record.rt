@@ -33,7 +33,7 @@ pub enum Record {
     },
     /// A shard was read at this time: its later entries are above it.
     Ceiling(Time),
-    /// The history of a shard below this time is no longer kept.
+    /// The history of a shard below this time is no longer stored.
     Floor(Time),
     /// The donor begins to give a chunk.
     MoveStart(MoveStart),
@@ -78,7 +78,7 @@ pub enum Record {
     Block(u64),
 }
 
-/// What one write statement does, lent: so that a document is written where it is.
+/// What one write statement does, borrowed: so that a document is written where it is.
 #[derive(Clone, Copy)]
 pub enum WordsRef<'a> {
     /// Inserts a document.

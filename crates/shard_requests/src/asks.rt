@@ -109,7 +109,7 @@ pub fn is_parked(parked: &[Message], ask: &Ask<'_>) -> bool
     false
 }
 
-/// Leaves, in order, the messages that don't wait for the table of the collection.
+/// Removes the messages that wait for the table of the collection, and keeps the order of the others.
 pub fn keep_others(parked: &mut Vec<Message>, namespace: &Namespace)
     ensures { map letter_of parked.new.items ≡ filter (λ p. not (wants_table namespace.now p)) (map letter_of parked.old.items) }
 {

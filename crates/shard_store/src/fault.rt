@@ -17,7 +17,7 @@ pub enum WriteFault {
     Immutable,
     /// A sum is past int64.
     Overflow,
-    /// The document is too large to be kept.
+    /// The document is too large to be stored.
     TooLarge,
     /// A value to be added to is no number.
     NotNumber,

@@ -131,7 +131,7 @@ impl ShardStore {
         ensures { IfOk result (λ e. IsEffect (entries_of self.now) namespace.now (insert_operation (arc_value document.now)) e.key e.left e.outcome) }
     {
         let Ok(key) = key_of(alloc, document) else {
-            // A document that may be kept has a key.
+            // A document that can be stored has a key.
             return Err(Memory);
         };
         let stands = self.document(namespace, &key).is_some();

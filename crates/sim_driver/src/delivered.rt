@@ -62,7 +62,7 @@ impl Delivered {
         }
     }
 
-    /// The message at a place is delivered. If out of memory nothing is said of any message.
+    /// Marks the message at a place as delivered. If memory runs out, the contract says nothing of any mark.
     pub fn mark(&mut self, place: usize) -> Result<(), Memory>
         ensures { OnOk result (self.new ≡ marked place self.old) }
     {

@@ -90,7 +90,7 @@ impl Ord for Key {
 }
 
 impl Key {
-    /// Takes the value as a key. Gives it back where it is of a kind that no key is.
+    /// Takes the value as a key. Returns it where it is of a kind that no key is.
     pub fn of(value: Value) -> Result<Key, Value>
         ensures key { IfOk result (λ k. (k ≡ datum_of value) × (is_key (datum_of value) ≡ true)) }
         ensures none { IfErr result (λ v. (v ≡ value) × (is_key (datum_of value) ≡ false)) }
@@ -119,7 +119,7 @@ impl Key {
     }
 }
 
-/// Why a document can't be kept under a key.
+/// Why a document can't be stored under a key.
 #[derive(Clone, Copy, Debug, PartialEq, Eq)]
 pub enum KeyFault {
     /// It has no field `_id`.

@@ -1,5 +1,5 @@
 //! The order of values as code (MongoDB manual, "Comparison/Sort Order"), and what rests on it: keys, ranges of keys, and the
-//! words of a write.
+//! operands of a write.
 #![tactic(auto)]
 
 mod key;
