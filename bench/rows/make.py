@@ -14,7 +14,6 @@ import languages
 import reads
 import refusals
 import retries
-import routers
 import scripts
 import sessions
 import sizes
@@ -29,7 +28,7 @@ def main():
     put_file(DATA / "reads.rows", lines + refusals.fields() + sizes.rows() + refusals.refusals() + sessions.rows())
     put_file(DATA / "cursors.rows", cursors.rows())
     put_file(DATA / "retries.rows", retries.rows())
-    put_file(DATA / "retries.script.rows", scripts.rows() + routers.one_router())
+    put_file(DATA / "retries.script.rows", scripts.rows())
     put_file(DATA / "drivers.reads.rows", drivers.rows(DATA / "drivers.rows"))
     sessions.put(TOP / "examples", TOP / "examples-README-parts.md")
 
