@@ -1,7 +1,13 @@
 """Rows of scripts with several routers, moments, and messages that are held back by their kind.
 
 Each reply is told beside its request, by hand; the records of the journals are told by hand too, and written by the account of the formats.
+As a program, with the path of the built program, it plays the rows of one router, and with `all` the others too.
 """
+import pathlib
+import subprocess
+import sys
+import tempfile
+
 from bson import fields_of, stamp
 from changing import applied
 from cluster import create_record, entry_record, file_of, life_record, table_record
@@ -191,3 +197,54 @@ def one_router():
 def rows():
     """The rows of scripts with several."""
     return two_routers() + own_times() + numbered_by_both() + refusals(2)
+
+
+def bytes_of(words):
+    """The bytes of pieces in hexadecimal, of which one may have a count before it."""
+    found = b""
+    for word in words.split():
+        count, _, digits = word.rpartition("*")
+        found += bytes.fromhex(digits) * int(count or 1)
+    return found
+
+
+def plays(program, lines):
+    """Whether the program, run on a row of these lines, prints, keeps and ends as the row says."""
+    arguments, script, printed, kept, status = ["sim"], b"", b"", {}, 0
+    for line in lines:
+        word, _, rest = line.partition(" ")
+        if word == "sim":
+            arguments = line.split()
+        elif word == "ask":
+            script = bytes_of(rest)
+        elif word == "gets":
+            printed = bytes_of(rest)
+        elif word == "keeps":
+            kept[int(rest.split()[0])] = bytes_of(rest.partition(" ")[2])
+        elif word == "ends":
+            status = int(rest.split()[0])
+    with tempfile.TemporaryDirectory() as folder:
+        run = subprocess.run([program, *arguments], cwd=folder, input=script, stdout=subprocess.PIPE, stderr=subprocess.DEVNULL)
+        paths = {node: pathlib.Path(folder) / f"node{node:02}.journal" for node in kept}
+        files = {node: path.read_bytes() if path.exists() else None for node, path in paths.items()}
+    return (run.returncode, run.stdout, files) == (status, printed, kept)
+
+
+def main():
+    """Runs the rows by the program: those of one router, and with `all` the others too."""
+    program = str(pathlib.Path(sys.argv[1]).resolve())
+    lines, wrong, count = [], 0, 0
+    for line in one_router() + (rows() if "all" in sys.argv else []):
+        lines.append(line)
+        if line.startswith("ends "):
+            count += 1
+            if not plays(program, lines):
+                wrong += 1
+                print(lines[0])
+            lines = []
+    print(f"routers: {count} rows, {wrong} wrong")
+    sys.exit(1 if wrong else 0)
+
+
+if __name__ == "__main__":
+    main()
