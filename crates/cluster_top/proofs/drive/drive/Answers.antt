@@ -9,3 +9,6 @@ returns-in-Sim-clause-driven g c = rw c.in-Sim.is (λ asked are. (c.simulate.ens
 
 pub returns-in-Pipe-clause-open : goal.returns-in-Pipe-clause-open
 returns-in-Pipe-clause-open g c = λ disk memory. c.pipe.ensures.«open» disk
+
+pub returns-in-Sim-clause-open : goal.returns-in-Sim-clause-open
+returns-in-Sim-clause-open g c = λ disk memory. c.simulate.ensures.«open» disk
