@@ -148,7 +148,9 @@ pub fn answer_all<
             Err(FrameFault::Malformed { .. }) => return Err(Status::BadInput),
             Err(FrameFault::Memory) => return Err(Status::OutOfMemory),
         };
-        match answer_one(rt, alloc, request, seats, network, replied, out, clock, router) {
+        match answer_one(
+            rt, alloc, request, seats, network, replied, out, clock, router,
+        ) {
             Ok(after) => replied = after,
             Err(status) => return Err(status),
         }
