@@ -38,6 +38,11 @@ abbrev pub can_split : Datum → List Chunk → Bool
 can_split key [] = false
 can_split key (c ∷ chunks) = strictly_inside key c.range || can_split key chunks
 
+-- a chunk begins at the key
+abbrev pub begins_at : Datum → List Chunk → Bool
+begins_at key [] = false
+begins_at key (c ∷ chunks) = is_eq (order_bounds c.range.min (key_bound key)) || begins_at key chunks
+
 -- the greatest of this number and the minor numbers of the chunks that have the major number
 abbrev pub greatest_minor : ℕ → ℕ → List Chunk → ℕ
 greatest_minor so_far major [] = so_far

@@ -2,10 +2,13 @@
 use Rattle.std.specs.Prelude.{◌≡◌, ◌⊎◌, ℕ, ℤ, ◌+◌, max, List, [], ◌∷◌, ◌++◌, Bool, true, false, Option, Some, None, IsSome}
 use Rattle.reply_model.specs.Requests.{Request}
 use Rattle.reply_model.specs.Times.{time_of_moment}
-use Rattle.reply_model.specs.Catalogue.{Creation}
-use Rattle.reply_model.specs.Tables.{Table, first_table, table_of}
-use Rattle.node_model.specs.Journal.{kept_creation}
-use Rattle.node_model.specs.Letters.{At, Body, table_ask, table_told, write_ask, write_done, read_ask, half_ask, read_rows, stale, time_ask, time_told, Letter, Input, client_input, letter_input, moment_input, opened_input, Effect, nothing, sends, writes}
+use Rattle.reply_model.specs.Tree.{Datum}
+use Rattle.base_model.specs.Identities.{RequestId}
+use Rattle.chunk_model.specs.Changes.{Change, known_table}
+use Rattle.chunk_model.specs.Requests.{changed, unchanged, no_collection, create_answer, split_answer}
+use Rattle.reply_model.specs.Tables.{Table}
+use Rattle.node_model.specs.Journal.{kept_change}
+use Rattle.node_model.specs.Letters.{At, Body, table_ask, table_told, split_ask, split_done, write_ask, write_done, read_ask, half_ask, read_rows, stale, time_ask, time_told, Letter, Input, client_input, letter_input, moment_input, opened_input, Effect, nothing, sends, writes}
 use Rattle.node_model.specs.States.{Catalogue}
 
 -- the time of the message, or the own one where that is later
@@ -15,28 +18,50 @@ heard c m = max c.time m.time
 -- a message that requests nothing of the catalogue
 abbrev pub AsksNothing : Body → Type 0
 AsksNothing (table_ask namespace create at) = ⊥
+AsksNothing (split_ask id namespace middle) = ⊥
 AsksNothing body = Unit {0}
 
 -- the answer to a request, at this time
 abbrev pub told : Catalogue → Letter → (time : ℕ) → (namespace : List ℕ) → (create : Bool) → At → Option Table → Letter
 told c m time namespace create at table = record { sender = c.me; receiver = m.sender; time = time; body = table_told namespace create at table }
 
--- the collection that begins: the first of its name
-abbrev pub begun_at : List ℕ → ℕ → Creation
-begun_at namespace time = record { namespace = namespace; epoch = 1; at = time }
+-- the answer to a request for a split
+abbrev pub split_told : Catalogue → Letter → (time : ℕ) → RequestId → (found : Bool) → Letter
+split_told c m time id found = record { sender = c.me; receiver = m.sender; time = time; body = split_done id found }
+
+-- the catalogue at a later time, and with one change more
+abbrev pub at_later : Catalogue → ℕ → Catalogue
+at_later c time = record { me = c.me; time = time; changes = c.changes }
+
+abbrev pub with_change : Catalogue → ℕ → Change → Catalogue
+with_change c time x = record { me = c.me; time = time; changes = x ∷ c.changes }
 
 pub data CatalogueRow : Catalogue → Input → Effect → Catalogue → Type 0 where
   -- a collection begins, at the next time
-  catalogue_create : (c : Catalogue) (m : Letter) (namespace : List ℕ) (at : At) → m.body ≡ table_ask namespace true at → table_of namespace c.tables ≡ None
+  catalogue_create : (c : Catalogue) (m : Letter) (namespace : List ℕ) (at : At) (x : Change) → m.body ≡ table_ask namespace true at
+      → create_answer namespace (heard c m + 1) c.changes ≡ changed x
       → CatalogueRow c (letter_input m)
-      (writes (kept_creation (begun_at namespace (heard c m + 1)) ∷ []) (told c m (heard c m + 1) namespace true at (Some (first_table (begun_at namespace (heard c m + 1)))) ∷ []))
-      (record { me = c.me; time = heard c m + 1; tables = c.tables ++ first_table (begun_at namespace (heard c m + 1)) ∷ [] })
+      (writes (kept_change x ∷ []) (told c m (heard c m + 1) namespace true at (known_table namespace (x ∷ c.changes)) ∷ []))
+      (with_change c (heard c m + 1) x)
   -- sends the table that there is, if there is one
-  catalogue_tell : (c : Catalogue) (m : Letter) (namespace : List ℕ) (create : Bool) (at : At) → m.body ≡ table_ask namespace create at → (create ≡ false) ⊎ IsSome (table_of namespace c.tables)
-      → CatalogueRow c (letter_input m) (sends (told c m (heard c m) namespace create at (table_of namespace c.tables) ∷ [])) (record { me = c.me; time = heard c m; tables = c.tables })
+  catalogue_tell : (c : Catalogue) (m : Letter) (namespace : List ℕ) (create : Bool) (at : At) → m.body ≡ table_ask namespace create at
+      → (create ≡ false) ⊎ IsSome (known_table namespace c.changes)
+      → CatalogueRow c (letter_input m) (sends (told c m (heard c m) namespace create at (known_table namespace c.changes) ∷ [])) (at_later c (heard c m))
+  -- a chunk is split, at the next time
+  catalogue_split : (c : Catalogue) (m : Letter) (id : RequestId) (namespace : List ℕ) (middle : Datum) (x : Change) → m.body ≡ split_ask id namespace middle
+      → split_answer namespace middle (heard c m + 1) c.changes ≡ changed x
+      → CatalogueRow c (letter_input m) (writes (kept_change x ∷ []) (split_told c m (heard c m + 1) id true ∷ [])) (with_change c (heard c m + 1) x)
+  -- a chunk begins there already
+  catalogue_bound : (c : Catalogue) (m : Letter) (id : RequestId) (namespace : List ℕ) (middle : Datum) → m.body ≡ split_ask id namespace middle
+      → split_answer namespace middle (heard c m + 1) c.changes ≡ unchanged
+      → CatalogueRow c (letter_input m) (sends (split_told c m (heard c m) id true ∷ [])) (at_later c (heard c m))
+  -- there is no such collection
+  catalogue_none : (c : Catalogue) (m : Letter) (id : RequestId) (namespace : List ℕ) (middle : Datum) → m.body ≡ split_ask id namespace middle
+      → split_answer namespace middle (heard c m + 1) c.changes ≡ no_collection
+      → CatalogueRow c (letter_input m) (sends (split_told c m (heard c m) id false ∷ [])) (at_later c (heard c m))
   -- a message of another kind has no effect
   catalogue_skip : (c : Catalogue) (m : Letter) → AsksNothing m.body → CatalogueRow c (letter_input m) nothing c
-  catalogue_moment : (c : Catalogue) (moment : ℕ) → CatalogueRow c (moment_input moment) nothing (record { me = c.me; time = max c.time (time_of_moment moment); tables = c.tables })
+  catalogue_moment : (c : Catalogue) (moment : ℕ) → CatalogueRow c (moment_input moment) nothing (at_later c (max c.time (time_of_moment moment)))
   catalogue_opened : (c : Catalogue) → CatalogueRow c opened_input nothing c
   -- clients speak with routers alone
   catalogue_client : (c : Catalogue) (link : ℕ) (number : ℤ) (request : Request) → CatalogueRow c (client_input link number request) nothing c

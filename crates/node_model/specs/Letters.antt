@@ -1,7 +1,7 @@
 -- What nodes send each other, and what a node takes and returns in one step. Nodes are numbered: the catalogue is 0, shards and then
 -- routers follow.
 use Rattle.std.specs.Prelude.{ℕ, ℤ, List, [], ◌∷◌, ◌++◌, Bool, Option, Result}
-use Rattle.reply_model.specs.Tree.{Fields}
+use Rattle.reply_model.specs.Tree.{Datum, Fields}
 use Rattle.pipeline_model.specs.Halves.{Half, Rows}
 use Rattle.reply_model.specs.Requests.{Request}
 use Rattle.reply_model.specs.History.{StatementNumber, Operation}
@@ -33,6 +33,9 @@ pub data Body : Type 0 where
   table_ask : (namespace : List ℕ) → (create : Bool) → At → Body
   -- the answer, with what it answers
   table_told : (namespace : List ℕ) → (create : Bool) → At → Option Table → Body
+  -- to the catalogue: a chunk of the collection is split at the key; and the answer: whether there is such a collection
+  split_ask : RequestId → (namespace : List ℕ) → (middle : Datum) → Body
+  split_done : RequestId → (found : Bool) → Body
   -- to a shard: the statements of a request that follow one another and go there
   write_ask : RequestId → (turn : ℕ) → (ordered : Bool) → (namespace : List ℕ) → List Statement → Sent → Body
   -- the answer: what was done, in order

@@ -13,7 +13,7 @@ pub use Rattle.reply_model.specs.Reads.{is_on}
 use Rattle.command_model.specs.Cursors.{Batch}
 use Rattle.command_model.specs.GetMore.{GetMore}
 use Rattle.command_model.specs.KillCursors.{KillCursors}
-use Rattle.reply_model.specs.Errors.{cursor_not_found, overflow, query_exceeded_memory}
+use Rattle.reply_model.specs.Errors.{cursor_not_found, namespace_not_sharded, overflow, query_exceeded_memory}
 use Rattle.reply_model.specs.Cursors.{Cursor, open_cursor, ShowsNext, Kills}
 use Rattle.pipeline_model.specs.Batches.{IsBatch}
 use Rattle.pipeline_model.specs.Stages.{Stage}
@@ -22,8 +22,8 @@ use Rattle.pipeline_model.specs.Split.{split}
 use Rattle.pipeline_model.specs.Lengths.{excess_of_answer}
 use Rattle.pipeline_model.specs.Runs.{Outcome, listed, overflowed, count_documents}
 use Rattle.reply_model.specs.Keys.{Span}
-use Rattle.reply_model.specs.Command.{Command, hello_command, legacy_command, ping_command, end_sessions_command, write_command, find_command, count_command, more_command, kill_command, command_of}
-use Rattle.reply_model.specs.Answers.{Answer, hello_answer, legacy_answer, done_answer, first_answer, next_answer, count_answer, killed_answer, refusal_answer, answer_document}
+use Rattle.reply_model.specs.Command.{Command, hello_command, legacy_command, ping_command, end_sessions_command, write_command, find_command, count_command, more_command, kill_command, shard_collection_command, split_command, command_of}
+use Rattle.reply_model.specs.Answers.{Answer, hello_answer, legacy_answer, done_answer, first_answer, next_answer, count_answer, killed_answer, sharded_answer, changed_answer, refusal_answer, answer_document}
 use Rattle.reply_model.specs.History.{Operation, key_written}
 use Rattle.reply_model.specs.Tables.{Table, first_shard, table_of, with_table, owner_now, owner_at}
 use Rattle.reply_model.specs.Verdicts.{sent_by}
@@ -33,8 +33,8 @@ use Rattle.reply_model.specs.Exchanges.{number_for}
 use Rattle.reply_model.specs.Outcomes.{Done, answer_of}
 use Rattle.reply_model.specs.Right.{ends, unless_silent, usual_size}
 use Rattle.node_model.specs.Journal.{Kept, kept_block, kept_life}
-use Rattle.node_model.specs.Letters.{At, no_time, at_time, Statement, half_overflow, half_excess, Body, table_ask, table_told, write_ask, write_done, read_ask, half_ask, read_rows, stale, time_ask, time_told, Letter, Input, client_input, letter_input, moment_input, opened_input, Taken, Reply, Effect, nothing, sends, writes}
-use Rattle.node_model.specs.States.{Telling, in_batches, as_number, Work, writing, reading, Wait, for_time, for_table, for_shards, Open, Router, open_with, without, replaced}
+use Rattle.node_model.specs.Letters.{At, no_time, at_time, Statement, half_overflow, half_excess, Body, table_ask, table_told, split_ask, split_done, write_ask, write_done, read_ask, half_ask, read_rows, stale, time_ask, time_told, Letter, Input, client_input, letter_input, moment_input, opened_input, Taken, Reply, Effect, nothing, sends, writes}
+use Rattle.node_model.specs.States.{Telling, in_batches, as_number, Work, writing, reading, sharding, splitting, Wait, for_time, for_catalogue, for_shards, Open, Router, open_with, without, replaced}
 
 -- THE STATE
 
@@ -77,6 +77,8 @@ plan_of r id silent (Ok (find_command find)) =
 plan_of r id silent (Ok (count_command read)) = plan_read r read as_number
 plan_of r id silent (Ok (more_command more)) = needs_batch more
 plan_of r id silent (Ok (kill_command kill)) = needs_end kill
+plan_of r id silent (Ok (shard_collection_command namespace)) = needs namespace sharding
+plan_of r id silent (Ok (split_command split)) = needs split.namespace (splitting split.middle)
 
 -- WHAT IT REQUESTS
 
@@ -117,16 +119,22 @@ asks_to_read r time id namespace t at half = elim (owner_of_span t at half.span)
 abbrev pub asks_shards : Router → ℕ → (count : ℕ) → (namespace : List ℕ) → Table → Work → List Letter
 asks_shards r time count namespace t (writing kind ordered statements answers) = asks_to_write r time (id_of r count) namespace t ordered (unanswered statements answers)
 asks_shards r time count namespace t (reading named at stages telling) = asks_to_read r time (id_of r count) namespace t at (split stages).0
+asks_shards r time count namespace t sharding = []
+asks_shards r time count namespace t (splitting middle) = []
 
 -- what it sends to the catalogue: a write creates its collection
-abbrev pub asks_table : Router → ℕ → (namespace : List ℕ) → Work → Letter
-asks_table r time namespace (writing kind ordered statements answers) = says r 0 time (table_ask namespace true no_time)
-asks_table r time namespace (reading named at stages telling) = says r 0 time (table_ask namespace false (at_time at))
+abbrev pub asks_catalogue : Router → ℕ → (count : ℕ) → (namespace : List ℕ) → Work → Letter
+asks_catalogue r time count namespace (writing kind ordered statements answers) = says r 0 time (table_ask namespace true no_time)
+asks_catalogue r time count namespace (reading named at stages telling) = says r 0 time (table_ask namespace false (at_time at))
+asks_catalogue r time count namespace sharding = says r 0 time (table_ask namespace true no_time)
+asks_catalogue r time count namespace (splitting middle) = says r 0 time (split_ask (id_of r count) namespace middle)
 
--- a table is enough where it says who owned what is read at its time
+-- a table is enough where it says who owned what is read at its time; and none for what the catalogue does
 abbrev pub is_enough : Table → Work → Bool
 is_enough t (writing kind ordered statements answers) = true
 is_enough t (reading named at stages telling) = elim (owner_of_span t at (split stages).0.span) [ None ↦ false | Some shard ↦ true ]
+is_enough t sharding = false
+is_enough t (splitting middle) = false
 
 abbrev pub enough_of : Option Table → Work → Option Table
 enough_of None work = None
@@ -144,22 +152,26 @@ asks_times r time id = says r first_shard time (time_ask id) ∷ []
 abbrev pub is_ahead : ℕ → Work → Bool
 is_ahead time (writing kind ordered statements answers) = false
 is_ahead time (reading named at stages telling) = nat_lt time at
+is_ahead time sharding = false
+is_ahead time (splitting middle) = false
 
 -- a read that names no time is of the time that is reached
 abbrev pub reached : ℕ → Work → Work
 reached time (writing kind ordered statements answers) = writing kind ordered statements answers
 reached time (reading named at stages telling) = reading named (if named then at else time) stages telling
+reached time sharding = sharding
+reached time (splitting middle) = splitting middle
 
 -- by the table that it can proceed with, if that is there
 abbrev pub wait_by : Option Table → Wait
-wait_by None = for_table
+wait_by None = for_catalogue
 wait_by (Some t) = for_shards
 
 abbrev pub asks_by : Router → ℕ → (count : ℕ) → (namespace : List ℕ) → Work → Option Table → List Letter
-asks_by r time count namespace work None = asks_table r time namespace work ∷ []
+asks_by r time count namespace work None = asks_catalogue r time count namespace work ∷ []
 asks_by r time count namespace work (Some t) = asks_shards r time count namespace t work
 
--- what work waits for at a time of the router, and what is requested for it: the time that it reads at, its table, or the shards
+-- what work waits for at a time of the router, and what is requested for it: the time that it reads at, the catalogue, or the shards
 abbrev pub wait_of : Router → ℕ → (namespace : List ℕ) → Work → Wait
 wait_of r time namespace work = if is_ahead time work then for_time else wait_by (table_for r.tables namespace work)
 
@@ -205,8 +217,8 @@ abbrev pub is_for : At → ℕ → Bool
 is_for no_time at = false
 is_for (at_time told) at = told == at
 
--- what becomes of an open request after a table arrives: it waits; or it sends to the shards and proceeds; or it is answered that nothing
--- is there, where it reads at the time of the table, and no table says who owned that
+-- what becomes of an open request after a table arrives: it waits; or it sends to the shards and proceeds; or it is answered: that its collection
+-- was created, where the table was requested so; or that nothing is there, where it reads at the time of the table, and no table says who owned that
 pub data Next : Type 0 where
   stays : Open → List Letter → Next
   is_told : Reply → Next
@@ -216,25 +228,32 @@ abbrev pub empty_answer : Open → ℕ → Telling → Answer
 empty_answer q at (in_batches size single) = first_answer (record { cursor = pos 0; namespace = q.namespace; documents = []; time = at })
 empty_answer q at as_number = count_answer 0 at
 
-abbrev pub is_for_table : Wait → Bool
-is_for_table for_time = false
-is_for_table for_table = true
-is_for_table for_shards = false
+abbrev pub is_for_catalogue : Wait → Bool
+is_for_catalogue for_time = false
+is_for_catalogue for_catalogue = true
+is_for_catalogue for_shards = false
 
--- without a table that is enough
-abbrev pub next_without : Router → ℕ → At → Open → Next
-next_without r time told q = elim q.work [
+-- the table of a collection arrived that was to be created
+abbrev pub was_created : (create : Bool) → Option Table → Bool
+was_created create None = false
+was_created create (Some t) = create
+
+-- without a table that is enough; `made` where its collection was to be created, and there it is
+abbrev pub next_without : Router → ℕ → (made : Bool) → At → Open → Next
+next_without r time made told q = elim q.work [
   | writing kind ordered statements answers ↦ stays q []
   | reading named at stages telling ↦ if is_for told at then is_told (reply_to r time q (empty_answer q at telling)) else stays q []
+  | sharding ↦ if made then is_told (reply_to r time q (sharded_answer q.namespace time)) else stays q []
+  | splitting middle ↦ stays q []
 ]
 
-abbrev pub next_waiting : Router → ℕ → At → Open → Option Table → Next
-next_waiting r time told q None = next_without r time told q
-next_waiting r time told q (Some t) = stays (with_work q for_shards q.work) (asks_shards r time q.count q.namespace t q.work)
+abbrev pub next_waiting : Router → ℕ → (made : Bool) → At → Open → Option Table → Next
+next_waiting r time made told q None = next_without r time made told q
+next_waiting r time made told q (Some t) = stays (with_work q for_shards q.work) (asks_shards r time q.count q.namespace t q.work)
 
-abbrev pub next_of : Router → ℕ → (tables : List Table) → (namespace : List ℕ) → At → Open → Next
-next_of r time tables namespace told q =
-    if is_for_table q.wait && bytes_eq q.namespace namespace then next_waiting r time told q (table_for tables q.namespace q.work) else stays q []
+abbrev pub next_of : Router → ℕ → (tables : List Table) → (namespace : List ℕ) → (made : Bool) → At → Open → Next
+next_of r time tables namespace made told q =
+    if is_for_catalogue q.wait && bytes_eq q.namespace namespace then next_waiting r time made told q (table_for tables q.namespace q.work) else stays q []
 
 abbrev pub stay_in : Next → List Open
 stay_in (stays q letters) = q ∷ []
@@ -262,7 +281,7 @@ knows r time tables requests = record { me = r.me; time = time; life = r.life; b
 abbrev pub asks_again : Router → ℕ → Open → List Letter
 asks_again r time q = elim q.wait [
   | for_time ↦ asks_times r time (id_of r q.count)
-  | for_table ↦ asks_table r time q.namespace q.work ∷ []
+  | for_catalogue ↦ asks_catalogue r time q.count q.namespace q.work ∷ []
   | for_shards ↦ elim (table_of q.namespace r.tables) [ None ↦ [] | Some t ↦ asks_shards r time q.count q.namespace t q.work ]
 ]
 
@@ -271,6 +290,7 @@ asks_again r time q = elim q.wait [
 -- a message that carries nothing for a router
 abbrev pub TellsNothing : Body → Type 0
 TellsNothing (table_told namespace create at table) = ⊥
+TellsNothing (split_done id found) = ⊥
 TellsNothing (write_done id dones) = ⊥
 TellsNothing (read_rows id turn rows) = ⊥
 TellsNothing (stale id turn met) = ⊥
@@ -284,23 +304,29 @@ open_of r id = if same_request id (id_of r id.count) then open_with id.count r.r
 -- outcomes are new to an open write where they answer more of its statements
 abbrev pub AreNoNews : Option Open → List Done → Type 0
 AreNoNews None dones = Unit {0}
-AreNoNews (Some q) dones = elim q.work [ writing kind ordered statements answers ↦ noted answers dones ≡ answers | reading named at stages telling ↦ Unit {0} ]
+AreNoNews (Some q) dones = elim q.work [ writing kind ordered statements answers ↦ noted answers dones ≡ answers | reading named at stages telling ↦ Unit {0} | sharding ↦ Unit {0} | splitting middle ↦ Unit {0} ]
 
 -- rows are new to an open read of the turn that it is in
 abbrev pub IsNoRead : Option Open → (turn : ℕ) → Type 0
 IsNoRead None turn = Unit {0}
-IsNoRead (Some q) turn = elim q.work [ writing kind ordered statements answers ↦ Unit {0} | reading named at stages telling ↦ turn ≢ 1 ]
+IsNoRead (Some q) turn = elim q.work [ writing kind ordered statements answers ↦ Unit {0} | reading named at stages telling ↦ turn ≢ 1 | sharding ↦ Unit {0} | splitting middle ↦ Unit {0} ]
 
 -- a time is new to a read that waits for it
 abbrev pub IsNotAwaited : Option Open → Type 0
 IsNotAwaited None = Unit {0}
-IsNotAwaited (Some q) = elim q.work [ writing kind ordered statements answers ↦ Unit {0} | reading named at stages telling ↦ q.wait ≢ for_time ]
+IsNotAwaited (Some q) = elim q.work [ writing kind ordered statements answers ↦ Unit {0} | reading named at stages telling ↦ q.wait ≢ for_time | sharding ↦ Unit {0} | splitting middle ↦ Unit {0} ]
+
+-- a split is new to a request for one
+abbrev pub IsNoSplit : Option Open → Type 0
+IsNoSplit None = Unit {0}
+IsNoSplit (Some q) = elim q.work [ writing kind ordered statements answers ↦ Unit {0} | reading named at stages telling ↦ Unit {0} | sharding ↦ Unit {0} | splitting middle ↦ ⊥ ]
 
 -- a message is late: what it carries changes nothing
 abbrev pub IsLate : Router → Body → Type 0
 IsLate r (write_done id dones) = AreNoNews (open_of r id) dones
 IsLate r (read_rows id turn rows) = IsNoRead (open_of r id) turn
 IsLate r (time_told id) = IsNotAwaited (open_of r id)
+IsLate r (split_done id found) = IsNoSplit (open_of r id)
 IsLate r (stale id turn met) = Unit {0}
 IsLate r body = ⊥
 
@@ -411,11 +437,19 @@ pub data RouterRow : Router → Input → Effect → Router → Type 0 where
       → RouterRow r (letter_input m)
       (record {
         written = [];
-        mail = flat_map (λ q. letters_in (next_of r (heard r m) (adopted table r.tables) namespace at q)) r.requests;
+        mail = flat_map (λ q. letters_in (next_of r (heard r m) (adopted table r.tables) namespace (was_created create table) at q)) r.requests;
         taken = [];
-        replies = flat_map (λ q. replies_in (next_of r (heard r m) (adopted table r.tables) namespace at q)) r.requests;
+        replies = flat_map (λ q. replies_in (next_of r (heard r m) (adopted table r.tables) namespace (was_created create table) at q)) r.requests;
       })
-      (knows r (heard r m) (adopted table r.tables) (flat_map (λ q. stay_in (next_of r (heard r m) (adopted table r.tables) namespace at q)) r.requests))
+      (knows r (heard r m) (adopted table r.tables) (flat_map (λ q. stay_in (next_of r (heard r m) (adopted table r.tables) namespace (was_created create table) at q)) r.requests))
+  -- a chunk was split, or began there before; or there is no such collection
+  router_split : (r : Router) (m : Letter) (id : RequestId) (q : Open) (middle : Datum) → m.body ≡ split_done id true → open_of r id ≡ Some q
+      → q.work ≡ splitting middle
+      → RouterRow r (letter_input m) (answers_now (reply_to r (heard r m) q (changed_answer (heard r m)))) (knows r (heard r m) r.tables (without q.count r.requests))
+  router_not_sharded : (r : Router) (m : Letter) (id : RequestId) (q : Open) (middle : Datum) → m.body ≡ split_done id false → open_of r id ≡ Some q
+      → q.work ≡ splitting middle
+      → RouterRow r (letter_input m) (answers_now (reply_to r (heard r m) q (refusal_answer (without_evidence namespace_not_sharded))))
+      (knows r (heard r m) r.tables (without q.count r.requests))
   -- the time that a read waited for is reached, and it proceeds
   router_reach : (r : Router) (m : Letter) (id : RequestId) (q : Open) (named : Bool) (at : ℕ) (stages : List Stage) (telling : Telling) → m.body ≡ time_told id
       → open_of r id ≡ Some q → q.work ≡ reading named at stages telling → q.wait ≡ for_time → at ≤ heard r m

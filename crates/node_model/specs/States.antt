@@ -2,17 +2,20 @@
 use Rattle.std.specs.Prelude.{ℕ, ℤ, List, [], ◌∷◌, Bool, false, ◌==◌, Option, Some, None, if◌then◌else◌}
 use Rattle.reply_model.specs.Requests.{Request}
 use Rattle.reply_model.specs.History.{Entry}
+use Rattle.chunk_model.specs.Changes.{Change}
 use Rattle.reply_model.specs.Tables.{Table}
+use Rattle.reply_model.specs.Tree.{Datum}
 use Rattle.reply_model.specs.Outcomes.{Done}
 use Rattle.reply_model.specs.Writes.{WriteKind}
 use Rattle.pipeline_model.specs.Stages.{Stage}
 use Rattle.reply_model.specs.Cursors.{Cursor}
 use Rattle.node_model.specs.Letters.{Letter, Statement}
 
+-- `changes`: newest first
 pub record Catalogue : Type 0 where
   pub me : ℕ
   pub time : ℕ
-  pub tables : List Table
+  pub changes : List Change
 
 -- `parked`: the requests that wait for a table
 pub record Shard : Type 0 where
@@ -34,11 +37,15 @@ pub data Work : Type 0 where
   writing : WriteKind → (ordered : Bool) → (statements : List Statement) → (answers : List Done) → Work
   -- what stages make of the documents at a time; where none is `named` it is that of the router that reaches this one
   reading : (named : Bool) → (at : ℕ) → List Stage → Telling → Work
+  -- its collection is created
+  sharding : Work
+  -- a chunk of it is split at the key
+  splitting : (middle : Datum) → Work
 
--- what an open request waits for: the time that it reads at, its table, or the shards
+-- what an open request waits for: the time that it reads at, the catalogue, or the shards
 pub data Wait : Type 0 where
   for_time : Wait
-  for_table : Wait
+  for_catalogue : Wait
   for_shards : Wait
 
 -- a request that is not answered yet
@@ -93,7 +100,7 @@ replaced p (q ∷ requests) = if q.count == p.count then p ∷ replaced p reques
 
 -- nodes as they are before their first step
 abbrev pub new_catalogue : ℕ → Catalogue
-new_catalogue me = record { me = me; time = 0; tables = [] }
+new_catalogue me = record { me = me; time = 0; changes = [] }
 
 abbrev pub new_shard : ℕ → Shard
 new_shard me = record { me = me; time = 0; tables = []; entries = []; parked = [] }

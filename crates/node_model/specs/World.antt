@@ -3,8 +3,8 @@ use Rattle.std.specs.Prelude.{◌≡◌, ℕ, ℤ, zero, suc, ◌+◌, List, [],
 use Rattle.std.specs.List.{slice_get, slice_set}
 use Rattle.reply_model.specs.Requests.{Request}
 use Rattle.reply_model.specs.Exchanges.{Asked, Answered}
-use Rattle.reply_model.specs.OneHistory.{Given}
-use Rattle.node_model.specs.Journal.{Kept}
+use Rattle.reply_model.specs.OneHistory.{Given, Dated}
+use Rattle.node_model.specs.Journal.{Kept, kept_table, kept_entry, kept_change, kept_life, kept_block}
 use Rattle.node_model.specs.Letters.{Letter, Input, client_input, letter_input, moment_input, opened_input, Taken, Reply, Effect}
 use Rattle.node_model.specs.States.{Router, NodeState, catalogue_state, shard_state, router_state, new_catalogue, new_shard, new_router}
 use Rattle.node_model.specs.Steps.{Step}
@@ -14,14 +14,15 @@ pub record Held : Type 0 where
   pub state : NodeState
   pub kept : List Kept
 
--- `nodes` in order of their numbers; `sent`, `asked`, `answered` and `given`, the moments, in the order in which they came; `now` is the
--- number of the step to come.
+-- `nodes` in order of their numbers; `sent`, `asked`, `answered` and `given`, the moments, in the order in which they came; the changes that were made, newest
+-- first; `now` is the number of the step to come.
 pub record World : Type 0 where
   pub nodes : List Held
   pub sent : List Letter
   pub asked : List Asked
   pub answered : List Answered
   pub given : List Given
+  pub changed : List Dated
   pub now : ℕ
 
 abbrev pub asked_by : (now : ℕ) → List Taken → List Asked
@@ -29,6 +30,15 @@ asked_by now taken = map (λ (x : Taken). record { id = x.id; link = x.link; num
 
 abbrev pub answered_by : (now : ℕ) → List Reply → List Answered
 answered_by now replies = map (λ (x : Reply). record { id = x.id; link = x.link; number = x.number; request = x.request; step = now; time = x.time; document = x.document }) replies
+
+-- the changes of the catalogue among what is written, before others, newest first
+abbrev pub dated_onto : (now : ℕ) → List Dated → List Kept → List Dated
+dated_onto now older [] = older
+dated_onto now older (kept_change x ∷ kept) = dated_onto now (record { change = x; step = now } ∷ older) kept
+dated_onto now older (kept_entry e ∷ kept) = dated_onto now older kept
+dated_onto now older (kept_table t ∷ kept) = dated_onto now older kept
+dated_onto now older (kept_life n ∷ kept) = dated_onto now older kept
+dated_onto now older (kept_block n ∷ kept) = dated_onto now older kept
 
 -- the world with what a step of the node at a place leaves
 abbrev pub after : World → (at : ℕ) → Held → Effect → NodeState → World
@@ -38,6 +48,7 @@ after w at old f new = record {
   asked = w.asked ++ asked_by w.now f.taken;
   answered = w.answered ++ answered_by w.now f.replies;
   given = w.given;
+  changed = dated_onto w.now w.changed f.written;
   now = w.now;
 }
 
@@ -49,11 +60,11 @@ moment_in at now (moment_input moment) = record { node = at; moment = moment; st
 moment_in at now opened_input = []
 
 abbrev pub is_given : World → (at : ℕ) → Input → World
-is_given w at i = record { nodes = w.nodes; sent = w.sent; asked = w.asked; answered = w.answered; given = w.given ++ moment_in at w.now i; now = w.now }
+is_given w at i = record { nodes = w.nodes; sent = w.sent; asked = w.asked; answered = w.answered; given = w.given ++ moment_in at w.now i; changed = w.changed; now = w.now }
 
 -- the step is over
 abbrev pub tick : World → World
-tick w = record { nodes = w.nodes; sent = w.sent; asked = w.asked; answered = w.answered; given = w.given; now = w.now + 1 }
+tick w = record { nodes = w.nodes; sent = w.sent; asked = w.asked; answered = w.answered; given = w.given; changed = w.changed; now = w.now + 1 }
 
 -- the node at a place takes a step on the input
 pub record Moves (w : World) (at : ℕ) (i : Input) (v : World) : Type 0 where
@@ -99,6 +110,7 @@ start routers = record {
   asked = [];
   answered = [];
   given = [];
+  changed = [];
   now = 0;
 }
 

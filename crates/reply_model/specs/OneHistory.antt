@@ -5,14 +5,16 @@ use Rattle.bson_model.specs.Tree.{Datum}
 use Rattle.base_model.specs.Times.{time_of_moment}
 use Rattle.base_model.specs.ReplyParts.{operation_time}
 use Rattle.command_model.specs.Writes.{WriteCommand}
-use Rattle.command_model.specs.Command.{write_command, command_of}
+use Rattle.command_model.specs.Command.{write_command, shard_collection_command, split_command, command_of}
+use Rattle.command_model.specs.Split.{SplitCommand}
 use Rattle.chunk_model.specs.Catalogue.{Creation}
-use Rattle.chunk_model.specs.Tables.{first_table, owner_at}
+use Rattle.chunk_model.specs.Changes.{Change, create_change, split_change, commit_change, time_of, known_table}
+use Rattle.chunk_model.specs.Placement.{AreFitting, owner}
 use Rattle.history_model.specs.History.{Entry, Legal, IsIn, key_written}
 use Rattle.base_model.specs.Identities.{RequestId}
 use Rattle.reply_model.specs.Exchanges.{Asked, Answered}
 use Rattle.reply_model.specs.Cursors.{Cursor}
-use Rattle.reply_model.specs.Right.{IsPart, IsRight, Sends, AreTold, ends}
+use Rattle.reply_model.specs.Right.{IsPart, IsRight, Sends, AreTold, ends, not_sharded}
 use Rattle.reply_model.specs.Outcomes.{Done, WasDone, answer_of}
 use Rattle.command_model.specs.Answers.{answer_document}
 
@@ -37,12 +39,18 @@ pub record WasSent (history : List Entry) (asked : List Asked) (answered : List 
   pub goes_on : (t : Answered) (dones : List Done) → IsIn t answered → t.id ≡ request.id → AreTold history asked t sends.write 0 sends.write.operations dones
       → t.document ≡ answer_document (answer_of sends.write.kind t.time dones) → ¬ EndsBefore sends.index sends.write dones
 
--- a collection was created for a write that a router took, and is later than what the router knew then
-pub record WasWanted (asked : List Asked) (c : Creation) : Type 0 where
+-- the request asks for this change: as a write in the collection or to create it, or to split it at that key; no command moves a chunk yet
+abbrev pub AsksFor : Asked → Change → Type 0
+AsksFor a (create_change c) = IsWriteIn c.namespace a ⊎ (command_of a.request ≡ Ok (shard_collection_command c.namespace))
+AsksFor a (split_change s) = command_of a.request ≡ Ok (split_command (record { namespace = s.namespace; middle = s.middle }))
+AsksFor a (commit_change c) = ⊥
+
+-- a change of the catalogue was made for a request that a router took, and is later than what the router knew then
+pub record WasWanted (asked : List Asked) (x : Change) : Type 0 where
   pub request : Asked
   pub taken : IsIn request asked
-  pub writes : IsWriteIn c.namespace request
-  pub later : request.time < c.at
+  pub asks : AsksFor request x
+  pub later : request.time < time_of x
 
 -- of a write without a client's number a prefix of the statements is stored
 abbrev pub StandsInPart : List Entry → Asked → Type 0
@@ -82,16 +90,16 @@ last_from node step moment (g ∷ given) =
 abbrev pub last_given : (node step : ℕ) → List Given → ℕ
 last_given node step given = last_from node step 0 given
 
--- the time occurs in the run: it is that of a moment that was given, of a collection that was created or of an entry
-abbrev pub WasMet : List Given → List Creation → List Entry → ℕ → Type 0
-WasMet given creations history time =
+-- the time occurs in the run: it is that of a moment that was given, of a change of the catalogue or of an entry
+abbrev pub WasMet : List Given → List Change → List Entry → ℕ → Type 0
+WasMet given changes history time =
     (time ≡ 0)
     ⊎ (((g : Given) × IsIn g given × (time ≡ time_of_moment g.moment))
-    ⊎ (((c : Creation) × IsIn c creations × (time ≡ c.at))
+    ⊎ (((x : Change) × IsIn x changes × (time ≡ time_of x))
     ⊎ ((e : Entry) × IsIn e history × (time ≡ e.time))))
 
 -- the reply is a right one to a request that was taken, on its link and with its number, not before it, and at a time that occurs in the run
-pub record IsRightOf (given : List Given) (creations : List Creation) (history : List Entry) (asked : List Asked) (answered : List Answered)
+pub record IsRightOf (given : List Given) (changes : List Change) (history : List Entry) (asked : List Asked) (answered : List Answered)
     (cursors : List Cursor) (t : Answered) (next : List Cursor) : Type 0 where
   pub request : Asked
   pub taken : IsIn request asked
@@ -101,15 +109,15 @@ pub record IsRightOf (given : List Given) (creations : List Creation) (history :
   pub same : request.request ≡ t.request
   pub came : request.came ≤ t.step
   pub risen : request.time ≤ t.time
-  pub met : WasMet given creations history t.time
-  pub right : IsRight creations history asked answered cursors request t next
+  pub met : WasMet given changes history t.time
+  pub right : IsRight changes history asked answered cursors request t next
 
 -- all replies, in order, starting with these cursors
-pub data AreRight (given : List Given) (creations : List Creation) (history : List Entry) (asked : List Asked) (answered : List Answered) :
+pub data AreRight (given : List Given) (changes : List Change) (history : List Entry) (asked : List Asked) (answered : List Answered) :
     List Cursor → List Answered → Type 0 where
-  nothing_told : (cursors : List Cursor) → AreRight given creations history asked answered cursors []
-  then_told : (cursors next : List Cursor) (t : Answered) (later : List Answered) → IsRightOf given creations history asked answered cursors t next
-      → AreRight given creations history asked answered next later → AreRight given creations history asked answered cursors (t ∷ later)
+  nothing_told : (cursors : List Cursor) → AreRight given changes history asked answered cursors []
+  then_told : (cursors next : List Cursor) (t : Answered) (later : List Answered) → IsRightOf given changes history asked answered cursors t next
+      → AreRight given changes history asked answered next later → AreRight given changes history asked answered cursors (t ∷ later)
 
 -- a time returned in the life of the request's router, before it came, is not later than what the router knew when it took it
 abbrev pub IsNotBefore : Asked → Answered → Type 0
@@ -125,9 +133,9 @@ abbrev pub IsInOrder : List Asked → Asked → Type 0
 IsInOrder asked a = AllByRecursion (λ (b : Asked). b.id.router ≡ a.id.router → b.id.life ≡ a.id.life → b.came < a.came → b.time ≤ a.time) asked
 
 -- what a router knew when it took a request: its last moment, and a time that occurs in the run and is not before that
-pub record IsKnown (given : List Given) (creations : List Creation) (history : List Entry) (a : Asked) : Type 0 where
+pub record IsKnown (given : List Given) (changes : List Change) (history : List Entry) (a : Asked) : Type 0 where
   pub moment : a.moment ≡ last_given a.id.router a.came given
-  pub time : WasMet given creations history a.time
+  pub time : WasMet given changes history a.time
   pub reached : time_of_moment a.moment ≤ a.time
 
 -- no request has the number of another
@@ -141,37 +149,59 @@ ids_asked asked = map (λ (a : Asked). a.id) asked
 abbrev pub ids_told : List Answered → List RequestId
 ids_told answered = map (λ (t : Answered). t.id) answered
 
--- no two collections have one name
-abbrev pub AreDifferentNames : List Creation → Type 0
-AreDifferentNames [] = Unit {0}
-AreDifferentNames (c ∷ creations) = AllByRecursion (λ (d : Creation). d.namespace ≢ c.namespace) creations × AreDifferentNames creations
-
 -- the entry is on the shard that owned its key at its time, in a collection that was created before it
-pub record IsPlaced (creations : List Creation) (e : Entry) : Type 0 where
+pub record IsPlaced (changes : List Change) (e : Entry) : Type 0 where
   pub creation : Creation
   pub key : Datum
-  pub begun : IsIn creation creations
+  pub begun : IsIn (create_change creation) changes
   pub name : creation.namespace ≡ e.namespace
   pub before : creation.at < e.time
   pub writes : key_written e.operation ≡ Some key
-  pub owner : owner_at (first_table creation) key e.time ≡ Some e.shard
+  pub owner : owner e.namespace key e.time changes ≡ Some e.shard
+
+-- a change of the catalogue, with the step in which it was made
+pub record Dated : Type 0 where
+  pub change : Change
+  pub step : ℕ
+
+-- the changes that were made before a step
+abbrev pub changes_before : ℕ → List Dated → List Change
+changes_before step [] = []
+changes_before step (d ∷ dated) = if nat_lt d.step step then d.change ∷ changes_before step dated else changes_before step dated
+
+-- in a step from one to another there was no collection of this name
+pub record WasAbsent (dated : List Dated) (namespace : List ℕ) (came told : ℕ) : Type 0 where
+  pub step : ℕ
+  pub after : came ≤ step
+  pub before : step ≤ told
+  pub none : known_table namespace (changes_before step dated) ≡ None
+
+-- where the reply to a split is that no such collection exists, there was none in a step after the request came, and not after the reply
+abbrev pub IsCaused : List Dated → List Asked → Answered → Type 0
+IsCaused dated asked t = (a : Asked) (split : SplitCommand) → IsIn a asked → a.id ≡ t.id → command_of a.request ≡ Ok (split_command split)
+    → t.document ≡ not_sharded → WasAbsent dated split.namespace a.came t.step
+
+-- the changes of the catalogue, newest first
+abbrev pub changes_in : List Dated → List Change
+changes_in dated = map (λ (d : Dated). d.change) dated
 
 -- For all inputs: the entries are one legal history of an unsharded collection with each statement at most once; each belongs to a request that a router
 -- took, is on the shard that owns its key and is later than what its router knew; no shard uses a number again, nor applies an older transaction; each
--- statement before a stored one was applied, where all requests that sent it are ordered; each collection was created for a write; each request has at most
--- one reply, a right one; and what its router knew then is not before what it had returned and taken.
-pub record OneHistory (given : List Given) (creations : List Creation) (history : List Entry) (asked : List Asked) (answered : List Answered) : Type 0 where
+-- statement before a stored one was applied, where all requests that sent it are ordered; each change of the catalogue was made for a request, and follows
+-- those before it; each request has at most one reply, a right one; and what its router knew then is not before what it had returned and taken.
+pub record OneHistory (given : List Given) (dated : List Dated) (history : List Entry) (asked : List Asked) (answered : List Answered) : Type 0 where
   pub legal : Legal history
   pub sent : AllByRecursion (WasSent history asked answered) history
   pub numbers : AreNumbered history
   pub reached : AllByRecursion (IsReached history asked) history
-  pub placed : AllByRecursion (IsPlaced creations) history
+  pub placed : AllByRecursion (IsPlaced (changes_in dated)) history
   pub parts : AllByRecursion (StandsInPart history) asked
-  pub wanted : AllByRecursion (WasWanted asked) creations
-  pub names : AreDifferentNames creations
-  pub right : AreRight given creations history asked answered [] answered
+  pub wanted : AllByRecursion (WasWanted asked) (changes_in dated)
+  pub fitting : AreFitting (changes_in dated)
+  pub caused : AllByRecursion (IsCaused dated asked) answered
+  pub right : AreRight given (changes_in dated) history asked answered [] answered
   pub one : AreDifferent (ids_asked asked)
   pub once : AreDifferent (ids_told answered)
   pub fresh : AllByRecursion (IsFresh answered) asked
   pub order : AllByRecursion (IsInOrder asked) asked
-  pub known : AllByRecursion (IsKnown given creations history) asked
+  pub known : AllByRecursion (IsKnown given (changes_in dated) history) asked

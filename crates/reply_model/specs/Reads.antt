@@ -1,10 +1,9 @@
 -- The right results of a read, by one history (MongoDB manual, "Read Concern", "Read Isolation, Consistency, and Recency").
-use Rattle.std.specs.Prelude.{◌≡◌, ℕ, ◌<◌, ◌≤◌, List, [], ◌∷◌, Bool, false, ◌==◌, filter, Option, Some, None, Ok, IsPermutation, if◌then◌else◌}
-use Rattle.std.specs.Str.{bytes_eq}
+use Rattle.std.specs.Prelude.{◌≡◌, ℕ, ◌<◌, ◌≤◌, List, Bool, false, ◌==◌, filter, Option, Some, None, Ok, IsPermutation}
 use Rattle.bson_model.specs.Tree.{Fields}
 use Rattle.value_model.specs.Keys.{key_of}
-use Rattle.chunk_model.specs.Catalogue.{Creation}
-use Rattle.chunk_model.specs.Tables.{first_table, owner_at}
+use Rattle.chunk_model.specs.Changes.{Change}
+use Rattle.chunk_model.specs.Placement.{owner}
 use Rattle.pipeline_model.specs.Runs.{Outcome, listed, Allows}
 use Rattle.pipeline_model.specs.Halves.{Rows, IsHalf}
 use Rattle.pipeline_model.specs.Split.{split}
@@ -37,24 +36,21 @@ abbrev pub is_on : ℕ → Option ℕ → Bool
 is_on shard None = false
 is_on shard (Some owner) = owner == shard
 
--- the documents of the collection whose keys a shard owned at a time, by the collections that were created
-abbrev pub is_owned : List Creation → (namespace : List ℕ) → (shard time : ℕ) → Fields → Bool
-is_owned [] namespace shard time document = false
-is_owned (c ∷ creations) namespace shard time document =
-    if bytes_eq c.namespace namespace then is_on shard (elim (key_of document) [ None ↦ None | Some key ↦ owner_at (first_table c) key time ])
-    else is_owned creations namespace shard time document
+-- the documents of a collection whose keys a shard owned at a time, by the changes of the catalogue
+abbrev pub is_owned : List Change → (namespace : List ℕ) → (shard time : ℕ) → Fields → Bool
+is_owned changes namespace shard time document = is_on shard (elim (key_of document) [ None ↦ None | Some key ↦ owner namespace key time changes ])
 
-abbrev pub owned_by : List Creation → (namespace : List ℕ) → (shard time : ℕ) → List Fields → List Fields
-owned_by creations namespace shard time documents = filter (is_owned creations namespace shard time) documents
+abbrev pub owned_by : List Change → (namespace : List ℕ) → (shard time : ℕ) → List Fields → List Fields
+owned_by changes namespace shard time documents = filter (is_owned changes namespace shard time) documents
 
 -- A length that is too great: of a result that the read may have, of a document of one, or of the rows that the half returns for the documents that one shard
 -- owned.
-pub data IsExcess (history : List Entry) (creations : List Creation) (reading : Reading) (time n : ℕ) : Type 0 where
+pub data IsExcess (history : List Entry) (changes : List Change) (reading : Reading) (time n : ℕ) : Type 0 where
   excess_answer : (answer : List Fields) → MayGive history reading time (listed answer) → excess_of_answer answer ≡ Some n
-      → IsExcess history creations reading time n
+      → IsExcess history changes reading time n
   excess_half : (shard : ℕ) (ordered : List Fields) (rows : Rows)
-      → IsPermutation (owned_by creations reading.namespace shard time (documents_at history reading.namespace time)) ordered
-      → IsHalf (split reading.stages).0 ordered rows → excess_of_half rows ≡ Some n → IsExcess history creations reading time n
+      → IsPermutation (owned_by changes reading.namespace shard time (documents_at history reading.namespace time)) ordered
+      → IsHalf (split reading.stages).0 ordered rows → excess_of_half rows ≡ Some n → IsExcess history changes reading time n
 
 -- the time that a read names, or that it is to reach
 abbrev pub time_wanted : Reading → Option ℕ

@@ -1,9 +1,10 @@
 -- Which replies are right by one history, and by what their routers knew.
 use Rattle.std.specs.Prelude.{◌≡◌, ℕ, ℤ, ◌+◌, ◌≤◌, List, [], ◌∷◌, ◌++◌, length, map, int_lt, Option, Some, None, Result, Ok, Err, Bool, true, false, ◌&&◌, ◌||◌, codes, if◌then◌else◌}
+use Rattle.std.specs.List.{AllByRecursion}
 use Rattle.std.specs.Option.{unwrap_or}
-use Rattle.bson_model.specs.Tree.{Fields}
+use Rattle.bson_model.specs.Tree.{Datum, Fields}
 use Rattle.opmsg_model.specs.Requests.{Request}
-use Rattle.base_model.specs.Errors.{cursor_not_found, overflow, query_exceeded_memory}
+use Rattle.base_model.specs.Errors.{cursor_not_found, namespace_not_sharded, overflow, query_exceeded_memory}
 use Rattle.base_model.specs.Refusals.{Refusal, bytes_evidence, cursor_evidence, time_ahead, without_evidence}
 use Rattle.command_model.specs.Writes.{ClientNumber, WriteCommand}
 use Rattle.command_model.specs.Reading.{Reading, Batches}
@@ -12,12 +13,15 @@ use Rattle.command_model.specs.Cursors.{Batch}
 use Rattle.command_model.specs.GetMore.{GetMore}
 use Rattle.command_model.specs.KillCursors.{KillCursors}
 use Rattle.command_model.specs.IsMaster.{Legacy}
-use Rattle.command_model.specs.Command.{Command, hello_command, legacy_command, ping_command, end_sessions_command, write_command, find_command, count_command, more_command, kill_command, command_of}
-use Rattle.command_model.specs.Answers.{hello_answer, legacy_answer, done_answer, first_answer, next_answer, count_answer, killed_answer, refusal_answer, answer_document}
+use Rattle.command_model.specs.Split.{SplitCommand}
+use Rattle.command_model.specs.Command.{Command, hello_command, legacy_command, ping_command, end_sessions_command, write_command, find_command, count_command, more_command, kill_command, shard_collection_command, split_command, command_of}
+use Rattle.command_model.specs.Answers.{hello_answer, legacy_answer, done_answer, first_answer, next_answer, count_answer, killed_answer, sharded_answer, changed_answer, refusal_answer, answer_document}
 use Rattle.pipeline_model.specs.Runs.{listed, overflowed, count_documents}
 use Rattle.history_model.specs.History.{StatementNumber, Operation, Entry, IsIn}
 use Rattle.pipeline_model.specs.Lengths.{excess_of_answer}
 use Rattle.chunk_model.specs.Catalogue.{Creation}
+use Rattle.chunk_model.specs.Changes.{Change, create_change, time_of, known_table, begins_at}
+use Rattle.chunk_model.specs.Tables.{Table}
 use Rattle.base_model.specs.Identities.{RequestId}
 use Rattle.reply_model.specs.Exchanges.{Asked, Answered, number_for, entries_by}
 use Rattle.reply_model.specs.Outcomes.{StatementOutcome, is_older, Done, answer_by, done_of, fails, answer_of}
@@ -131,50 +135,80 @@ abbrev pub unless_silent : Request → (before after : List Cursor) → List Cur
 unless_silent request before after = if request.more then before else after
 
 -- A read is refused: it has no outcome, or one that is too long, or its time is ahead of the router's, which is shown.
-pub data IsReadRefused (creations : List Creation) (history : List Entry) (answered : List Answered) (a : Asked) (t : Answered)
+pub data IsReadRefused (changes : List Change) (history : List Entry) (answered : List Answered) (a : Asked) (t : Answered)
     (reading : Reading) : Type 0 where
   refused_overflow : (time : ℕ) → IsTimeRead a t reading time → MayGive history reading time overflowed
-      → t.document ≡ answer_document (refusal_answer (without_evidence overflow)) → IsReadRefused creations history answered a t reading
-  refused_excess : (time n : ℕ) → IsTimeRead a t reading time → IsExcess history creations reading time n
+      → t.document ≡ answer_document (refusal_answer (without_evidence overflow)) → IsReadRefused changes history answered a t reading
+  refused_excess : (time n : ℕ) → IsTimeRead a t reading time → IsExcess history changes reading time n
       → t.document ≡ answer_document (refusal_answer (record { error = query_exceeded_memory; evidence = bytes_evidence n }))
-      → IsReadRefused creations history answered a t reading
+      → IsReadRefused changes history answered a t reading
   refused_ahead : IsAhead history answered a t reading
-      → t.document ≡ answer_document (refusal_answer (time_ahead t.time)) → IsReadRefused creations history answered a t reading
+      → t.document ≡ answer_document (refusal_answer (time_ahead t.time)) → IsReadRefused changes history answered a t reading
+
+-- REPLIES ABOUT CHUNKS (MongoDB manual, "shardCollection" and "split")
+
+-- a collection of this name was created by a time
+pub record WasCreated (changes : List Change) (namespace : List ℕ) (time : ℕ) : Type 0 where
+  pub creation : Creation
+  pub begun : IsIn (create_change creation) changes
+  pub name : creation.namespace ≡ namespace
+  pub before : creation.at ≤ time
+
+-- the catalogue had, by changes that are not later than a time, a chunk of the collection that begins at the key
+pub record WasSplit (changes : List Change) (namespace : List ℕ) (key : Datum) (time : ℕ) : Type 0 where
+  pub later : List Change
+  pub older : List Change
+  pub table : Table
+  pub all : changes ≡ later ++ older
+  pub past : AllByRecursion (λ x. time_of x ≤ time) older
+  pub known : known_table namespace older ≡ Some table
+  pub bound : begins_at key table.chunks ≡ true
+
+-- the reply that no collection of the name exists
+abbrev pub not_sharded : Fields
+not_sharded = answer_document (refusal_answer (without_evidence namespace_not_sharded))
 
 -- The reply to the request is a right one, where the first cursors were open before it, and the next ones are after it: right outcomes of its statements, in
 -- a collection that was created; or a batch of a result that the read may have at its time, or the number of documents, or why it is refused; or the next
--- batch of its cursor, or that this is not open; or which cursors are closed; or a reply that needs no document; or its refusal.
-pub data IsRight (creations : List Creation) (history : List Entry) (asked : List Asked) (answered : List Answered) (cursors : List Cursor) (a : Asked)
+-- batch of its cursor, or that this is not open; or which cursors are closed; or that a collection was created, or that a chunk
+-- of it begins at a key, or that there is none (`OneHistory` says when); or a reply that needs no document; or its refusal.
+pub data IsRight (changes : List Change) (history : List Entry) (asked : List Asked) (answered : List Answered) (cursors : List Cursor) (a : Asked)
     (t : Answered) : (next : List Cursor) → Type 0 where
   right_write : (write : WriteCommand) (dones : List Done) (c : Creation) → command_of a.request ≡ Ok (write_command write)
       → AreTold history asked t write 0 write.operations dones → (write.number ≡ None → IsWhole history a.id write)
-      → IsIn c creations → c.namespace ≡ write.namespace → c.at ≤ t.time
-      → t.document ≡ answer_document (answer_of write.kind t.time dones) → IsRight creations history asked answered cursors a t cursors
+      → IsIn (create_change c) changes → c.namespace ≡ write.namespace → c.at ≤ t.time
+      → t.document ≡ answer_document (answer_of write.kind t.time dones) → IsRight changes history asked answered cursors a t cursors
   right_find : (find : Find) (time : ℕ) (documents : List Fields) (batch : Batch) (next : List Cursor) → command_of a.request ≡ Ok (find_command find)
       → IsTimeRead a t find.reading time → MayGive history find.reading time (listed documents) → excess_of_answer documents ≡ None
       → batch.namespace ≡ find.reading.namespace → batch.time ≡ time
       → ShowsFirst a.id (unwrap_or find.batches.size usual_size) (asks_for_one find.batches a.request) cursors documents batch next
-      → t.document ≡ answer_document (first_answer batch) → IsRight creations history asked answered cursors a t next
+      → t.document ≡ answer_document (first_answer batch) → IsRight changes history asked answered cursors a t next
   right_count : (reading : Reading) (time n : ℕ) → command_of a.request ≡ Ok (count_command reading) → IsTimeRead a t reading time
       → MayGive history reading time (listed (count_documents (codes "n") n))
-      → t.document ≡ answer_document (count_answer n time) → IsRight creations history asked answered cursors a t cursors
-  right_refused_read : (reading : Reading) → Reads (command_of a.request) reading → IsReadRefused creations history answered a t reading
-      → IsRight creations history asked answered cursors a t cursors
+      → t.document ≡ answer_document (count_answer n time) → IsRight changes history asked answered cursors a t cursors
+  right_refused_read : (reading : Reading) → Reads (command_of a.request) reading → IsReadRefused changes history answered a t reading
+      → IsRight changes history asked answered cursors a t cursors
   right_more : (more : GetMore) (c : Cursor) (batch : Batch) (next : List Cursor) → command_of a.request ≡ Ok (more_command more)
       → open_cursor a.id more.cursor more.namespace cursors ≡ Some c → ShowsNext a.id more.size cursors c batch next
-      → t.document ≡ answer_document (next_answer batch) → IsRight creations history asked answered cursors a t (unless_silent a.request cursors next)
+      → t.document ≡ answer_document (next_answer batch) → IsRight changes history asked answered cursors a t (unless_silent a.request cursors next)
   right_no_cursor : (more : GetMore) → command_of a.request ≡ Ok (more_command more) → open_cursor a.id more.cursor more.namespace cursors ≡ None
       → t.document ≡ answer_document (refusal_answer (record { error = cursor_not_found; evidence = cursor_evidence more.cursor }))
-      → IsRight creations history asked answered cursors a t cursors
+      → IsRight changes history asked answered cursors a t cursors
   right_kill : (kill : KillCursors) (killed missing : List ℤ) (next : List Cursor) → command_of a.request ≡ Ok (kill_command kill)
       → Kills a.id kill.namespace cursors kill.cursors killed missing next → t.document ≡ answer_document (killed_answer killed missing)
-      → IsRight creations history asked answered cursors a t next
+      → IsRight changes history asked answered cursors a t next
+  right_shard : (namespace : List ℕ) → command_of a.request ≡ Ok (shard_collection_command namespace) → WasCreated changes namespace t.time
+      → t.document ≡ answer_document (sharded_answer namespace t.time) → IsRight changes history asked answered cursors a t cursors
+  right_split : (split : SplitCommand) → command_of a.request ≡ Ok (split_command split) → WasSplit changes split.namespace split.middle t.time
+      → t.document ≡ answer_document (changed_answer t.time) → IsRight changes history asked answered cursors a t cursors
+  right_not_sharded : (split : SplitCommand) → command_of a.request ≡ Ok (split_command split) → t.document ≡ not_sharded
+      → IsRight changes history asked answered cursors a t cursors
   right_hello : command_of a.request ≡ Ok hello_command → t.document ≡ answer_document (hello_answer a.moment)
-      → IsRight creations history asked answered cursors a t cursors
+      → IsRight changes history asked answered cursors a t cursors
   right_legacy : (legacy : Legacy) → command_of a.request ≡ Ok (legacy_command legacy)
-      → t.document ≡ answer_document (legacy_answer a.moment legacy.shows_hello_ok) → IsRight creations history asked answered cursors a t cursors
-  right_ping : command_of a.request ≡ Ok ping_command → t.document ≡ answer_document done_answer → IsRight creations history asked answered cursors a t cursors
+      → t.document ≡ answer_document (legacy_answer a.moment legacy.shows_hello_ok) → IsRight changes history asked answered cursors a t cursors
+  right_ping : command_of a.request ≡ Ok ping_command → t.document ≡ answer_document done_answer → IsRight changes history asked answered cursors a t cursors
   right_end_sessions : command_of a.request ≡ Ok end_sessions_command → t.document ≡ answer_document done_answer
-      → IsRight creations history asked answered cursors a t cursors
+      → IsRight changes history asked answered cursors a t cursors
   right_refusal : (refusal : Refusal) → command_of a.request ≡ Err refusal → t.document ≡ answer_document (refusal_answer refusal)
-      → IsRight creations history asked answered cursors a t cursors
+      → IsRight changes history asked answered cursors a t cursors
