@@ -11,11 +11,13 @@ use Rattle.pipeline_lang.specs.Halves.{half_of}
 use Rattle.pipeline_eval.specs.Rows.{rows_of}
 use Rattle.pipeline_eval.specs.declared.rows.Rows.{Rows}
 use Rattle.node_model.specs.Letters as letters
-use Rattle.node_model.specs.Letters.{no_time, at_time, half_overflow, half_excess, table_ask, table_told, write_ask, write_done, read_ask, half_ask, read_rows, stale, time_ask, time_told}
+use Rattle.node_model.specs.Letters.{no_time, at_time, half_overflow, half_excess, table_ask, table_told, split_ask, split_done, write_ask, write_done, read_ask, half_ask, read_rows, stale, time_ask, time_told}
 use Rattle.protocol_model.specs.declared.tables.At.{At}
 use Rattle.protocol_model.specs.declared.tables.At.TheVariants.{NoTime, Time}
 use Rattle.protocol_model.specs.declared.tables.TableAsk.{TableAsk}
 use Rattle.protocol_model.specs.declared.tables.TableTold.{TableTold}
+use Rattle.protocol_model.specs.declared.splits.SplitAsk.{SplitAsk}
+use Rattle.protocol_model.specs.declared.splits.SplitDone.{SplitDone}
 use Rattle.protocol_model.specs.declared.writes.WriteAsk.{WriteAsk}
 use Rattle.protocol_model.specs.declared.writes.WriteDone.{WriteDone}
 use Rattle.protocol_model.specs.declared.reads.HalfFault.{HalfFault}
@@ -48,6 +50,12 @@ table_ask_view a = table_ask a.namespace a.create (at_view a.at)
 abbrev pub table_told_view : TableTold → letters.Body
 table_told_view t = table_told t.namespace t.create (at_view t.at) (option_map (λ table. arc_value table) t.table)
 
+abbrev pub split_ask_view : SplitAsk → letters.Body
+split_ask_view a = split_ask (id_view a.id) a.namespace a.middle
+
+abbrev pub split_done_view : SplitDone → letters.Body
+split_done_view d = split_done (id_view d.id) d.found
+
 abbrev pub write_ask_view : WriteAsk → letters.Body
 write_ask_view a =
     write_ask (id_view a.id) a.turn a.ordered a.namespace (map (statement_view (given_view a.number) (id_view a.id)) a.statements.items)
@@ -77,6 +85,8 @@ time_told_view t = time_told (id_view t.id)
 abbrev pub body_view : Body → letters.Body
 body_view (bodies.TableAsk ask) = table_ask_view ask
 body_view (bodies.TableTold told) = table_told_view told
+body_view (bodies.SplitAsk ask) = split_ask_view ask
+body_view (bodies.SplitDone done) = split_done_view done
 body_view (bodies.WriteAsk ask) = write_ask_view ask
 body_view (bodies.WriteDone done) = write_done_view done
 body_view (bodies.ReadAsk ask) = read_ask_view ask

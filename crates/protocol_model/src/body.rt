@@ -5,6 +5,7 @@ ghost use Rattle.node_traits.specs.Kinds.{kind_of};
 ghost use Rattle.protocol_model.specs.Bodies.{body_view};
 
 use crate::reads::{HalfAsk, ReadAsk, ReadRows, TimeAsk, TimeTold};
+use crate::splits::{SplitAsk, SplitDone};
 use crate::tables::{TableAsk, TableTold};
 use crate::writes::{WriteAsk, WriteDone};
 use bson_values::Memory;
@@ -25,6 +26,8 @@ pub struct Stale {
 pub enum Body {
     TableAsk(TableAsk),
     TableTold(TableTold),
+    SplitAsk(SplitAsk),
+    SplitDone(SplitDone),
     WriteAsk(WriteAsk),
     WriteDone(WriteDone),
     ReadAsk(ReadAsk),
@@ -43,6 +46,8 @@ impl Body {
         match self {
             Body::TableAsk(_) => "TableAsk",
             Body::TableTold(_) => "TableTold",
+            Body::SplitAsk(_) => "SplitAsk",
+            Body::SplitDone(_) => "SplitDone",
             Body::WriteAsk(_) => "WriteAsk",
             Body::WriteDone(_) => "WriteDone",
             Body::ReadAsk(_) => "ReadAsk",
@@ -61,6 +66,8 @@ impl Body {
         match self {
             Body::TableAsk(ask) => Ok(Body::TableAsk(ask.copy()?)),
             Body::TableTold(told) => Ok(Body::TableTold(told.copy()?)),
+            Body::SplitAsk(ask) => Ok(Body::SplitAsk(ask.copy()?)),
+            Body::SplitDone(done) => Ok(Body::SplitDone(*done)),
             Body::WriteAsk(ask) => Ok(Body::WriteAsk(ask.copy(alloc)?)),
             Body::WriteDone(done) => Ok(Body::WriteDone(done.copy(alloc)?)),
             Body::ReadAsk(ask) => Ok(Body::ReadAsk(ask.copy()?)),

@@ -8,7 +8,7 @@ use Rattle.node_model.specs.Journal.{Kept}
 use Rattle.node_model.specs.Letters.{Letter, Statement, Input, letter_input, Effect}
 use Rattle.reply_model.specs.Outcomes.{Done}
 use Rattle.node_model.specs.RouterRows.{RouterRow, adopted, id_of, next_number, reached, with_work, stay_in, next_of}
-use Rattle.node_model.specs.States.{Open, Router, router_state, writing, reading, open_with, without, replaced}
+use Rattle.node_model.specs.States.{Open, Router, router_state, writing, reading, sharding, splitting, open_with, without, replaced}
 use Rattle.chunk_model.specs.Tables.{Table}
 use Rattle.command_model.specs.Writes.{WriteKind}
 use Rattle.node_traits.specs.Effects.{AreSound, StepPlanned, puts_of, spellings}
@@ -37,7 +37,7 @@ count_then (Opens q) count = count + 1
 count_then (Closes closed) count = count
 count_then (Reaches waiting wait) count = count
 count_then (Notes waiting wait answers) count = count
-count_then (Learns namespace at table) count = count
+count_then (Learns namespace made at table) count = count
 count_then (Shelves told opened) count = count
 count_then (Advances number shown) count = count + 1
 count_then (Ends numbers) count = count + 1
@@ -50,7 +50,7 @@ tables_then (Opens q) tables = tables
 tables_then (Closes closed) tables = tables
 tables_then (Reaches waiting wait) tables = tables
 tables_then (Notes waiting wait answers) tables = tables
-tables_then (Learns namespace at table) tables = adopted (option_map (λ t. arc_value t) table) tables
+tables_then (Learns namespace made at table) tables = adopted (option_map (λ t. arc_value t) table) tables
 tables_then (Shelves told opened) tables = tables
 tables_then (Advances number shown) tables = tables
 tables_then (Ends numbers) tables = tables
@@ -71,10 +71,12 @@ opens_then r time (Notes count wait answers) = elim (open_with count r.requests)
     | writing kind ordered statements before ↦
         replaced (with_work q (wait_view wait) (writing kind ordered statements (map done_view answers.items))) r.requests
     | reading named at stages telling ↦ r.requests
+    | sharding ↦ r.requests
+    | splitting middle ↦ r.requests
   ]
 ]
-opens_then r time (Learns namespace at table) =
-    flat_map (λ q. stay_in (next_of r time (adopted (option_map (λ t. arc_value t) table) r.tables) namespace (at_view at) q)) r.requests
+opens_then r time (Learns namespace made at table) =
+    flat_map (λ q. stay_in (next_of r time (adopted (option_map (λ t. arc_value t) table) r.tables) namespace made (at_view at) q)) r.requests
 opens_then r time (Shelves count opened) = without count r.requests
 opens_then r time (Advances number shown) = r.requests
 opens_then r time (Ends numbers) = r.requests
@@ -87,7 +89,7 @@ cursors_then r (Opens q) = r.cursors
 cursors_then r (Closes count) = r.cursors
 cursors_then r (Reaches count wait) = r.cursors
 cursors_then r (Notes count wait answers) = r.cursors
-cursors_then r (Learns namespace at table) = r.cursors
+cursors_then r (Learns namespace made at table) = r.cursors
 cursors_then r (Shelves count opened) = r.cursors ++ record {
   router = r.me;
   life = r.life;
@@ -107,7 +109,7 @@ blocks_after r (Opens q) = r.blocks
 blocks_after r (Closes count) = r.blocks
 blocks_after r (Reaches count wait) = r.blocks
 blocks_after r (Notes count wait answers) = r.blocks
-blocks_after r (Learns namespace at table) = r.blocks
+blocks_after r (Learns namespace made at table) = r.blocks
 blocks_after r (Shelves count opened) = blocks_then r.blocks r.gave
 blocks_after r (Advances number shown) = r.blocks
 blocks_after r (Ends numbers) = r.blocks
@@ -119,7 +121,7 @@ gave_after r (Opens q) = r.gave
 gave_after r (Closes count) = r.gave
 gave_after r (Reaches count wait) = r.gave
 gave_after r (Notes count wait answers) = r.gave
-gave_after r (Learns namespace at table) = r.gave
+gave_after r (Learns namespace made at table) = r.gave
 gave_after r (Shelves count opened) = next_number r
 gave_after r (Advances number shown) = r.gave
 gave_after r (Ends numbers) = r.gave
@@ -185,7 +187,7 @@ FollowsBy r begun (Reaches count wait) = (begun ≡ false → r.begun ≡ false)
 FollowsBy r begun (Notes count wait answers) =
     (begun ≡ false → r.begun ≡ false) × (q : Open) × (kind : WriteKind) × (ordered : Bool) × (statements : List Statement) × (before : List Done)
     × (open_with count r.requests ≡ Some q) × (q.work ≡ writing kind ordered statements before)
-FollowsBy r begun (Learns namespace at table) = begun ≡ false → r.begun ≡ false
+FollowsBy r begun (Learns namespace made at table) = begun ≡ false → r.begun ≡ false
 FollowsBy r begun (Shelves count opened) = (begun ≡ false → r.begun ≡ false) × (is_left (map (λ d. arc_value d) opened.rest.items) ≡ true)
 FollowsBy r begun (Advances number shown) = (begun ≡ true) × (r.count < 2 ^ 64 - 1)
 FollowsBy r begun (Ends numbers) = (begun ≡ true) × (r.count < 2 ^ 64 - 1)
@@ -216,7 +218,7 @@ HasRoomFor n (Opens q) = has_room n.requests ≡ true
 HasRoomFor n (Closes count) = Unit {0}
 HasRoomFor n (Reaches count wait) = Unit {0}
 HasRoomFor n (Notes count wait answers) = Unit {0}
-HasRoomFor n (Learns namespace at table) = IfSome table (λ t. 1 ≤ n.tables.room)
+HasRoomFor n (Learns namespace made at table) = IfSome table (λ t. 1 ≤ n.tables.room)
 HasRoomFor n (Shelves count opened) = cursors.HasRoomFor n.cursors opened.namespace opened.time.0
 HasRoomFor n (Advances number shown) = Unit {0}
 HasRoomFor n (Ends numbers) = Unit {0}

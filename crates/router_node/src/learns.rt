@@ -10,8 +10,8 @@ use chunk_table::Table;
 use cluster_base::Time;
 use node_traits::{MailList, ReplyList, ToLink};
 use protocol_model::{Message, TableTold};
-use router_replies::{empty_answer, reply_to};
-use router_requests::{Next, OpenRequest, next_of};
+use router_replies::{empty_answer, reply_to, sharded_answer};
+use router_requests::{Next, OpenRequest, next_of, was_created};
 
 /// Returns the first of two tables where it is longer, else the other.
 fn longer_of<'a>(table: &'a Table, other: &'a Table) -> &'a Table
@@ -72,9 +72,10 @@ impl RouterNode {
         ensures { IfOk result (λ m. letters_of m
             ≡ rows.letters_in (next_at (router_of self.now) time.0 told.now (open_view self.now.me.0 self.now.life request.now))) }
     {
-        match next_of(&told.namespace, told.at, known, request) {
+        match next_of(&told.namespace, was_created(told), told.at, known, request) {
             Next::Stays => Ok(None),
             Next::IsTold(..) => Ok(None),
+            Next::IsSharded => Ok(None),
             Next::GoesOn => match known {
                 Some(table) => self.asker().asks_shards(
                     self.alloc,
@@ -101,18 +102,16 @@ impl RouterNode {
         ensures { IfOk result (λ reply. listed reply
             ≡ puts_of (rows.replies_in (next_at (router_of self.now) time.0 told.now (open_view self.now.me.0 self.now.life request.now)))) }
     {
-        match next_of(&told.namespace, told.at, known, request) {
+        match next_of(&told.namespace, was_created(told), told.at, known, request) {
             Next::Stays => Ok(None),
             Next::GoesOn => Ok(None),
             Next::IsTold(at, telling) => {
                 let answer = empty_answer(self.alloc, &request.namespace, at, telling)?;
-                reply_to(
-                    self.alloc,
-                    request.link,
-                    request.number,
-                    &request.head,
-                    &answer,
-                )
+                self.answered(request, &answer)
+            }
+            Next::IsSharded => {
+                let answer = sharded_answer(&request.namespace, time)?;
+                self.answered(request, &answer)
             }
         }
     }
@@ -202,13 +201,14 @@ impl RouterNode {
         let requests = self.requests.as_slice();
         let mail = self.mail_next(time, &told, requests)?;
         let replies = self.replies_next(time, &told, requests)?;
+        let made = was_created(&told);
         let TableTold {
             namespace,
             create: _,
             at,
             table,
         } = told;
-        let change = Change::Learns(namespace, at, table);
+        let change = Change::Learns(namespace, made, at, table);
         Ok(self.hears_all(time, change, mail, replies))
     }
 }

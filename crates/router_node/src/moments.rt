@@ -28,8 +28,8 @@ impl RouterNode {
         let namespace = &request.namespace;
         match request.wait {
             Wait::ForTime => Ok(Some(asker.asks_times(time, count))),
-            Wait::ForTable => {
-                let letter = asker.asks_table(time, namespace, &request.work)?;
+            Wait::ForCatalogue => {
+                let letter = asker.asks_catalogue(time, count, namespace, &request.work)?;
                 Ok(Some(letter))
             }
             Wait::ForShards => match self.table_of(namespace) {

@@ -18,12 +18,12 @@ use router_replies::known_in;
 use router_requests::{Asker, OpenList, OpenRead, OpenRequest, Wait, Work, is_enough};
 use std::alloc::Global;
 
-/// Returns what a request waits for, given its table, if there is one: for the shards, or else for the table.
+/// Returns what a request waits for, given its table, if there is one: for the shards, or else for the catalogue.
 pub(crate) fn wait_by(table: Option<&Table>) -> Wait
     ensures { wait_view result ≡ rows.wait_by (option_map (λ t. t.now) table.entry) }
 {
     match table {
-        None => Wait::ForTable,
+        None => Wait::ForCatalogue,
         Some(_) => Wait::ForShards,
     }
 }
@@ -129,6 +129,8 @@ impl RouterNode {
         match work {
             Work::Writing { .. } => self.table_of(namespace),
             Work::Reading(read) => self.table_at(namespace, read, read.at),
+            Work::Sharding => None,
+            Work::Splitting(_) => None,
         }
     }
 
@@ -139,6 +141,8 @@ impl RouterNode {
         match work {
             Work::Writing { .. } => false,
             Work::Reading(read) => time.0 < read.at.0,
+            Work::Sharding => false,
+            Work::Splitting(_) => false,
         }
     }
 

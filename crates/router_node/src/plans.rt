@@ -20,7 +20,9 @@ use cluster_base::Time;
 use command_replies::Answer;
 use command_words::{Command, CommandFault, Reading};
 use opmsg_frames::{Body, Form};
-use router_replies::{RequestPlan, is_taken, needs_read, plan_write, telling_of};
+use router_replies::{
+    RequestPlan, is_taken, needs_collection, needs_read, plan_split, plan_write, telling_of,
+};
 use router_requests::{Parts, Telling};
 
 impl RouterNode {
@@ -78,6 +80,8 @@ impl RouterNode {
             Command::Count(reading) => self.plan_read(reading, Telling::Number),
             Command::GetMore(more) => Ok(RequestPlan::NeedsBatch(more)),
             Command::KillCursors(kill) => Ok(RequestPlan::NeedsEnd(kill)),
+            Command::ShardCollection(namespace) => Ok(needs_collection(namespace)),
+            Command::Split(split) => Ok(plan_split(split)),
         }
     }
 

@@ -47,6 +47,8 @@ impl RouterNode {
             None => Ok(self.late(time)),
             Some(request) => match &request.work {
                 Work::Writing { .. } => Ok(self.late(time)),
+                Work::Sharding => Ok(self.late(time)),
+                Work::Splitting(_) => Ok(self.late(time)),
                 Work::Reading(read) => {
                     if is_first(told.turn) {
                         self.plan_told(time, request, read, told.rows)
@@ -139,8 +141,10 @@ impl RouterNode {
             None => Ok(self.late(time)),
             Some(request) => match &request.work {
                 Work::Writing { .. } => Ok(self.late(time)),
+                Work::Sharding => Ok(self.late(time)),
+                Work::Splitting(_) => Ok(self.late(time)),
                 Work::Reading(read) => match request.wait {
-                    Wait::ForTable => Ok(self.late(time)),
+                    Wait::ForCatalogue => Ok(self.late(time)),
                     Wait::ForShards => Ok(self.late(time)),
                     Wait::ForTime => self.plan_reached(time, told.id, request, read),
                 },

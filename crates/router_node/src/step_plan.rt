@@ -30,9 +30,9 @@ pub(crate) enum Change {
     Reaches(u64, Wait),
     /// The write with this count has these answers, and waits for this.
     Notes(u64, Wait, DoneList),
-    /// Those that wait for the table of this collection proceed with it, or get the reply that nothing exists where it was requested for their time. A table
-    /// that arrived is stored.
-    Learns(Namespace, At, Option<Arc<Table, Global>>),
+    /// Those that wait for the table of this collection proceed with it, or are answered: that nothing exists, where it was requested for their time, or that
+    /// it was created, where it was to be. A table that arrived is stored.
+    Learns(Namespace, bool, At, Option<Arc<Table, Global>>),
     /// The one with this count is answered with its first batch, and a cursor has the other documents.
     Shelves(u64, NewCursor),
     /// One more request was taken, and is answered with this number of documents of the cursor of this number.

@@ -25,11 +25,13 @@ impl RouterNode {
     {
         match body {
             Body::TableTold(told) => self.plan_table(time, told),
+            Body::SplitDone(told) => self.plan_split_done(time, told),
             Body::WriteDone(told) => self.plan_dones(time, &told),
             Body::ReadRows(told) => self.plan_rows(time, told),
             Body::TimeTold(told) => self.plan_time(time, &told),
             Body::Stale(_) => Ok(self.late(time)),
             Body::TableAsk(_) => Ok(self.late(self.time)),
+            Body::SplitAsk(_) => Ok(self.late(self.time)),
             Body::WriteAsk(_) => Ok(self.late(self.time)),
             Body::ReadAsk(_) => Ok(self.late(self.time)),
             Body::HalfAsk(_) => Ok(self.late(self.time)),

@@ -29,9 +29,14 @@ impl RouterNode {
             Change::Closes(count) => self.requests.remove(count),
             Change::Reaches(count, wait) => self.requests.reach(count, time, wait),
             Change::Notes(count, wait, answers) => self.requests.set_answers(count, wait, answers),
-            Change::Learns(namespace, at, table) => {
-                learn(&mut self.tables, &mut self.requests, &namespace, at, table)
-            }
+            Change::Learns(namespace, made, at, table) => learn(
+                &mut self.tables,
+                &mut self.requests,
+                &namespace,
+                made,
+                at,
+                table,
+            ),
             Change::Shelves(count, opened) => {
                 self.requests.remove(count);
                 let NewCursor {

@@ -4,7 +4,7 @@ ghost use Rattle.std.specs.Prelude.{◌≡◌, ◌||◌, [], IfOk, map};
 ghost use Rattle.std.specs.Option.{unwrap_or};
 ghost use Rattle.command_replies.specs.Kinds.{given_view, kind_view};
 ghost use Rattle.command_model.specs.CommandSizes.{IsSmallWrite};
-ghost use Rattle.command_words.specs.Commands.{write_view};
+ghost use Rattle.command_words.specs.Commands.{split_view, write_view};
 ghost use Rattle.base_model.specs.Identities as identities;
 ghost use Rattle.reply_model.specs.Right.{usual_size};
 ghost use Rattle.node_model.specs.RouterRows as rows;
@@ -17,7 +17,7 @@ use crate::statements::statements_of;
 use bson_values::Memory;
 use cluster_base::{Namespace, Time};
 use command_replies::Answer;
-use command_words::{Batches, GetMore, KillCursors, WriteCommand};
+use command_words::{Batches, GetMore, KillCursors, SplitCommand, WriteCommand};
 use protocol_model::DoneList;
 use router_requests::{OpenRead, Parts, Telling, Work};
 use std::alloc::Global;
@@ -80,6 +80,28 @@ pub fn needs_read(
     RequestPlan::Needs {
         namespace,
         work: Work::Reading(read),
+    }
+}
+
+/// Returns the plan to create a collection.
+pub fn needs_collection(namespace: Namespace) -> RequestPlan
+    ensures { (id : identities.RequestId) → plan_view id result ≡ rows.needs namespace states.sharding }
+{
+    RequestPlan::Needs {
+        namespace,
+        work: Work::Sharding,
+    }
+}
+
+/// Returns the plan of a split.
+pub fn plan_split(split: SplitCommand) -> RequestPlan
+    ensures { (id : identities.RequestId) → plan_view id result
+        ≡ rows.needs (split_view split).namespace (states.splitting (split_view split).middle) }
+{
+    let SplitCommand { namespace, middle } = split;
+    RequestPlan::Needs {
+        namespace,
+        work: Work::Splitting(middle),
     }
 }
 

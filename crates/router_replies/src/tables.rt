@@ -40,11 +40,13 @@ fn adopt_told(tables: &mut TableList, told: Option<Arc<Table, Global>>)
     }
 }
 
-/// A table arrived for a time: it is stored, and the requests that waited for it proceed. Takes no memory.
+/// A table arrived for a time: it is stored, and the requests that waited for it proceed; `made` where its collection was to be created, and there it is.
+/// Takes no memory.
 pub fn learn(
     tables: &mut TableList,
     requests: &mut OpenList,
     namespace: &Namespace,
+    made: bool,
     at: At,
     told: Option<Arc<Table, Global>>,
 )
@@ -52,10 +54,10 @@ pub fn learn(
     ensures tables { tables.new.tables ≡ adopted (option_map (λ t. arc_value t) told) tables.old.tables }
     ensures taken { taken_of requests.new ≡ taken_of requests.old }
     ensures opens { (r : Router) (time : ℕ) → opens_of r.me r.life requests.new
-        ≡ flat_map (λ q. rows.stay_in (rows.next_of r time (adopted (option_map (λ t. arc_value t) told) tables.old.tables) namespace.now (at_view at) q))
+        ≡ flat_map (λ q. rows.stay_in (rows.next_of r time (adopted (option_map (λ t. arc_value t) told) tables.old.tables) namespace.now made (at_view at) q))
         (opens_of r.me r.life requests.old) }
 {
     adopt_told(tables, told);
     let known = known_in(tables, namespace);
-    requests.learn(namespace, at, known);
+    requests.learn(namespace, made, at, known);
 }

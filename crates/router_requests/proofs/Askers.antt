@@ -3,8 +3,8 @@ use Rattle.std.proofs.Common.{◌≡◌, refl, ap, ℕ, List, [], ◌∷◌, Boo
 use Rattle.std.specs.Prelude.{Option, Some, None}
 use Rattle.base_model.specs.Identities.{RequestId}
 use Rattle.node_model.specs.Letters.{Statement}
-use Rattle.node_model.specs.RouterRows.{asks_to_write, asks_shards, asks_table, asks_by, id_of, unanswered}
-use Rattle.node_model.specs.States.{Router, Work, writing, reading}
+use Rattle.node_model.specs.RouterRows.{asks_to_write, asks_shards, asks_catalogue, asks_by, id_of, unanswered}
+use Rattle.node_model.specs.States.{Router, Work, writing, reading, sharding, splitting}
 use Rattle.chunk_model.specs.Tables.{Table}
 use Rattle.router_requests.specs.Askers.{asking}
 
@@ -17,10 +17,14 @@ module _ (r : Router) (time count : ℕ) (namespace : List ℕ) where
   pub shards_alike : (t : Table) (work : Work) → asks_shards (asking r.me r.life) time count namespace t work ≡ asks_shards r time count namespace t work
   shards_alike t (writing kind ordered statements answers) = writes_alike (id_of r count) t ordered (unanswered statements answers)
   shards_alike t (reading named at stages telling) = refl
+  shards_alike t sharding = refl
+  shards_alike t (splitting middle) = refl
 
-  pub table_alike : (work : Work) → asks_table (asking r.me r.life) time namespace work ≡ asks_table r time namespace work
+  pub table_alike : (work : Work) → asks_catalogue (asking r.me r.life) time count namespace work ≡ asks_catalogue r time count namespace work
   table_alike (writing kind ordered statements answers) = refl
   table_alike (reading named at stages telling) = refl
+  table_alike sharding = refl
+  table_alike (splitting middle) = refl
 
   pub asked_alike : (work : Work) (table : Option Table) → asks_by (asking r.me r.life) time count namespace work table ≡ asks_by r time count namespace work table
   asked_alike work None = ap (λ m. m ∷ []) (table_alike work)

@@ -3,7 +3,7 @@ use Rattle.std.specs.Prelude.{ℕ, List, map}
 use Rattle.pipeline_model.specs.Stages.{Stage}
 use Rattle.base_model.specs.Identities as identities
 use Rattle.node_model.specs.States as states
-use Rattle.node_model.specs.States.{in_batches, as_number, writing, reading, for_time, for_table, for_shards}
+use Rattle.node_model.specs.States.{in_batches, as_number, writing, reading, sharding, splitting, for_time, for_catalogue, for_shards}
 use Rattle.command_replies.specs.Kinds.{given_view, kind_view}
 use Rattle.protocol_model.specs.Heads.{head_request}
 use Rattle.protocol_model.specs.Statements.{done_view, statement_view}
@@ -12,9 +12,9 @@ use Rattle.router_requests.specs.declared.read.OpenRead.{OpenRead}
 use Rattle.router_requests.specs.declared.read.Telling.{Telling}
 use Rattle.router_requests.specs.declared.read.Telling.TheVariants.{Batches, Number}
 use Rattle.router_requests.specs.declared.work.Work.{Work}
-use Rattle.router_requests.specs.declared.work.Work.TheVariants.{Writing, Reading}
+use Rattle.router_requests.specs.declared.work.Work.TheVariants.{Writing, Reading, Sharding, Splitting}
 use Rattle.router_requests.specs.declared.work.Wait.{Wait}
-use Rattle.router_requests.specs.declared.work.Wait.TheVariants.{ForTime, ForTable, ForShards}
+use Rattle.router_requests.specs.declared.work.Wait.TheVariants.{ForTime, ForCatalogue, ForShards}
 use Rattle.router_requests.specs.declared.work.OpenRequest.{OpenRequest}
 
 -- the pipeline that has these parts
@@ -37,10 +37,12 @@ abbrev pub work_view : identities.RequestId → Work → states.Work
 work_view id (Writing kind number ordered statements answers) =
     writing (kind_view kind) ordered (map (λ s. statement_view (given_view number) id s) statements.items) (map done_view answers.items)
 work_view id (Reading read) = read_view read
+work_view id Sharding = sharding
+work_view id (Splitting middle) = splitting middle
 
 abbrev pub wait_view : Wait → states.Wait
 wait_view ForTime = for_time
-wait_view ForTable = for_table
+wait_view ForCatalogue = for_catalogue
 wait_view ForShards = for_shards
 
 -- an open request of this router, in this of its lives

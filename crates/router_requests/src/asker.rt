@@ -2,7 +2,8 @@
 
 use bson_values::Memory;
 use cluster_base::{Namespace, NodeId, RequestId, Time};
-use protocol_model::{At, Body, Message, TableAsk, TimeAsk};
+use protocol_model::{At, Body, Message, SplitAsk, TableAsk, TimeAsk};
+use value_compare::Key;
 
 /// The first shard.
 const FIRST_SHARD: NodeId = NodeId(1);
@@ -19,7 +20,7 @@ pub struct Asker {
 
 impl Asker {
     ghost use Rattle.std.specs.Prelude.{◌≡◌, ◌∷◌, [], IfOk, true, false};
-    ghost use Rattle.node_model.specs.Letters.{no_time, at_time, table_ask};
+    ghost use Rattle.node_model.specs.Letters.{no_time, at_time, split_ask, table_ask};
     ghost use Rattle.node_model.specs.RouterRows as rows;
     ghost use Rattle.node_traits.specs.Ids.{id_view};
     ghost use Rattle.protocol_model.specs.Bodies.{body_view};
@@ -49,7 +50,8 @@ impl Asker {
         }
     }
 
-    /// Returns what a write requests of the catalogue: its table, and that its collection is created. Returns `Memory` if memory runs out.
+    /// Returns what a write requests of the catalogue, and what creates a collection: its table, and that it is created where it does not exist.
+    /// Returns `Memory` if memory runs out.
     pub fn asks_to_begin(self, time: Time, namespace: &Namespace) -> Result<Message, Memory>
         ensures { IfOk result (λ m. letter_of m ≡ rows.says (asker_view self) 0 time.0 (table_ask namespace.now true no_time)) }
     {
@@ -76,6 +78,25 @@ impl Asker {
             at: At::Time(at),
         };
         Ok(self.says(CATALOGUE, time, Body::TableAsk(ask)))
+    }
+
+    /// Returns what a split requests of the catalogue, or `Memory` if memory runs out.
+    pub fn asks_split(
+        self,
+        time: Time,
+        count: u64,
+        namespace: &Namespace,
+        middle: &Key,
+    ) -> Result<Message, Memory>
+        ensures { IfOk result (λ m. letter_of m
+            ≡ rows.says (asker_view self) 0 time.0 (split_ask (rows.id_of (asker_view self) count) namespace.now middle.now)) }
+    {
+        let ask = SplitAsk {
+            id: self.id(count),
+            namespace: namespace.copy()?,
+            middle: middle.copy()?,
+        };
+        Ok(self.says(CATALOGUE, time, Body::SplitAsk(ask)))
     }
 
     /// Returns what a read of a time that is ahead requests of every shard: its time. Currently there is one.

@@ -167,22 +167,28 @@ impl Asker {
             Work::Reading(read) => {
                 self.asks_to_read(time, count, namespace, table, read.at, read.parts.half())
             }
+            Work::Sharding => Ok(None),
+            Work::Splitting(_) => Ok(None),
         }
     }
 
-    /// Returns what work requests of the catalogue: its table, and a write that its collection is created. Returns `Memory` if memory runs out.
-    pub fn asks_table(
+    /// Returns what work requests of the catalogue: its table, and a write that its collection is created; or a split. Returns `Memory` if memory
+    /// runs out.
+    pub fn asks_catalogue(
         self,
         time: Time,
+        count: u64,
         namespace: &Namespace,
         work: &Work,
     ) -> Result<Message, Memory>
         ensures { (id : identities.RequestId) → IfOk result (λ m. letters_of (Some m)
-            ≡ rows.asks_table (asker_view self) time.0 namespace.now (work_view id work.now) ∷ []) }
+            ≡ rows.asks_catalogue (asker_view self) time.0 count namespace.now (work_view id work.now) ∷ []) }
     {
         match work {
             Work::Writing { .. } => self.asks_to_begin(time, namespace),
             Work::Reading(read) => self.asks_table_at(time, namespace, read.at),
+            Work::Sharding => self.asks_to_begin(time, namespace),
+            Work::Splitting(middle) => self.asks_split(time, count, namespace, middle),
         }
     }
 
@@ -254,7 +260,7 @@ impl Asker {
             (option_map (λ t. t.now) table.entry)) }
     {
         match table {
-            None => Ok(Some(self.asks_table(time, namespace, work)?)),
+            None => Ok(Some(self.asks_catalogue(time, count, namespace, work)?)),
             Some(table) => self.asks_shards(alloc, time, count, namespace, table, work),
         }
     }

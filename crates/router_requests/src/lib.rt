@@ -13,5 +13,5 @@ pub use asker::Asker;
 pub use list::OpenList;
 pub use owners::{is_enough, owner_of_half};
 pub use read::{OpenRead, Parts, Telling};
-pub use tables::{Next, next_of};
+pub use tables::{Next, next_of, was_created};
 pub use work::{OpenRequest, Wait, Work};

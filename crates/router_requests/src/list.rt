@@ -165,6 +165,7 @@ impl OpenList {
         &mut self,
         place: usize,
         namespace: &Namespace,
+        made: bool,
         told: At,
         known: Option<&Table>,
     ) -> usize
@@ -173,18 +174,18 @@ impl OpenList {
         ensures inside { result ≤ length self.new.requests.items }
         ensures nearer { length self.new.requests.items + place < length self.old.requests.items + result }
         ensures opens { (r : states.Router) (time : ℕ) (after : List tables.Table) → tables.table_of namespace.now after ≡ option_map (λ t. t.now) known.entry →
-            settled (λ q. open_view r.me r.life q) (λ q. rows.stay_in (rows.next_of r time after namespace.now (at_view told) q)) result
+            settled (λ q. open_view r.me r.life q) (λ q. rows.stay_in (rows.next_of r time after namespace.now made (at_view told) q)) result
             self.new.requests.items
-            ≡ settled (λ q. open_view r.me r.life q) (λ q. rows.stay_in (rows.next_of r time after namespace.now (at_view told) q)) place
+            ≡ settled (λ q. open_view r.me r.life q) (λ q. rows.stay_in (rows.next_of r time after namespace.now made (at_view told) q)) place
             self.old.requests.items }
     {
-        match next_of(namespace, told, known, &self.requests[place]) {
+        match next_of(namespace, made, told, known, &self.requests[place]) {
             Next::Stays => place + 1,
             Next::GoesOn => {
                 self.requests[place].wait = Wait::ForShards;
                 place + 1
             }
-            Next::IsTold(..) => {
+            Next::IsTold(..) | Next::IsSharded => {
                 let _ = self.requests.remove(place);
                 place
             }
@@ -192,16 +193,22 @@ impl OpenList {
     }
 
     /// A table of this collection arrived for a time, and this is the one that is known then, if one is: requests that can proceed with it
-    /// wait for the shards, and those that are answered that nothing is there are removed.
-    pub fn learn(&mut self, namespace: &Namespace, told: At, known: Option<&Table>)
+    /// wait for the shards, and those that are answered are removed; `made` where the collection was to be created, and there it is.
+    pub fn learn(
+        &mut self,
+        namespace: &Namespace,
+        made: bool,
+        told: At,
+        known: Option<&Table>,
+    )
         ensures taken { taken_of self.new ≡ taken_of self.old }
         ensures opens { (r : states.Router) (time : ℕ) (after : List tables.Table) → tables.table_of namespace.now after ≡ option_map (λ t. t.now) known.entry →
             opens_of r.me r.life self.new
-            ≡ flat_map (λ q. rows.stay_in (rows.next_of r time after namespace.now (at_view told) q)) (opens_of r.me r.life self.old) }
+            ≡ flat_map (λ q. rows.stay_in (rows.next_of r time after namespace.now made (at_view told) q)) (opens_of r.me r.life self.old) }
     {
         let mut place = 0;
         while place < self.requests.len() {
-            place = self.learn_at(place, namespace, told, known);
+            place = self.learn_at(place, namespace, made, told, known);
         }
     }
 }

@@ -1,6 +1,7 @@
 //! What becomes of open requests after a table arrives.
 
 ghost use Rattle.std.specs.Prelude.{◌≡◌, ◌&&◌, ℕ, List, None};
+ghost use Rattle.std.specs.Arc.{arc_value};
 ghost use Rattle.std.specs.Option.{is_some, option_map};
 ghost use Rattle.std.specs.Str.{bytes_eq};
 ghost use Rattle.base_model.specs.Identities as identities;
@@ -16,7 +17,7 @@ use crate::read::Telling;
 use crate::work::{OpenRequest, Wait, Work};
 use chunk_table::Table;
 use cluster_base::{Namespace, Time};
-use protocol_model::At;
+use protocol_model::{At, TableTold};
 
 /// What becomes of an open request after a table arrives.
 #[derive(Clone, Copy, Debug, PartialEq, Eq)]
@@ -25,8 +26,10 @@ pub enum Next {
     Stays,
     /// It sends to the shards.
     GoesOn,
-    /// It is answered so that nothing is there, at this time.
+    /// It is answered that nothing is there, at this time.
     IsTold(Time, Telling),
+    /// It is answered that its collection was created.
+    IsSharded,
 }
 
 /// Returns whether what arrives for a time is the answer to a read of this one.
@@ -39,11 +42,21 @@ fn is_for(told: At, at: Time) -> bool
     }
 }
 
-/// Returns whether a request waits for the table of this collection.
-fn waits_for(request: &OpenRequest, namespace: &Namespace) -> bool
-    ensures { result ≡ (rows.is_for_table (wait_view request.now.wait) && bytes_eq request.now.namespace namespace.now) }
+/// Returns whether a table arrived of a collection that was to be created.
+pub fn was_created(told: &TableTold) -> bool
+    ensures { result ≡ rows.was_created told.now.create (option_map (λ t. arc_value t) told.now.table) }
 {
-    request.wait == Wait::ForTable && request.namespace.as_str() == namespace.as_str()
+    match &told.table {
+        None => false,
+        Some(_) => told.create,
+    }
+}
+
+/// Returns whether a request waits for the catalogue's answer about this collection.
+fn waits_for(request: &OpenRequest, namespace: &Namespace) -> bool
+    ensures { result ≡ (rows.is_for_catalogue (wait_view request.now.wait) && bytes_eq request.now.namespace namespace.now) }
+{
+    request.wait == Wait::ForCatalogue && request.namespace.as_str() == namespace.as_str()
 }
 
 /// Returns whether work can proceed with this table, if it is known.
@@ -56,14 +69,17 @@ fn can_go_on(known: Option<&Table>, work: &Work) -> bool
         Some(table) => match work {
             Work::Writing { .. } => true,
             Work::Reading(read) => is_enough(table, read.at, read.parts.half()),
+            Work::Sharding => false,
+            Work::Splitting(_) => false,
         },
     }
 }
 
-/// Returns what becomes of work that waits for its table, and can't proceed, after the table arrived for a time.
-fn next_without(told: At, work: &Work) -> Next
+/// Returns what becomes of work that waits for its table, and can't proceed, after the table arrived for a time; `made` where its collection was to be
+/// created, and there it is.
+fn next_without(made: bool, told: At, work: &Work) -> Next
     ensures { (r : states.Router) (time : ℕ) (q : states.Open) (id : identities.RequestId) → q.work ≡ work_view id work.now →
-        IsNext r time None q (rows.next_without r time (at_view told) q) result }
+        IsNext r time None q (rows.next_without r time made (at_view told) q) result }
 {
     match work {
         Work::Writing { .. } => Next::Stays,
@@ -74,25 +90,35 @@ fn next_without(told: At, work: &Work) -> Next
                 Next::Stays
             }
         }
+        Work::Sharding => {
+            if made {
+                Next::IsSharded
+            } else {
+                Next::Stays
+            }
+        }
+        Work::Splitting(_) => Next::Stays,
     }
 }
 
-/// Returns what becomes of an open request after a table of this collection arrived for a time, where this is the one that is known then.
+/// Returns what becomes of an open request after a table of this collection arrived for a time, where this is the one that is known then; `made` where the
+/// collection was to be created, and there it is.
 pub fn next_of(
     namespace: &Namespace,
+    made: bool,
     told: At,
     known: Option<&Table>,
     request: &OpenRequest,
 ) -> Next
     ensures { (r : states.Router) (time : ℕ) (after : List tables.Table) → tables.table_of namespace.now after ≡ option_map (λ t. t.now) known.entry →
         IsNext r time (option_map (λ t. t.now) known.entry) (open_view r.me r.life request.now)
-        (rows.next_of r time after namespace.now (at_view told) (open_view r.me r.life request.now)) result }
+        (rows.next_of r time after namespace.now made (at_view told) (open_view r.me r.life request.now)) result }
 {
     if waits_for(request, namespace) {
         if can_go_on(known, &request.work) {
             Next::GoesOn
         } else {
-            next_without(told, &request.work)
+            next_without(made, told, &request.work)
         }
     } else {
         Next::Stays

@@ -4,6 +4,7 @@ use crate::read::OpenRead;
 use cluster_base::{Namespace, Time};
 use command_replies::{ClientNumber, WriteKind};
 use protocol_model::{DoneList, Head, StatementList};
+use value_compare::Key;
 
 /// What a request has to do before it is answered.
 #[derive(Drop)]
@@ -19,6 +20,10 @@ pub enum Work {
     },
     /// To read.
     Reading(OpenRead),
+    /// To create its collection.
+    Sharding,
+    /// To split a chunk at this key.
+    Splitting(Key),
 }
 
 /// What an open request waits for.
@@ -26,8 +31,8 @@ pub enum Work {
 pub enum Wait {
     /// The time that it reads at.
     ForTime,
-    /// Its table.
-    ForTable,
+    /// The catalogue.
+    ForCatalogue,
     /// The shards.
     ForShards,
 }
@@ -74,6 +79,8 @@ impl OpenRequest {
                 ..
             } => *before = answers,
             Work::Reading(_) => {}
+            Work::Sharding => {}
+            Work::Splitting(_) => {}
         }
     }
 
@@ -87,6 +94,8 @@ impl OpenRequest {
         match &mut self.work {
             Work::Writing { .. } => {}
             Work::Reading(read) => read.reach(time),
+            Work::Sharding => {}
+            Work::Splitting(_) => {}
         }
     }
 }

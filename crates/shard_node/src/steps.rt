@@ -40,6 +40,8 @@ impl ShardNode {
             Body::ReadAsk(_)
             | Body::TableAsk(_)
             | Body::TableTold(_)
+            | Body::SplitAsk(_)
+            | Body::SplitDone(_)
             | Body::WriteDone(_)
             | Body::HalfAsk(_)
             | Body::ReadRows(_)
@@ -89,6 +91,8 @@ impl ShardNode {
             Body::ReadAsk(ask) => self.plan_read(time, &ask),
             Body::TableAsk(_)
             | Body::TableTold(_)
+            | Body::SplitAsk(_)
+            | Body::SplitDone(_)
             | Body::WriteDone(_)
             | Body::HalfAsk(_)
             | Body::ReadRows(_)
@@ -125,6 +129,8 @@ impl ShardNode {
             Body::WriteAsk(_) => Ok(StepPlan::of_time(self.alloc, time)),
             Body::ReadAsk(_) => Ok(StepPlan::of_time(self.alloc, time)),
             Body::TableAsk(_) => Ok(StepPlan::of_time(self.alloc, self.time)),
+            Body::SplitAsk(_) => Ok(StepPlan::of_time(self.alloc, self.time)),
+            Body::SplitDone(_) => Ok(StepPlan::of_time(self.alloc, self.time)),
             Body::WriteDone(_) => Ok(StepPlan::of_time(self.alloc, self.time)),
             Body::ReadRows(_) => Ok(StepPlan::of_time(self.alloc, self.time)),
             Body::Stale(_) => Ok(StepPlan::of_time(self.alloc, self.time)),

@@ -46,6 +46,8 @@ pub fn ask_in(body: &Body) -> Option<Ask<'_>>
         }),
         Body::TableAsk(_)
         | Body::TableTold(_)
+        | Body::SplitAsk(_)
+        | Body::SplitDone(_)
         | Body::WriteDone(_)
         | Body::HalfAsk(_)
         | Body::ReadRows(_)

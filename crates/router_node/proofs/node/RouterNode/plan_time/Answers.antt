@@ -21,13 +21,13 @@ returns-in-Writing c = λ m is late.
     heard_late (router_of n) m c.late-in-Writing.result c.args.time.0 late c.late-in-Writing.ensures
     (time_of_write (router_of n) m (id_view c.args.told.now.id) q (sym c.in-Some.ensures) _ _ _ _ is (ap (λ (w : Work). work_view (rows.id_of (router_of n) c.in-Some.request.now.count) w) c.in-Writing.is))
 
-pub returns-in-ForTable : goal.returns-in-ForTable
-returns-in-ForTable c = λ m is late.
+pub returns-in-ForCatalogue : goal.returns-in-ForCatalogue
+returns-in-ForCatalogue c = λ m is late.
     let n = c.args.self.now in
     let q = open_view n.me.0 n.life c.in-Some.request.now in
-    heard_late (router_of n) m c.late-in-ForTable.result c.args.time.0 late c.late-in-ForTable.ensures
+    heard_late (router_of n) m c.late-in-ForCatalogue.result c.args.time.0 late c.late-in-ForCatalogue.ensures
     (time_not_awaited (router_of n) m (id_view c.args.told.now.id) q (sym c.in-Some.ensures) _ _ _ _ is (ap (λ (w : Work). work_view (rows.id_of (router_of n) c.in-Some.request.now.count) w) c.in-Reading.is)
-    (λ e. cc (sym (ap (λ (w : Wait). wait_view w) c.in-ForTable.is) ∙ e)))
+    (λ e. cc (sym (ap (λ (w : Wait). wait_view w) c.in-ForCatalogue.is) ∙ e)))
 
 pub returns-in-ForShards : goal.returns-in-ForShards
 returns-in-ForShards c = λ m is late.

@@ -16,5 +16,5 @@ loop-place-preserved c = record {
 pub returns-clause-opens : goal.returns-clause-opens
 returns-clause-opens c = λ r time after is.
     let past : length c.loop-place.self.requests.items ≤ c.loop-place.place = omega (arith, c.loop-place-test.false, c.len.ensures, c.loop-place.self.requests.ok.0) in
-    sym (settled_all (λ (q : OpenRequest). open_view r.me r.life q) (λ q. rows.stay_in (rows.next_of r time after c.args.namespace.now (at_view c.args.told) q)) c.loop-place.self.requests.items c.loop-place.place past)
+    sym (settled_all (λ (q : OpenRequest). open_view r.me r.life q) (λ q. rows.stay_in (rows.next_of r time after c.args.namespace.now c.args.made (at_view c.args.told) q)) c.loop-place.self.requests.items c.loop-place.place past)
     ∙ c.loop-place.invariant.opens r time after is

@@ -15,8 +15,8 @@ invariant-loop-place l = record {
   inside : l.place ≤ length l.self.requests.items;
   taken : taken_of l.self ≡ taken_of l.fn.self;
   opens : (r : states.Router) (time : ℕ) (after : List tables.Table) → tables.table_of l.namespace after ≡ option_map (λ t. t.now) l.known →
-      settled (λ q. open_view r.me r.life q) (λ q. rows.stay_in (rows.next_of r time after l.namespace (at_view l.told) q)) l.place l.self.requests.items
-      ≡ flat_map (λ q. rows.stay_in (rows.next_of r time after l.namespace (at_view l.told) q)) (opens_of r.me r.life l.fn.self);
+      settled (λ q. open_view r.me r.life q) (λ q. rows.stay_in (rows.next_of r time after l.namespace l.made (at_view l.told) q)) l.place l.self.requests.items
+      ≡ flat_map (λ q. rows.stay_in (rows.next_of r time after l.namespace l.made (at_view l.told) q)) (opens_of r.me r.life l.fn.self);
 }
 
 abbrev pub decreases-loop-place : goal.decreases-loop-place

@@ -30,9 +30,9 @@ returns-in-GoesOn-clause-opens c = λ r time after is.
     let same : c.index.result.now ≡ x = same_item items c.args.place c.index.result.now x c.requires c.index.ensures c.index_mut.ensures.value in
     let y : OpenRequest = record x { wait = ForShards } in
     let plus : c.args.place + 1 ≡ suc c.args.place = omega arith in
-    ap (λ n. settled (λ (q : OpenRequest). open_view r.me r.life q) (λ q. rows.stay_in (rows.next_of r time after c.args.namespace.now (at_view c.args.told) q)) n (slice_set items c.args.place y)) plus
-    ∙ settled_put (λ (q : OpenRequest). open_view r.me r.life q) (λ q. rows.stay_in (rows.next_of r time after c.args.namespace.now (at_view c.args.told) q)) items c.args.place x y
+    ap (λ n. settled (λ (q : OpenRequest). open_view r.me r.life q) (λ q. rows.stay_in (rows.next_of r time after c.args.namespace.now c.args.made (at_view c.args.told) q)) n (slice_set items c.args.place y)) plus
+    ∙ settled_put (λ (q : OpenRequest). open_view r.me r.life q) (λ q. rows.stay_in (rows.next_of r time after c.args.namespace.now c.args.made (at_view c.args.told) q)) items c.args.place x y
     c.requires c.index_mut.ensures.value
-    (ap (λ (q : OpenRequest). rows.stay_in (rows.next_of r time after c.args.namespace.now (at_view c.args.told) (open_view r.me r.life q))) (sym same)
+    (ap (λ (q : OpenRequest). rows.stay_in (rows.next_of r time after c.args.namespace.now c.args.made (at_view c.args.told) (open_view r.me r.life q))) (sym same)
     ∙ ap (λ (n : rows.Next). rows.stay_in n) next.2
     ∙ ap (λ (q : OpenRequest). rows.with_work (open_view r.me r.life q) for_shards (open_view r.me r.life q).work ∷ []) same)
