@@ -1,2 +1,4 @@
+pub mod Asks
 pub mod Plans
 pub mod State
+pub mod StepPlans

@@ -1,33 +1,45 @@
 //! The node, and its steps.
 
-ghost use Rattle.std.specs.Prelude.{◌≡◌, ◌<◌, ◌≤◌, [], IfOk, IfSome, None, map, max};
+ghost use Rattle.std.specs.Prelude.{◌≡◌, ◌<◌, ◌≤◌, [], IfOk, IfSome, None, max, true};
+ghost use Rattle.std.specs.List.{AllByRecursion};
 ghost use Rattle.std.specs.Arc.{arc_value};
 ghost use Rattle.std.specs.Option.{option_map};
+ghost use Rattle.chunk_catalogue.specs.Catalogues.{IsNext, changes_of};
+ghost use Rattle.chunk_catalogue.specs.Views.{change_view};
+ghost use Rattle.chunk_model.specs.Changes.{known_table, time_of};
+ghost use Rattle.chunk_table.specs.Whole.{IsWritableBound};
 ghost use Rattle.node_traits.specs.Effects.{StepPlanned, last_time, time_in};
 ghost use Rattle.node_model.specs.States.{catalogue_state, new_catalogue};
 ghost use Rattle.node_model.specs.CatalogueRows.{AsksNothing};
 ghost use Rattle.node_model.specs.Letters.{Letter, letter_input};
-ghost use Rattle.protocol_model.specs.Bodies.{body_view, table_ask_view};
+ghost use Rattle.protocol_model.specs.Bodies.{body_view, split_ask_view, table_ask_view};
 ghost use Rattle.protocol_model.specs.Inputs.{input_of};
 ghost use Rattle.protocol_model.specs.Requests.{request_of};
 ghost use Rattle.protocol_model.specs.Messages.{letter_of};
-ghost use Rattle.chunk_model.specs.Tables.{table_of};
+ghost use Rattle.value_model.specs.Keys.{key_bound};
 ghost use Rattle.config_node.specs.Plans.{at_then};
+ghost use Rattle.config_node.specs.Asks.{ask_view};
+ghost use Rattle.config_node.specs.StepPlans.{IsPlanned, IsReady};
 ghost use Rattle.config_node.specs.State.{state_of};
 
-use crate::plan::{Asked, StepPlan};
+use crate::plan::{StepPlan, split_answer, table_answer};
 use bson_values::Memory;
+use chunk_catalogue::{CatFault, Catalogue};
 use chunk_table::Table;
 use cluster_base::{Namespace, NodeId, Time, moment_time};
-use known_tables::TableList;
-use node_traits::{MailList, Node, Outputs, ReplyList, StepCount, StepFault, append_records};
+use node_traits::{Node, Outputs, ReplyList, StepCount, StepFault, append_records};
 use opmsg_frames::Request;
 use outside::log::Log;
-use protocol_model::{Body, Input, Message, TableAsk};
+use protocol_model::{Body, Input, Message, SplitAsk, TableAsk};
 use std::alloc::Global;
 use std::marker::Sync;
 use std::sync::Arc;
 use std::thread::Threads;
+use value_compare::Key;
+
+/// The greatest depth of a key at which chunks are divided, and its most bytes: no message holds more.
+const MOST_LEVELS: usize = 100;
+const MOST_BYTES: usize = 240_000_000;
 
 /// The catalogue.
 #[derive(Drop)]
@@ -36,26 +48,43 @@ pub struct ConfigNode {
     me: NodeId,
     steps: StepCount,
     time: Time,
-    tables: TableList,
+    catalogue: Catalogue,
+    ghost past: { AllByRecursion (λ x. time_of x ≤ time.0) (changes_of catalogue) },
 }
 
-// Returns the request of a table, if a message is one.
-fn ask_in(body: Body) -> Option<TableAsk>
-    ensures some { IfSome result (λ ask. body_view body ≡ table_ask_view ask) }
+/// What is requested of the catalogue.
+#[derive(Drop)]
+enum Ask {
+    Table(TableAsk),
+    Split(SplitAsk),
+}
+
+// Returns what a message requests of the catalogue, if it requests something.
+fn ask_in(body: Body) -> Option<Ask>
+    ensures some { IfSome result (λ ask. body_view body ≡ ask_view ask) }
     ensures none { (result ≡ None) → AsksNothing (body_view body) }
 {
     match body {
-        Body::TableAsk(ask) => Some(ask),
-        Body::TableTold(_) => None,
-        Body::WriteAsk(_) => None,
-        Body::WriteDone(_) => None,
-        Body::ReadAsk(_) => None,
-        Body::HalfAsk(_) => None,
-        Body::ReadRows(_) => None,
-        Body::Stale(_) => None,
-        Body::TimeAsk(_) => None,
-        Body::TimeTold(_) => None,
+        Body::TableAsk(ask) => Some(Ask::Table(ask)),
+        Body::SplitAsk(ask) => Some(Ask::Split(ask)),
+        Body::TableTold(_)
+        | Body::SplitDone(_)
+        | Body::WriteAsk(_)
+        | Body::WriteDone(_)
+        | Body::ReadAsk(_)
+        | Body::HalfAsk(_)
+        | Body::ReadRows(_)
+        | Body::Stale(_)
+        | Body::TimeAsk(_)
+        | Body::TimeTold(_) => None,
     }
+}
+
+// Returns whether a chunk may begin at a key: the document of the key can be written. A key of a client's message always is such.
+fn is_writable(key: &Key) -> bool
+    ensures { result ≡ true → IsWritableBound (key_bound key.now) }
+{
+    key.value().levels() < MOST_LEVELS && key.value().size() < MOST_BYTES
 }
 
 impl ConfigNode {
@@ -71,7 +100,7 @@ impl ConfigNode {
             me,
             steps: StepCount::new(),
             time: Time(0),
-            tables: TableList::new(alloc),
+            catalogue: Catalogue::new(alloc),
         }
     }
 
@@ -79,9 +108,8 @@ impl ConfigNode {
     fn plan(&mut self, input: Input) -> Result<StepPlan, Memory>
         requires early { self.old.time.0 < last_time }
         requires brought { time_in (input_of input) < last_time }
-        ensures planned { IfOk result (λ p. StepPlanned (state_of self.old) (input_of input) (map letter_of p.mail) [] p.records.items
-            (at_then self.old.me.0 p.time.0 (option_map (λ t. arc_value t) p.table) self.old.tables.tables)) }
-        ensures room { IfOk result (λ p. IfSome p.table (λ _. 1 ≤ self.new.tables.room)) }
+        ensures planned { IfOk result (λ p. IsPlanned self.old (input_of input) p) }
+        ensures ready { IfOk result (λ p. IsReady self.new p) }
         ensures same { state_of self.new ≡ state_of self.old }
         ensures steps { self.new.steps ≡ self.old.steps }
     {
@@ -100,9 +128,8 @@ impl ConfigNode {
     fn plan_message(&mut self, message: Message) -> Result<StepPlan, Memory>
         requires early { self.old.time.0 < last_time }
         requires brought { message.time.0 < last_time }
-        ensures planned { IfOk result (λ p. StepPlanned (state_of self.old) (input_of (Input.Deliver message)) (map letter_of p.mail) [] p.records.items
-            (at_then self.old.me.0 p.time.0 (option_map (λ t. arc_value t) p.table) self.old.tables.tables)) }
-        ensures room { IfOk result (λ p. IfSome p.table (λ _. 1 ≤ self.new.tables.room)) }
+        ensures planned { IfOk result (λ p. IsPlanned self.old (letter_input (letter_of message)) p) }
+        ensures ready { IfOk result (λ p. IsReady self.new p) }
         ensures same { state_of self.new ≡ state_of self.old }
         ensures steps { self.new.steps ≡ self.old.steps }
     {
@@ -115,58 +142,105 @@ impl ConfigNode {
         if receiver != self.me {
             return Ok(StepPlan::of_time(self.alloc, self.time));
         }
+        let heard = self.time.max(time);
         match ask_in(body) {
-            Some(ask) => self.plan_ask(self.time.max(time), Asked { sender, ask }),
+            Some(Ask::Table(ask)) => self.plan_table(heard, sender, ask),
+            Some(Ask::Split(ask)) => self.plan_split(heard, sender, ask),
             None => Ok(StepPlan::of_time(self.alloc, self.time)),
         }
     }
 
     // Returns the plan for a request of a table, at the time that the message carries: the collection is created where that is requested and there is none of
     // its name; else the present table, or none, is returned.
-    fn plan_ask(&mut self, heard: Time, asked: Asked) -> Result<StepPlan, Memory>
+    fn plan_table(
+        &mut self,
+        heard: Time,
+        sender: NodeId,
+        ask: TableAsk,
+    ) -> Result<StepPlan, Memory>
         requires early { heard.0 < last_time }
-        ensures planned { (m : Letter) → heard.0 ≡ max self.old.time.0 m.time → asked.sender.0 ≡ m.sender → m.body ≡ table_ask_view asked.ask → m.receiver ≡ self.old.me.0 →
-            IfOk result (λ p. StepPlanned (state_of self.old) (letter_input m) (map letter_of p.mail) [] p.records.items
-            (at_then self.old.me.0 p.time.0 (option_map (λ t. arc_value t) p.table) self.old.tables.tables)) }
-        ensures room { IfOk result (λ p. IfSome p.table (λ _. 1 ≤ self.new.tables.room)) }
+        ensures planned { (m : Letter) → heard.0 ≡ max self.old.time.0 m.time → sender.0 ≡ m.sender → m.body ≡ table_ask_view ask → m.receiver ≡ self.old.me.0 →
+            IfOk result (λ p. IsPlanned self.old (letter_input m) p) }
+        ensures ready { self.old.time.0 ≤ heard.0 → IfOk result (λ p. IsReady self.new p) }
         ensures same { state_of self.new ≡ state_of self.old }
         ensures steps { self.new.steps ≡ self.old.steps }
     {
-        let known = self.known(&asked.ask.namespace)?;
-        if asked.ask.create && known.is_none() {
-            self.tables.reserve()?;
-            return asked.begin(self.alloc, self.me, Time(heard.0 + 1));
+        if ask.create {
+            let next = Time(heard.0 + 1);
+            if let Some(change) = self.catalogue.create(&ask.namespace, next)? {
+                let table = Arc::try_clone(&change.table)?;
+                let answer = table_answer(self.me, next, sender, ask, Some(table));
+                return StepPlan::make(self.alloc, change, answer);
+            }
         }
-        Ok(asked.tell(self.alloc, self.me, heard, known))
+        let table = self.known(&ask.namespace)?;
+        let answer = table_answer(self.me, heard, sender, ask, table);
+        Ok(StepPlan::tell(self.alloc, answer))
+    }
+
+    // Returns the plan for a request for a split, at the time that the message carries: a chunk is split, or one begins there, or there is no such collection.
+    fn plan_split(
+        &mut self,
+        heard: Time,
+        sender: NodeId,
+        ask: SplitAsk,
+    ) -> Result<StepPlan, Memory>
+        requires early { heard.0 < last_time }
+        ensures planned { (m : Letter) → heard.0 ≡ max self.old.time.0 m.time → sender.0 ≡ m.sender → m.body ≡ split_ask_view ask → m.receiver ≡ self.old.me.0 →
+            IfOk result (λ p. IsPlanned self.old (letter_input m) p) }
+        ensures ready { self.old.time.0 ≤ heard.0 → IfOk result (λ p. IsReady self.new p) }
+        ensures same { state_of self.new ≡ state_of self.old }
+        ensures steps { self.new.steps ≡ self.old.steps }
+    {
+        if !is_writable(&ask.middle) {
+            // No message of a router has such a key.
+            return Err(Memory);
+        }
+        let next = Time(heard.0 + 1);
+        match self.catalogue.split(&ask.namespace, &ask.middle, next) {
+            Ok(Some(change)) => {
+                let answer = split_answer(self.me, next, sender, ask.id, true);
+                StepPlan::make(self.alloc, change, answer)
+            }
+            Ok(None) => {
+                let answer = split_answer(self.me, heard, sender, ask.id, true);
+                Ok(StepPlan::tell(self.alloc, answer))
+            }
+            Err(CatFault::NoCollection) => {
+                let answer = split_answer(self.me, heard, sender, ask.id, false);
+                Ok(StepPlan::tell(self.alloc, answer))
+            }
+            Err(_) => Err(Memory),
+        }
     }
 
     // Returns the table of a collection, shared, if there is one, or `Memory` if memory runs out.
     fn known(&self, namespace: &Namespace) -> Result<Option<Arc<Table, Global>>, Memory>
-        ensures { IfOk result (λ t. option_map (λ x. arc_value x) t ≡ table_of namespace.now self.now.tables.tables) }
+        ensures { IfOk result (λ t. option_map (λ x. arc_value x) t ≡ known_table namespace.now (changes_of self.now.catalogue)) }
     {
-        match self.tables.find(namespace) {
+        match self.catalogue.shared_table(namespace) {
             Some(table) => Ok(Some(Arc::try_clone(table)?)),
             None => Ok(None),
         }
     }
 
-    // Changes the catalogue as planned, and returns its messages.
+    // Changes the catalogue as planned, and returns its messages. Takes no memory.
     fn take(&mut self, plan: StepPlan) -> Outputs<Message>
-        requires room { IfSome plan.table (λ _. 1 ≤ self.old.tables.room) }
-        ensures state { state_of self.new ≡ at_then self.old.me.0 plan.time.0 (option_map (λ t. arc_value t) plan.table) self.old.tables.tables }
+        requires ready { IsReady self.old plan }
+        ensures state { state_of self.new ≡ at_then self.old.me.0 plan.time.0 (option_map (λ c. change_view c.fields) plan.change) (changes_of self.old.catalogue) }
         ensures mail { result.mail ≡ plan.mail }
         ensures replies { result.replies ≡ [] }
         ensures steps { self.new.steps ≡ self.old.steps }
     {
         let StepPlan {
             time,
-            table,
+            change,
             mail,
             records: _,
         } = plan;
         self.time = time;
-        if let Some(table) = table {
-            self.tables.adopt(table);
+        if let Some(change) = change {
+            self.catalogue.admit(change);
         }
         Outputs {
             mail,
