@@ -16,7 +16,7 @@ use chunk_table::Table;
 use cluster_base::{Namespace, NodeId, Time};
 use node_traits::MailList;
 use protocol_model::{Body, Message, TableAsk, TableTold};
-use shard_records::{Record, write_record};
+use shard_records::write_creation;
 use std::alloc::Global;
 use std::sync::Arc;
 
@@ -142,13 +142,8 @@ fn creation_bytes(alloc: Global, namespace: &Namespace, at: Time) -> Result<Blob
     ensures { IfOk result (λ b. (b ≡ spelled 1 (create_record (begun_at namespace.now at.0)))
         × IsSound (create_record (begun_at namespace.now at.0))) }
 {
-    let kept = Record::Create {
-        namespace: namespace.copy()?,
-        epoch: 1,
-        at,
-    };
     let mut bytes = Vec::new(alloc);
-    write_record(&kept, &mut bytes)?;
+    write_creation(namespace, 1, at, &mut bytes)?;
     Blob::of(alloc, &bytes)
 }
 
