@@ -1,6 +1,6 @@
 //! The plan of a step of the catalogue, before it is taken.
 
-ghost use Rattle.std.specs.Prelude.{◌≡◌, ◌∷◌, [], IfOk, None, Some, map};
+ghost use Rattle.std.specs.Prelude.{◌≡◌, ◌++◌, ◌∷◌, [], IfOk, None, OnOk, Some, map};
 ghost use Rattle.std.specs.Arc.{arc_value};
 ghost use Rattle.std.specs.Option.{option_map};
 ghost use Rattle.chunk_catalogue.specs.Views.{change_view};
@@ -18,7 +18,7 @@ use chunk_table::Table;
 use cluster_base::{NodeId, RequestId, Time};
 use node_traits::MailList;
 use protocol_model::{Body, Message, SplitDone, TableAsk, TableTold};
-use shard_records::{CommitChange, Record, SplitChange, write_record};
+use shard_records::{write_commit, write_creation, write_split};
 use std::alloc::Global;
 use std::sync::Arc;
 
@@ -136,29 +136,33 @@ pub(crate) fn split_answer(
     }
 }
 
-// Returns the record of a change. Returns `Memory` if memory runs out.
-fn record_of(fields: &ChangeFields) -> Result<Record, Memory>
-    ensures { IfOk result (λ r. record_view r ≡ change_record (change_view fields.now)) }
+// Returns the bytes of the record of a change, or `Memory` if memory runs out.
+fn change_bytes(alloc: Global, fields: &ChangeFields) -> Result<Blob, Memory>
+    requires { IsWritableChange (change_view fields.now) }
+    ensures { IfOk result (λ b. (b ≡ spelled 1 (change_record (change_view fields.now))) × IsSound (change_record (change_view fields.now))) }
+{
+    let mut bytes = Vec::new(alloc);
+    put_change(fields, &mut bytes)?;
+    Blob::of(alloc, &bytes)
+}
+
+// Writes the record of a change after the bytes. Returns `Memory` if memory runs out.
+fn put_change(fields: &ChangeFields, out: &mut Vec<u8>) -> Result<(), Memory>
+    requires { IsWritableChange (change_view fields.now) }
+    ensures ok { OnOk result (out.new.items ≡ out.old.items ++ spelled 1 (change_record (change_view fields.now))) }
+    ensures sound { OnOk result (IsSound (change_record (change_view fields.now))) }
 {
     match fields {
         ChangeFields::Create {
             namespace,
             epoch,
             at,
-        } => Ok(Record::Create {
-            namespace: namespace.copy()?,
-            epoch: *epoch,
-            at: *at,
-        }),
+        } => write_creation(namespace, *epoch, *at, out),
         ChangeFields::Split {
             namespace,
             middle,
             at,
-        } => Ok(Record::Split(SplitChange {
-            namespace: namespace.copy()?,
-            middle: middle.copy()?,
-            at: *at,
-        })),
+        } => write_split(namespace, middle, *at, out),
         ChangeFields::Commit {
             id,
             namespace,
@@ -166,24 +170,6 @@ fn record_of(fields: &ChangeFields) -> Result<Record, Memory>
             from,
             to,
             at,
-        } => Ok(Record::Commit(CommitChange {
-            id: *id,
-            namespace: namespace.copy()?,
-            range: range.copy()?,
-            from: *from,
-            to: *to,
-            at: *at,
-        })),
+        } => write_commit(*id, namespace, range, *from, *to, *at, out),
     }
-}
-
-// Returns the bytes of the record of a change, or `Memory` if memory runs out.
-fn change_bytes(alloc: Global, fields: &ChangeFields) -> Result<Blob, Memory>
-    requires { IsWritableChange (change_view fields.now) }
-    ensures { IfOk result (λ b. (b ≡ spelled 1 (change_record (change_view fields.now))) × IsSound (change_record (change_view fields.now))) }
-{
-    let kept = record_of(fields)?;
-    let mut bytes = Vec::new(alloc);
-    write_record(&kept, &mut bytes)?;
-    Blob::of(alloc, &bytes)
 }

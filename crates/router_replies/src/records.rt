@@ -6,7 +6,7 @@ ghost use Rattle.node_traits.specs.Effects.{AreSound, spellings};
 ghost use Rattle.router_cursors.specs.Numbers.{block_kept};
 
 use bson_values::{Blob, Memory};
-use shard_records::{Record, write_record};
+use shard_records::{write_block, write_life};
 use std::alloc::Global;
 
 /// Returns the record of a life, or `Memory` if memory runs out.
@@ -15,7 +15,7 @@ pub fn life_record(alloc: Global, life: u64) -> Result<Blob, Memory>
     ensures sound { OnOk result (AreSound (kept_life life ∷ [])) }
 {
     let mut bytes = Vec::new(alloc);
-    write_record(&Record::Life(life), &mut bytes)?;
+    write_life(life, &mut bytes)?;
     Blob::of(alloc, &bytes)
 }
 
@@ -25,7 +25,7 @@ fn block_record(alloc: Global, block: u64) -> Result<Blob, Memory>
     ensures sound { OnOk result (AreSound (kept_block block ∷ [])) }
 {
     let mut bytes = Vec::new(alloc);
-    write_record(&Record::Block(block), &mut bytes)?;
+    write_block(block, &mut bytes)?;
     Blob::of(alloc, &bytes)
 }
 

@@ -300,7 +300,7 @@ pub(crate) fn put_head(kind: u8, out: &mut Vec<u8>) -> Result<(), Memory>
 }
 
 /// Writes the fields of a collection that begins.
-fn put_creation(
+pub(crate) fn put_creation(
     namespace: &Namespace,
     epoch: u64,
     at: Time,
