@@ -18,7 +18,7 @@ use chunk_table::Table;
 use cluster_base::{NodeId, RequestId, Time};
 use node_traits::MailList;
 use protocol_model::{Body, Message, SplitDone, TableAsk, TableTold};
-use shard_records::{write_commit, write_creation, write_split};
+use shard_records::{CommitChange, SplitChange, write_commit, write_creation, write_split};
 use std::alloc::Global;
 use std::sync::Arc;
 
@@ -162,7 +162,14 @@ fn put_change(fields: &ChangeFields, out: &mut Vec<u8>) -> Result<(), Memory>
             namespace,
             middle,
             at,
-        } => write_split(namespace, middle, *at, out),
+        } => {
+            let split = SplitChange {
+                namespace: namespace.copy()?,
+                middle: middle.copy()?,
+                at: *at,
+            };
+            write_split(&split, out)
+        }
         ChangeFields::Commit {
             id,
             namespace,
@@ -170,6 +177,16 @@ fn put_change(fields: &ChangeFields, out: &mut Vec<u8>) -> Result<(), Memory>
             from,
             to,
             at,
-        } => write_commit(*id, namespace, range, *from, *to, *at, out),
+        } => {
+            let commit = CommitChange {
+                id: *id,
+                namespace: namespace.copy()?,
+                range: range.copy()?,
+                from: *from,
+                to: *to,
+                at: *at,
+            };
+            write_commit(&commit, out)
+        }
     }
 }

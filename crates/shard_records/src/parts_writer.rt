@@ -2,12 +2,13 @@
 
 ghost use Rattle.std.specs.Prelude.{◌≡◌, ◌++◌, length, take, OnErr, OnOk};
 ghost use Rattle.bson_model.specs.Limits.{IsWritable};
-ghost use Rattle.record_model.specs.Records.{block_record, create_record, life_record, split_record};
+ghost use Rattle.record_model.specs.Records.{block_record, commit_record, create_record, life_record, split_record};
 ghost use Rattle.record_model.specs.RecordFormat.{IsSound, key_document, spelled};
-ghost use Rattle.shard_records.specs.MoveViews.{split_view};
+ghost use Rattle.shard_records.specs.MoveViews.{commit_view, split_view};
+ghost use Rattle.shard_records.specs.Sizes.{IsWritableRange};
 
-use crate::change_writer::put_split;
-use crate::changes::SplitChange;
+use crate::change_writer::{put_commit, put_split};
+use crate::changes::{CommitChange, SplitChange};
 use crate::writer::{cut_after_err, put_creation, put_head, put_u64};
 use bson_values::Memory;
 use cluster_base::{Namespace, Time};
@@ -69,6 +70,32 @@ pub fn write_split(split: &SplitChange, out: &mut Vec<u8>) -> Result<(), Memory>
 {
     let len = out.len();
     let done = put_split_record(split, out);
+    cut_after_err(done, len, out)
+}
+
+/// Writes the record of a commit.
+fn put_commit_record(commit: &CommitChange, out: &mut Vec<u8>) -> Result<(), Memory>
+    requires { IsWritableRange commit.now.range }
+    ensures ok { OnOk result (out.new.items ≡ out.old.items ++ spelled 1 (commit_record (commit_view commit.now))) }
+    ensures sound { OnOk result (IsSound (commit_record (commit_view commit.now))) }
+    ensures kept { take (length out.old.items) out.new.items ≡ out.old.items }
+{
+    put_head(0x22, out)?;
+    put_commit(commit, out)
+}
+
+/// Writes the one encoding, in the newest format, of the record of a commit after the bytes. The documents of the keys at its bounds can be written.
+///
+/// # Errors
+/// `Memory` if memory runs out, and then the bytes are as they were.
+pub fn write_commit(commit: &CommitChange, out: &mut Vec<u8>) -> Result<(), Memory>
+    requires { IsWritableRange commit.now.range }
+    ensures ok { OnOk result (out.new.items ≡ out.old.items ++ spelled 1 (commit_record (commit_view commit.now))) }
+    ensures sound { OnOk result (IsSound (commit_record (commit_view commit.now))) }
+    ensures err { OnErr result (out.new.items ≡ out.old.items) }
+{
+    let len = out.len();
+    let done = put_commit_record(commit, out);
     cut_after_err(done, len, out)
 }
 
