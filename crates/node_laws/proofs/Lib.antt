@@ -1,4 +1,6 @@
 pub mod Views
+pub mod CatalogueTables
+pub mod SplitTables
 pub mod Places
 pub mod ReadFacts
 pub mod WriteFacts
@@ -11,6 +13,7 @@ pub mod KeptDocuments
 pub mod OwnCursors
 pub mod Growth
 pub mod Journals
+pub mod Dates
 pub mod Requests
 pub mod Others
 pub mod AnswerTimes
@@ -33,6 +36,7 @@ pub mod RouterLater
 pub mod RouterForms
 pub mod RouterMessages
 pub mod RouterReads
+pub mod RouterSplits
 pub mod RouterTakes
 pub mod RouterRows
 pub mod ServedStatements
@@ -43,6 +47,7 @@ pub mod RequestParts
 pub mod CatalogueRows
 pub mod Moments
 pub mod ShardSteps
+pub mod Causes
 pub mod ShardWrites
 pub mod ShardRows
 pub mod Runs

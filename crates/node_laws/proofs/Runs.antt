@@ -2,21 +2,21 @@
 use Rattle.std.proofs.Common.{◌≡◌, ℕ, zero, suc, ◌+◌, ◌<◌, List, [], ◌∷◌, ◌++◌, refl, sym, ap, subst, ◌∙◌, arith, append-nil, append_assoc, inl, inr}
 use Rattle.std.specs.Prelude.{Some}
 use Rattle.std.specs.List.{AllByRecursion, slice_get, slice_set}
-use Rattle.reply_facts.proofs.Statements.{on_first}
 use Rattle.history_model.proofs.Lists.{all_weaken, all_both, all_at, in_back, in_first}
 use Rattle.base_model.specs.Times.{time_of_moment}
+use Rattle.chunk_model.specs.Placement.{AreFitting}
 use Rattle.chunk_model.specs.Tables.{first_shard}
 use Rattle.history_model.specs.History.{Entry, IsIn, Legal}
 use Rattle.reply_model.specs.Exchanges.{Asked, Answered}
-use Rattle.reply_model.specs.OneHistory.{WasSent, AreNumbered, IsReached, WasWanted, StandsInPart, IsPlaced, AreRight, nothing_told, then_told, AreDifferentNames, Given, IsKnown, OneHistory}
+use Rattle.reply_model.specs.OneHistory.{WasSent, AreNumbered, IsReached, WasWanted, StandsInPart, IsPlaced, AreRight, nothing_told, then_told, Given, IsKnown, OneHistory, changes_in as changes_of}
 use Rattle.reply_model.specs.Cursors.{Cursor}
-use Rattle.node_model.specs.Journal.{Kept, kept_life, entries_kept, creations_kept}
+use Rattle.node_model.specs.Journal.{Kept, kept_life, entries_kept, changes_kept}
 use Rattle.node_model.specs.Letters.{Input, client_input, letter_input, moment_input, opened_input, Taken, Reply, Effect, nothing, writes, both}
 use Rattle.node_model.specs.States.{Catalogue, NodeState, catalogue_state, shard_state, router_state, time_of_node, new_router}
 use Rattle.node_model.specs.RouterRows.{begins, router_begin}
 use Rattle.node_model.specs.Steps.{Step, catalogue_step, shard_step, router_step, begin_step, other_step, BeginsBefore}
-use Rattle.node_model.specs.World.{Held, World, asked_by, answered_by, after, moment_in, is_given, tick, Moves, Event, Happens, comes, delivers, passes, begins as was_opened, Run, stands, goes, routers_from, start, journal_at}
-use Rattle.node_laws.proofs.Views.{Book, View, view_of, entries_in, creations_in, Later}
+use Rattle.node_model.specs.World.{Held, World, asked_by, answered_by, dated_onto, after, moment_in, is_given, tick, Moves, Event, Happens, comes, delivers, passes, begins as was_opened, Run, stands, goes, routers_from, start, journal_at}
+use Rattle.node_laws.proofs.Views.{Book, View, view_of, entries_in, changes_in, Later}
 use Rattle.node_laws.proofs.Places.{EachAt, each_get, each_weaken}
 use Rattle.node_laws.proofs.WriteFacts.{WasMade}
 use Rattle.node_laws.proofs.SentEntries.{was_sent, is_reached}
@@ -24,7 +24,10 @@ use Rattle.node_laws.proofs.Facts.{CatalogueFits, StateFits, CursorsFit, HeldFit
 use Rattle.node_laws.proofs.Owes.{InputFits}
 use Rattle.node_laws.proofs.Growth.{met_grows, met_later}
 use Rattle.node_laws.proofs.Journals.{with_more, with_news, later_self, views_later}
-use Rattle.node_laws.proofs.Keeps.{good_after, the_shard}
+use Rattle.node_laws.proofs.CatalogueTables.{placed_first}
+use Rattle.node_laws.proofs.Dates.{dated_more}
+use Rattle.node_laws.proofs.Causes.{IsTrueReply, IsTrueAnswer, no_replies, shard_aside, router_aside, row_true, works_of, input_truly, all_still_true, is_caused}
+use Rattle.node_laws.proofs.Keeps.{good_after, the_shard, nodes_keep}
 use Rattle.node_laws.proofs.CatalogueRows.{catalogue_owes}
 use Rattle.node_laws.proofs.ShardRows.{shard_owes}
 use Rattle.node_laws.proofs.RouterRows.{router_owes}
@@ -39,9 +42,10 @@ given_good w book at i good =
     let more : List Given = moment_in at w.now i in
     record {
       order = good.order;
+      dated = good.dated;
       nodes = each_weaken (HeldFits v w.asked w.answered w.given) (HeldFits v w.asked w.answered (w.given ++ more)) 0 w.nodes
           (λ j h f. record { state = f.state; met = met_grows v v w.given more (time_of_node h.state) (later_self v) f.met; cursors = f.cursors }) good.nodes;
-      letters = all_weaken (SentFits v w.asked w.answered w.given) (SentFits v w.asked w.answered (w.given ++ more)) w.sent
+      letters = all_weaken (SentFits v w.changed w.asked w.answered w.given) (SentFits v w.changed w.asked w.answered (w.given ++ more)) w.sent
           (λ m f. (f.0, met_grows v v w.given more m.time (later_self v) f.1, f.2)) good.letters;
       answers = good.answers;
       decided = good.decided;
@@ -66,7 +70,7 @@ WasPosted w opened_input = Unit {0}
 input_fits : (w : World) (book : Book) (at : ℕ) (i : Input) → Good w book → WasPosted w i → InputFits (is_given w at i) book i
 input_fits w book at (letter_input m) good there =
     let v : View = view_of w.nodes book in
-    let f = all_at (SentFits v w.asked w.answered w.given) m w.sent good.letters there in
+    let f = all_at (SentFits v w.changed w.asked w.answered w.given) m w.sent good.letters there in
     (f.0, met_grows v v w.given [] m.time (later_self v) f.1, f.2)
 input_fits w book at (client_input link number request) good there = tt
 input_fits w book at (moment_input moment) good there = inr
@@ -122,7 +126,8 @@ after_both w at old f g u t =
     let a = append_assoc w.asked (asked_by w.now f.taken) (asked_by w.now g.taken) ∙ ap (λ l. w.asked ++ l) (sym (asked_more w.now f.taken g.taken)) in
     let d = append_assoc w.answered (answered_by w.now f.replies) (answered_by w.now g.replies)
     ∙ ap (λ l. w.answered ++ l) (sym (answered_more w.now f.replies g.replies)) in
-    λ i. record { nodes = n i; sent = s i; asked = a i; answered = d i; given = w.given; now = w.now }
+    let c = sym (dated_more w.now w.changed f.written g.written) in
+    λ i. record { nodes = n i; sent = s i; asked = a i; answered = d i; given = w.given; changed = c i; now = w.now }
 
 -- a step with no effect leaves the world
 after_nothing : (w : World) (at : ℕ) (old : Held) → slice_get w.nodes at ≡ Some old → after w at old nothing old.state ≡ w
@@ -132,7 +137,7 @@ after_nothing w at old here =
     let s = append-nil w.sent in
     let a = append-nil w.asked in
     let d = append-nil w.answered in
-    λ i. record { nodes = n i; sent = s i; asked = a i; answered = d i; given = w.given; now = w.now }
+    λ i. record { nodes = n i; sent = s i; asked = a i; answered = d i; given = w.given; changed = w.changed; now = w.now }
 
 -- an input that a life begins before says the same after the beginning
 fits_later : (w : World) (book : Book) (at : ℕ) (old : Held) (f : Effect) (new : NodeState) (next : Book) (i : Input) → BeginsBefore i
@@ -155,13 +160,21 @@ step_good : (w : World) (book : Book) (at : ℕ) (kept : List Kept) (s t : NodeS
 step_good w book at kept _ _ _ _ good here input (catalogue_step c d i f own row) =
     record {
       book = _;
-      good = good_after w book at _ f _ good here
+      good = good_after w book at _ f _ good here (inl (fits_here w book at _ good here).state.place)
           (catalogue_owes w book at kept c d i f good here (fits_here w book at _ good here) input row);
     }
 step_good w book at kept _ _ _ _ good here input (shard_step s t i f own row) =
-    record { book = _; good = good_after w book at _ f _ good here (shard_owes w book at kept s t i f good here (fits_here w book at _ good here) input row) }
+    record {
+      book = _;
+      good = good_after w book at _ f _ good here (inr (shard_aside s t i f row).stores)
+          (shard_owes w book at kept s t i f good here (fits_here w book at _ good here) input row);
+    }
 step_good w book at kept _ _ _ _ good here input (router_step r q i f own row) =
-    record { book = _; good = good_after w book at _ f _ good here (router_owes w book at kept r q i f good here (fits_here w book at _ good here) input row) }
+    record {
+      book = _;
+      good = good_after w book at _ f _ good here (inr (router_aside r q i f row))
+          (router_owes w book at kept r q i f good here (fits_here w book at _ good here) input row);
+    }
 step_good w book at kept _ _ _ _ good here input (other_step s m other) =
     subst (λ x. HasBook x) (sym (after_nothing w at (record { state = s; kept = kept }) here)) (record { book = book; good = good })
 step_good w book at kept _ _ _ _ good here input (begin_step r q i f nb before row) =
@@ -170,7 +183,7 @@ step_good w book at kept _ _ _ _ good here input (begin_step r q i f nb before r
     let owes = router_owes w book at kept r (begins r) opened_input first good here (fits_here w book at old good here) tt (router_begin r nb) in
     let begun : Book = with_news book owes.news owes.cursors in
     let good_v : Good (after w at old first (router_state (begins r))) (with_news book owes.news owes.cursors) =
-    good_after w book at old first (router_state (begins r)) good here owes in
+    good_after w book at old first (router_state (begins r)) good here (inr (tt, tt)) owes in
     let here_v = get_set w.nodes at old (with_more old first.written (router_state (begins r))) here in
     let later = views_later w.nodes at old first.written (router_state (begins r)) book owes.news owes.cursors here owes.rises owes.later in
     let next = router_owes (after w at old first (router_state (begins r))) begun at (kept ++ kept_life r.life ∷ []) (begins r) q i f good_v here_v
@@ -180,12 +193,13 @@ step_good w book at kept _ _ _ _ good here input (begin_step r q i f nb before r
     (record {
       book = _;
       good = good_after (after w at old first (router_state (begins r))) begun at (with_more old first.written (router_state (begins r))) f (router_state q)
-          good_v here_v next;
+          good_v here_v (inr (router_aside (begins r) q i f row)) next;
     })
 
 tick_good : (w : World) (book : Book) → Good w book → Good (tick w) book
 tick_good w book good = record {
   order = good.order;
+  dated = good.dated;
   nodes = good.nodes;
   letters = good.letters;
   answers = good.answers;
@@ -216,19 +230,63 @@ got_is_in (y ∷ xs) (suc k) x got = behind_one (got_is_in xs k x got)
     behind_one : IsIn x xs → IsIn x (y ∷ xs)
     behind_one (prefix, back, e) = (y ∷ prefix, back, ap (λ l. y ∷ l) e)
 
--- the facts, and what routers know of moments
+-- REPLIES THAT NO COLLECTION EXISTS
+
+-- the node at a place replies so truly
+step_true : (w : World) (book : Book) (at : ℕ) (kept : List Kept) (s t : NodeState) (i : Input) (f : Effect) → Good w book
+    → slice_get w.nodes at ≡ Some (record { state = s; kept = kept }) → InputFits w book i → Step s i f t
+    → AllByRecursion (IsTrueReply w.changed w.asked) f.replies
+step_true w book at kept _ _ _ _ good here input (catalogue_step c d i f own row) =
+    subst (λ l. AllByRecursion (IsTrueReply w.changed w.asked) l) (sym (no_replies c d i f row)) tt
+step_true w book at kept _ _ _ _ good here input (shard_step s t i f own row) =
+    subst (λ l. AllByRecursion (IsTrueReply w.changed w.asked) l) (sym (shard_aside s t i f row).replies) tt
+step_true w book at kept _ _ _ _ good here input (router_step r q i f own row) =
+    row_true w.changed w.asked r q i f
+    (works_of (view_of w.nodes book) w.asked w.answered r (fits_here w book at _ good here).state.requests) (input_truly w book i input) row
+step_true w book at kept _ _ _ _ good here input (begin_step r q i f nb before row) =
+    row_true w.changed w.asked (begins r) q i f
+    (works_of (view_of w.nodes book) w.asked w.answered r (fits_here w book at _ good here).state.requests) (input_truly w book i input) row
+step_true w book at kept _ _ _ _ good here input (other_step s m other) = tt
+
+abbrev pub AreTrue : World → Type 0
+AreTrue w = AllByRecursion (IsTrueAnswer w.changed w.asked) w.answered
+
+move_true : (w v : World) (book : Book) (at : ℕ) (i : Input) → Good w book → WasPosted w i → AreTrue w → Moves w at i v → AreTrue v
+move_true w v book at i good there old m =
+    let new = step_true (is_given w at i) book at m.old.kept m.old.state m.new i m.f (given_good w book at i good) m.here
+    (input_fits w book at i good there) m.step in
+    subst (λ x. AreTrue x) (sym m.then)
+    (all_still_true w.now w.changed m.f.written w.asked (asked_by w.now m.f.taken) w.answered m.f.replies good.came old new)
+
+-- the facts, what routers know of moments, and that replies are true
 abbrev pub StaysTrue : World → Type 0
-StaysTrue w = HasBook w × Moments w
+StaysTrue w = HasBook w × Moments w × AreTrue w
 
 pub happens_keeps : (w v : World) (e : Event) → StaysTrue w → Happens w e v → StaysTrue v
-happens_keeps _ _ _ (known, moments) (comes w v at link number request is m) =
-    (move_keeps w v known.book at (client_input link number request) known.good tt m, moments_move w v at (client_input link number request) moments m)
-happens_keeps _ _ _ (known, moments) (delivers w v at which letter got to m) =
-    (move_keeps w v known.book at (letter_input letter) known.good (got_is_in w.sent which letter got) m, moments_move w v at (letter_input letter) moments m)
-happens_keeps _ _ _ (known, moments) (passes w v at moment m) =
-    (move_keeps w v known.book at (moment_input moment) known.good tt m, moments_move w v at (moment_input moment) moments m)
-happens_keeps _ _ _ (known, moments) (was_opened w v at m) =
-    (move_keeps w v known.book at opened_input known.good tt m, moments_move w v at opened_input moments m)
+happens_keeps _ _ _ (known, moments, told) (comes w v at link number request is m) =
+    (
+      move_keeps w v known.book at (client_input link number request) known.good tt m,
+      moments_move w v at (client_input link number request) moments m,
+      move_true w v known.book at (client_input link number request) known.good tt told m,
+    )
+happens_keeps _ _ _ (known, moments, told) (delivers w v at which letter got to m) =
+    (
+      move_keeps w v known.book at (letter_input letter) known.good (got_is_in w.sent which letter got) m,
+      moments_move w v at (letter_input letter) moments m,
+      move_true w v known.book at (letter_input letter) known.good (got_is_in w.sent which letter got) told m,
+    )
+happens_keeps _ _ _ (known, moments, told) (passes w v at moment m) =
+    (
+      move_keeps w v known.book at (moment_input moment) known.good tt m,
+      moments_move w v at (moment_input moment) moments m,
+      move_true w v known.book at (moment_input moment) known.good tt told m,
+    )
+happens_keeps _ _ _ (known, moments, told) (was_opened w v at m) =
+    (
+      move_keeps w v known.book at opened_input known.good tt m,
+      moments_move w v at opened_input moments m,
+      move_true w v known.book at opened_input known.good tt told m,
+    )
 
 pub run_keeps : (w v : World) (es : List Event) → StaysTrue w → Run w es v → StaysTrue v
 run_keeps _ _ _ kept (stands w) = kept
@@ -256,7 +314,7 @@ start_good routers = record {
   good = record {
     order = (_, _, _, refl, tt, tt);
     nodes = (
-      record { state = record { own = refl; place = refl; tables = refl; past = tt; names = tt; wanted = tt }; met = inl refl; cursors = tt },
+      record { state = record { own = refl; place = refl; changes = refl; past = tt; fitting = tt; wanted = tt }; met = inl refl; cursors = tt },
       (
         record {
           state = record {
@@ -269,6 +327,7 @@ start_good routers = record {
             numbers = tt;
             placed = tt;
             parts = tt;
+            still = tt;
             tables = tt;
             parked = tt;
           };
@@ -278,6 +337,7 @@ start_good routers = record {
         routers_fit (view_of (start_nodes routers) (record { chosen = []; cursors = [] })) 2 routers refl (omega arith),
       ),
     );
+    dated = refl;
     letters = tt;
     answers = no_answer [];
     decided = tt;
@@ -325,7 +385,7 @@ the_catalogue w asked answered given nodes (c, s, routers, same, is_c, is_s) all
 -- all replies are right, at times that were met
 all_right : (v : View) (given : List Given) (asked : List Asked) (answered : List Answered) (cursors last : List Cursor) (told : List Answered)
     → AnswersFit v asked answered cursors told last → AllByRecursion (λ (t : Answered). IsMet v given t.time) told
-    → AreRight given (creations_in v) (entries_in v first_shard) asked answered cursors told
+    → AreRight given (changes_in v) (entries_in v first_shard) asked answered cursors told
 all_right v given asked answered _ _ _ (no_answer cursors) met = nothing_told cursors
 all_right v given asked answered _ _ _ (one_answer cursors next last t rest f others) met = then_told cursors next t rest (record {
   request = f.request;
@@ -341,41 +401,43 @@ all_right v given asked answered _ _ _ (one_answer cursors next last t rest f ot
 }) (all_right v given asked answered next last rest others met.1)
 
 pub makes_one_history : (w : World) → StaysTrue w
-    → OneHistory w.given (creations_kept (journal_at w.nodes 0)) (entries_kept (journal_at w.nodes first_shard)) w.asked w.answered
-makes_one_history w (known, moments) =
+    → OneHistory w.given w.changed (entries_kept (journal_at w.nodes first_shard)) w.asked w.answered
+makes_one_history w (known, moments, told) =
     let good = known.good in
     let v : View = view_of w.nodes known.book in
     let s = the_shard v w.asked w.answered w.given w.nodes good.order good.nodes in
     let c = the_catalogue v w.asked w.answered w.given w.nodes good.order good.nodes in
+    let n = nodes_keep v w.asked w.answered w.given w.nodes good.order good.nodes (λ p. refl) (λ p. refl) good.one in
     let entries : s.shard.entries ≡ entries_kept (journal_at w.nodes first_shard) = s.fits.entries ∙ sym (ap (λ k. entries_kept k) s.journal) in
-    let creations : creations_kept c.kept ≡ creations_kept (journal_at w.nodes 0) = sym (ap (λ k. creations_kept k) c.journal) in
+    let changes : changes_kept c.kept ≡ changes_of w.changed = sym (ap (λ k. changes_kept k) c.journal) ∙ sym good.dated in
     let history : List Entry = entries_kept (journal_at w.nodes first_shard) in
-    let placed : AllByRecursion (IsPlaced (creations_kept (journal_at w.nodes 0))) history =
-    subst (λ l. AllByRecursion (IsPlaced (creations_kept (journal_at w.nodes 0))) l) entries s.fits.placed in
     let numbers : AreNumbered history = subst (λ l. AreNumbered l) entries s.fits.numbers in
     let made : AllByRecursion (WasMade history w.asked) history = subst (λ l. AllByRecursion (WasMade l w.asked) l) entries s.fits.sent in
     let first : (e : Entry) → IsIn e history → e.shard ≡ first_shard =
-    λ e i. on_first (creations_kept (journal_at w.nodes 0)) e (all_at (IsPlaced (creations_kept (journal_at w.nodes 0))) e history placed i) in
+    λ e i. placed_first (changes_in v) n.begun.still e (all_at (IsPlaced (changes_in v)) e history n.placed i) in
     record {
       legal = subst (λ l. Legal l) entries s.fits.legal;
       sent = all_weaken (WasMade history w.asked) (WasSent history w.asked w.answered) history (λ e m. was_sent history w.asked numbers first w.answered e m)
           made;
       numbers = numbers;
       reached = all_weaken (WasMade history w.asked) (IsReached history w.asked) history (λ e m. is_reached history w.asked numbers first e m) made;
-      placed = placed;
+      placed = subst (λ l. AllByRecursion (IsPlaced l) history) (sym good.dated) n.placed;
       parts = subst (λ l. AllByRecursion (StandsInPart l) w.asked) entries s.fits.parts;
-      wanted = subst (λ l. AllByRecursion (WasWanted w.asked) l) creations c.fits.wanted;
-      names = subst (λ l. AreDifferentNames l) creations c.fits.names;
-      right = all_right v w.given w.asked w.answered [] known.book.cursors w.answered good.answers good.met;
+      wanted = subst (λ l. AllByRecursion (WasWanted w.asked) l) changes c.fits.wanted;
+      fitting = subst (λ l. AreFitting l) changes c.fits.fitting;
+      caused = is_caused v w.changed w.asked w.answered [] known.book.cursors w.answered good.one good.answers told;
+      right = subst (λ l. AreRight w.given l history w.asked w.answered [] w.answered) (sym good.dated)
+          (all_right v w.given w.asked w.answered [] known.book.cursors w.answered good.answers good.met);
       one = good.one;
       once = good.once;
       fresh = good.fresh;
       order = good.in_order;
-      known = all_both (λ (a : Asked). IsMet v w.given a.time) (λ a. HadMoment w.given a × (a.came < w.now + 1))
-          (IsKnown w.given (creations_kept (journal_at w.nodes 0)) (entries_kept (journal_at w.nodes first_shard))) w.asked
-          (λ a met had. record { moment = had.0.0; time = met; reached = had.0.1 }) good.known moments.asked;
+      known = subst (λ l. AllByRecursion (IsKnown w.given l history) w.asked) (sym good.dated)
+          (all_both (λ (a : Asked). IsMet v w.given a.time) (λ a. HadMoment w.given a × (a.came < w.now + 1))
+          (IsKnown w.given (changes_in v) history) w.asked
+          (λ a met had. record { moment = had.0.0; time = met; reached = had.0.1 }) good.known moments.asked);
     }
 
 pub run_makes_one_history : (routers : ℕ) (events : List Event) (w : World) → Run (start routers) events w
-    → OneHistory w.given (creations_kept (journal_at w.nodes 0)) (entries_kept (journal_at w.nodes first_shard)) w.asked w.answered
-run_makes_one_history routers events w run = makes_one_history w (run_keeps (start routers) w events (start_good routers, start_moments routers) run)
+    → OneHistory w.given w.changed (entries_kept (journal_at w.nodes first_shard)) w.asked w.answered
+run_makes_one_history routers events w run = makes_one_history w (run_keeps (start routers) w events (start_good routers, start_moments routers, tt) run)

@@ -133,6 +133,7 @@ parks w book at kept s m a is comes asks =
         numbers = f.numbers;
         placed = f.placed;
         parts = f.parts;
+        still = f.still;
         tables = f.tables;
         parked = all_append (ParkedFits v w.asked (heard s m)) s.parked (m ∷ []) f.parked (
           (
@@ -246,6 +247,7 @@ learns w book at kept s m namespace create moment t is comes told =
         numbers = f.numbers;
         placed = f.placed;
         parts = f.parts;
+        still = f.still;
         tables = all_with (IsKnownTable v (heard s m)) t s.tables
             (known_grows (view_of w.nodes book) v m.time (heard s m) t grows (omega arith) known.0) f.tables;
         parked = all_weaken (λ p. ParkedFits v w.asked (heard s m) p × (not (wants_table t.namespace p) ≡ true)) (ParkedFits v w.asked (heard s m))
@@ -262,7 +264,7 @@ learns w book at kept s m namespace create moment t is comes told =
           (λ l h. (
             retried_fits v w.asked s (heard s m) (heard s m) t.namespace l (is.fits.own ∙ is.fits.place) (omega arith) h.0 h.1,
             met,
-            tells_none v
+            tells_none v w.asked
                 (heard s m) t.namespace l.body h.1,
           ))
           (all_filtered (ParkedFits v w.asked (heard s m)) (wants_table t.namespace) s.parked f.parked));

@@ -17,7 +17,7 @@ use Rattle.reply_model.specs.Exchanges.{number_for}
 use Rattle.reply_model.specs.Outcomes.{Done}
 use Rattle.reply_model.specs.Right.{ends}
 use Rattle.node_model.specs.Letters.{no_time, at_time, Statement, write_ask, read_ask, time_ask, Letter}
-use Rattle.node_model.specs.States.{Router, Work, writing, reading, for_time, for_table, Open}
+use Rattle.node_model.specs.States.{Router, Work, writing, reading, for_time, for_catalogue, Open}
 use Rattle.node_model.specs.RouterRows.{id_of, statements_from, owner_of_statement, is_on, run_to, says, asks_to_write, owner_of_span, asks_to_read, asks_shards, asks_table, is_enough, enough_of, table_for, asks_times, is_ahead, wait_by, asks_by, wait_of, asks_for, is_answered}
 use Rattle.chunk_model.proofs.FirstTables.{every_key}
 use Rattle.command_model.proofs.Judged.{HasKey}
@@ -106,7 +106,7 @@ module _ (r u : Router) (time : ℕ) (q : Open) (me : u.me ≡ r.me) (own : id_o
 
   -- THE CATALOGUE
 
-  table_leads : q.wait ≡ for_table → (work : Work) → q.work ≡ work → Leads u q [] (asks_table r time q.namespace work)
+  table_leads : q.wait ≡ for_catalogue → (work : Work) → q.work ≡ work → Leads u q [] (asks_table r time q.namespace work)
   table_leads waits (writing kind ordered statements answers) same = (refl, sym me, refl, waits, subst (λ w. AskFits true no_time w) (sym same) refl)
   table_leads waits (reading named at stages telling) same =
       (refl, sym me, refl, waits, subst (λ w. AskFits false (at_time at) w) (sym same) (refl, (Decides-eqb at at).1 refl))

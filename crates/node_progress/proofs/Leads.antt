@@ -8,7 +8,7 @@ use Rattle.history_model.specs.History.{key_written}
 use Rattle.chunk_model.specs.Tables.{Table, table_of, first_shard}
 use Rattle.chunk_model.specs.Verdicts.{Sent, sent_by}
 use Rattle.node_model.specs.Letters.{At, Statement, Body, table_ask, table_told, write_ask, write_done, read_ask, half_ask, read_rows, stale, time_ask, time_told, Letter, Effect}
-use Rattle.node_model.specs.States.{Shard, Router, Work, writing, reading, for_time, for_table, Open}
+use Rattle.node_model.specs.States.{Shard, Router, Work, writing, reading, for_time, for_catalogue, Open}
 use Rattle.node_model.specs.RouterRows.{id_of, is_for}
 
 -- WORK
@@ -77,9 +77,9 @@ ToldFits namespace at table (writing kind ordered statements answers) = HasTable
 ToldFits namespace at table (reading named time stages telling) = is_for at time ≡ true
 
 abbrev pub LeadsBody : Router → Open → (to from : ℕ) → Body → Type 0
-LeadsBody r q to from (table_ask namespace create at) = (to ≡ 0) × (from ≡ r.me) × (namespace ≡ q.namespace) × (q.wait ≡ for_table) × AskFits create at q.work
+LeadsBody r q to from (table_ask namespace create at) = (to ≡ 0) × (from ≡ r.me) × (namespace ≡ q.namespace) × (q.wait ≡ for_catalogue) × AskFits create at q.work
 LeadsBody r q to from (table_told namespace create at table) =
-    (to ≡ r.me) × (namespace ≡ q.namespace) × (q.wait ≡ for_table) × ToldFits q.namespace at table q.work
+    (to ≡ r.me) × (namespace ≡ q.namespace) × (q.wait ≡ for_catalogue) × ToldFits q.namespace at table q.work
 LeadsBody r q to from (write_ask id turn ordered namespace statements sent) = (to ≡ 1) × IsAskOf r q (write_ask id turn ordered namespace statements sent)
 LeadsBody r q to from (read_ask id turn namespace at half sent) = (to ≡ 1) × IsAskOf r q (read_ask id turn namespace at half sent)
 LeadsBody r q to from (half_ask id turn namespace at half documents) = (to ≡ 1) × (id ≡ id_of r q.count) × (turn ≡ 1) × IsReading q.work

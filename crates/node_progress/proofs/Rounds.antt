@@ -12,7 +12,7 @@ use Rattle.history_model.specs.History.{Entry, IsIn}
 use Rattle.base_model.specs.Identities.{RequestId}
 use Rattle.reply_model.specs.Exchanges.{Asked, Answered}
 use Rattle.reply_model.specs.OneHistory.{ids_told}
-use Rattle.node_model.specs.Journal.{entries_kept, creations_kept}
+use Rattle.node_model.specs.Journal.{entries_kept, changes_kept}
 use Rattle.node_model.specs.World.{World, asked_by, answered_by, Moves, Event, client_event, deliver_event, Happens, comes, delivers, passes, begins as was_opened, Run, stands, goes, start, journal_at}
 use Rattle.node_model.specs.Letters.{Input}
 use Rattle.node_model.specs.Schedule.{openings, moments_given, Delivers, delivers_none, delivers_next, Round, IsRound, Pipes, opens, serves}
@@ -85,7 +85,7 @@ told_in id (t ∷ answered) there = by_place (in_cons id t.id (ids_told answered
 answered_served : (w : World) → StaysTrue w → (a : Asked) → IsIn a w.asked → IsAnswered w.answered a
     → IsServed (entries_kept (journal_at w.nodes first_shard)) w.asked w.answered a
 answered_served w good a taken done = λ write asks.
-    let creations : List Creation = creations_kept (journal_at w.nodes 0) in
+    let creations : List Creation = changes_kept (journal_at w.nodes 0) in
     let history : List Entry = entries_kept (journal_at w.nodes first_shard) in
     let one = makes_one_history w good in
     let told = told_in a.id w.answered done in

@@ -12,8 +12,8 @@ use Rattle.history_model.specs.History.{IsIn}
 use Rattle.base_model.specs.Identities.{RequestId}
 use Rattle.reply_model.specs.Outcomes.{Done}
 use Rattle.node_model.specs.Letters.{At, Statement, Body, table_ask, table_told, write_ask, write_done, read_ask, half_ask, read_rows, stale, time_ask, time_told, Letter, letter_input, Reply, Effect, sends}
-use Rattle.node_model.specs.States.{Router, Work, writing, reading, for_time, for_table, for_shards, Open, open_with, without, replaced}
-use Rattle.node_model.specs.RouterRows.{id_of, heard, open_of, noted, reached, with_work, going_on, asks_for, is_enough, enough_of, table_for, adopted, is_for, is_for_table, Next, stays, is_told, next_of, next_waiting, stay_in, letters_in, replies_in, reply_to, empty_answer, knows, AreNoNews, IsNoRead, IsNotAwaited, IsLate, TellsNothing, RouterRow, router_learn, router_reach, router_ahead, router_note, router_wrote, router_read, router_excess, router_overflow, router_late, router_skip}
+use Rattle.node_model.specs.States.{Router, Work, writing, reading, for_time, for_catalogue, for_shards, Open, open_with, without, replaced}
+use Rattle.node_model.specs.RouterRows.{id_of, heard, open_of, noted, reached, with_work, going_on, asks_for, is_enough, enough_of, table_for, adopted, is_for, is_for_catalogue, Next, stays, is_told, next_of, next_waiting, stay_in, letters_in, replies_in, reply_to, empty_answer, knows, AreNoNews, IsNoRead, IsNotAwaited, IsLate, TellsNothing, RouterRow, router_learn, router_reach, router_ahead, router_note, router_wrote, router_read, router_excess, router_overflow, router_late, router_skip}
 use Rattle.node_laws.proofs.KnownTables.{table_found, table_there, all_adopted}
 use Rattle.node_laws.proofs.OpenRequests.{open_of_found}
 use Rattle.node_laws.proofs.SeenStatements.{own_session}
@@ -120,10 +120,10 @@ waiting_becomes r u q at table time l (Some t) is =
     let s = shards_lead r u time (with_work q for_shards q.work) l.me l.own t there (every_found u.tables q.namespace t l.firsts there) l.going found.1 in
     (refl, l.own, l.going, s)
 
-next_is : (r : Router) (time : ℕ) (tables : List Table) (namespace : List ℕ) (at : At) (q : Open) → namespace ≡ q.namespace → q.wait ≡ for_table
+next_is : (r : Router) (time : ℕ) (tables : List Table) (namespace : List ℕ) (at : At) (q : Open) → namespace ≡ q.namespace → q.wait ≡ for_catalogue
     → next_of r time tables namespace at q ≡ next_waiting r time at q (table_for tables q.namespace q.work)
 next_is r time tables namespace at q name waits =
-    ap (λ w. if is_for_table w && bytes_eq q.namespace namespace then next_waiting r time at q (table_for tables q.namespace q.work) else stays q []) waits
+    ap (λ w. if is_for_catalogue w && bytes_eq q.namespace namespace then next_waiting r time at q (table_for tables q.namespace q.work) else stays q []) waits
     ∙ ap (λ b. if b then next_waiting r time at q (table_for tables q.namespace q.work) else stays q [])
     ((bytes_eq-Decides q.namespace namespace).1 (sym name))
 

@@ -9,7 +9,7 @@ use Rattle.chunk_model.specs.Tables.{Table, first_table, table_of}
 use Rattle.history_model.specs.History.{IsIn}
 use Rattle.reply_model.specs.Exchanges.{Asked, Answered}
 use Rattle.reply_model.specs.OneHistory.{ids_told}
-use Rattle.node_model.specs.Journal.{Kept, creations_kept}
+use Rattle.node_model.specs.Journal.{Kept, changes_kept}
 use Rattle.node_model.specs.Letters.{At, table_told, Letter, Input, letter_input, Reply, Effect}
 use Rattle.node_model.specs.States.{Catalogue, Shard, Router, Work, writing, reading, Open, NodeState, catalogue_state, shard_state, router_state}
 use Rattle.node_model.specs.RouterRows.{id_of, RouterRow}
@@ -17,7 +17,7 @@ use Rattle.node_model.specs.Steps.{Step, catalogue_step, shard_step, router_step
 use Rattle.node_model.specs.World.{Held, World, asked_by, answered_by, after, is_given, tick, Moves, journal_at, Happens, delivers, deliver_event}
 use Rattle.command_model.proofs.Taken.{operations_with_keys}
 use Rattle.node_model.proofs.Journals.{journal_got}
-use Rattle.node_laws.proofs.Views.{Book, View, view_of, creations_in}
+use Rattle.node_laws.proofs.Views.{Book, View, view_of, changes_in}
 use Rattle.node_laws.proofs.Places.{EachAt, each_get, each_set}
 use Rattle.node_laws.proofs.Facts.{IsKnownTable, BodyFits, WorkFits, IsOpenOf, CatalogueFits, ShardFits, RouterFits, StateFits, HeldFits, SentFits, Good}
 use Rattle.node_laws.proofs.Lists.{map_longer}
@@ -160,7 +160,7 @@ first_of_known v time tables all = all_weaken (IsKnownTable v time) IsFirst tabl
 -- a known table has the creation of its name
 known_name : (v : View) (time : ℕ) (namespace : List ℕ) (tables : List Table) (t : Table) → AllByRecursion (IsKnownTable v time) tables
     → table_of namespace tables ≡ Some t
-    → (c : Creation) × IsIn c (creations_in v) × (t ≡ first_table c) × (c.namespace ≡ namespace)
+    → (c : Creation) × IsIn c (changes_in v) × (t ≡ first_table c) × (c.namespace ≡ namespace)
 known_name v time namespace tables t all got =
     let found = table_found namespace tables t got in
     let k = all_at (IsKnownTable v time) t tables all found.stands in
@@ -179,8 +179,8 @@ catalogue_knows w book next p kept c good s here t there missing =
     let k = known_name (view_of w.nodes book) s.router.time s.request.namespace s.router.tables t r.tables there in
     let journal : journal_at w.nodes 0 ≡ kept =
     ap (λ n. journal_at w.nodes n) (sym fits.place) ∙ journal_got w.nodes p (record { state = catalogue_state c; kept = kept }) here in
-    let none = table_missing s.request.namespace (creations_kept kept) (ap (λ l. table_of s.request.namespace l) (sym fits.tables) ∙ missing) in
-    all_at (λ (d : Creation). d.namespace ≢ s.request.namespace) k.0 (creations_kept kept) none (subst (λ l. IsIn k.0 (creations_kept l)) journal k.1) k.3
+    let none = table_missing s.request.namespace (changes_kept kept) (ap (λ l. table_of s.request.namespace l) (sym fits.tables) ∙ missing) in
+    all_at (λ (d : Creation). d.namespace ≢ s.request.namespace) k.0 (changes_kept kept) none (subst (λ l. IsIn k.0 (changes_kept l)) journal k.1) k.3
 
 shard_agrees : (w : World) (book : Book) (next p : ℕ) (kept : List Kept) (x : Shard) → Good w book → (s : Waits w next)
     → slice_get w.nodes p ≡ Some (record { state = shard_state x; kept = kept }) → AreOne s.router s.request x
@@ -190,7 +190,7 @@ shard_agrees w book next p kept x good s here t u there own =
     let k = known_name (view_of w.nodes book) s.router.time s.request.namespace s.router.tables t r.tables there in
     let l = known_name (view_of w.nodes book) x.time s.request.namespace x.tables u fits.tables own in
     let names = (the_begun (view_of w.nodes book) w.asked w.answered w.given w.nodes good.order good.nodes).names in
-    l.2 ∙ (ap (λ c. first_table c) (one_creation l.0 k.0 (creations_in (view_of w.nodes book)) names l.1 k.1 (l.3 ∙ sym k.3)) ∙ sym k.2)
+    l.2 ∙ (ap (λ c. first_table c) (one_creation l.0 k.0 (changes_in (view_of w.nodes book)) names l.1 k.1 (l.3 ∙ sym k.3)) ∙ sym k.2)
 
 stated_work : (a : Asked) (namespace : List ℕ) (work : Work) → WorkFits a namespace work → IsStated work
 stated_work a namespace (writing kind ordered statements answers) fits =
