@@ -27,6 +27,7 @@ use Rattle.node_model.specs.CatalogueRows.{told, split_told, at_later, with_chan
 use Rattle.node_model.specs.World.{World}
 use Rattle.node_laws.proofs.Views.{Book, View, view_of, changes_in, MovesNothing, Later}
 use Rattle.node_laws.proofs.CatalogueTables.{IsNoCreation, none_created, table_name, wanted_still}
+use Rattle.node_laws.proofs.CatalogueAnswers.{created_is, splits, has_bound, no_table, split_known}
 use Rattle.node_laws.proofs.SplitTables.{split_bound, begins_already}
 use Rattle.node_laws.proofs.ReadFacts.{BeginsAfter}
 use Rattle.node_laws.proofs.Facts.{IsKnownTable, IsWanted, IsSplitOf, TableFits, AtFits, BodyFits, CatalogueFits, HeldFits, IsMet, AnswersFit, no_answer, Good}
@@ -100,102 +101,6 @@ at_fits : (v : View) (asked : List Asked) (sender receiver time : ℕ) (namespac
     → BodyFits v asked sender receiver time (table_ask namespace create at) → AtFits at time
 at_fits v asked sender receiver time namespace true at f = f.0
 at_fits v asked sender receiver time namespace false at f = f
-
--- WHAT IT ANSWERS
-
-changed_is : (x y : Change) → changed x ≡ changed y → x ≡ y
-changed_is x y e = cc
-
--- a change that begins a collection
-created_is : (namespace : List ℕ) (at : ℕ) (changes : List Change) (x : Change) → create_answer namespace at changes ≡ changed x
-    → x ≡ create_change (record { namespace = namespace; epoch = creations namespace changes + 1; at = at })
-created_is namespace at changes x e = by_table (known_table namespace changes) e
-  where
-    made : Change
-    made = create_change (record { namespace = namespace; epoch = creations namespace changes + 1; at = at })
-
-    by_table : (o : Option Table) → elim o as (λ (p : Option Table). CatalogueAnswer) [ None ↦ changed made | Some t ↦ unchanged ] ≡ changed x → x ≡ made
-    by_table None h = sym (changed_is made x h)
-    by_table (Some t) h = absurd (cc)
-
--- a change that splits a chunk: where one can be split
-record Splits (namespace : List ℕ) (middle : Datum) (at : ℕ) (changes : List Change) (x : Change) : Type 0 where
-  pub is : x ≡ split_change (record { namespace = namespace; middle = middle; at = at })
-  pub table : Table
-  pub known : known_table namespace changes ≡ Some table
-  pub can : can_split middle table.chunks ≡ true
-
-splits : (namespace : List ℕ) (middle : Datum) (at : ℕ) (changes : List Change) (x : Change) → split_answer namespace middle at changes ≡ changed x
-    → Splits namespace middle at changes x
-splits namespace middle at changes x e = by_table (known_table namespace changes) refl e
-  where
-    made : Change
-    made = split_change (record { namespace = namespace; middle = middle; at = at })
-
-    by_can : (t : Table) → known_table namespace changes ≡ Some t → (b : Bool) → can_split middle t.chunks ≡ b
-        → (if b then changed made else unchanged) ≡ changed x → Splits namespace middle at changes x
-    by_can t is true can h = record { is = sym (changed_is made x h); table = t; known = is; can = can }
-    by_can t is false can h = absurd (cc)
-
-    by_table : (o : Option Table) → known_table namespace changes ≡ o
-        → elim o as (λ (p : Option Table). CatalogueAnswer) [
-          | None ↦ no_collection
-          | Some t ↦ if can_split middle t.chunks then changed made else unchanged
-        ] ≡ changed x → Splits namespace middle at changes x
-    by_table None is h = absurd (cc)
-    by_table (Some t) is h = by_can t is (can_split middle t.chunks) refl h
-
--- none can be split there
-record HasBound (namespace : List ℕ) (middle : Datum) (changes : List Change) : Type 0 where
-  pub table : Table
-  pub known : known_table namespace changes ≡ Some table
-  pub cannot : can_split middle table.chunks ≡ false
-
-has_bound : (namespace : List ℕ) (middle : Datum) (at : ℕ) (changes : List Change) → split_answer namespace middle at changes ≡ unchanged
-    → HasBound namespace middle changes
-has_bound namespace middle at changes e = by_table (known_table namespace changes) refl e
-  where
-    made : Change
-    made = split_change (record { namespace = namespace; middle = middle; at = at })
-
-    by_can : (t : Table) → known_table namespace changes ≡ Some t → (b : Bool) → can_split middle t.chunks ≡ b
-        → (if b then changed made else unchanged) ≡ unchanged → HasBound namespace middle changes
-    by_can t is true can h = absurd (cc)
-    by_can t is false can h = record { table = t; known = is; cannot = can }
-
-    by_table : (o : Option Table) → known_table namespace changes ≡ o
-        → elim o as (λ (p : Option Table). CatalogueAnswer) [
-          | None ↦ no_collection
-          | Some t ↦ if can_split middle t.chunks then changed made else unchanged
-        ] ≡ unchanged → HasBound namespace middle changes
-    by_table None is h = absurd (cc)
-    by_table (Some t) is h = by_can t is (can_split middle t.chunks) refl h
-
-no_table : (namespace : List ℕ) (middle : Datum) (at : ℕ) (changes : List Change) → split_answer namespace middle at changes ≡ no_collection
-    → known_table namespace changes ≡ None
-no_table namespace middle at changes e = by_table (known_table namespace changes) e
-  where
-    made : Change
-    made = split_change (record { namespace = namespace; middle = middle; at = at })
-
-    by_can : (t : Table) (b : Bool) → (if b then changed made else unchanged) ≡ no_collection → Some t ≡ None
-    by_can t true h = absurd (cc)
-    by_can t false h = absurd (cc)
-
-    by_table : (o : Option Table)
-        → elim o as (λ (p : Option Table). CatalogueAnswer) [
-          | None ↦ no_collection
-          | Some t ↦ if can_split middle t.chunks then changed made else unchanged
-        ] ≡ no_collection → o ≡ None
-    by_table None h = refl
-    by_table (Some t) h = by_can t (can_split middle t.chunks) h
-
--- after a split the collection's table has a chunk that begins there
-split_known : (namespace : List ℕ) (middle : Datum) (at : ℕ) (changes : List Change) (t : Table) → known_table namespace changes ≡ Some t
-    → known_table namespace (split_change (record { namespace = namespace; middle = middle; at = at }) ∷ changes) ≡ Some (split_table middle t)
-split_known namespace middle at changes t known =
-    let same : bytes_eq namespace namespace ≡ true = (bytes_eq-Decides namespace namespace).1 refl in
-    rw (same, known) refl
 
 wanted_for : (asked : List Asked) (namespace : List ℕ) (time at epoch : ℕ) → time < at → IsWanted asked namespace time
     → WasWanted asked (create_change (record { namespace = namespace; epoch = epoch; at = at }))

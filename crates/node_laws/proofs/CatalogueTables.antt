@@ -247,14 +247,15 @@ created_owned (create_change d ∷ older) still namespace key time c i name befo
     by_test false h (inl same) more = absurd (false_true (sym h ∙ holds (creation_is same)))
     by_test false h (inr j) more = more j
 created_owned (split_change s ∷ older) still namespace key time c i name before =
-    by_place (in_cons (create_change c) (split_change s) older i)
+    by_place (in_cons (create_change c) (split_change s) older i) (λ j. created_owned older still.1 namespace key time c j name before)
   where
     no_split : create_change c ≡ split_change s → ⊥
     no_split e = cc
 
-    by_place : (create_change c ≡ split_change s) ⊎ IsIn (create_change c) older → owner namespace key time older ≡ Some first_shard
-    by_place (inl same) = absurd (no_split same)
-    by_place (inr j) = created_owned older still.1 namespace key time c j name before
+    by_place : (create_change c ≡ split_change s) ⊎ IsIn (create_change c) older
+        → (IsIn (create_change c) older → owner namespace key time older ≡ Some first_shard) → owner namespace key time older ≡ Some first_shard
+    by_place (inl same) more = absurd (no_split same)
+    by_place (inr j) more = more j
 created_owned (commit_change d ∷ older) still namespace key time c i name before = absurd still.0
 
 -- the first shard owns each key of a collection from its creation on
@@ -286,6 +287,36 @@ latest_first (create_change c ∷ older) still namespace key shard owns =
 latest_first (split_change s ∷ older) still namespace key shard owns = latest_first older still.1 namespace key shard owns
 latest_first (commit_change c ∷ older) still namespace key shard owns = absurd still.0
 
+pub latest_created : (changes : List Change) → AllByRecursion MovesNothing changes → (namespace : List ℕ) (key : Datum) (c : Creation)
+    → IsIn (create_change c) changes → c.namespace ≡ namespace → latest namespace key changes ≡ Some first_shard
+latest_created [] still namespace key c i name = absurd (in_none (create_change c) i)
+latest_created (create_change d ∷ older) still namespace key c i name =
+    by_test (bytes_eq d.namespace namespace) refl (in_cons (create_change c) (create_change d) older i)
+    (λ j. latest_created older still.1 namespace key c j name)
+  where
+    creation_is : create_change c ≡ create_change d → c ≡ d
+    creation_is e = cc
+
+    by_test : (test : Bool) → bytes_eq d.namespace namespace ≡ test
+        → (create_change c ≡ create_change d) ⊎ IsIn (create_change c) older
+        → (IsIn (create_change c) older → latest namespace key older ≡ Some first_shard)
+        → (if test then Some first_shard else latest namespace key older) ≡ Some first_shard
+    by_test true h place more = refl
+    by_test false h (inl same) more =
+        absurd (false_true (sym h ∙ (bytes_eq-Decides d.namespace namespace).1 (ap (λ (x : Creation). x.namespace) (sym (creation_is same)) ∙ name)))
+    by_test false h (inr j) more = more j
+latest_created (split_change s ∷ older) still namespace key c i name =
+    by_place (in_cons (create_change c) (split_change s) older i) (λ j. latest_created older still.1 namespace key c j name)
+  where
+    no_split : create_change c ≡ split_change s → ⊥
+    no_split e = cc
+
+    by_place : (create_change c ≡ split_change s) ⊎ IsIn (create_change c) older
+        → (IsIn (create_change c) older → latest namespace key older ≡ Some first_shard) → latest namespace key older ≡ Some first_shard
+    by_place (inl same) more = absurd (no_split same)
+    by_place (inr j) more = more j
+latest_created (commit_change d ∷ older) still namespace key c i name = absurd still.0
+
 -- TABLES
 
 module _ (namespace : List ℕ) (changes : List Change) (t : Table) (fits : AreFitting changes) (still : AllByRecursion MovesNothing changes)
@@ -294,6 +325,12 @@ module _ (namespace : List ℕ) (changes : List Change) (t : Table) (fits : AreF
   pub only_now : (shard : ℕ) → owner_now t key ≡ Some shard → shard ≡ first_shard
   only_now shard owns =
       latest_first changes still namespace key shard (sym ((placed namespace changes t fits known).last key valid) ∙ sym (now_is t key) ∙ owns)
+
+  pub owns_now : owner_now t key ≡ Some first_shard
+  owns_now =
+      let c = some_created namespace changes t known in
+      now_is t key ∙ (placed namespace changes t fits known).last key valid
+      ∙ latest_created changes still namespace key c.creation c.begun c.name
 
   pub only_at : (time shard : ℕ) → owner_at t key time ≡ Some shard → shard ≡ first_shard
   only_at time shard owns =

@@ -88,8 +88,16 @@ no_replies _ _ _ _ (catalogue_client c link number request) = refl
 block_stored : (r : Router) (cursors : List Cursor) → AllByRecursion IsNoChange (gives_number r cursors).written
 block_stored r cursors = by_left (nat_lt r.gave (block_size * r.blocks))
   where
-    by_left : (b : Bool) → AllByRecursion IsNoChange (if b then (record { written = []; cursors = cursors; blocks = r.blocks; gave = r.gave + 1 })
-        else (record { written = kept_block r.blocks ∷ []; cursors = cursors; blocks = r.blocks + 1; gave = block_size * r.blocks + 1 })).written
+    full : Opened
+    full = record { written = kept_block r.blocks ∷ []; cursors = cursors; blocks = r.blocks + 1; gave = block_size * r.blocks + 1 }
+
+    left : Opened
+    left = record { written = []; cursors = cursors; blocks = r.blocks; gave = r.gave + 1 }
+
+    stored : Opened → List Kept
+    stored f = f.written
+
+    by_left : (b : Bool) → AllByRecursion IsNoChange (stored (if b then left else full))
     by_left true = tt
     by_left false = (tt, tt)
 

@@ -1,6 +1,6 @@
 -- A step that owes what it owes keeps all facts.
 use Rattle.std.proofs.Common.{◌≡◌, ◌≢◌, ◌⊎◌, inl, inr, ℕ, zero, suc, ◌+◌, ◌<◌, ◌≤◌, List, [], ◌∷◌, ◌++◌, refl, sym, ap, subst, ◌∙◌, arith}
-use Rattle.std.specs.Prelude.{Some, filter}
+use Rattle.std.specs.Prelude.{Some, None, true, false, filter}
 use Rattle.std.specs.List.{AllByRecursion, slice_get, slice_set}
 use Rattle.history_model.proofs.Lists.{all_weaken, all_both, all_append, all_at, in_prefix, in_append}
 use Rattle.command_model.specs.Writes.{WriteCommand}

@@ -15,7 +15,7 @@ use Rattle.node_model.specs.RouterRows.{adopted}
 use Rattle.node_laws.proofs.Views.{View, changes_in, MovesNothing}
 use Rattle.node_laws.proofs.Facts.{IsKnownTable}
 use Rattle.node_laws.proofs.Lists.{all_behind}
-use Rattle.node_laws.proofs.CatalogueTables.{some_created, only_now, only_at}
+use Rattle.node_laws.proofs.CatalogueTables.{some_created, only_now, owns_now, only_at}
 
 pub record FoundTable (namespace : List ℕ) (tables : List Table) (t : Table) : Type 0 where
   pub stands : IsIn t tables
@@ -93,6 +93,9 @@ older_still v time t k = all_behind MovesNothing k.more k.older (subst (λ l. Al
 pub known_now : (v : View) (time : ℕ) (t : Table) (key : Datum) (shard : ℕ) → IsKnownTable v time t → is_key key ≡ true → owner_now t key ≡ Some shard
     → shard ≡ first_shard
 known_now v time t key shard k valid owns = only_now t.namespace k.older t k.fitting (older_still v time t k) k.known key valid shard owns
+
+pub known_owned : (v : View) (time : ℕ) (t : Table) (key : Datum) → IsKnownTable v time t → is_key key ≡ true → owner_now t key ≡ Some first_shard
+known_owned v time t key k valid = owns_now t.namespace k.older t k.fitting (older_still v time t k) k.known key valid
 
 pub known_at : (v : View) (time : ℕ) (t : Table) (key : Datum) (at shard : ℕ) → IsKnownTable v time t → is_key key ≡ true
     → owner_at t key at ≡ Some shard → shard ≡ first_shard

@@ -1,6 +1,7 @@
 pub mod Views
 pub mod CatalogueTables
 pub mod SplitTables
+pub mod CatalogueAnswers
 pub mod Places
 pub mod ReadFacts
 pub mod WriteFacts
@@ -23,6 +24,7 @@ pub mod Neighbours
 pub mod OpenRequests
 pub mod NextRequests
 pub mod KnownTables
+pub mod TableVersions
 pub mod NotedOutcomes
 pub mod ReadTimes
 pub mod RouterAsks

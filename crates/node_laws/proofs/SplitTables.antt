@@ -49,7 +49,7 @@ le_less Equal e n = absurd cc
 le_less Greater e n = absurd cc
 
 not_less : (a b : Datum) → is_lt (order a b) ≡ false → is_le (order b a) ≡ true
-not_less a b no = turned (order a b) (order b a) (order_total.antisymm b a) no
+not_less a b above = turned (order a b) (order b a) (order_total.antisymm b a) above
   where
     turned : (o p : Ordering) → p ≡ ordering_reverse o → is_lt o ≡ false → is_le p ≡ true
     turned Less p e n = absurd cc

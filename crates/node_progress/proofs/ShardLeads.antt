@@ -9,22 +9,19 @@ use Rattle.chunk_model.specs.Verdicts.{Sent, fits, shard_is_old, router_is_old, 
 use Rattle.chunk_model.specs.Versions.{Version}
 use Rattle.base_model.specs.Identities.{RequestId}
 use Rattle.reply_model.specs.Outcomes.{Done}
-use Rattle.node_model.specs.Letters.{Statement, half_overflow, half_excess, Body, table_ask, table_told, write_ask, write_done, read_ask, half_ask, read_rows, stale, time_ask, time_told, Letter, letter_input, Effect}
+use Rattle.node_model.specs.Letters.{Statement, half_overflow, half_excess, Body, table_ask, table_told, split_ask, split_done, write_ask, write_done, read_ask, half_ask, read_rows, stale, time_ask, time_told, Letter, letter_input, Effect}
 use Rattle.node_model.specs.States.{Shard, Router, Open}
 use Rattle.node_model.specs.Service.{seen_before, Serves, serves_again, serves_new, ends_again, ends_new, Repeats, repeats, ends_repeat, documents_at}
 use Rattle.node_model.specs.ShardRows.{Ask, is_parked, ask_in, wants_table, tries, says, heard, AsksNothing, IsNoNews, is_news, asks_table as asks_for_table, ShardRow, shard_write, shard_repeat, shard_empty, shard_park, shard_waits, shard_stale, shard_read, shard_rows, shard_excess, shard_overflow, shard_time, shard_learn, shard_known, shard_skip}
-use Rattle.chunk_model.proofs.OwnTables.{own_table as table_fits}
 use Rattle.node_laws.proofs.SeenStatements.{IsFound, found_entry, found_older, seen_found}
 use Rattle.node_progress.proofs.Leads.{IsNext, HasSent, IsAskOf, HasTable, LeadsBody, Fetches, Leads, Parks, Passes}
 
--- the shard's table of the collection is the router's, where both have one
+-- by the shard's table of the collection and the router's the first shard has the same keys, where both have one
 abbrev pub AreOne : Router → Open → Shard → Type 0
-AreOne r q s = (t u : Table) → table_of q.namespace r.tables ≡ Some t → table_of q.namespace s.tables ≡ Some u → u ≡ t
+AreOne r q s = (t u : Table) → table_of q.namespace r.tables ≡ Some t → table_of q.namespace s.tables ≡ Some u
+    → verdict_of (sent_by t first_shard) first_shard (Some u) ≡ fits
 
 -- THE VERDICT
-
-own_table : (t : Table) → verdict_of (sent_by t first_shard) first_shard (Some t) ≡ fits
-own_table t = table_fits t first_shard
 
 -- a request is served, but where there is no table
 is_served : (r : Router) (q : Open) (s : Shard) (namespace : List ℕ) (sent : Sent) → s.me ≡ 1 → AreOne r q s → namespace ≡ q.namespace
@@ -36,10 +33,9 @@ is_served r q s namespace sent me one name has = by_table (table_of q.namespace 
         → (table_of q.namespace s.tables ≡ None) ⊎ (verdict_of sent s.me (table_of namespace s.tables) ≡ fits)
     by_table None is = inl is
     by_table (Some u) is =
-        let same : u ≡ has.table = one has.table u has.there is in
-        let found : table_of namespace s.tables ≡ Some has.table = ap (λ n. table_of n s.tables) name ∙ (is ∙ ap (λ t. Some t) same) in
+        let found : table_of namespace s.tables ≡ Some u = ap (λ n. table_of n s.tables) name ∙ is in
         inr (ap (λ o. verdict_of sent s.me o) found
-        ∙ (ap (λ n. verdict_of sent n (Some has.table)) me ∙ (ap (λ x. verdict_of x 1 (Some has.table)) has.versions ∙ own_table has.table)))
+        ∙ (ap (λ n. verdict_of sent n (Some u)) me ∙ (ap (λ x. verdict_of x 1 (Some u)) has.versions ∙ one has.table u has.there is)))
 
 old_is_none : (r : Router) (q : Open) (s : Shard) (namespace : List ℕ) (sent : Sent) → verdict_of sent s.me (table_of namespace s.tables) ≡ shard_is_old
     → (table_of q.namespace s.tables ≡ None) ⊎ (verdict_of sent s.me (table_of namespace s.tables) ≡ fits) → table_of q.namespace s.tables ≡ None
