@@ -81,9 +81,9 @@ made_later namespace x changes t m =
 
 made_of : (namespace : List ℕ) (changes : List Change) (t : Table) → AreFitting changes → AllByRecursion MovesNothing changes
     → known_table namespace changes ≡ Some t → MadeOf namespace changes t
-made_of namespace [] t fits still known = absurd (cc)
-made_of namespace (x ∷ older) t fits still known =
-    by_name (bytes_eq (namespace_of x) namespace) refl known (λ u e. made_of namespace older u fits.1 still.1 e)
+made_of namespace [] t fitting still known = absurd (cc)
+made_of namespace (x ∷ older) t fitting still known =
+    by_name (bytes_eq (namespace_of x) namespace) refl known (λ u e. made_of namespace older u fitting.1 still.1 e)
   where
     split_made : (s : Datum) (o : Option Table) → option_map (split_table s) o ≡ Some t → ((u : Table) → o ≡ Some u → MadeOf namespace older u)
         → MadeOf namespace older t
@@ -125,7 +125,7 @@ made_of namespace (x ∷ older) t fits still known =
     by_name : (b : Bool) → bytes_eq (namespace_of x) namespace ≡ b
         → (if b then table_after x (known_table namespace older) else known_table namespace older) ≡ Some t
         → ((u : Table) → known_table namespace older ≡ Some u → MadeOf namespace older u) → MadeOf namespace (x ∷ older) t
-    by_name true h e more = by_change x fits.0 still.0 h e more
+    by_name true h e more = by_change x fitting.0 still.0 h e more
     by_name false h e more = made_later namespace x older t (more t e)
 
 -- VERSIONS
