@@ -119,4 +119,3 @@ pub split_known : (namespace : List ℕ) (middle : Datum) (at : ℕ) (changes : 
 split_known namespace middle at changes t known =
     let same : bytes_eq namespace namespace ≡ true = (bytes_eq-Decides namespace namespace).1 refl in
     rw (same, known) refl
-

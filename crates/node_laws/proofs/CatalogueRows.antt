@@ -1,19 +1,15 @@
 -- What the rows of the catalogue owe.
-use Rattle.std.proofs.Common.{◌≡◌, ◌≢◌, inl, inr, ℕ, ◌+◌, ◌<◌, ◌≤◌, List, [], ◌∷◌, ◌++◌, refl, sym, ap, subst, ◌∙◌, arith, append-nil, Bool}
-use Rattle.std.specs.Prelude.{Option, Some, None, true, false, max, if◌then◌else◌}
+use Rattle.std.proofs.Common.{◌≡◌, inl, inr, ℕ, ◌+◌, ◌<◌, ◌≤◌, List, [], ◌∷◌, ◌++◌, refl, sym, ap, subst, ◌∙◌, arith, append-nil, Bool}
+use Rattle.std.specs.Prelude.{Option, Some, None, true, false, max}
 use Rattle.std.specs.List.{AllByRecursion, slice_get}
-use Rattle.std.specs.Str.{bytes_eq}
-use Rattle.std.proofs.lemmas.Slice.Eq.{bytes_eq-Decides}
 use Rattle.history_model.proofs.Lists.{all_weaken, in_first}
 use Rattle.bson_model.specs.Tree.{Datum}
 use Rattle.base_model.specs.Identities.{RequestId}
 use Rattle.base_model.specs.Times.{time_of_moment}
-use Rattle.value_model.specs.Keys.{is_key}
-use Rattle.chunk_model.specs.Catalogue.{Creation}
-use Rattle.chunk_model.specs.Tables.{Table, first_table}
-use Rattle.chunk_model.specs.Changes.{Change, create_change, split_change, commit_change, time_of, known_table, creations, can_split, begins_at, split_table}
+use Rattle.chunk_model.specs.Tables.{Table}
+use Rattle.chunk_model.specs.Changes.{Change, create_change, split_change, commit_change, time_of, known_table, creations, split_table}
 use Rattle.chunk_model.specs.Placement.{Follows, AreFitting}
-use Rattle.chunk_model.specs.Requests.{CatalogueAnswer, changed, unchanged, no_collection, create_answer, split_answer}
+use Rattle.chunk_model.specs.Requests.{changed, unchanged, no_collection, create_answer, split_answer}
 use Rattle.chunk_laws.proofs.Placed.{cover}
 use Rattle.chunk_laws.proofs.Requests.{create_follows, split_follows}
 use Rattle.history_model.specs.History.{IsIn}

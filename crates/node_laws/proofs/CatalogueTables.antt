@@ -1,16 +1,16 @@
 -- What changes of the catalogue make of tables where none moves a chunk: from its creation on the first shard owns all keys of a collection.
-use Rattle.std.proofs.Common.{◌≡◌, ◌≢◌, ◌⊎◌, inl, inr, ℕ, ◌<◌, ◌≤◌, List, [], ◌∷◌, ◌++◌, refl, sym, ap, subst, ◌∙◌, arith, Bool}
-use Rattle.std.specs.Prelude.{Option, Some, None, true, false, ◌&&◌, ◌||◌, nat_le, if◌then◌else◌}
+use Rattle.std.proofs.Common.{◌≡◌, ◌≢◌, ◌⊎◌, inl, inr, ℕ, ◌<◌, ◌≤◌, List, [], ◌∷◌, refl, sym, ap, subst, ◌∙◌, arith, Bool}
+use Rattle.std.specs.Prelude.{Option, Some, None, true, false, ◌&&◌, nat_le, if◌then◌else◌}
 use Rattle.std.specs.List.{AllByRecursion}
 use Rattle.std.specs.Option.{option_map}
 use Rattle.std.specs.Str.{bytes_eq}
 use Rattle.std.proofs.lemmas.Bool.{leb-true, leb-false}
 use Rattle.std.proofs.lemmas.Slice.Eq.{bytes_eq-Decides}
 use Rattle.bson_model.proofs.Booleans.{both}
-use Rattle.bson_model.specs.Tree.{Datum, null_value}
+use Rattle.bson_model.specs.Tree.{Datum}
 use Rattle.value_model.specs.Keys.{is_key}
-use Rattle.history_model.proofs.Lists.{all_at, all_from, all_append, all_weaken, in_cons, in_none, in_first, in_later, in_back}
-use Rattle.chunk_model.specs.Catalogue.{Creation, Split, Commit}
+use Rattle.history_model.proofs.Lists.{all_at, in_cons, in_none, in_first, in_later}
+use Rattle.chunk_model.specs.Catalogue.{Creation}
 use Rattle.chunk_model.specs.Tables.{Table, first_table, first_shard, owner_now, owner_at}
 use Rattle.chunk_model.specs.Changes.{Change, create_change, split_change, commit_change, namespace_of, can_split, split_table, commit_table, table_after, known_table}
 use Rattle.chunk_model.specs.Placement.{owner, AreFitting}

@@ -1,17 +1,16 @@
 -- Where the reply to a request to split is that no such collection exists, there was none as the request came.
-use Rattle.std.proofs.Common.{◌≡◌, ◌⊎◌, inl, inr, ℕ, ◌+◌, ◌*◌, ◌<◌, ◌≤◌, List, [], ◌∷◌, ◌++◌, refl, sym, ap, subst, ◌∙◌, arith, Bool}
+use Rattle.std.proofs.Common.{◌≡◌, ℕ, ◌+◌, ◌*◌, ◌<◌, ◌≤◌, List, [], ◌∷◌, ◌++◌, refl, sym, ap, subst, ◌∙◌, arith, Bool}
 use Rattle.std.specs.Prelude.{Option, Some, None, Result, Ok, true, false, ◌&&◌, map, nat_lt, if◌then◌else◌}
-use Rattle.std.specs.List.{AllByRecursion, slice_get, flat_map}
+use Rattle.std.specs.List.{AllByRecursion, flat_map}
 use Rattle.std.specs.Str.{bytes_eq}
-use Rattle.history_model.proofs.Lists.{all_weaken, all_append, all_at, all_from, in_prefix}
-use Rattle.history_model.specs.History.{Entry, IsIn}
+use Rattle.history_model.proofs.Lists.{all_weaken, all_append, all_at}
+use Rattle.history_model.specs.History.{Entry}
 use Rattle.base_model.specs.Errors.{namespace_not_sharded}
 use Rattle.base_model.specs.Identities.{RequestId}
 use Rattle.base_model.specs.Refusals.{Refusal, without_evidence}
 use Rattle.base_model.specs.ReplyParts.{operation_time}
 use Rattle.bson_model.specs.Tree.{Fields}
 use Rattle.command_model.specs.Split.{SplitCommand}
-use Rattle.command_model.specs.Writes.{WriteCommand}
 use Rattle.command_model.specs.Command.{Command, write_command, find_command, count_command, shard_collection_command, split_command, command_of}
 use Rattle.command_model.specs.Reading.{Reading}
 use Rattle.command_model.specs.GetMore.{GetMore}
@@ -19,24 +18,24 @@ use Rattle.command_model.specs.KillCursors.{KillCursors}
 use Rattle.pipeline_model.specs.Runs.{Outcome}
 use Rattle.command_model.specs.Answers.{Answer, changed_answer, sharded_answer, answer_document}
 use Rattle.command_model.proofs.AnswerTimes.{time_of_changed, time_refused}
-use Rattle.chunk_model.specs.Tables.{Table, first_shard}
+use Rattle.chunk_model.specs.Tables.{Table}
 use Rattle.chunk_model.specs.Changes.{known_table}
 use Rattle.opmsg_model.specs.Requests.{Request}
 use Rattle.reply_model.specs.Exchanges.{Asked, Answered}
-use Rattle.reply_model.specs.OneHistory.{Dated, changes_before, WasAbsent, IsCaused, ids_asked, AreDifferent}
+use Rattle.reply_model.specs.OneHistory.{Dated, changes_before, IsCaused, ids_asked, AreDifferent}
 use Rattle.reply_model.specs.Right.{not_sharded}
 use Rattle.reply_model.specs.Cursors.{Cursor}
 use Rattle.reply_facts.proofs.Requests.{one_asked}
 use Rattle.node_model.specs.Journal.{Kept, kept_entry, kept_block}
-use Rattle.node_model.specs.Letters.{At, split_done, Letter, Input, client_input, letter_input, moment_input, opened_input, Reply, Effect}
-use Rattle.node_model.specs.States.{Telling, Work, writing, reading, sharding, splitting, Wait, Open, Router, Catalogue, Shard, NodeState, catalogue_state, shard_state, router_state}
+use Rattle.node_model.specs.Letters.{At, split_done, Input, client_input, letter_input, moment_input, opened_input, Reply, Effect}
+use Rattle.node_model.specs.States.{Telling, Work, writing, reading, sharding, splitting, Open, Router, Catalogue, Shard}
 use Rattle.node_model.specs.CatalogueRows.{CatalogueRow, catalogue_create, catalogue_tell, catalogue_split, catalogue_bound, catalogue_none, catalogue_skip, catalogue_moment, catalogue_opened, catalogue_client}
 use Rattle.node_model.specs.ShardRows.{ShardRow, shard_write, shard_repeat, shard_empty, shard_park, shard_waits, shard_stale, shard_read, shard_rows, shard_excess, shard_overflow, shard_time, shard_learn, shard_known, shard_skip, shard_moment, shard_opened, shard_client}
-use Rattle.node_model.specs.RouterRows.{id_of, table_for, is_for, is_for_catalogue, reply_to, empty_answer, Next, replies_in, stays, is_told, next_without, next_waiting, next_of, RequestPlan, at_once, needs, needs_batch, needs_end, plan_of, block_size, Opened, gives_number, Tells, tells_overflow, tells_excess, tells_number, tells_batch, tells_cursor, RouterRow, router_begin, router_opened, router_plain, router_more, router_no_cursor, router_kill, router_take, router_learn, router_split, router_not_sharded, router_reach, router_ahead, router_note, router_wrote, router_read, router_excess, router_overflow, router_late, router_skip, router_moment}
+use Rattle.node_model.specs.RouterRows.{table_for, is_for, is_for_catalogue, reply_to, empty_answer, Next, replies_in, stays, is_told, next_waiting, next_of, RequestPlan, at_once, needs, needs_batch, needs_end, plan_of, block_size, Opened, gives_number, Tells, tells_overflow, tells_excess, tells_number, tells_batch, tells_cursor, RouterRow, router_begin, router_opened, router_plain, router_more, router_no_cursor, router_kill, router_take, router_learn, router_split, router_not_sharded, router_reach, router_ahead, router_note, router_wrote, router_read, router_excess, router_overflow, router_late, router_skip, router_moment}
 use Rattle.node_model.specs.World.{World, answered_by, dated_onto}
 use Rattle.node_laws.proofs.Views.{Book, View, view_of}
 use Rattle.node_laws.proofs.ReadFacts.{IsTelling, tells_find, tells_count}
-use Rattle.node_laws.proofs.Facts.{WorkFits, IsOpenOf, HeldFits, WasMissing, TimeFits, AnswersFit, no_answer, one_answer, Good}
+use Rattle.node_laws.proofs.Facts.{WorkFits, IsOpenOf, WasMissing, TimeFits, AnswersFit, no_answer, one_answer}
 use Rattle.node_laws.proofs.Owes.{InputFits}
 use Rattle.node_laws.proofs.Dates.{IsNoChange, missing_grows}
 use Rattle.node_laws.proofs.OpenRequests.{open_of_found}
@@ -270,22 +269,32 @@ row_true dated asked _ _ _ _ works truly (router_split r m id q middle says o wo
 row_true dated asked _ _ _ _ works truly (router_not_sharded r m id q middle says o work) =
     ((λ split asks none. subst (λ i. WasMissing dated asked i) (open_of_found r id q o).own (truly id says)), tt)
 row_true dated asked _ _ _ _ works truly (router_reach r m id q named at stages telling says o work t le) = tt
-row_true dated asked _ _ _ _ works truly (router_ahead r m id q named at stages telling says o work t le) =
-    ((λ split asks none. absurd (none_split q split (all_at HasWork q r.requests works (open_of_found r id q o).stands)
-    (subst (λ x. IsNoSplitting x) (sym work) tt) asks)), tt)
+row_true dated asked _ _ _ _ works truly (router_ahead r m id q named at stages telling says o work t le) = (
+  (λ split asks none. absurd (none_split q split (all_at HasWork q r.requests works (open_of_found r id q o).stands)
+      (subst (λ x. IsNoSplitting x) (sym work) tt) asks)),
+  tt,
+)
 row_true dated asked _ _ _ _ works truly (router_note r m id dones q kind ordered statements answers says o work n c) = tt
-row_true dated asked _ _ _ _ works truly (router_wrote r m id dones q kind ordered statements answers says o work n c) =
-    ((λ split asks none. absurd (none_split q split (all_at HasWork q r.requests works (open_of_found r id q o).stands)
-    (subst (λ x. IsNoSplitting x) (sym work) tt) asks)), tt)
-row_true dated asked _ _ _ _ works truly (router_read r m id rows q named at stages telling out answer f says o work merged tells) =
-    ((λ split asks none. absurd (none_split q split (all_at HasWork q r.requests works (open_of_found r id q o).stands)
-    (subst (λ x. IsNoSplitting x) (sym work) tt) asks)), tt)
-row_true dated asked _ _ _ _ works truly (router_excess r m id n q named at stages telling says o work) =
-    ((λ split asks none. absurd (none_split q split (all_at HasWork q r.requests works (open_of_found r id q o).stands)
-    (subst (λ x. IsNoSplitting x) (sym work) tt) asks)), tt)
-row_true dated asked _ _ _ _ works truly (router_overflow r m id q named at stages telling says o work) =
-    ((λ split asks none. absurd (none_split q split (all_at HasWork q r.requests works (open_of_found r id q o).stands)
-    (subst (λ x. IsNoSplitting x) (sym work) tt) asks)), tt)
+row_true dated asked _ _ _ _ works truly (router_wrote r m id dones q kind ordered statements answers says o work n c) = (
+  (λ split asks none. absurd (none_split q split (all_at HasWork q r.requests works (open_of_found r id q o).stands)
+      (subst (λ x. IsNoSplitting x) (sym work) tt) asks)),
+  tt,
+)
+row_true dated asked _ _ _ _ works truly (router_read r m id rows q named at stages telling out answer f says o work merged tells) = (
+  (λ split asks none. absurd (none_split q split (all_at HasWork q r.requests works (open_of_found r id q o).stands)
+      (subst (λ x. IsNoSplitting x) (sym work) tt) asks)),
+  tt,
+)
+row_true dated asked _ _ _ _ works truly (router_excess r m id n q named at stages telling says o work) = (
+  (λ split asks none. absurd (none_split q split (all_at HasWork q r.requests works (open_of_found r id q o).stands)
+      (subst (λ x. IsNoSplitting x) (sym work) tt) asks)),
+  tt,
+)
+row_true dated asked _ _ _ _ works truly (router_overflow r m id q named at stages telling says o work) = (
+  (λ split asks none. absurd (none_split q split (all_at HasWork q r.requests works (open_of_found r id q o).stands)
+      (subst (λ x. IsNoSplitting x) (sym work) tt) asks)),
+  tt,
+)
 row_true dated asked _ _ _ _ works truly (router_late r m l) = tt
 row_true dated asked _ _ _ _ works truly (router_skip r m s) = tt
 row_true dated asked _ _ _ _ works truly (router_moment r moment b) = tt

@@ -7,7 +7,6 @@ use Rattle.history_model.proofs.Lists.{all_weaken, all_append, all_at, in_prefix
 use Rattle.bson_model.specs.Tree.{Fields}
 use Rattle.bson_model.specs.Tree.{Datum}
 use Rattle.chunk_model.specs.Changes.{Change, create_change, split_change, commit_change, time_of}
-use Rattle.chunk_model.specs.Placement.{owner}
 use Rattle.chunk_model.specs.Tables.{Table, first_shard}
 use Rattle.history_model.specs.Documents.{documents_at}
 use Rattle.pipeline_model.specs.Halves.{Half, Rows, kept_at_head, may_stand_in}

@@ -1,12 +1,11 @@
 -- A step that owes what it owes keeps all facts.
 use Rattle.std.proofs.Common.{◌≡◌, ◌≢◌, ◌⊎◌, inl, inr, ℕ, zero, suc, ◌+◌, ◌<◌, ◌≤◌, List, [], ◌∷◌, ◌++◌, refl, sym, ap, subst, ◌∙◌, arith}
-use Rattle.std.specs.Prelude.{Some, None, true, false, filter}
+use Rattle.std.specs.Prelude.{Some, true, false, filter}
 use Rattle.std.specs.List.{AllByRecursion, slice_get, slice_set}
 use Rattle.history_model.proofs.Lists.{all_weaken, all_both, all_append, all_at, in_prefix, in_append}
 use Rattle.command_model.specs.Writes.{WriteCommand}
 use Rattle.chunk_model.specs.Changes.{known_table}
 use Rattle.chunk_model.specs.Tables.{first_shard}
-use Rattle.base_model.specs.Identities.{RequestId}
 use Rattle.history_model.specs.History.{Entry, IsIn}
 use Rattle.reply_model.specs.Exchanges.{Asked, Answered}
 use Rattle.reply_model.specs.OneHistory.{WasWanted, StandsInPart, IsPlaced, AreNumbered, IsFresh, IsInOrder, Given, ids_asked, ids_told, AreDifferent, Dated, changes_in as changes_of}
@@ -19,7 +18,7 @@ use Rattle.node_laws.proofs.Views.{Choice, Book, View, view_of, time_at, entries
 use Rattle.node_laws.proofs.CatalogueTables.{wanted_still}
 use Rattle.node_laws.proofs.Places.{EachAt, each_set}
 use Rattle.node_laws.proofs.WriteFacts.{WasMade}
-use Rattle.node_laws.proofs.Facts.{BodyFits, ShardFits, StateFits, is_of, HeldFits, IsMet, AnswersFit, IsPast, IsToldOf, WasMissing, TimeFits, TellsAll, AreMade, NeighboursFit, IsCatalogue, IsShard, InOrder, SentFits, Good, SameKind}
+use Rattle.node_laws.proofs.Facts.{BodyFits, ShardFits, StateFits, is_of, HeldFits, IsMet, AnswersFit, IsPast, IsToldOf, TimeFits, TellsAll, AreMade, NeighboursFit, IsCatalogue, IsShard, InOrder, SentFits, Good, SameKind}
 use Rattle.node_laws.proofs.Dates.{IsNoChange, none_before, missing_grows, dated_same}
 use Rattle.node_laws.proofs.Owes.{asked_after, answered_after, dated_after, IsSaid, OwesIn, Owes}
 use Rattle.node_laws.proofs.Lists.{map_longer}

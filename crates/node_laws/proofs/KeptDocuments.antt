@@ -1,5 +1,5 @@
 -- The documents of a collection at a time: which entries count for them, and whose they are.
-use Rattle.std.proofs.Common.{◌≡◌, ◌≢◌, ◌⊎◌, inl, inr, ℕ, ◌≤◌, List, [], ◌∷◌, ◌++◌, refl, sym, ap, subst, ◌∙◌, arith, Bool}
+use Rattle.std.proofs.Common.{◌≡◌, ℕ, ◌≤◌, List, [], ◌∷◌, ◌++◌, refl, sym, ap, subst, ◌∙◌, arith, Bool}
 use Rattle.std.specs.Prelude.{Option, Some, None, IfSome, true, false, filter, nat_le, ◌==◌, if◌then◌else◌}
 use Rattle.std.specs.List.{All, AllByRecursion}
 use Rattle.std.specs.Map.{values_of}
@@ -19,12 +19,12 @@ use Rattle.query_model.specs.Effects.{HasSameKey, IsUnder}
 use Rattle.history_model.specs.Documents.{document_under, row_written, rows_after, rows_at, documents_at}
 use Rattle.history_model.proofs.Collections.{lists_collection}
 use Rattle.history_model.proofs.Keyed.{after_under, written_is_key}
-use Rattle.history_model.proofs.Lists.{all_weaken, all_at, in_cons, in_none}
+use Rattle.history_model.proofs.Lists.{all_weaken}
 use Rattle.bson_model.specs.Tree.{Datum, Fields}
 use Rattle.chunk_model.specs.Changes.{Change}
 use Rattle.chunk_model.specs.Placement.{owner}
 use Rattle.chunk_model.specs.Tables.{first_shard}
-use Rattle.history_model.specs.History.{key_written, same_key, writes_to, effect, Entry, document_after, IsIn}
+use Rattle.history_model.specs.History.{key_written, same_key, writes_to, effect, Entry, document_after}
 use Rattle.reply_model.specs.OneHistory.{IsPlaced}
 use Rattle.reply_model.specs.Right.{WasCreated}
 use Rattle.reply_model.specs.Reads.{is_on, is_owned, owned_by}

@@ -1,5 +1,5 @@
 -- What a router replies to a request to split.
-use Rattle.std.proofs.Common.{◌≡◌, ℕ, ◌≤◌, List, [], ◌∷◌, ◌++◌, refl, sym, ap, subst, ◌∙◌, arith}
+use Rattle.std.proofs.Common.{◌≡◌, ℕ, List, [], ◌∷◌, ◌++◌, refl, sym, ap, subst, ◌∙◌, arith}
 use Rattle.std.specs.Prelude.{Result, Ok, true}
 use Rattle.bson_model.specs.Tree.{Datum}
 use Rattle.base_model.specs.Errors.{namespace_not_sharded}

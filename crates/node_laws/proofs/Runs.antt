@@ -15,7 +15,7 @@ use Rattle.node_model.specs.Letters.{Input, client_input, letter_input, moment_i
 use Rattle.node_model.specs.States.{Catalogue, NodeState, catalogue_state, shard_state, router_state, time_of_node, new_router}
 use Rattle.node_model.specs.RouterRows.{begins, router_begin}
 use Rattle.node_model.specs.Steps.{Step, catalogue_step, shard_step, router_step, begin_step, other_step, BeginsBefore}
-use Rattle.node_model.specs.World.{Held, World, asked_by, answered_by, dated_onto, after, moment_in, is_given, tick, Moves, Event, Happens, comes, delivers, passes, begins as was_opened, Run, stands, goes, routers_from, start, journal_at}
+use Rattle.node_model.specs.World.{Held, World, asked_by, answered_by, after, moment_in, is_given, tick, Moves, Event, Happens, comes, delivers, passes, begins as was_opened, Run, stands, goes, routers_from, start, journal_at}
 use Rattle.node_laws.proofs.Views.{Book, View, view_of, entries_in, changes_in, Later}
 use Rattle.node_laws.proofs.Places.{EachAt, each_get, each_weaken}
 use Rattle.node_laws.proofs.WriteFacts.{WasMade}
@@ -263,30 +263,26 @@ abbrev pub StaysTrue : World → Type 0
 StaysTrue w = HasBook w × Moments w × AreTrue w
 
 pub happens_keeps : (w v : World) (e : Event) → StaysTrue w → Happens w e v → StaysTrue v
-happens_keeps _ _ _ (known, moments, told) (comes w v at link number request is m) =
-    (
-      move_keeps w v known.book at (client_input link number request) known.good tt m,
-      moments_move w v at (client_input link number request) moments m,
-      move_true w v known.book at (client_input link number request) known.good tt told m,
-    )
-happens_keeps _ _ _ (known, moments, told) (delivers w v at which letter got to m) =
-    (
-      move_keeps w v known.book at (letter_input letter) known.good (got_is_in w.sent which letter got) m,
-      moments_move w v at (letter_input letter) moments m,
-      move_true w v known.book at (letter_input letter) known.good (got_is_in w.sent which letter got) told m,
-    )
-happens_keeps _ _ _ (known, moments, told) (passes w v at moment m) =
-    (
-      move_keeps w v known.book at (moment_input moment) known.good tt m,
-      moments_move w v at (moment_input moment) moments m,
-      move_true w v known.book at (moment_input moment) known.good tt told m,
-    )
-happens_keeps _ _ _ (known, moments, told) (was_opened w v at m) =
-    (
-      move_keeps w v known.book at opened_input known.good tt m,
-      moments_move w v at opened_input moments m,
-      move_true w v known.book at opened_input known.good tt told m,
-    )
+happens_keeps _ _ _ (known, moments, told) (comes w v at link number request is m) = (
+  move_keeps w v known.book at (client_input link number request) known.good tt m,
+  moments_move w v at (client_input link number request) moments m,
+  move_true w v known.book at (client_input link number request) known.good tt told m,
+)
+happens_keeps _ _ _ (known, moments, told) (delivers w v at which letter got to m) = (
+  move_keeps w v known.book at (letter_input letter) known.good (got_is_in w.sent which letter got) m,
+  moments_move w v at (letter_input letter) moments m,
+  move_true w v known.book at (letter_input letter) known.good (got_is_in w.sent which letter got) told m,
+)
+happens_keeps _ _ _ (known, moments, told) (passes w v at moment m) = (
+  move_keeps w v known.book at (moment_input moment) known.good tt m,
+  moments_move w v at (moment_input moment) moments m,
+  move_true w v known.book at (moment_input moment) known.good tt told m,
+)
+happens_keeps _ _ _ (known, moments, told) (was_opened w v at m) = (
+  move_keeps w v known.book at opened_input known.good tt m,
+  moments_move w v at opened_input moments m,
+  move_true w v known.book at opened_input known.good tt told m,
+)
 
 pub run_keeps : (w v : World) (es : List Event) → StaysTrue w → Run w es v → StaysTrue v
 run_keeps _ _ _ kept (stands w) = kept

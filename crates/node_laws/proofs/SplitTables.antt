@@ -1,17 +1,17 @@
 -- A chunk begins at a key where one was split there, or where none can be.
-use Rattle.std.proofs.Common.{◌≡◌, List, [], ◌∷◌, refl, sym, ap, ◌∙◌, Ordering, Less, Equal, Greater}
+use Rattle.std.proofs.Common.{◌≡◌, List, [], ◌∷◌, refl, Ordering, Less, Equal, Greater}
 use Rattle.std.specs.Prelude.{Bool, true, false, ◌&&◌, ◌||◌, ℕ, if◌then◌else◌}
 use Rattle.std.specs.Ordering.{ordering_reverse, is_le, is_lt, is_eq}
 use Rattle.bson_model.proofs.Booleans.{both}
 use Rattle.bson_model.specs.Tree.{Datum}
 use Rattle.value_model.specs.Order.{order}
-use Rattle.value_model.specs.Keys.{is_key, Bound, min_bound, key_bound, max_bound, value_of_bound, order_bounds, range_span, inside}
+use Rattle.value_model.specs.Keys.{is_key, Bound, min_bound, key_bound, max_bound, value_of_bound, order_bounds}
 use Rattle.value_model.proofs.Spans.{whole_inside}
 use Rattle.value_model.proofs.Flat.{order_total}
 use Rattle.chunk_model.specs.Tables.{Chunk, Table}
 use Rattle.chunk_model.specs.Changes.{strictly_inside, can_split, begins_at, greatest_minor, lower_half, upper_half, split_chunks, split_table}
 use Rattle.chunk_model.specs.Placement.{CoverFrom, Covers}
-use Rattle.chunk_laws.proofs.Orders.{equal_is, eq_le, le_trans, le_lt_trans, not_lt, itself, eq_turned}
+use Rattle.chunk_laws.proofs.Orders.{eq_le, le_trans, le_lt_trans, itself, eq_turned}
 
 or_right : (a b : Bool) → b ≡ true → (a || b) ≡ true
 or_right true b e = refl

@@ -1,6 +1,6 @@
 -- Where no change moves a chunk, all tables of a collection agree in their versions.
 use Rattle.std.proofs.Common.{◌≡◌, ℕ, ◌+◌, ◌≤◌, List, [], ◌∷◌, refl, sym, ap, subst, ◌∙◌, arith, Bool}
-use Rattle.std.specs.Prelude.{Option, Some, None, true, false, max, if◌then◌else◌}
+use Rattle.std.specs.Prelude.{Option, Some, None, true, false, if◌then◌else◌}
 use Rattle.std.specs.List.{AllByRecursion}
 use Rattle.std.specs.Option.{option_map}
 use Rattle.std.specs.Str.{bytes_eq}
@@ -14,7 +14,7 @@ use Rattle.chunk_model.specs.Tables.{Chunk, Table, first_shard, first_chunk, fir
 use Rattle.chunk_model.specs.Changes.{Change, create_change, split_change, commit_change, namespace_of, strictly_inside, can_split, greatest_minor, lower_half, upper_half, split_chunks, split_table, table_after, known_table}
 use Rattle.chunk_model.specs.Placement.{Follows, AreFitting}
 use Rattle.chunk_model.specs.Verdicts.{fits, sent_by, verdict_of}
-use Rattle.chunk_laws.proofs.Majors.{top, OfEpoch, AtMost, top_most, greatest_is, split_all}
+use Rattle.chunk_laws.proofs.Majors.{top, top_most, greatest_is, split_all}
 use Rattle.node_laws.proofs.Views.{View, changes_in, MovesNothing}
 use Rattle.node_laws.proofs.CatalogueTables.{same_name, one_creation}
 use Rattle.node_laws.proofs.Facts.{IsKnownTable}
