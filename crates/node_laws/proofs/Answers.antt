@@ -27,7 +27,8 @@ use Rattle.node_laws.proofs.Facts.{IsFixed, IsRefusalFixed, IsSettled, AnswersFi
 use Rattle.node_laws.proofs.CatalogueTables.{placed_first}
 use Rattle.node_laws.proofs.KeptDocuments.{AreOwned, all_owned, owned_same}
 use Rattle.node_laws.proofs.SeenStatements.{true_false}
-use Rattle.node_laws.proofs.Growth.{MoreOf, more_entries, entry_stays, change_stays, entries_by_longer, begun_grows, begins_grows, began_grows, documents_stay}
+use Rattle.node_laws.proofs.LongerJournals.{MoreOf, more_entries, entry_stays, change_stays}
+use Rattle.node_laws.proofs.Growth.{entries_by_longer, begun_grows, begins_grows, began_grows, documents_stay}
 use Rattle.node_laws.proofs.AnswerTimes.{IsBelow, AreBelow, greatest_below, time_shown}
 
 -- after all statements no entry of them follows

@@ -26,9 +26,11 @@ use Rattle.node_laws.proofs.CatalogueTables.{IsNoCreation, none_created, table_n
 use Rattle.node_laws.proofs.CatalogueAnswers.{created_is, splits, has_bound, no_table, split_known}
 use Rattle.node_laws.proofs.SplitTables.{split_bound, begins_already}
 use Rattle.node_laws.proofs.ReadFacts.{BeginsAfter}
-use Rattle.node_laws.proofs.Facts.{IsKnownTable, IsWanted, IsSplitOf, TableFits, AtFits, BodyFits, CatalogueFits, HeldFits, IsMet, AnswersFit, no_answer, Good}
+use Rattle.node_laws.proofs.SplitFacts.{IsSplitOf}
+use Rattle.node_laws.proofs.Facts.{IsKnownTable, IsWanted, TableFits, AtFits, BodyFits, CatalogueFits, HeldFits, IsMet, AnswersFit, no_answer, Good}
 use Rattle.node_laws.proofs.Owes.{InputFits, IsSaid, Owes}
-use Rattle.node_laws.proofs.Growth.{changes_longer, met_later, met_max}
+use Rattle.node_laws.proofs.LongerJournals.{changes_longer}
+use Rattle.node_laws.proofs.Growth.{met_later, met_max}
 
 -- QUIET STEPS: nothing is taken, replied or written
 

@@ -35,7 +35,8 @@ use Rattle.node_model.specs.RouterRows.{table_for, is_for, is_for_catalogue, rep
 use Rattle.node_model.specs.World.{World, answered_by, dated_onto}
 use Rattle.node_laws.proofs.Views.{Book, View, view_of}
 use Rattle.node_laws.proofs.ReadFacts.{IsTelling, tells_find, tells_count}
-use Rattle.node_laws.proofs.Facts.{WorkFits, IsOpenOf, WasMissing, TimeFits, AnswersFit, no_answer, one_answer}
+use Rattle.node_laws.proofs.SplitFacts.{WasMissing}
+use Rattle.node_laws.proofs.Facts.{WorkFits, IsOpenOf, TimeFits, AnswersFit, no_answer, one_answer}
 use Rattle.node_laws.proofs.Owes.{InputFits}
 use Rattle.node_laws.proofs.Dates.{IsNoChange, missing_grows}
 use Rattle.node_laws.proofs.OpenRequests.{open_of_found}

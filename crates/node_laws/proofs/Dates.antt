@@ -13,8 +13,8 @@ use Rattle.node_model.specs.States.{NodeState}
 use Rattle.node_model.specs.World.{Held, dated_onto, journal_at}
 use Rattle.node_model.proofs.Journals.{journal_here, journal_got}
 use Rattle.node_laws.proofs.CatalogueTables.{IsNoCreation, none_created, not_created}
-use Rattle.node_laws.proofs.Facts.{WasMissing}
-use Rattle.node_laws.proofs.Growth.{changes_after}
+use Rattle.node_laws.proofs.SplitFacts.{WasMissing}
+use Rattle.node_laws.proofs.LongerJournals.{changes_after}
 use Rattle.node_laws.proofs.Journals.{with_more, journal_else}
 
 -- what is stored is no change of the catalogue

@@ -26,6 +26,7 @@ use Rattle.node_model.specs.RouterRows.{id_of, statements_from, owner_of_stateme
 use Rattle.node_model.specs.World.{Held, World, journal_at}
 use Rattle.node_laws.proofs.Views.{Choice, Book, View, view_of, entries_in, changes_in, MovesNothing}
 use Rattle.node_laws.proofs.Places.{EachAt}
+use Rattle.node_laws.proofs.SplitFacts.{IsSplitOf, IsSplitDone, WasMissing, IsMissing}
 use Rattle.node_laws.proofs.WriteFacts.{IsDoneAt, AreAnswers, OnlyLast, WasMade}
 use Rattle.node_laws.proofs.ReadFacts.{NoneBegan, WaitsFor, IsDecided, IsReading, IsReadOf, IsShown, RowsFit}
 
@@ -92,24 +93,6 @@ pub record IsWanted (asked : List Asked) (namespace : List ℕ) (time : ℕ) : T
   pub taken : IsIn request asked
   pub asks : IsWriteIn namespace request ⊎ (command_of request.request ≡ Ok (shard_collection_command namespace))
   pub past : request.time ≤ time
-
--- the request of this number is to split a chunk of the collection at the key
-pub record IsSplitOf (asked : List Asked) (id : RequestId) (namespace : List ℕ) (middle : Datum) (time : ℕ) : Type 0 where
-  pub request : Asked
-  pub taken : IsIn request asked
-  pub own : request.id ≡ id
-  pub asks : command_of request.request ≡ Ok (split_command (record { namespace = namespace; middle = middle }))
-  pub key : is_key middle ≡ true
-  pub past : request.time ≤ time
-
--- the catalogue had a chunk by a time that begins where a request of this number splits
-pub record IsSplitDone (v : View) (asked : List Asked) (id : RequestId) (time : ℕ) : Type 0 where
-  pub request : Asked
-  pub taken : IsIn request asked
-  pub own : request.id ≡ id
-  pub split : SplitCommand
-  pub asks : command_of request.request ≡ Ok (split_command split)
-  pub begins : WasSplit (changes_in v) split.namespace split.middle time
 
 -- a message about a request that was taken
 pub record IsOfRequest (asked : List Asked) (id : RequestId) : Type 0 where
@@ -342,28 +325,10 @@ abbrev pub IsPast : View → List Answered → Asked → ℕ → Type 0
 IsPast v answered a time = (s : Answered) (write : WriteCommand) (index : ℕ) (e : Entry) → IsIn s answered → s.step < a.came
     → IsIn e (entries_in v first_shard) → IsToldOf s write index e → e.time ≤ time
 
--- as the request of this number came, which is to split, the changes made before it had created no such collection
-pub record WasMissing (dated : List Dated) (asked : List Asked) (id : RequestId) : Type 0 where
-  pub request : Asked
-  pub taken : IsIn request asked
-  pub own : request.id ≡ id
-  pub split : SplitCommand
-  pub asks : command_of request.request ≡ Ok (split_command split)
-  pub none : known_table split.namespace (changes_before request.came dated) ≡ None
-
 abbrev pub TimeFits : View → List Dated → List Asked → List Answered → ℕ → Body → Type 0
 TimeFits v dated asked answered time (time_told id) = (a : Asked) × IsIn a asked × (a.id ≡ id) × IsPast v answered a time
 TimeFits v dated asked answered time (split_done id false) = WasMissing dated asked id
 TimeFits v dated asked answered time body = Unit {0}
-
--- no change at all created the collection that the request of this number is to split
-pub record IsMissing (v : View) (asked : List Asked) (id : RequestId) : Type 0 where
-  pub request : Asked
-  pub taken : IsIn request asked
-  pub own : request.id ≡ id
-  pub split : SplitCommand
-  pub asks : command_of request.request ≡ Ok (split_command split)
-  pub none : known_table split.namespace (changes_in v) ≡ None
 
 -- no entry is above the time that is sent; and a collection that is not found was not created
 abbrev pub TellsAll : View → List Asked → ℕ → Body → Type 0

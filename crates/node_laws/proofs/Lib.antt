@@ -5,6 +5,7 @@ pub mod CatalogueAnswers
 pub mod Places
 pub mod ReadFacts
 pub mod WriteFacts
+pub mod SplitFacts
 pub mod Facts
 pub mod Owes
 pub mod Lists
@@ -12,6 +13,7 @@ pub mod SeenStatements
 pub mod Choices
 pub mod KeptDocuments
 pub mod OwnCursors
+pub mod LongerJournals
 pub mod Growth
 pub mod Journals
 pub mod Dates
@@ -52,4 +54,5 @@ pub mod ShardSteps
 pub mod Causes
 pub mod ShardWrites
 pub mod ShardRows
+pub mod StepsKeep
 pub mod Runs

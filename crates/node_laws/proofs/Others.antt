@@ -20,7 +20,8 @@ use Rattle.node_laws.proofs.Facts.{IsKnownTable, ParkedFits, HasTime, IsOpenOf, 
 use Rattle.node_laws.proofs.Choices.{none_longer, none_of_others, decided_stays}
 use Rattle.node_laws.proofs.OwnCursors.{same_lives}
 use Rattle.node_laws.proofs.Lists.{map_longer}
-use Rattle.node_laws.proofs.Growth.{known_grows, letter_grows, seen_grows, entry_grows, change_wanted_grows, still_grows, placed_grows, met_later}
+use Rattle.node_laws.proofs.LongerJournals.{still_grows}
+use Rattle.node_laws.proofs.Growth.{known_grows, letter_grows, seen_grows, entry_grows, change_wanted_grows, placed_grows, met_later}
 use Rattle.node_laws.proofs.Requests.{parts_grow}
 
 pub told_more : (id : RequestId) (answered news : List Answered) → IsIn id (ids_told answered) → IsIn id (ids_told (answered ++ news))

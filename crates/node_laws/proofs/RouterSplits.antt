@@ -17,7 +17,8 @@ use Rattle.node_model.specs.RouterRows.{heard, as_before, reply_to}
 use Rattle.node_model.specs.World.{World}
 use Rattle.reply_facts.proofs.Requests.{one_asked}
 use Rattle.node_laws.proofs.Views.{Book, View, view_of, changes_in}
-use Rattle.node_laws.proofs.Facts.{IsSplitDone, WorkFits, IsOpenOf, HeldFits, SentFits, Good}
+use Rattle.node_laws.proofs.SplitFacts.{IsSplitDone}
+use Rattle.node_laws.proofs.Facts.{WorkFits, IsOpenOf, HeldFits, SentFits, Good}
 use Rattle.node_laws.proofs.Owes.{Owes}
 use Rattle.node_laws.proofs.Growth.{begins_grows}
 use Rattle.node_laws.proofs.Journals.{later_self}

@@ -26,7 +26,8 @@ use Rattle.node_laws.proofs.ReadFacts.{IsReadOf, IsShown, IsMade}
 use Rattle.node_laws.proofs.Facts.{IsKnownTable, IsWriteOf, IsDoneOf, BodyFits, ParkedFits, HeldFits, IsMet, Good}
 use Rattle.node_laws.proofs.Owes.{InputFits, IsSaid, Owes}
 use Rattle.node_laws.proofs.Lists.{all_filtered, all_mapped}
-use Rattle.node_laws.proofs.Growth.{entries_longer, read_grows, known_grows, met_later, met_max}
+use Rattle.node_laws.proofs.LongerJournals.{entries_longer}
+use Rattle.node_laws.proofs.Growth.{read_grows, known_grows, met_later, met_max}
 use Rattle.node_laws.proofs.ServedStatements.{up_to_later, repeats_told, repeats_last}
 use Rattle.node_laws.proofs.RequestParts.{ask_own}
 use Rattle.node_laws.proofs.ShardSteps.{wrote, quiet, letter_later, shown_later, shard_later, ask_receiver, retried_fits, asks_again_fit, tells_none, AreToldBy, told_done}

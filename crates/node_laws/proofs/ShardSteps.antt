@@ -25,7 +25,8 @@ use Rattle.node_laws.proofs.WriteFacts.{IsDoneAt, OnlyLast}
 use Rattle.node_laws.proofs.Facts.{IsKnownTable, IsOwned, HasBegun, IsDoneOf, BodyFits, LetterFits, ParkedFits, ShardFits, StateFits, OwnCursors, IsMet, TellsAll, SameKind, Good}
 use Rattle.node_laws.proofs.Owes.{IsSaid, Owes}
 use Rattle.node_laws.proofs.CatalogueRows.{no_answers}
-use Rattle.node_laws.proofs.Growth.{answers_later, begun_grows, known_grows, owned_grows, shown_grows, letter_grows, still_grows, placed_grows}
+use Rattle.node_laws.proofs.LongerJournals.{still_grows}
+use Rattle.node_laws.proofs.Growth.{answers_later, begun_grows, known_grows, owned_grows, shown_grows, letter_grows, placed_grows}
 use Rattle.node_laws.proofs.Journals.{later_self}
 use Rattle.node_laws.proofs.ServedStatements.{up_to_later}
 use Rattle.node_laws.proofs.KnownTables.{table_created}

@@ -23,7 +23,8 @@ use Rattle.node_laws.proofs.WriteFacts.{AreAnswers, OnlyLast, AreDoneBefore, Was
 use Rattle.node_laws.proofs.Facts.{IsKnownTable, IsOwned, IsWriteOf, HasBegun, IsDoneOf, ParkedFits, ShardFits, IsMet, Good}
 use Rattle.node_laws.proofs.Owes.{Owes}
 use Rattle.node_laws.proofs.Lists.{all_mapped}
-use Rattle.node_laws.proofs.Growth.{entries_longer, entry_grows, known_grows, still_grows, placed_grows, met_later}
+use Rattle.node_laws.proofs.LongerJournals.{entries_longer, still_grows}
+use Rattle.node_laws.proofs.Growth.{entry_grows, known_grows, placed_grows, met_later}
 use Rattle.node_laws.proofs.NotedOutcomes.{HasNoOther, made_no_other, answers_stand}
 use Rattle.node_laws.proofs.ServedStatements.{AreUpTo, Rises, IsEntryOf, up_to_later, serves_rises, serves_legal, serves_numbered, legal_joined, serves_entries, serves_told, serves_last}
 use Rattle.node_laws.proofs.MadeEntries.{drop_statements, parted, few_answers, front_done, IsMadeAt, serves_made}

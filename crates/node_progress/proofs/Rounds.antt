@@ -19,7 +19,8 @@ use Rattle.reply_facts.proofs.Requests.{one_asked}
 use Rattle.node_laws.proofs.Lists.{all_within}
 use Rattle.node_laws.proofs.Others.{told_more}
 use Rattle.reply_facts.proofs.Freshness.{told_to, told_write}
-use Rattle.node_laws.proofs.Runs.{StaysTrue, happens_keeps, run_keeps, start_good, start_moments, makes_one_history}
+use Rattle.node_laws.proofs.StepsKeep.{StaysTrue, happens_keeps, run_keeps}
+use Rattle.node_laws.proofs.Runs.{start_good, start_moments, makes_one_history}
 use Rattle.node_progress.specs.Completion.{IsAnswered, IsServed, AreAnswered}
 use Rattle.node_progress.proofs.Idle.{Idle, IsStillEvent, run_idle, start_idle}
 use Rattle.node_progress.proofs.Stages.{Stage, delivery_keeps}

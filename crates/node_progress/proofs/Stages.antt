@@ -26,7 +26,7 @@ use Rattle.node_laws.proofs.TableVersions.{known_fits}
 use Rattle.node_laws.proofs.KnownTables.{table_found, table_created, known_owned, known_at}
 use Rattle.node_laws.proofs.Keeps.{the_begun}
 use Rattle.node_laws.proofs.Others.{told_more}
-use Rattle.node_laws.proofs.Runs.{fits_here, get_set, got_is_in}
+use Rattle.node_laws.proofs.StepsKeep.{fits_here, get_set, got_is_in}
 use Rattle.node_progress.specs.Completion.{IsQuiet, IsAnswered}
 use Rattle.node_progress.proofs.Leads.{IsGoing, Leads, Parks, Passes}
 use Rattle.node_progress.proofs.Receivers.{goes_to}

@@ -27,7 +27,7 @@ use Rattle.node_laws.proofs.Places.{EachAt, each_set}
 use Rattle.node_laws.proofs.Facts.{RouterFits, Good}
 use Rattle.node_laws.proofs.Lists.{map_longer}
 use Rattle.node_laws.proofs.Others.{told_more}
-use Rattle.node_laws.proofs.Runs.{fits_here, get_set}
+use Rattle.node_laws.proofs.StepsKeep.{fits_here, get_set}
 use Rattle.node_progress.specs.Completion.{IsQuiet, IsAnswered}
 use Rattle.node_progress.proofs.Leads.{IsGoing, Leads}
 use Rattle.node_progress.proofs.Asks.{Sends, IsFirst, asks_lead, going_of}
