@@ -3,7 +3,7 @@ use Rattle.std.proofs.Common.{◌≡◌, ◌⊎◌, inl, inr, ℕ, ◌<◌, ◌�
 use Rattle.std.specs.Prelude.{Option, Some, None, Result, Ok, Err, true, false, max, filter, nat_le, if◌then◌else◌}
 use Rattle.std.specs.List.{AllByRecursion}
 use Rattle.std.proofs.lemmas.Bool.{leb-true, leb-false}
-use Rattle.history_model.proofs.Lists.{all_weaken, all_append, all_at, in_prefix, in_back}
+use Rattle.history_model.proofs.Lists.{all_weaken, all_append, all_at, in_prefix}
 use Rattle.bson_model.specs.Tree.{Datum, Fields}
 use Rattle.chunk_model.specs.Changes.{Change, create_change, split_change, commit_change, time_of}
 use Rattle.chunk_model.specs.Tables.{Table, first_shard}
@@ -15,11 +15,10 @@ use Rattle.base_model.specs.Identities.{RequestId}
 use Rattle.reply_model.specs.Exchanges.{Asked, number_for, is_session_of, entries_by}
 use Rattle.reply_model.specs.Outcomes.{StatementOutcome, Done}
 use Rattle.reply_model.specs.OneHistory.{WasWanted, IsPlaced, Given}
-use Rattle.node_model.specs.Journal.{Kept, kept_table, kept_entry, kept_change, kept_life, kept_block, entries_kept, changes_onto, changes_kept}
 use Rattle.node_model.specs.Letters.{At, no_time, at_time, Statement, HalfFault, half_overflow, half_excess, Body, table_ask, table_told, split_ask, split_done, write_ask, write_done, read_ask, half_ask, read_rows, stale, time_ask, time_told, Letter}
 use Rattle.node_model.specs.States.{Work, writing, reading, sharding, splitting}
 use Rattle.reply_model.specs.Right.{WasSplit}
-use Rattle.node_laws.proofs.Views.{View, entries_in, changes_in, MovesNothing, IsAbove, Later}
+use Rattle.node_laws.proofs.Views.{View, entries_in, changes_in, MovesNothing, Later}
 use Rattle.node_laws.proofs.LongerJournals.{IsNewChange, more_entries, more_changes, entry_stays, change_stays, still_grows}
 use Rattle.node_laws.proofs.CatalogueTables.{unmoved, owned_from}
 use Rattle.node_laws.proofs.ReadFacts.{BeginsAfter, NoneBegan, IsReadOf, IsShown, IsMade, RowsFit}

@@ -1,38 +1,26 @@
 -- Every run keeps all facts, and so makes one history.
-use Rattle.std.proofs.Common.{◌≡◌, ℕ, zero, suc, ◌+◌, ◌<◌, List, [], ◌∷◌, ◌++◌, refl, sym, ap, subst, ◌∙◌, arith, append-nil, append_assoc, inl, inr}
-use Rattle.std.specs.Prelude.{Some}
-use Rattle.std.specs.List.{AllByRecursion, slice_get, slice_set}
-use Rattle.history_model.proofs.Lists.{all_weaken, all_both, all_at, in_back, in_first}
-use Rattle.base_model.specs.Times.{time_of_moment}
+use Rattle.std.proofs.Common.{◌≡◌, ℕ, zero, suc, ◌+◌, ◌<◌, List, [], ◌∷◌, refl, sym, ap, subst, ◌∙◌, arith, inl}
+use Rattle.std.specs.List.{AllByRecursion}
+use Rattle.history_model.proofs.Lists.{all_weaken, all_both, all_at}
 use Rattle.chunk_model.specs.Placement.{AreFitting}
 use Rattle.chunk_model.specs.Tables.{first_shard}
 use Rattle.history_model.specs.History.{Entry, IsIn, Legal}
 use Rattle.reply_model.specs.Exchanges.{Asked, Answered}
 use Rattle.reply_model.specs.OneHistory.{WasSent, AreNumbered, IsReached, WasWanted, StandsInPart, IsPlaced, AreRight, nothing_told, then_told, Given, IsKnown, OneHistory, changes_in as changes_of}
 use Rattle.reply_model.specs.Cursors.{Cursor}
-use Rattle.node_model.specs.Journal.{Kept, kept_life, entries_kept, changes_kept}
-use Rattle.node_model.specs.Letters.{Input, client_input, letter_input, moment_input, opened_input, Taken, Reply, Effect, nothing, writes, both}
-use Rattle.node_model.specs.States.{Catalogue, NodeState, catalogue_state, shard_state, router_state, time_of_node, new_router}
-use Rattle.node_model.specs.RouterRows.{begins, router_begin}
-use Rattle.node_model.specs.Steps.{Step, catalogue_step, shard_step, router_step, begin_step, other_step, BeginsBefore}
-use Rattle.node_model.specs.World.{Held, World, asked_by, answered_by, after, moment_in, is_given, tick, Moves, Event, Happens, comes, delivers, passes, begins as was_opened, Run, stands, goes, routers_from, start, journal_at}
-use Rattle.node_laws.proofs.Views.{Book, View, view_of, entries_in, changes_in, Later}
-use Rattle.node_laws.proofs.Places.{EachAt, each_get, each_weaken}
+use Rattle.node_model.specs.Journal.{Kept, entries_kept, changes_kept}
+use Rattle.node_model.specs.States.{Catalogue, NodeState, catalogue_state, shard_state, router_state, new_router}
+use Rattle.node_model.specs.World.{Held, World, Event, Run, routers_from, start, journal_at}
+use Rattle.node_laws.proofs.Views.{View, view_of, entries_in, changes_in}
+use Rattle.node_laws.proofs.Places.{EachAt}
 use Rattle.node_laws.proofs.WriteFacts.{WasMade}
 use Rattle.node_laws.proofs.SentEntries.{was_sent, is_reached}
-use Rattle.node_laws.proofs.Facts.{CatalogueFits, StateFits, CursorsFit, HeldFits, IsMet, AnswersFit, no_answer, one_answer, IsCatalogue, InOrder, SentFits, Good}
-use Rattle.node_laws.proofs.Owes.{InputFits}
-use Rattle.node_laws.proofs.Growth.{met_grows, met_later}
-use Rattle.node_laws.proofs.Journals.{with_more, with_news, later_self, views_later}
+use Rattle.node_laws.proofs.Facts.{CatalogueFits, StateFits, CursorsFit, HeldFits, IsMet, AnswersFit, no_answer, one_answer, IsCatalogue, InOrder}
 use Rattle.node_laws.proofs.CatalogueTables.{placed_first}
-use Rattle.node_laws.proofs.Dates.{dated_more}
-use Rattle.node_laws.proofs.Causes.{IsTrueReply, IsTrueAnswer, no_replies, shard_aside, router_aside, row_true, works_of, input_truly, all_still_true, is_caused}
-use Rattle.node_laws.proofs.Keeps.{good_after, the_shard, nodes_keep}
-use Rattle.node_laws.proofs.CatalogueRows.{catalogue_owes}
-use Rattle.node_laws.proofs.ShardRows.{shard_owes}
-use Rattle.node_laws.proofs.RouterRows.{router_owes}
-use Rattle.node_laws.proofs.Moments.{HasMoment, HadMoment, Moments, moments_move}
-use Rattle.node_laws.proofs.StepsKeep.{HasBook, AreTrue, StaysTrue, run_keeps}
+use Rattle.node_laws.proofs.Causes.{is_caused}
+use Rattle.node_laws.proofs.Keeps.{the_shard, nodes_keep}
+use Rattle.node_laws.proofs.Moments.{HasMoment, HadMoment, Moments}
+use Rattle.node_laws.proofs.StepsKeep.{HasBook, StaysTrue, run_keeps}
 
 -- THE START
 

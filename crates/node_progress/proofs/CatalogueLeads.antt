@@ -10,7 +10,7 @@ use Rattle.node_model.specs.States.{Catalogue, Router, Work, writing, reading, s
 use Rattle.node_model.specs.CatalogueRows.{CatalogueRow, catalogue_create, catalogue_tell, catalogue_split, catalogue_bound, catalogue_none, catalogue_skip, heard, told, split_told, AsksNothing}
 use Rattle.node_laws.proofs.CatalogueTables.{table_name}
 use Rattle.node_laws.proofs.CatalogueAnswers.{created_known}
-use Rattle.node_progress.proofs.Leads.{IsSplitting, AskFits, HasTable, ToldFits, LeadsBody, Fetches, Leads, Passes}
+use Rattle.node_progress.proofs.Leads.{AskFits, HasTable, ToldFits, LeadsBody, Fetches, Leads, Passes}
 
 -- what the router has, the catalogue has
 abbrev pub IsKnownThere : Router → Open → Catalogue → Type 0

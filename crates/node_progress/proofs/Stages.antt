@@ -17,7 +17,7 @@ use Rattle.node_model.specs.Steps.{Step, catalogue_step, shard_step, router_step
 use Rattle.node_model.specs.World.{Held, World, asked_by, answered_by, after, is_given, tick, Moves, journal_at, Happens, delivers, deliver_event}
 use Rattle.command_model.proofs.Taken.{operations_with_keys}
 use Rattle.node_model.proofs.Journals.{journal_got}
-use Rattle.node_laws.proofs.Views.{Book, View, view_of, changes_in}
+use Rattle.node_laws.proofs.Views.{Book, View, view_of}
 use Rattle.node_laws.proofs.Places.{EachAt, each_get, each_set}
 use Rattle.node_laws.proofs.Facts.{IsKnownTable, BodyFits, WorkFits, IsOpenOf, CatalogueFits, ShardFits, RouterFits, StateFits, HeldFits, SentFits, Good}
 use Rattle.node_laws.proofs.Lists.{map_longer}
