@@ -3,12 +3,12 @@ use Rattle.std.proofs.Common.{◌≡◌, ℕ, ℤ, ◌≤◌, List, [], ◌∷�
 use Rattle.std.specs.Prelude.{Option, Some, None, Bool, max}
 use Rattle.std.specs.List.{AllByRecursion}
 use Rattle.std.specs.Option.{unwrap_or}
-use Rattle.command_model.proofs.AnswerTimes.{time_of_write, time_of_first, time_of_next, time_of_count, time_of_killed, time_of_legacy, time_refused}
+use Rattle.command_model.proofs.AnswerTimes.{time_of_write, time_of_first, time_of_next, time_of_count, time_of_killed, time_of_sharded, time_of_changed, time_of_legacy, time_refused}
 use Rattle.command_model.specs.Cursors.{Batch}
 use Rattle.command_model.specs.Writes.{WriteKind}
 use Rattle.base_model.specs.Refusals.{Refusal}
 use Rattle.base_model.specs.ReplyParts.{operation_time}
-use Rattle.command_model.specs.Answers.{Answer, hello_answer, legacy_answer, done_answer, first_answer, next_answer, count_answer, killed_answer, refusal_answer, answer_document}
+use Rattle.command_model.specs.Answers.{Answer, hello_answer, legacy_answer, done_answer, first_answer, next_answer, count_answer, killed_answer, sharded_answer, changed_answer, refusal_answer, answer_document}
 use Rattle.reply_model.specs.Outcomes.{StatementOutcome, was_done, was_refused, Done, later, time_of, summary_of, answer_of}
 
 -- an answer shows no time above this one
@@ -35,6 +35,12 @@ count_below bound n at below = shows_one bound at (count_answer n at) (time_of_c
 
 pub killed_below : (bound : ℕ) (killed missing : List ℤ) → ShowsBelow bound (killed_answer killed missing)
 killed_below bound killed missing = shows_none bound (killed_answer killed missing) (time_of_killed killed missing)
+
+pub sharded_below : (bound : ℕ) (namespace : List ℕ) (at : ℕ) → at ≤ bound → ShowsBelow bound (sharded_answer namespace at)
+sharded_below bound namespace at below = shows_one bound at (sharded_answer namespace at) (time_of_sharded namespace at) below
+
+pub changed_below : (bound at : ℕ) → at ≤ bound → ShowsBelow bound (changed_answer at)
+changed_below bound at below = shows_one bound at (changed_answer at) (time_of_changed at) below
 
 -- a reply without a look at documents shows no time
 pub legacy_below : (bound moment : ℕ) (shown : Bool) → ShowsBelow bound (legacy_answer moment shown)

@@ -4,7 +4,7 @@ use Rattle.std.specs.Prelude.{Option, Some, None, Result, Ok, true, false, map, 
 use Rattle.std.specs.List.{AllByRecursion}
 use Rattle.std.specs.Option.{unwrap_or}
 use Rattle.history_model.proofs.Lists.{all_at, in_prefix, in_append, in_back, in_cons, in_none}
-use Rattle.reply_facts.proofs.Statements.{on_first}
+use Rattle.chunk_model.specs.Changes.{create_change}
 use Rattle.command_model.specs.Writes.{ClientNumber, WriteCommand}
 use Rattle.base_model.specs.Refusals.{Refusal}
 use Rattle.base_model.specs.ReplyParts.{operation_time}
@@ -20,13 +20,15 @@ use Rattle.base_model.specs.Identities.{RequestId}
 use Rattle.reply_model.specs.Exchanges.{Asked, Answered, number_for, entries_by}
 use Rattle.reply_model.specs.Outcomes.{StatementOutcome, was_done, was_refused, Done, done_of, time_of, answer_of, later as greatest}
 use Rattle.reply_model.specs.Reads.{MayGive, IsExcess, excess_answer, excess_half, IsAhead, owned_by}
-use Rattle.reply_model.specs.Right.{ends, MayBeTold, told_own, told_other, told_older, AreTold, AreStatements, AreAll, IsPart, IsWhole, Reads, find_reads, count_reads, IsReadRefused, refused_overflow, refused_excess, refused_ahead, IsRight, right_write, right_find, right_count, right_refused_read, right_more, right_no_cursor, right_kill, right_hello, right_legacy, right_ping, right_end_sessions, right_refusal}
+use Rattle.reply_model.specs.Right.{ends, MayBeTold, told_own, told_other, told_older, AreTold, AreStatements, AreAll, IsPart, IsWhole, Reads, find_reads, count_reads, IsReadRefused, refused_overflow, refused_excess, refused_ahead, IsRight, right_write, right_find, right_count, right_refused_read, right_more, right_no_cursor, right_kill, right_shard, right_split, right_not_sharded, right_hello, right_legacy, right_ping, right_end_sessions, right_refusal}
 use Rattle.reply_model.specs.OneHistory.{StandsInPart, IsPlaced, KeepsNumbers, AreNumbered}
-use Rattle.node_laws.proofs.Views.{View, entries_in, creations_in, Later}
+use Rattle.node_laws.proofs.Views.{View, entries_in, changes_in, Later}
 use Rattle.node_laws.proofs.Facts.{IsFixed, IsRefusalFixed, IsSettled, AnswersFit, no_answer, one_answer, IsToldOf, NeighboursFit}
+use Rattle.node_laws.proofs.CatalogueTables.{placed_first}
 use Rattle.node_laws.proofs.KeptDocuments.{AreOwned, all_owned, owned_same}
 use Rattle.node_laws.proofs.SeenStatements.{true_false}
-use Rattle.node_laws.proofs.Growth.{MoreOf, more_entries, entry_stays, creation_stays, entries_by_longer, began_grows, documents_stay}
+use Rattle.node_laws.proofs.LongerJournals.{MoreOf, more_entries, entry_stays, change_stays}
+use Rattle.node_laws.proofs.Growth.{entries_by_longer, begun_grows, begins_grows, began_grows, documents_stay}
 use Rattle.node_laws.proofs.AnswerTimes.{IsBelow, AreBelow, greatest_below, time_shown}
 
 -- after all statements no entry of them follows
@@ -183,7 +185,7 @@ module _ (v w : View) (asked more : List Asked) (later : Later v w) (before : Ne
   none_later t write index (operation ∷ operations) (d ∷ dones) e j told some none stands new number = by_answer d.answer told.1 none
     where
       first : (x : Entry) → IsIn x (entries_in w first_shard) → x.shard ≡ first_shard
-      first x i = on_first (creations_in w) x (all_at (IsPlaced (creations_in w)) x (entries_in w first_shard) after.placed i)
+      first x i = placed_first (changes_in w) after.begun.still x (all_at (IsPlaced (changes_in w)) x (entries_in w first_shard) after.placed i)
 
       kept : (x : Entry) → IsIn x (entries_in v first_shard) → KeepsNumbers x e
       kept x i =
@@ -245,8 +247,8 @@ module _ (v w : View) (asked more : List Asked) (later : Later v w) (before : Ne
   other_closed t not write index e stands told = absurd (not write told.0)
 
   closed_right : (answered : List Answered) (cursors next : List Cursor) (a : Asked) (t : Answered) → a.request ≡ t.request
-      → (r : IsRight (creations_in v) (entries_in v first_shard) asked answered cursors a t next)
-      → IsSettled v (creations_in v) (entries_in v first_shard) asked answered cursors a t next r → IsClosed v w t
+      → (r : IsRight (changes_in v) (entries_in v first_shard) asked answered cursors a t next)
+      → IsSettled v (changes_in v) (entries_in v first_shard) asked answered cursors a t next r → IsClosed v w t
   closed_right answered cursors _ a t same (right_write write dones c asks may whole begun name past told) settled =
       told_closed t write dones may settled told (ap (λ q. command_of q) (sym same) ∙ asks)
   closed_right answered cursors _ a t same (right_find find time documents batch next asks of may small name when shows told) settled =
@@ -258,6 +260,12 @@ module _ (v w : View) (asked more : List Asked) (later : Later v w) (before : Ne
   closed_right answered cursors _ a t same (right_no_cursor get asks none told) settled =
       other_closed t (other_command _ _ (ap (λ q. command_of q) (sym same) ∙ asks) (λ write e. cc))
   closed_right answered cursors _ a t same (right_kill kill killed missing next asks closed told) settled =
+      other_closed t (other_command _ _ (ap (λ q. command_of q) (sym same) ∙ asks) (λ write e. cc))
+  closed_right answered cursors _ a t same (right_shard namespace asks created told) settled =
+      other_closed t (other_command _ _ (ap (λ q. command_of q) (sym same) ∙ asks) (λ write e. cc))
+  closed_right answered cursors _ a t same (right_split split asks begins told) settled =
+      other_closed t (other_command _ _ (ap (λ q. command_of q) (sym same) ∙ asks) (λ write e. cc))
+  closed_right answered cursors _ a t same (right_not_sharded split asks told) settled =
       other_closed t (other_command _ _ (ap (λ q. command_of q) (sym same) ∙ asks) (λ write e. cc))
   closed_right answered cursors _ a t same (right_hello asks told) settled =
       other_closed t (other_command _ _ (ap (λ q. command_of q) (sym same) ∙ asks) (λ write e. cc))
@@ -281,7 +289,7 @@ module _ (v w : View) (asked more : List Asked) (later : Later v w) (before : Ne
 -- REPLIES TO READS
 
 give_stays : (v w : View) (read : Reading) (time : ℕ) (out : Outcome) → Later v w → IsFixed v read time
-    → AllByRecursion (IsPlaced (creations_in w)) (entries_in w first_shard)
+    → AllByRecursion (IsPlaced (changes_in w)) (entries_in w first_shard)
     → MayGive (entries_in v first_shard) read time out → MayGive (entries_in w first_shard) read time out
 give_stays v w read time out later fixed placed may =
     subst (λ l. Allows read.stages l out) (sym (documents_stay v w read.namespace time later fixed placed)) may
@@ -292,18 +300,18 @@ fixed_grows v w read time later (inr h) = inr (began_grows v w read.namespace ti
 
 excess_stays : (v w : View) (asked more : List Asked) (read : Reading) (time n : ℕ) → Later v w → NeighboursFit v asked → NeighboursFit w (asked ++ more)
     → IsFixed v read time
-    → IsExcess (entries_in v first_shard) (creations_in v) read time n → IsExcess (entries_in w first_shard) (creations_in w) read time n
+    → IsExcess (entries_in v first_shard) (changes_in v) read time n → IsExcess (entries_in w first_shard) (changes_in w) read time n
 excess_stays v w asked more read time n later before after fixed (excess_answer answer may much) =
     excess_answer answer (give_stays v w read time _ later fixed after.placed may) much
 excess_stays v w asked more read time n later before after fixed (excess_half shard ordered rows permutes makes much) =
     let same = documents_stay v w read.namespace time later fixed after.placed in
-    let old = all_owned (creations_in v) (entries_in v first_shard) read.namespace shard time before.begun.names before.placed in
-    let new = all_owned (creations_in w) (entries_in w first_shard) read.namespace shard time after.begun.names after.placed in
-    let owned : owned_by (creations_in w) read.namespace shard time (documents_at (entries_in w first_shard) read.namespace time)
-    ≡ owned_by (creations_in v) read.namespace shard time (documents_at (entries_in v first_shard) read.namespace time) =
-    ap (λ l. owned_by (creations_in w) read.namespace shard time l) same
-    ∙ owned_same (creations_in v) (creations_in w) read.namespace shard time (documents_at (entries_in v first_shard) read.namespace time) old
-    (subst (λ l. AreOwned (creations_in w) read.namespace shard time l) same new) in
+    let old = all_owned (changes_in v) (entries_in v first_shard) read.namespace shard time before.begun.still before.placed in
+    let new = all_owned (changes_in w) (entries_in w first_shard) read.namespace shard time after.begun.still after.placed in
+    let owned : owned_by (changes_in w) read.namespace shard time (documents_at (entries_in w first_shard) read.namespace time)
+    ≡ owned_by (changes_in v) read.namespace shard time (documents_at (entries_in v first_shard) read.namespace time) =
+    ap (λ l. owned_by (changes_in w) read.namespace shard time l) same
+    ∙ owned_same (changes_in v) (changes_in w) read.namespace shard time (documents_at (entries_in v first_shard) read.namespace time) old
+    (subst (λ l. AreOwned (changes_in w) read.namespace shard time l) same new) in
     excess_half shard ordered rows (subst (λ l. IsPermutation l ordered) (sym owned) permutes) makes much
 
 -- ALL ANSWERS
@@ -311,8 +319,8 @@ excess_stays v w asked more read time n later before after fixed (excess_half sh
 -- an answer, with that its read stays
 pub record StaysRight (w : View) (asked : List Asked) (answered : List Answered) (cursors : List Cursor) (a : Asked) (t : Answered)
     (next : List Cursor) : Type 0 where
-  pub right : IsRight (creations_in w) (entries_in w first_shard) asked answered cursors a t next
-  pub settled : IsSettled w (creations_in w) (entries_in w first_shard) asked answered cursors a t next right
+  pub right : IsRight (changes_in w) (entries_in w first_shard) asked answered cursors a t next
+  pub settled : IsSettled w (changes_in w) (entries_in w first_shard) asked answered cursors a t next right
 
 module _ (v w : View) (asked more : List Asked) (answered news : List Answered) (now : ℕ) (g : Grows v w asked more answered news now)
     (closed : AllByRecursion (IsClosed v w) answered) where
@@ -336,8 +344,8 @@ module _ (v w : View) (asked more : List Asked) (answered news : List Answered) 
           let at : s.step ≡ now = all_at (λ (x : Answered). x.step ≡ now) s news g.steps i in absurd (omega arith)
 
   refused_stays : (a : Asked) (t : Answered) (read : Reading) (cursors : List Cursor) → a.came < now + 1 → Reads (command_of a.request) read
-      → (r : IsReadRefused (creations_in v) (entries_in v first_shard) answered a t read)
-      → IsRefusalFixed v (creations_in v) (entries_in v first_shard) answered a t read r → After cursors a t cursors
+      → (r : IsReadRefused (changes_in v) (entries_in v first_shard) answered a t read)
+      → IsRefusalFixed v (changes_in v) (entries_in v first_shard) answered a t read r → After cursors a t cursors
   refused_stays a t read cursors came reads (refused_overflow time of may told) fixed = record {
     right = right_refused_read read reads (refused_overflow time of (give_stays v w read time _ g.later fixed g.after.placed may) told);
     settled = fixed_grows v w read time g.later fixed;
@@ -350,8 +358,8 @@ module _ (v w : View) (asked more : List Asked) (answered news : List Answered) 
       record { right = right_refused_read read reads (refused_ahead (ahead_stays a t read came ahead) told); settled = tt }
 
   right_stays : (cursors next : List Cursor) (a : Asked) (t : Answered) → IsIn a asked
-      → (r : IsRight (creations_in v) (entries_in v first_shard) asked answered cursors a t next)
-      → IsSettled v (creations_in v) (entries_in v first_shard) asked answered cursors a t next r → After cursors a t next
+      → (r : IsRight (changes_in v) (entries_in v first_shard) asked answered cursors a t next)
+      → IsSettled v (changes_in v) (entries_in v first_shard) asked answered cursors a t next r → After cursors a t next
   right_stays cursors _ a t taken (right_write write dones c asks may whole begun name past told) settled = record {
     right = right_write write dones c asks
         (told_grow (entries_in v first_shard) (entries_in w first_shard) asked more t (λ d i. entry_stays v w first_shard d g.later i) write 0 write.operations
@@ -362,7 +370,7 @@ module _ (v w : View) (asked more : List Asked) (answered news : List Answered) 
           part = all_at (StandsInPart (entries_in w first_shard)) a (asked ++ more) g.after.parts (in_prefix a asked more taken) write asks own;
           all = subst (λ l. AreAll write.ordered write.operations (map done_of l)) (sym same) (whole own).all;
         })
-        (creation_stays v w c g.later begun) name past told;
+        (change_stays v w (create_change c) g.later begun) name past told;
     settled = settled;
   }
   right_stays cursors _ a t taken (right_find find time documents batch next asks of may small name when shows told) settled = record {
@@ -381,6 +389,13 @@ module _ (v w : View) (asked more : List Asked) (answered news : List Answered) 
   right_stays cursors _ a t taken (right_no_cursor get asks none told) settled = record { right = right_no_cursor get asks none told; settled = tt }
   right_stays cursors _ a t taken (right_kill kill killed missing next asks ended told) settled =
       record { right = right_kill kill killed missing next asks ended told; settled = tt }
+  right_stays cursors _ a t taken (right_shard namespace asks created told) settled =
+      record { right = right_shard namespace asks (begun_grows v w t.time namespace g.later created) told; settled = tt }
+  right_stays cursors _ a t taken (right_split split asks begins told) settled = record {
+    right = right_split split asks (begins_grows v w split.namespace split.middle t.time t.time g.later (omega arith) begins) told;
+    settled = tt;
+  }
+  right_stays cursors _ a t taken (right_not_sharded split asks told) settled = record { right = right_not_sharded split asks told; settled = tt }
   right_stays cursors _ a t taken (right_hello asks told) settled = record { right = right_hello asks told; settled = tt }
   right_stays cursors _ a t taken (right_legacy legacy asks told) settled = record { right = right_legacy legacy asks told; settled = tt }
   right_stays cursors _ a t taken (right_ping asks told) settled = record { right = right_ping asks told; settled = tt }

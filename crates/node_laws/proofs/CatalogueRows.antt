@@ -1,27 +1,36 @@
 -- What the rows of the catalogue owe.
-use Rattle.std.proofs.Common.{◌≡◌, ◌≢◌, inl, inr, ℕ, ◌+◌, ◌<◌, ◌≤◌, List, [], ◌∷◌, ◌++◌, refl, sym, ap, subst, ◌∙◌, arith, append-nil, Bool}
-use Rattle.std.specs.Prelude.{Option, Some, None, true, false, max, map, if◌then◌else◌}
+use Rattle.std.proofs.Common.{◌≡◌, inl, inr, ℕ, ◌+◌, ◌<◌, ◌≤◌, List, [], ◌∷◌, ◌++◌, refl, sym, ap, subst, ◌∙◌, arith, append-nil, Bool}
+use Rattle.std.specs.Prelude.{Option, Some, None, true, false, max}
 use Rattle.std.specs.List.{AllByRecursion, slice_get}
-use Rattle.std.specs.Str.{bytes_eq}
-use Rattle.std.proofs.lemmas.Slice.Eq.{bytes_eq-Decides}
-use Rattle.history_model.proofs.Lists.{all_weaken, all_append, all_at, in_back, in_first, in_later}
+use Rattle.history_model.proofs.Lists.{all_weaken, in_first}
+use Rattle.bson_model.specs.Tree.{Datum}
+use Rattle.base_model.specs.Identities.{RequestId}
 use Rattle.base_model.specs.Times.{time_of_moment}
-use Rattle.chunk_model.specs.Catalogue.{Creation}
-use Rattle.chunk_model.specs.Tables.{Table, first_table, table_of}
+use Rattle.chunk_model.specs.Tables.{Table}
+use Rattle.chunk_model.specs.Changes.{Change, create_change, split_change, commit_change, time_of, known_table, creations, split_table}
+use Rattle.chunk_model.specs.Placement.{Follows, AreFitting}
+use Rattle.chunk_model.specs.Requests.{changed, unchanged, no_collection, create_answer, split_answer}
+use Rattle.chunk_laws.proofs.Placed.{cover}
+use Rattle.chunk_laws.proofs.Requests.{create_follows, split_follows}
 use Rattle.history_model.specs.History.{IsIn}
 use Rattle.reply_model.specs.Exchanges.{Asked, Answered}
-use Rattle.reply_model.specs.OneHistory.{WasWanted, AreDifferentNames, ids_asked, ids_told, AreDifferent}
+use Rattle.reply_model.specs.OneHistory.{WasWanted, ids_asked, ids_told, AreDifferent}
 use Rattle.reply_model.specs.Cursors.{Cursor}
-use Rattle.node_model.specs.Journal.{Kept, kept_creation, creations_kept}
-use Rattle.node_model.specs.Letters.{At, no_time, at_time, table_ask, Letter, Input, Effect, sends}
+use Rattle.node_model.specs.Journal.{Kept, kept_change, changes_kept}
+use Rattle.node_model.specs.Letters.{At, no_time, at_time, table_ask, split_ask, Letter, Input, letter_input, Effect, sends, writes}
 use Rattle.node_model.specs.States.{Catalogue, catalogue_state}
-use Rattle.node_model.specs.CatalogueRows.{told, begun_at, CatalogueRow, catalogue_create, catalogue_tell, catalogue_skip, catalogue_moment, catalogue_opened, catalogue_client}
+use Rattle.node_model.specs.CatalogueRows.{told, split_told, at_later, with_change, CatalogueRow, catalogue_create, catalogue_tell, catalogue_split, catalogue_bound, catalogue_none, catalogue_skip, catalogue_moment, catalogue_opened, catalogue_client}
 use Rattle.node_model.specs.World.{World}
-use Rattle.node_laws.proofs.Views.{Book, View, view_of, creations_in, Later}
-use Rattle.node_laws.proofs.Facts.{IsWanted, TableFits, AtFits, BodyFits, CatalogueFits, HeldFits, IsMet, AnswersFit, no_answer, Good}
+use Rattle.node_laws.proofs.Views.{Book, View, view_of, changes_in, MovesNothing, Later}
+use Rattle.node_laws.proofs.CatalogueTables.{IsNoCreation, none_created, table_name, wanted_still}
+use Rattle.node_laws.proofs.CatalogueAnswers.{created_is, splits, has_bound, no_table, split_known}
+use Rattle.node_laws.proofs.SplitTables.{split_bound, begins_already}
+use Rattle.node_laws.proofs.ReadFacts.{BeginsAfter}
+use Rattle.node_laws.proofs.SplitFacts.{IsSplitOf}
+use Rattle.node_laws.proofs.Facts.{IsKnownTable, IsWanted, TableFits, AtFits, BodyFits, CatalogueFits, HeldFits, IsMet, AnswersFit, no_answer, Good}
 use Rattle.node_laws.proofs.Owes.{InputFits, IsSaid, Owes}
-use Rattle.node_laws.proofs.Lists.{map_longer}
-use Rattle.node_laws.proofs.Growth.{creations_longer, met_later, met_max}
+use Rattle.node_laws.proofs.LongerJournals.{changes_longer}
+use Rattle.node_laws.proofs.Growth.{met_later, met_max}
 
 -- QUIET STEPS: nothing is taken, replied or written
 
@@ -39,78 +48,105 @@ no_answers v asked answered cursors same = subst (λ l. AnswersFit v asked answe
 
 -- WHAT TABLES SAY
 
--- the table of a name is that of a collection that was created, of this name
-pub record FromCreation (namespace : List ℕ) (creations : List Creation) (t : Table) : Type 0 where
-  pub creation : Creation
-  pub begun : IsIn creation creations
-  pub table : t ≡ first_table creation
-  pub name : t.namespace ≡ namespace
+-- the changes of the catalogue as a view has them, none of them later than a time
+record AreStored (v : View) (time : ℕ) (changes : List Change) : Type 0 where
+  pub same : changes_in v ≡ changes
+  pub past : AllByRecursion (λ x. time_of x ≤ time) changes
+  pub fitting : AreFitting changes
+  pub still : AllByRecursion MovesNothing changes
 
-pub table_found : (namespace : List ℕ) (creations : List Creation) (t : Table) → table_of namespace (map first_table creations) ≡ Some t
-    → FromCreation namespace creations t
-table_found namespace [] t e = absurd (cc)
-table_found namespace (c ∷ creations) t e = by_test (bytes_eq c.namespace namespace) refl e (λ later. table_found namespace creations t later)
+-- a table that they make is known
+table_known : (v : View) (time : ℕ) (changes : List Change) (namespace : List ℕ) (t : Table) → AreStored v time changes
+    → known_table namespace changes ≡ Some t → IsKnownTable v time t × (t.namespace ≡ namespace)
+table_known v time changes namespace t s known =
+    let name : t.namespace ≡ namespace = table_name namespace changes t known in (
+      record {
+        more = [];
+        older = changes;
+        all = s.same;
+        past = s.past;
+        known = ap (λ n. known_table n changes) name ∙ known;
+        fitting = s.fitting;
+        still = subst (λ l. AllByRecursion MovesNothing l) (sym s.same) s.still;
+      },
+      name,
+    )
+
+no_creation_after : (namespace : List ℕ) (time : ℕ) (x : Change) → IsNoCreation namespace x → BeginsAfter namespace time x
+no_creation_after namespace time (create_change c) other = λ same. absurd (other same)
+no_creation_after namespace time (split_change s) other = tt
+no_creation_after namespace time (commit_change c) other = tt
+
+-- what the catalogue returns is true
+tell_fits : (v : View) (time early : ℕ) (changes : List Change) (namespace : List ℕ) (at : At) → AreStored v time changes → early ≤ v.bound 0
+    → AtFits at early → TableFits v time namespace at (known_table namespace changes)
+tell_fits v time early changes namespace at s bound fits = by_table (known_table namespace changes) refl
   where
-    more : FromCreation namespace creations t → FromCreation namespace (c ∷ creations) t
-    more f = record { creation = f.creation; begun = in_later f.creation c creations f.begun; table = f.table; name = f.name }
+    none_began : known_table namespace changes ≡ None → (at_is : At) → AtFits at_is early → TableFits v time namespace at_is None
+    none_began e no_time fits = tt
+    none_began e (at_time t) fits = (
+      omega arith,
+      subst (λ l. AllByRecursion (BeginsAfter namespace t) l) (sym s.same)
+          (all_weaken (IsNoCreation namespace) (BeginsAfter namespace t) changes (λ x h. no_creation_after namespace t x h)
+          (none_created namespace changes e)),
+    )
 
-    by_test : (b : Bool) → bytes_eq c.namespace namespace ≡ b → (if b then Some (first_table c) else table_of namespace (map first_table creations)) ≡ Some t
-        → (table_of namespace (map first_table creations) ≡ Some t → FromCreation namespace creations t) → FromCreation namespace (c ∷ creations) t
-    by_test true h found later =
-        let same : first_table c ≡ t = cc in
-        record {
-          creation = c;
-          begun = in_first c creations;
-          table = sym same;
-          name = ap (λ (u : Table). u.namespace) (sym same)
-              ∙ (bytes_eq-Decides c.namespace namespace).0 h;
-        }
-    by_test false h found later = more (later found)
+    by_table : (o : Option Table) → known_table namespace changes ≡ o → TableFits v time namespace at o
+    by_table None e = none_began e at fits
+    by_table (Some t) e = table_known v time changes namespace t s e
 
-pub table_missing : (namespace : List ℕ) (creations : List Creation) → table_of namespace (map first_table creations) ≡ None
-    → AllByRecursion (λ (c : Creation). c.namespace ≢ namespace) creations
-table_missing namespace [] e = tt
-table_missing namespace (c ∷ creations) e = by_test (bytes_eq c.namespace namespace) refl e (λ later. table_missing namespace creations later)
-  where
-    by_test : (b : Bool) → bytes_eq c.namespace namespace ≡ b → (if b then Some (first_table c) else table_of namespace (map first_table creations)) ≡ None
-        → (table_of namespace (map first_table creations) ≡ None → AllByRecursion (λ (d : Creation). d.namespace ≢ namespace) creations)
-        → AllByRecursion (λ (d : Creation). d.namespace ≢ namespace) (c ∷ creations)
-    by_test true h none later = absurd (cc)
-    by_test false h none later = ((λ same. false_true (sym h ∙ (bytes_eq-Decides c.namespace namespace).1 same)), later none)
-      where
-        false_true : false ≡ true → ⊥
-        false_true e = cc
+at_fits : (v : View) (asked : List Asked) (sender receiver time : ℕ) (namespace : List ℕ) (create : Bool) (at : At)
+    → BodyFits v asked sender receiver time (table_ask namespace create at) → AtFits at time
+at_fits v asked sender receiver time namespace true at f = f.0
+at_fits v asked sender receiver time namespace false at f = f
 
--- a collection of a new name after others
-names_longer : (creations : List Creation) (c : Creation) → AllByRecursion (λ (d : Creation). d.namespace ≢ c.namespace) creations
-    → AreDifferentNames creations → AreDifferentNames (creations ++ c ∷ [])
-names_longer [] c new names = (tt, tt)
-names_longer (d ∷ creations) c new names =
-    (all_append (λ (e : Creation). e.namespace ≢ d.namespace) creations (c ∷ []) names.0 ((λ e. new.0 (sym e)), tt), names_longer creations c new.1 names.1)
+wanted_for : (asked : List Asked) (namespace : List ℕ) (time at epoch : ℕ) → time < at → IsWanted asked namespace time
+    → WasWanted asked (create_change (record { namespace = namespace; epoch = epoch; at = at }))
+wanted_for asked namespace time at epoch less s =
+    record { request = s.request; taken = s.taken; asks = s.asks; later = let p = s.past in omega arith }
 
-wanted_for : (asked : List Asked) (namespace : List ℕ) (time at : ℕ) → time < at → IsWanted asked namespace time → WasWanted asked (begun_at namespace at)
-wanted_for asked namespace time at less s = record { request = s.request; taken = s.taken; writes = s.writes; later = let p = s.past in omega arith }
+split_for : (asked : List Asked) (id : RequestId) (namespace : List ℕ) (middle : Datum) (time at : ℕ) → time < at
+    → IsSplitOf asked id namespace middle time
+    → WasWanted asked (split_change (record { namespace = namespace; middle = middle; at = at }))
+split_for asked id namespace middle time at less s =
+    record { request = s.request; taken = s.taken; asks = s.asks; later = let p = s.past in omega arith }
+
+-- STEPS
 
 -- the facts on the catalogue at a later time
 later_catalogue : (asked : List Asked) (at time : ℕ) (kept : List Kept) (c : Catalogue) → c.time ≤ time → CatalogueFits asked at kept c
-    → CatalogueFits asked at kept (record { me = c.me; time = time; tables = c.tables })
+    → CatalogueFits asked at kept (at_later c time)
 later_catalogue asked at time kept c le f = record {
   own = f.own;
   place = f.place;
-  tables = f.tables;
-  past = all_weaken (λ (d : Creation). d.at ≤ c.time) (λ (d : Creation). d.at ≤ time)
-      (creations_kept kept) (λ d h. omega arith) f.past;
-  names = f.names;
+  changes = f.changes;
+  past = all_weaken (λ x. time_of x ≤ c.time) (λ x. time_of x ≤ time) (changes_kept kept) (λ x h. omega arith) f.past;
+  fitting = f.fitting;
   wanted = f.wanted;
 }
 
+still_kept : (asked : List Asked) (at : ℕ) (kept : List Kept) (c : Catalogue) → CatalogueFits asked at kept c
+    → AllByRecursion MovesNothing (changes_kept kept)
+still_kept asked at kept c f = all_weaken (WasWanted asked) MovesNothing (changes_kept kept) (λ x h. wanted_still asked x h) f.wanted
+
+-- what it stores, as a view has it
+stored : (v : View) (asked : List Asked) (at time : ℕ) (kept : List Kept) (c : Catalogue) → CatalogueFits asked at kept c → c.time ≤ time
+    → v.journal at ≡ kept → AreStored v time c.changes
+stored v asked at time kept c f le own = record {
+  same = ap (λ p. changes_kept (v.journal p)) (sym f.place) ∙ ap (λ k. changes_kept k) own ∙ sym f.changes;
+  past = subst (λ l. AllByRecursion (λ x. time_of x ≤ time) l) (sym f.changes)
+      (all_weaken (λ x. time_of x ≤ c.time) (λ x. time_of x ≤ time) (changes_kept kept) (λ x h. omega arith) f.past);
+  fitting = subst (λ l. AreFitting l) (sym f.changes) f.fitting;
+  still = subst (λ l. AllByRecursion MovesNothing l) (sym f.changes) (still_kept asked at kept c f);
+}
+
 -- a step of the catalogue that writes nothing: its later state, and its messages in a view after it
-still : (w : World) (book : Book) (at : ℕ) (kept : List Kept) (c d : Catalogue) (mail : List Letter) → Good w book
+quiet : (w : World) (book : Book) (at : ℕ) (kept : List Kept) (c d : Catalogue) (mail : List Letter) → Good w book
     → HeldFits (view_of w.nodes book) w.asked w.answered w.given at (record { state = catalogue_state c; kept = kept }) → c.time ≤ d.time
     → CatalogueFits w.asked at kept d → IsMet (view_of w.nodes book) w.given d.time
     → ((v : View) → Later (view_of w.nodes book) v → v.journal at ≡ kept → v.bound at ≡ d.time → AllByRecursion (IsSaid v w.asked w.given) mail)
     → Owes w book at (record { state = catalogue_state c; kept = kept }) (sends mail) (catalogue_state d)
-still w book at kept c d mail good fits le new met letters = record {
+quiet w book at kept c d mail good fits le new met letters = record {
   kind = tt;
   rises = tt;
   later = le;
@@ -134,82 +170,45 @@ still w book at kept c d mail good fits le new met letters = record {
   };
 }
 
--- the answer to a request is true
-tell_fits : (v : View) (asked : List Asked) (me time : ℕ) (kept : List Kept) (m : Letter) (c : Catalogue) (namespace : List ℕ) (create : Bool) (at : At)
-    → CatalogueFits asked 0 kept c → v.journal 0 ≡ kept → v.bound 0 ≡ max c.time m.time → AtFits at m.time
-    → TableFits v (max c.time m.time) namespace at (table_of namespace c.tables)
-tell_fits v asked me time kept m c namespace create at f own bound early = by_table (table_of namespace c.tables) refl
-  where
-    creations : creations_in v ≡ creations_kept kept
-    creations = ap (λ k. creations_kept k) own
+-- a change that it makes: later than all before it, which it fits, for a request, at the catalogue's time then
+record IsNext (asked : List Asked) (c : Catalogue) (now : ℕ) (x : Change) : Type 0 where
+  pub follows : Follows x c.changes
+  pub wanted : WasWanted asked x
+  pub at : time_of x ≡ now
 
-    none_began : table_of namespace c.tables ≡ None → (at_is : At) → AtFits at_is m.time → TableFits v (max c.time m.time) namespace at_is None
-    none_began e no_time fits = tt
-    none_began e (at_time t) fits = (
-      (let b : v.bound 0 ≡ max c.time m.time = bound in omega arith),
-      subst (λ l. AllByRecursion (λ (d : Creation). d.namespace ≡ namespace → t < d.at) l) (sym creations)
-          (all_weaken (λ (d : Creation). d.namespace ≢ namespace) (λ (d : Creation). d.namespace ≡ namespace → t < d.at) (creations_kept kept)
-          (λ d other same. absurd (other same)) (table_missing namespace (creations_kept kept) (ap (λ l. table_of namespace l) (sym f.tables) ∙ e))),
-    )
+-- the catalogue with it
+grown : (asked : List Asked) (at now : ℕ) (kept : List Kept) (c : Catalogue) (x : Change) → c.time ≤ now → CatalogueFits asked at kept c
+    → IsNext asked c now x → CatalogueFits asked at (kept ++ kept_change x ∷ []) (with_change c now x)
+grown asked at now kept c x le f n =
+    let longer : x ∷ c.changes ≡ changes_kept (kept ++ kept_change x ∷ []) = ap (λ l. x ∷ l) f.changes ∙ sym (changes_longer kept (kept_change x ∷ [])) in
+    let own = n.at in
+    record {
+      own = f.own;
+      place = f.place;
+      changes = longer;
+      past = subst (λ l. AllByRecursion (λ y. time_of y ≤ now) l) longer (
+        omega arith,
+        subst (λ l. AllByRecursion (λ y. time_of y ≤ now) l) (sym f.changes)
+            (all_weaken (λ y. time_of y ≤ c.time) (λ y. time_of y ≤ now) (changes_kept kept) (λ y h. omega arith) f.past),
+      );
+      fitting = subst (λ l. AreFitting l) longer (n.follows, subst (λ l. AreFitting l) (sym f.changes) f.fitting);
+      wanted = subst (λ l. AllByRecursion (WasWanted asked) l) longer
+          (n.wanted, subst (λ l. AllByRecursion (WasWanted asked) l) (sym f.changes) f.wanted);
+    }
 
-    by_table : (o : Option Table) → table_of namespace c.tables ≡ o → TableFits v (max c.time m.time) namespace at o
-    by_table None e = none_began e at early
-    by_table (Some t) e =
-        let g = table_found namespace (creations_kept kept) t (ap (λ l. table_of namespace l) (sym f.tables) ∙ e) in
-        let past : g.creation.at ≤ c.time = all_at (λ (d : Creation). d.at ≤ c.time) g.creation (creations_kept kept) f.past g.begun in
-        (record { creation = g.creation; begun = subst (λ l. IsIn g.creation l) (sym creations) g.begun; table = g.table; before = omega arith }, g.name)
-
-at_fits : (v : View) (asked : List Asked) (sender receiver time : ℕ) (namespace : List ℕ) (create : Bool) (at : At)
-    → BodyFits v asked sender receiver time (table_ask namespace create at) → AtFits at time
-at_fits v asked sender receiver time namespace true at f = f.0
-at_fits v asked sender receiver time namespace false at f = f
-
-pub catalogue_owes : (w : World) (book : Book) (at : ℕ) (kept : List Kept) (c d : Catalogue) (i : Input) (f : Effect) → Good w book
-    → slice_get w.nodes at ≡ Some (record { state = catalogue_state c; kept = kept })
-    → HeldFits (view_of w.nodes book) w.asked w.answered w.given at (record { state = catalogue_state c; kept = kept }) → InputFits w book i
-    → CatalogueRow c i f d
-    → Owes w book at (record { state = catalogue_state c; kept = kept }) f (catalogue_state d)
-catalogue_owes w book at kept _ _ _ _ good here fits comes (catalogue_skip c m skips) = still w book at kept c c [] good fits (omega arith) fits.state
-    fits.met (λ v later own time. tt)
-catalogue_owes w book at kept _ _ _ _ good here fits comes (catalogue_opened c) = still w book at kept c c [] good fits (omega arith) fits.state fits.met
-    (λ v later own time. tt)
-catalogue_owes w book at kept _ _ _ _ good here fits comes (catalogue_client c link number request) = still w book at kept c c [] good fits (omega arith)
-    fits.state fits.met (λ v later own time. tt)
-catalogue_owes w book at kept _ _ _ _ good here fits comes (catalogue_moment c moment) =
-    still w book at kept c (record { me = c.me; time = max c.time (time_of_moment moment); tables = c.tables }) [] good fits (omega arith)
-    (later_catalogue w.asked at (max c.time (time_of_moment moment)) kept c (omega arith) fits.state)
-    (met_max (view_of w.nodes book) w.given c.time (time_of_moment moment) fits.met comes) (λ v later own time. tt)
-catalogue_owes w book at kept _ _ _ _ good here fits comes (catalogue_tell c m namespace create at_asked says may) =
-    let met : IsMet (view_of w.nodes book) w.given (max c.time m.time) = met_max (view_of w.nodes book) w.given c.time m.time fits.met comes.1 in
-    let asks : BodyFits (view_of w.nodes book) w.asked m.sender m.receiver m.time (table_ask namespace create at_asked) = subst
-    (λ b. BodyFits (view_of w.nodes book) w.asked m.sender m.receiver m.time b) says comes.0 in
-    let early = at_fits (view_of w.nodes book) w.asked m.sender m.receiver m.time namespace create at_asked asks in
-    let place : at ≡ 0 = fits.state.place in
-    still w book at kept c (record { me = c.me; time = max c.time m.time; tables = c.tables })
-    (told c m (max c.time m.time) namespace create at_asked (table_of namespace c.tables) ∷ []) good fits (omega arith)
-    (later_catalogue w.asked at (max c.time m.time) kept c (omega arith) fits.state) met
-    (λ v later own time. (
-      (
-        tell_fits v w.asked c.me m.time kept m c namespace create at_asked (subst (λ p. CatalogueFits w.asked p kept c) place fits.state)
-            (ap (λ p. v.journal p) (sym place) ∙ own) (ap (λ p. v.bound p) (sym place) ∙ time) early,
-        met_later (view_of w.nodes book) v w.given
-            (max c.time m.time) later met,
-        tt,
-      ),
-      tt,
-    ))
-catalogue_owes w book at kept _ _ _ _ good here fits comes (catalogue_create c m namespace at_asked says missing) =
-    let now : ℕ = max c.time m.time + 1 in
-    let new : Creation = begun_at namespace (max c.time m.time + 1) in
-    let asks : BodyFits (view_of w.nodes book) w.asked m.sender m.receiver m.time (table_ask namespace true at_asked) = subst
-    (λ b. BodyFits (view_of w.nodes book) w.asked m.sender m.receiver m.time b) says comes.0 in
-    let place : at ≡ 0 = fits.state.place in
-    let missed : AllByRecursion (λ (d : Creation). d.namespace ≢ namespace) (creations_kept kept) = table_missing namespace (creations_kept kept)
-    (ap (λ l. table_of namespace l) (sym fits.state.tables) ∙ missing) in
-    let longer : creations_kept (kept ++ kept_creation new ∷ []) ≡ creations_kept kept ++ new ∷ [] = creations_longer kept (kept_creation new ∷ []) in
+-- a step in which it makes one
+makes : (w : World) (book : Book) (at : ℕ) (kept : List Kept) (c : Catalogue) (now : ℕ) (x : Change) (mail : List Letter) → Good w book
+    → HeldFits (view_of w.nodes book) w.asked w.answered w.given at (record { state = catalogue_state c; kept = kept })
+    → c.time < now → IsNext w.asked c now x
+    → ((v : View) → Later (view_of w.nodes book) v → AreStored v now (x ∷ c.changes) → v.bound 0 ≡ now → IsMet v w.given now
+    → AllByRecursion (IsSaid v w.asked w.given) mail)
+    → Owes w book at (record { state = catalogue_state c; kept = kept }) (writes (kept_change x ∷ []) mail) (catalogue_state (with_change c now x))
+makes w book at kept c now x mail good fits less n letters =
+    let own = n.at in
+    let next = grown w.asked at now kept c x (omega arith) fits.state n in
     record {
       kind = tt;
-      rises = (omega arith, tt);
+      rises = ((omega arith, wanted_still w.asked x n.wanted), tt);
       later = omega arith;
       taken = tt;
       told = tt;
@@ -221,34 +220,186 @@ catalogue_owes w book at kept _ _ _ _ good here fits comes (catalogue_create c m
       chose = tt;
       cursors = book.cursors;
       elsewhere = λ router other. refl;
-      owed = λ v later others own time chosen cursors.
-          let began : creations_in v ≡ creations_kept kept ++ new ∷ [] = ap (λ p. creations_kept (v.journal p)) (sym place)
-          ∙ (ap (λ k. creations_kept k) own ∙ longer) in
-          let stands : IsIn new (creations_in v) = subst (λ l. IsIn new l) (sym began) (in_back new (creations_kept kept) (new ∷ []) (in_first new [])) in
-          let met : IsMet v w.given now = inr (inr (inl (new, stands, refl))) in
+      owed = λ v later others journal time chosen cursors.
+          let s : AreStored v now (x ∷ c.changes) = stored v w.asked at now (kept ++ kept_change x ∷ []) (with_change c now x) next (omega arith) journal in
+          let met : IsMet v w.given now = inr (inr (inl (x, subst (λ l. IsIn x l) (sym s.same) (in_first x c.changes), sym n.at))) in
           record {
-            node = record {
-              state = record {
-                own = fits.state.own;
-                place = place;
-                tables = ap (λ l. l ++ first_table new ∷ []) fits.state.tables
-                    ∙ (sym (map_longer first_table (creations_kept kept) (new ∷ [])) ∙ ap (λ l. map first_table l) (sym longer));
-                past = subst (λ l. AllByRecursion (λ (d : Creation). d.at ≤ now) l) (sym longer)
-                    (all_append (λ (d : Creation). d.at ≤ now) (creations_kept kept) (new ∷ [])
-                    (all_weaken (λ (d : Creation). d.at ≤ c.time) (λ (d : Creation). d.at ≤ now) (creations_kept kept) (λ d h. omega arith)
-                    fits.state.past) (omega arith, tt));
-                names = subst (λ l. AreDifferentNames l) (sym longer) (names_longer (creations_kept kept) new missed fits.state.names);
-                wanted = subst (λ l. AllByRecursion (WasWanted l) (creations_kept (kept ++ kept_creation new ∷ []))) (sym (append-nil w.asked))
-                    (subst (λ l. AllByRecursion (WasWanted w.asked) l) (sym longer)
-                    (all_append (WasWanted w.asked) (creations_kept kept) (new ∷ []) fits.state.wanted
-                    (wanted_for w.asked namespace m.time now (omega arith) asks.1, tt)));
-              };
-              met = met;
-              cursors = tt;
-            };
-            letters = (((record { creation = new; begun = stands; table = refl; before = omega arith }, refl), met, tt), tt);
+            node = rw (append-nil w.asked, append-nil w.answered) (record { state = next; met = met; cursors = tt });
+            letters = rw (append-nil w.asked) (letters v later s (ap (λ p. v.bound p) (sym fits.state.place) ∙ time) met);
             answers = no_answers v (w.asked ++ []) (w.answered ++ []) book.cursors cursors;
             known = tt;
             met = tt;
           };
     }
+
+-- its answer to a message, at the time of that or its own
+answers : (w : World) (book : Book) (at : ℕ) (kept : List Kept) (c : Catalogue) (m l : Letter) → Good w book
+    → HeldFits (view_of w.nodes book) w.asked w.answered w.given at (record { state = catalogue_state c; kept = kept }) → InputFits w book (letter_input m)
+    → ((v : View) → Later (view_of w.nodes book) v → AreStored v (max c.time m.time) c.changes → v.bound 0 ≡ max c.time m.time
+    → IsMet v w.given (max c.time m.time)
+    → IsSaid v w.asked w.given l)
+    → Owes w book at (record { state = catalogue_state c; kept = kept }) (sends (l ∷ [])) (catalogue_state (at_later c (max c.time m.time)))
+answers w book at kept c m l good fits comes letter =
+    let met : IsMet (view_of w.nodes book) w.given (max c.time m.time) = met_max (view_of w.nodes book) w.given c.time m.time fits.met comes.1 in
+    quiet w book at kept c (at_later c (max c.time m.time)) (l ∷ []) good fits (omega arith)
+    (later_catalogue w.asked at (max c.time m.time) kept c (omega arith) fits.state) met
+    (λ v later own time. (
+      letter v later (stored v w.asked at (max c.time m.time) kept c fits.state (omega arith) own) (ap (λ p. v.bound p) (sym fits.state.place) ∙ time)
+          (met_later (view_of w.nodes book) v w.given (max c.time m.time) later met),
+      tt,
+    ))
+
+-- ALL ROWS
+
+module _ (w : World) (book : Book) (at : ℕ) (kept : List Kept) (c : Catalogue) (good : Good w book)
+    (fits : HeldFits (view_of w.nodes book) w.asked w.answered w.given at (record { state = catalogue_state c; kept = kept })) (m : Letter)
+    (comes : InputFits w book (letter_input m)) where
+  earlier : AllByRecursion (λ y. time_of y < max c.time m.time + 1) c.changes
+  earlier =
+      subst (λ l. AllByRecursion (λ y. time_of y < max c.time m.time + 1) l) (sym fits.state.changes)
+      (all_weaken (λ y. time_of y ≤ c.time) (λ y. time_of y < max c.time m.time + 1) (changes_kept kept) (λ y h. omega arith) fits.state.past)
+
+  creates : (namespace : List ℕ) (asked_at : At) (x : Change) → m.body ≡ table_ask namespace true asked_at
+      → create_answer namespace (max c.time m.time + 1) c.changes ≡ changed x
+      → Owes w book at (record { state = catalogue_state c; kept = kept })
+      (writes (kept_change x ∷ []) (told c m (max c.time m.time + 1) namespace true asked_at (known_table namespace (x ∷ c.changes)) ∷ []))
+      (catalogue_state (with_change c (max c.time m.time + 1) x))
+  creates namespace asked_at x says new =
+      let asks : BodyFits (view_of w.nodes book) w.asked m.sender m.receiver m.time (table_ask namespace true asked_at) = subst
+      (λ b. BodyFits (view_of w.nodes book) w.asked m.sender m.receiver m.time b) says comes.0 in
+      let is = created_is namespace (max c.time m.time + 1) c.changes x new in
+      makes w book at kept c (max c.time m.time + 1) x _ good fits (omega arith)
+      (record {
+        follows = create_follows namespace (max c.time m.time + 1) c.changes x earlier new;
+        wanted = subst (λ y. WasWanted w.asked y) (sym is)
+            (wanted_for w.asked namespace m.time (max c.time m.time + 1) (creations namespace c.changes + 1) (omega arith) asks.1);
+        at = ap (λ y. time_of y) is;
+      })
+      (λ v later s bound met. (
+        (tell_fits v (max c.time m.time + 1) m.time (x ∷ c.changes) namespace asked_at s (omega arith) asks.0, met, tt),
+        tt,
+      ))
+
+  split_asked : (id : RequestId) (namespace : List ℕ) (middle : Datum) → m.body ≡ split_ask id namespace middle
+      → IsSplitOf w.asked id namespace middle m.time
+  split_asked id namespace middle says =
+      subst (λ b. BodyFits (view_of w.nodes book) w.asked m.sender m.receiver m.time b) says comes.0
+
+  divides : (id : RequestId) (namespace : List ℕ) (middle : Datum) (x : Change) → m.body ≡ split_ask id namespace middle
+      → split_answer namespace middle (max c.time m.time + 1) c.changes ≡ changed x
+      → Owes w book at (record { state = catalogue_state c; kept = kept })
+      (writes (kept_change x ∷ []) (split_told c m (max c.time m.time + 1) id true ∷ []))
+      (catalogue_state (with_change c (max c.time m.time + 1) x))
+  divides id namespace middle x says new =
+      let asks = split_asked id namespace middle says in
+      let parts = splits namespace middle (max c.time m.time + 1) c.changes x new in
+      makes w book at kept c (max c.time m.time + 1) x _ good fits (omega arith)
+      (record {
+        follows = split_follows namespace middle (max c.time m.time + 1) c.changes x earlier asks.key new;
+        wanted = subst (λ y. WasWanted w.asked y) (sym parts.is)
+            (split_for w.asked id namespace middle m.time (max c.time m.time + 1) (omega arith) asks);
+        at = ap (λ y. time_of y) parts.is;
+      })
+      (λ v later s bound met. (
+        (
+          record {
+            request = asks.request;
+            taken = asks.taken;
+            own = asks.own;
+            split = record { namespace = namespace; middle = middle };
+            asks = asks.asks;
+            begins = record {
+              later = [];
+              older = x ∷ c.changes;
+              table = split_table middle parts.table;
+              all = s.same;
+              past = s.past;
+              known = ap (λ y. known_table namespace (y ∷ c.changes)) parts.is
+                  ∙ split_known namespace middle (max c.time m.time + 1) c.changes parts.table parts.known;
+              bound = split_bound middle parts.table parts.can;
+            };
+          },
+          met,
+          tt,
+        ),
+        tt,
+      ))
+
+  bounds : (id : RequestId) (namespace : List ℕ) (middle : Datum) → m.body ≡ split_ask id namespace middle
+      → split_answer namespace middle (max c.time m.time + 1) c.changes ≡ unchanged
+      → Owes w book at (record { state = catalogue_state c; kept = kept }) (sends (split_told c m (max c.time m.time) id true ∷ []))
+      (catalogue_state (at_later c (max c.time m.time)))
+  bounds id namespace middle says there =
+      let asks = split_asked id namespace middle says in
+      let b = has_bound namespace middle (max c.time m.time + 1) c.changes there in
+      answers w book at kept c m _ good fits comes
+      (λ v later s bound met. (
+        record {
+          request = asks.request;
+          taken = asks.taken;
+          own = asks.own;
+          split = record { namespace = namespace; middle = middle };
+          asks = asks.asks;
+          begins = record {
+            later = [];
+            older = c.changes;
+            table = b.table;
+            all = s.same;
+            past = s.past;
+            known = b.known;
+            bound = begins_already middle b.table.chunks (cover namespace c.changes b.table s.fitting b.known) asks.key b.cannot;
+          };
+        },
+        met,
+        tt,
+      ))
+
+  misses : (id : RequestId) (namespace : List ℕ) (middle : Datum) → m.body ≡ split_ask id namespace middle
+      → split_answer namespace middle (max c.time m.time + 1) c.changes ≡ no_collection
+      → Owes w book at (record { state = catalogue_state c; kept = kept }) (sends (split_told c m (max c.time m.time) id false ∷ []))
+      (catalogue_state (at_later c (max c.time m.time)))
+  misses id namespace middle says none =
+      let asks = split_asked id namespace middle says in
+      answers w book at kept c m _ good fits comes
+      (λ v later s bound met. (
+        tt,
+        met,
+        record {
+          request = asks.request;
+          taken = asks.taken;
+          own = asks.own;
+          split = record { namespace = namespace; middle = middle };
+          asks = asks.asks;
+          none = ap (λ l. known_table namespace l) s.same ∙ no_table namespace middle (max c.time m.time + 1) c.changes none;
+        },
+      ))
+
+pub catalogue_owes : (w : World) (book : Book) (at : ℕ) (kept : List Kept) (c d : Catalogue) (i : Input) (f : Effect) → Good w book
+    → slice_get w.nodes at ≡ Some (record { state = catalogue_state c; kept = kept })
+    → HeldFits (view_of w.nodes book) w.asked w.answered w.given at (record { state = catalogue_state c; kept = kept }) → InputFits w book i
+    → CatalogueRow c i f d
+    → Owes w book at (record { state = catalogue_state c; kept = kept }) f (catalogue_state d)
+catalogue_owes w book at kept _ _ _ _ good here fits comes (catalogue_skip c m skips) = quiet w book at kept c c [] good fits (omega arith) fits.state
+    fits.met (λ v later own time. tt)
+catalogue_owes w book at kept _ _ _ _ good here fits comes (catalogue_opened c) = quiet w book at kept c c [] good fits (omega arith) fits.state fits.met
+    (λ v later own time. tt)
+catalogue_owes w book at kept _ _ _ _ good here fits comes (catalogue_client c link number request) = quiet w book at kept c c [] good fits (omega arith)
+    fits.state fits.met (λ v later own time. tt)
+catalogue_owes w book at kept _ _ _ _ good here fits comes (catalogue_moment c moment) =
+    quiet w book at kept c (at_later c (max c.time (time_of_moment moment))) [] good fits (omega arith)
+    (later_catalogue w.asked at (max c.time (time_of_moment moment)) kept c (omega arith) fits.state)
+    (met_max (view_of w.nodes book) w.given c.time (time_of_moment moment) fits.met comes) (λ v later own time. tt)
+catalogue_owes w book at kept _ _ _ _ good here fits comes (catalogue_tell c m namespace create asked_at says may) =
+    let asks : BodyFits (view_of w.nodes book) w.asked m.sender m.receiver m.time (table_ask namespace create asked_at) = subst
+    (λ b. BodyFits (view_of w.nodes book) w.asked m.sender m.receiver m.time b) says comes.0 in
+    let early = at_fits (view_of w.nodes book) w.asked m.sender m.receiver m.time namespace create asked_at asks in
+    answers w book at kept c m _ good fits comes
+    (λ v later s bound met. (tell_fits v (max c.time m.time) m.time c.changes namespace asked_at s (omega arith) early, met, tt))
+catalogue_owes w book at kept _ _ _ _ good here fits comes (catalogue_create c m namespace asked_at x says new) =
+    creates w book at kept c good fits m comes namespace asked_at x says new
+catalogue_owes w book at kept _ _ _ _ good here fits comes (catalogue_split c m id namespace middle x says new) =
+    divides w book at kept c good fits m comes id namespace middle x says new
+catalogue_owes w book at kept _ _ _ _ good here fits comes (catalogue_bound c m id namespace middle says there) =
+    bounds w book at kept c good fits m comes id namespace middle says there
+catalogue_owes w book at kept _ _ _ _ good here fits comes (catalogue_none c m id namespace middle says none) =
+    misses w book at kept c good fits m comes id namespace middle says none

@@ -1,14 +1,13 @@
 -- Where the reply to a read is that nothing is there, its collection was not created at its time, nor will it have been.
-use Rattle.std.proofs.Common.{◌≡◌, ℕ, ◌<◌, ◌≤◌, List, [], ◌∷◌, refl, sym, ap, subst, ◌∙◌, arith, Bool}
-use Rattle.std.specs.Prelude.{Option, Some, None, true, false, nat_le, if◌then◌else◌}
+use Rattle.std.proofs.Common.{◌≡◌, ℕ, ◌<◌, ◌≤◌, List, refl, sym, ap, subst, ◌∙◌, arith, Bool}
+use Rattle.std.specs.Prelude.{Option, Some, None, true, false, if◌then◌else◌}
 use Rattle.std.specs.List.{AllByRecursion}
-use Rattle.std.proofs.lemmas.Bool.{eqb-true, leb-true, leb-false}
-use Rattle.chunk_model.proofs.FirstTables.{every_key_at}
-use Rattle.history_model.proofs.Lists.{all_at, all_from}
+use Rattle.std.proofs.lemmas.Bool.{eqb-true}
+use Rattle.history_model.proofs.Lists.{all_at, all_from, in_back}
 use Rattle.bson_model.specs.Tree.{null_value}
-use Rattle.value_model.specs.Keys.{Span}
 use Rattle.chunk_model.specs.Catalogue.{Creation}
-use Rattle.chunk_model.specs.Tables.{Table, first_table, table_of, with_table}
+use Rattle.chunk_model.specs.Changes.{Change, create_change, split_change, commit_change, time_of}
+use Rattle.chunk_model.specs.Tables.{Table, table_of, with_table}
 use Rattle.pipeline_model.specs.Stages.{Stage}
 use Rattle.pipeline_model.specs.Split.{split}
 use Rattle.history_model.specs.History.{IsIn}
@@ -16,39 +15,38 @@ use Rattle.reply_model.specs.Exchanges.{Asked}
 use Rattle.node_model.specs.Letters.{At, no_time, at_time}
 use Rattle.node_model.specs.States.{Telling, reading}
 use Rattle.node_model.specs.RouterRows.{owner_of_span, enough_of, table_for, is_for, adopted}
-use Rattle.node_laws.proofs.Views.{View, creations_in}
-use Rattle.node_laws.proofs.ReadFacts.{NoneBegan}
-use Rattle.node_laws.proofs.Facts.{IsKnownTable, TableFits, AreBegun, NeighboursFit}
+use Rattle.node_laws.proofs.Views.{View, changes_in}
+use Rattle.node_laws.proofs.ReadFacts.{BeginsAfter, NoneBegan}
+use Rattle.node_laws.proofs.Facts.{IsKnownTable, TableFits, AreMade, NeighboursFit}
 use Rattle.node_laws.proofs.Answers.{some_none}
-use Rattle.node_laws.proofs.KnownTables.{FoundTable, table_found, table_there, one_creation}
-
--- a span has an owner from its collection's beginning on
-span_owned : (c : Creation) (at : ℕ) (span : List Span) → c.at ≤ at → owner_of_span (first_table c) at span ≡ None → ⊥
-span_owned c at span before none = some_none (sym ((every_key_at c null_value at refl).1 before) ∙ none)
+use Rattle.node_laws.proofs.CatalogueTables.{IsCreated, some_created, one_creation, created_after}
+use Rattle.node_laws.proofs.KnownTables.{FoundTable, table_found, table_there, older_still}
 
 -- the one collection of a name was created after the time
-begins_after : (v : View) (namespace : List ℕ) (time : ℕ) (c : Creation) → AreBegun (v.bound 0) (creations_in v) → IsIn c (creations_in v)
+begins_after : (v : View) (namespace : List ℕ) (time : ℕ) (c : Creation) → AreMade (v.bound 0) (changes_in v) → IsIn (create_change c) (changes_in v)
     → c.namespace ≡ namespace → time < c.at
     → NoneBegan v namespace time
 begins_after v namespace time c begun stands name after =
-    let by_now : c.at ≤ v.bound 0 = all_at (λ (d : Creation). d.at ≤ v.bound 0) c (creations_in v) begun.past stands in (
-      (omega arith),
-      all_from (λ (d : Creation). d.namespace ≡ namespace → time < d.at) (creations_in v)
-          (λ d i same. subst (λ (e : Creation). time < e.at) (one_creation c d (creations_in v) begun.names stands i (name ∙ sym same)) after),
-    )
+    let by_now : c.at ≤ v.bound 0 = all_at (λ x. time_of x ≤ v.bound 0) (create_change c) (changes_in v) begun.past stands in
+    (omega arith, all_from (BeginsAfter namespace time) (changes_in v) by_change)
+  where
+    by_change : (x : Change) → IsIn x (changes_in v) → BeginsAfter namespace time x
+    by_change (create_change d) i = λ same.
+        subst (λ (e : Creation). time < e.at) (one_creation c d (changes_in v) begun.fitting stands i (name ∙ sym same)) after
+    by_change (split_change s) i = tt
+    by_change (commit_change m) i = tt
 
 -- a table that the catalogue had, and that names no owner at the time
-unowned : (v : View) (known : ℕ) (namespace : List ℕ) (stages : List Stage) (at : ℕ) (t : Table) → AreBegun (v.bound 0) (creations_in v)
+unowned : (v : View) (known : ℕ) (namespace : List ℕ) (stages : List Stage) (at : ℕ) (t : Table) → AreMade (v.bound 0) (changes_in v)
     → IsKnownTable v known t
     → t.namespace ≡ namespace
     → owner_of_span t at (split stages).0.span ≡ None → NoneBegan v namespace at
-unowned v known namespace stages at t begun k name none = by_time (nat_le k.creation.at at) refl
-  where
-    by_time : (b : Bool) → nat_le k.creation.at at ≡ b → NoneBegan v namespace at
-    by_time true h =
-        absurd (span_owned k.creation at (split stages).0.span (leb-true _ _ h)
-        (subst (λ u. owner_of_span u at (split stages).0.span ≡ None) k.table none))
-    by_time false h = begins_after v namespace at k.creation begun k.begun (sym (ap (λ (u : Table). u.namespace) k.table) ∙ name) (leb-false _ _ h)
+unowned v known namespace stages at t begun k name none =
+    let c : IsCreated k.older t.namespace = some_created t.namespace k.older t k.known in
+    let after : at < c.creation.at = created_after t.namespace k.older t null_value at k.fitting (older_still v known t k) k.known refl none c in
+    begins_after v namespace at c.creation begun
+    (subst (λ l. IsIn (create_change c.creation) l) (sym k.all) (in_back (create_change c.creation) k.more k.older c.begun))
+    (c.name ∙ name) after
 
 -- the catalogue returned no table, or one that names no owner: for the time that is read at
 pub told_nothing : (v : View) (asked : List Asked) (told_at known : ℕ) (namespace : List ℕ) (told : At) (table : Option Table)

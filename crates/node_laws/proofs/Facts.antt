@@ -4,43 +4,47 @@ use Rattle.std.specs.Prelude.{pos, Option, Some, None, Ok, true, map, filter, le
 use Rattle.std.specs.List.{AllByRecursion}
 use Rattle.base_model.specs.ReplyParts.{operation_time}
 use Rattle.command_model.specs.Writes.{WriteCommand}
-use Rattle.command_model.specs.Command.{write_command, command_of}
+use Rattle.command_model.specs.Command.{write_command, shard_collection_command, split_command, command_of}
 use Rattle.command_model.specs.Reading.{Reading}
 use Rattle.reply_model.specs.Cursors.{Cursor}
-use Rattle.chunk_model.specs.Catalogue.{Creation}
-use Rattle.chunk_model.specs.Tables.{Table, first_table, first_shard}
+use Rattle.chunk_model.specs.Changes.{Change, time_of, known_table}
+use Rattle.chunk_model.specs.Placement.{AreFitting}
+use Rattle.chunk_model.specs.Tables.{Table, first_shard}
 use Rattle.history_model.specs.History.{Entry, Legal, IsIn}
 use Rattle.base_model.specs.Identities.{RequestId}
 use Rattle.reply_model.specs.Exchanges.{Asked, Answered, number_for}
 use Rattle.reply_model.specs.Outcomes.{Done}
-use Rattle.reply_model.specs.Right.{ends, IsReadRefused, refused_overflow, refused_excess, refused_ahead, IsRight, right_write, right_find, right_count, right_refused_read, right_more, right_no_cursor, right_kill, right_hello, right_legacy, right_ping, right_end_sessions, right_refusal}
-use Rattle.reply_model.specs.OneHistory.{IsWriteIn, WasWanted, StandsInPart, IsPlaced, AreNumbered, IsFresh, IsInOrder, Given, WasMet, ids_asked, ids_told, AreDifferent, AreDifferentNames}
-use Rattle.node_model.specs.Journal.{Kept, entries_kept, creations_kept}
-use Rattle.node_model.specs.Letters.{At, no_time, at_time, Statement, Body, table_ask, table_told, write_ask, write_done, read_ask, half_ask, read_rows, stale, time_ask, time_told, Letter}
-use Rattle.node_model.specs.States.{Catalogue, Shard, Router, Work, writing, reading, Wait, for_time, Open, NodeState, catalogue_state, shard_state, router_state, time_of_node}
+use Rattle.reply_model.specs.Right.{ends, IsReadRefused, refused_overflow, refused_excess, refused_ahead, WasCreated, IsRight, right_write, right_find, right_count, right_refused_read, right_more, right_no_cursor, right_kill, right_shard, right_split, right_not_sharded, right_hello, right_legacy, right_ping, right_end_sessions, right_refusal}
+use Rattle.reply_model.specs.OneHistory.{IsWriteIn, WasWanted, StandsInPart, IsPlaced, AreNumbered, IsFresh, IsInOrder, Given, WasMet, ids_asked, ids_told, AreDifferent, Dated, changes_in as changes_of}
+use Rattle.node_model.specs.Journal.{Kept, entries_kept, changes_kept}
+use Rattle.node_model.specs.Letters.{At, no_time, at_time, Statement, Body, table_ask, table_told, split_ask, split_done, write_ask, write_done, read_ask, half_ask, read_rows, stale, time_ask, time_told, Letter}
+use Rattle.node_model.specs.States.{Catalogue, Shard, Router, Work, writing, reading, sharding, splitting, Wait, for_time, Open, NodeState, catalogue_state, shard_state, router_state, time_of_node}
 use Rattle.node_model.specs.RouterRows.{id_of, statements_from, owner_of_statement, is_ahead, block_size}
-use Rattle.node_model.specs.World.{Held, World}
-use Rattle.node_laws.proofs.Views.{Choice, Book, View, view_of, entries_in, creations_in}
+use Rattle.node_model.specs.World.{Held, World, journal_at}
+use Rattle.node_laws.proofs.Views.{Choice, Book, View, view_of, entries_in, changes_in, MovesNothing}
 use Rattle.node_laws.proofs.Places.{EachAt}
+use Rattle.node_laws.proofs.SplitFacts.{IsSplitOf, IsSplitDone, WasMissing, IsMissing}
 use Rattle.node_laws.proofs.WriteFacts.{IsDoneAt, AreAnswers, OnlyLast, WasMade}
 use Rattle.node_laws.proofs.ReadFacts.{NoneBegan, WaitsFor, IsDecided, IsReading, IsReadOf, IsShown, RowsFit}
 
 -- TABLES
 
--- a table that the catalogue had by a time
+-- a table that the catalogue had by a time: its changes up to one of them make it
 pub record IsKnownTable (v : View) (time : ℕ) (t : Table) : Type 0 where
-  pub creation : Creation
-  pub begun : IsIn creation (creations_in v)
-  pub table : t ≡ first_table creation
-  pub before : creation.at ≤ time
+  pub more : List Change
+  pub older : List Change
+  pub all : changes_in v ≡ more ++ older
+  pub past : AllByRecursion (λ x. time_of x ≤ time) older
+  pub known : known_table t.namespace older ≡ Some t
+  pub fitting : AreFitting older
+  pub still : AllByRecursion MovesNothing (changes_in v)
 
 -- a statement goes to this shard: it owns the key, by a table of the collection that the catalogue had by a time
 pub record IsOwned (v : View) (time : ℕ) (namespace : List ℕ) (shard : ℕ) (s : Statement) : Type 0 where
-  pub creation : Creation
-  pub begun : IsIn creation (creations_in v)
-  pub name : creation.namespace ≡ namespace
-  pub before : creation.at ≤ time
-  pub owner : owner_of_statement (first_table creation) s ≡ Some shard
+  pub table : Table
+  pub known : IsKnownTable v time table
+  pub name : table.namespace ≡ namespace
+  pub owner : owner_of_statement table s ≡ Some shard
 
 -- WRITES
 
@@ -64,11 +68,8 @@ pub record IsWriteOf (v : View) (asked : List Asked) (receiver time : ℕ) (id :
   pub fresh : request.time ≤ time
 
 -- a collection of this name was created by a time
-pub record HasBegun (v : View) (time : ℕ) (namespace : List ℕ) : Type 0 where
-  pub creation : Creation
-  pub begun : IsIn creation (creations_in v)
-  pub name : creation.namespace ≡ namespace
-  pub before : creation.at ≤ time
+abbrev pub HasBegun : View → (time : ℕ) → (namespace : List ℕ) → Type 0
+HasBegun v time namespace = WasCreated (changes_in v) namespace time
 
 -- the outcomes of statements of a request, of the shard that owns their keys
 pub record IsDoneOf (v : View) (asked : List Asked) (sender time : ℕ) (id : RequestId) (dones : List Done) : Type 0 where
@@ -83,11 +84,11 @@ pub record IsDoneOf (v : View) (asked : List Asked) (sender time : ℕ) (id : Re
 
 -- MESSAGES
 
--- a table that is to be begun is wanted by a write
+-- a table that is to be begun is wanted by a write, or by a request to create it
 pub record IsWanted (asked : List Asked) (namespace : List ℕ) (time : ℕ) : Type 0 where
   pub request : Asked
   pub taken : IsIn request asked
-  pub writes : IsWriteIn namespace request
+  pub asks : IsWriteIn namespace request ⊎ (command_of request.request ≡ Ok (shard_collection_command namespace))
   pub past : request.time ≤ time
 
 -- a message about a request that was taken
@@ -110,6 +111,9 @@ abbrev pub BodyFits : View → List Asked → (sender receiver time : ℕ) → B
 BodyFits v asked sender receiver time (table_ask namespace true at) = AtFits at time × IsWanted asked namespace time
 BodyFits v asked sender receiver time (table_ask namespace false at) = AtFits at time
 BodyFits v asked sender receiver time (table_told namespace create at table) = TableFits v time namespace at table
+BodyFits v asked sender receiver time (split_ask id namespace middle) = IsSplitOf asked id namespace middle time
+BodyFits v asked sender receiver time (split_done id true) = IsSplitDone v asked id time
+BodyFits v asked sender receiver time (split_done id false) = Unit {0}
 BodyFits v asked sender receiver time (write_ask id turn ordered namespace statements sent) = IsWriteOf v asked receiver time id ordered namespace statements
 BodyFits v asked sender receiver time (write_done id dones) = (sender ≡ first_shard) × IsDoneOf v asked sender time id dones
 BodyFits v asked sender receiver time (read_ask id turn namespace at half sent) = IsReadOf v asked id namespace at half × (at ≤ time) × (receiver ≡ first_shard)
@@ -127,10 +131,10 @@ LetterFits v asked m = BodyFits v asked m.sender m.receiver m.time m.body
 pub record CatalogueFits (asked : List Asked) (at : ℕ) (kept : List Kept) (c : Catalogue) : Type 0 where
   pub own : c.me ≡ at
   pub place : at ≡ 0
-  pub tables : c.tables ≡ map first_table (creations_kept kept)
-  pub past : AllByRecursion (λ (d : Creation). d.at ≤ c.time) (creations_kept kept)
-  pub names : AreDifferentNames (creations_kept kept)
-  pub wanted : AllByRecursion (WasWanted asked) (creations_kept kept)
+  pub changes : c.changes ≡ changes_kept kept
+  pub past : AllByRecursion (λ x. time_of x ≤ c.time) (changes_kept kept)
+  pub fitting : AreFitting (changes_kept kept)
+  pub wanted : AllByRecursion (WasWanted asked) (changes_kept kept)
 
 -- a request that waits for a table: it fits as the message that it came in, which is not of a later time than the shard's
 abbrev pub ParkedFits : View → List Asked → ℕ → Letter → Type 0
@@ -144,8 +148,9 @@ pub record ShardFits (v : View) (asked : List Asked) (at : ℕ) (kept : List Kep
   pub legal : Legal s.entries
   pub sent : AllByRecursion (WasMade s.entries asked) s.entries
   pub numbers : AreNumbered s.entries
-  pub placed : AllByRecursion (IsPlaced (creations_in v)) s.entries
+  pub placed : AllByRecursion (IsPlaced (changes_in v)) s.entries
   pub parts : AllByRecursion (StandsInPart s.entries) asked
+  pub still : AllByRecursion MovesNothing (changes_in v)
   pub tables : AllByRecursion (IsKnownTable v s.time) s.tables
   pub parked : AllByRecursion (ParkedFits v asked s.time) s.parked
 
@@ -155,12 +160,16 @@ WorkFits a namespace (writing kind ordered statements answers) =
     (write : WriteCommand) × (command_of a.request ≡ Ok (write_command write)) × (kind ≡ write.kind) × (namespace ≡ write.namespace) × (ordered ≡ write.ordered)
     × (statements ≡ statements_from write.number a.id 0 write.operations) × AllByRecursion (λ d. ends ordered d ≡ false) answers
 WorkFits a namespace (reading named at stages telling) = IsReading a namespace named at stages telling
+WorkFits a namespace sharding = command_of a.request ≡ Ok (shard_collection_command namespace)
+WorkFits a namespace (splitting middle) = command_of a.request ≡ Ok (split_command (record { namespace = namespace; middle = middle }))
 
 -- the outcomes of a write that arrived, of entries that are not above a time
 abbrev pub AreSeen : View → ℕ → Asked → Work → Type 0
 AreSeen v time a (writing kind ordered statements answers) =
     (write : WriteCommand) → command_of a.request ≡ Ok (write_command write) → AreAnswers (entries_in v first_shard) time write a.id 0 answers
 AreSeen v time a (reading named at stages telling) = Unit {0}
+AreSeen v time a sharding = Unit {0}
+AreSeen v time a (splitting middle) = Unit {0}
 
 -- it waits for the time that it wants, or has reached one, which is decided for it
 abbrev pub HasTime : View → Asked → RequestId → (time : ℕ) → Wait → Work → Type 0
@@ -217,7 +226,7 @@ StateFits v asked answered at kept (router_state r) = RouterFits v asked answere
 
 -- a time that was met
 abbrev pub IsMet : View → List Given → ℕ → Type 0
-IsMet v given time = WasMet given (creations_in v) (entries_in v first_shard) time
+IsMet v given time = WasMet given (changes_in v) (entries_in v first_shard) time
 
 -- CURSORS
 
@@ -256,28 +265,31 @@ pub record HeldFits (v : View) (asked : List Asked) (answered : List Answered) (
 abbrev pub IsFixed : View → Reading → ℕ → Type 0
 IsFixed v read time = (time ≤ v.bound first_shard) ⊎ NoneBegan v read.namespace time
 
-abbrev pub IsRefusalFixed : View → (creations : List Creation) (history : List Entry) (answered : List Answered) (a : Asked) (t : Answered) (read : Reading)
-    → IsReadRefused creations history answered a t read → Type 0
-IsRefusalFixed v creations history answered a t read (refused_overflow time of may told) = IsFixed v read time
-IsRefusalFixed v creations history answered a t read (refused_excess time n of excess told) = IsFixed v read time
-IsRefusalFixed v creations history answered a t read (refused_ahead ahead told) = Unit {0}
+abbrev pub IsRefusalFixed : View → (changes : List Change) (history : List Entry) (answered : List Answered) (a : Asked) (t : Answered) (read : Reading)
+    → IsReadRefused changes history answered a t read → Type 0
+IsRefusalFixed v changes history answered a t read (refused_overflow time of may told) = IsFixed v read time
+IsRefusalFixed v changes history answered a t read (refused_excess time n of excess told) = IsFixed v read time
+IsRefusalFixed v changes history answered a t read (refused_ahead ahead told) = Unit {0}
 
-abbrev pub IsSettled : View → (creations : List Creation) (history : List Entry) (asked : List Asked) (answered : List Answered) (cursors : List Cursor)
-    (a : Asked) (t : Answered) (next : List Cursor) → IsRight creations history asked answered cursors a t next → Type 0
-IsSettled v creations history asked answered cursors a t _ (right_write write dones c asks may whole begun name before told) = dones ≢ []
-IsSettled v creations history asked answered cursors a t _ (right_find find time documents batch next asks of may small name when shows told) = IsFixed v
+abbrev pub IsSettled : View → (changes : List Change) (history : List Entry) (asked : List Asked) (answered : List Answered) (cursors : List Cursor)
+    (a : Asked) (t : Answered) (next : List Cursor) → IsRight changes history asked answered cursors a t next → Type 0
+IsSettled v changes history asked answered cursors a t _ (right_write write dones c asks may whole begun name before told) = dones ≢ []
+IsSettled v changes history asked answered cursors a t _ (right_find find time documents batch next asks of may small name when shows told) = IsFixed v
     find.reading time
-IsSettled v creations history asked answered cursors a t _ (right_count read time n asks of may told) = IsFixed v read time
-IsSettled v creations history asked answered cursors a t _ (right_refused_read read reads refused) = IsRefusalFixed v creations history answered a t read
+IsSettled v changes history asked answered cursors a t _ (right_count read time n asks of may told) = IsFixed v read time
+IsSettled v changes history asked answered cursors a t _ (right_refused_read read reads refused) = IsRefusalFixed v changes history answered a t read
     refused
-IsSettled v creations history asked answered cursors a t _ (right_more more c batch next asks found shows told) = Unit {0}
-IsSettled v creations history asked answered cursors a t _ (right_no_cursor more asks none told) = Unit {0}
-IsSettled v creations history asked answered cursors a t _ (right_kill kill killed missing next asks closed told) = Unit {0}
-IsSettled v creations history asked answered cursors a t _ (right_hello asks told) = Unit {0}
-IsSettled v creations history asked answered cursors a t _ (right_legacy legacy asks told) = Unit {0}
-IsSettled v creations history asked answered cursors a t _ (right_ping asks told) = Unit {0}
-IsSettled v creations history asked answered cursors a t _ (right_end_sessions asks told) = Unit {0}
-IsSettled v creations history asked answered cursors a t _ (right_refusal refusal asks told) = Unit {0}
+IsSettled v changes history asked answered cursors a t _ (right_more more c batch next asks found shows told) = Unit {0}
+IsSettled v changes history asked answered cursors a t _ (right_no_cursor more asks none told) = Unit {0}
+IsSettled v changes history asked answered cursors a t _ (right_kill kill killed missing next asks closed told) = Unit {0}
+IsSettled v changes history asked answered cursors a t _ (right_shard namespace asks created told) = Unit {0}
+IsSettled v changes history asked answered cursors a t _ (right_split split asks begins told) = Unit {0}
+IsSettled v changes history asked answered cursors a t _ (right_not_sharded split asks told) = Unit {0}
+IsSettled v changes history asked answered cursors a t _ (right_hello asks told) = Unit {0}
+IsSettled v changes history asked answered cursors a t _ (right_legacy legacy asks told) = Unit {0}
+IsSettled v changes history asked answered cursors a t _ (right_ping asks told) = Unit {0}
+IsSettled v changes history asked answered cursors a t _ (right_end_sessions asks told) = Unit {0}
+IsSettled v changes history asked answered cursors a t _ (right_refusal refusal asks told) = Unit {0}
 
 -- an answer to a request that was taken, where it is right
 pub record AnswerFits (v : View) (asked : List Asked) (answered : List Answered) (cursors : List Cursor) (t : Answered) (next : List Cursor) : Type 0 where
@@ -289,8 +301,8 @@ pub record AnswerFits (v : View) (asked : List Asked) (answered : List Answered)
   pub same : request.request ≡ t.request
   pub came : request.came ≤ t.step
   pub risen : request.time ≤ t.time
-  pub right : IsRight (creations_in v) (entries_in v first_shard) asked answered cursors request t next
-  pub settled : IsSettled v (creations_in v) (entries_in v first_shard) asked answered cursors request t next right
+  pub right : IsRight (changes_in v) (entries_in v first_shard) asked answered cursors request t next
+  pub settled : IsSettled v (changes_in v) (entries_in v first_shard) asked answered cursors request t next right
 
 -- all replies, in order, from these cursors to those
 pub data AnswersFit (v : View) (asked : List Asked) (answered : List Answered) : List Cursor → List Answered → List Cursor → Type 0 where
@@ -310,30 +322,33 @@ abbrev pub IsPast : View → List Answered → Asked → ℕ → Type 0
 IsPast v answered a time = (s : Answered) (write : WriteCommand) (index : ℕ) (e : Entry) → IsIn s answered → s.step < a.came
     → IsIn e (entries_in v first_shard) → IsToldOf s write index e → e.time ≤ time
 
-abbrev pub TimeFits : View → List Asked → List Answered → ℕ → Body → Type 0
-TimeFits v asked answered time (time_told id) = (a : Asked) × IsIn a asked × (a.id ≡ id) × IsPast v answered a time
-TimeFits v asked answered time body = Unit {0}
+abbrev pub TimeFits : View → List Dated → List Asked → List Answered → ℕ → Body → Type 0
+TimeFits v dated asked answered time (time_told id) = (a : Asked) × IsIn a asked × (a.id ≡ id) × IsPast v answered a time
+TimeFits v dated asked answered time (split_done id false) = WasMissing dated asked id
+TimeFits v dated asked answered time body = Unit {0}
 
--- no entry is above the time that is sent
-abbrev pub TellsAll : View → ℕ → Body → Type 0
-TellsAll v time (time_told id) = AllByRecursion (λ (e : Entry). e.time ≤ time) (entries_in v first_shard)
-TellsAll v time body = Unit {0}
+-- no entry is above the time that is sent; and a collection that is not found was not created
+abbrev pub TellsAll : View → List Asked → ℕ → Body → Type 0
+TellsAll v asked time (time_told id) = AllByRecursion (λ (e : Entry). e.time ≤ time) (entries_in v first_shard)
+TellsAll v asked time (split_done id false) = IsMissing v asked id
+TellsAll v asked time body = Unit {0}
 
 -- WHAT THE CATALOGUE AND THE SHARD KEEP
 
--- what collections the catalogue created
-pub record AreBegun (time : ℕ) (creations : List Creation) : Type 0 where
-  pub names : AreDifferentNames creations
-  pub past : AllByRecursion (λ (c : Creation). c.at ≤ time) creations
+-- what changes the catalogue made
+pub record AreMade (time : ℕ) (changes : List Change) : Type 0 where
+  pub fitting : AreFitting changes
+  pub past : AllByRecursion (λ x. time_of x ≤ time) changes
+  pub still : AllByRecursion MovesNothing changes
 
 pub record NeighboursFit (v : View) (asked : List Asked) : Type 0 where
-  pub begun : AreBegun (v.bound 0) (creations_in v)
+  pub begun : AreMade (v.bound 0) (changes_in v)
   pub one : AreDifferent (ids_asked asked)
   pub past : AllByRecursion (λ (e : Entry). e.time ≤ v.bound first_shard) (entries_in v first_shard)
   pub sent : AllByRecursion (WasMade (entries_in v first_shard) asked) (entries_in v first_shard)
   pub numbers : AreNumbered (entries_in v first_shard)
   pub parts : AllByRecursion (StandsInPart (entries_in v first_shard)) asked
-  pub placed : AllByRecursion (IsPlaced (creations_in v)) (entries_in v first_shard)
+  pub placed : AllByRecursion (IsPlaced (changes_in v)) (entries_in v first_shard)
 
 -- THE WORLD
 
@@ -352,13 +367,14 @@ abbrev pub InOrder : List Held → Type 0
 InOrder nodes = (c : Held) × (s : Held) × (routers : List Held) × (nodes ≡ c ∷ s ∷ routers) × IsCatalogue c.state × IsShard s.state
 
 -- what is true of a message that was ever sent
-abbrev pub SentFits : View → List Asked → List Answered → List Given → Letter → Type 0
-SentFits v asked answered given m = LetterFits v asked m × IsMet v given m.time × TimeFits v asked answered m.time m.body
+abbrev pub SentFits : View → List Dated → List Asked → List Answered → List Given → Letter → Type 0
+SentFits v dated asked answered given m = LetterFits v asked m × IsMet v given m.time × TimeFits v dated asked answered m.time m.body
 
 pub record Good (w : World) (book : Book) : Type 0 where
   pub order : InOrder w.nodes
   pub nodes : EachAt (HeldFits (view_of w.nodes book) w.asked w.answered w.given) 0 w.nodes
-  pub letters : AllByRecursion (SentFits (view_of w.nodes book) w.asked w.answered w.given) w.sent
+  pub dated : changes_of w.changed ≡ changes_kept (journal_at w.nodes 0)
+  pub letters : AllByRecursion (SentFits (view_of w.nodes book) w.changed w.asked w.answered w.given) w.sent
   pub answers : AnswersFit (view_of w.nodes book) w.asked w.answered [] w.answered book.cursors
   pub decided : AllByRecursion (λ (c : Choice). IsIn c.id (ids_asked w.asked)) book.chosen
   pub came : AllByRecursion (λ (a : Asked). a.came < w.now + 1) w.asked

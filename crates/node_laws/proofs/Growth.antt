@@ -1,11 +1,11 @@
 -- Journals grow, more is requested and replied: what was true of messages, tables and entries stays.
-use Rattle.std.proofs.Common.{◌≡◌, ◌⊎◌, inl, inr, ℕ, ◌<◌, ◌≤◌, List, [], ◌∷◌, ◌++◌, refl, sym, ap, subst, ◌∙◌, arith, append-nil, ◌+◌, Bool}
+use Rattle.std.proofs.Common.{◌≡◌, ◌⊎◌, inl, inr, ℕ, ◌<◌, ◌≤◌, List, [], ◌∷◌, ◌++◌, refl, sym, ap, subst, ◌∙◌, arith, append-nil, append_assoc, ◌+◌, Bool}
 use Rattle.std.specs.Prelude.{Option, Some, None, Result, Ok, Err, true, false, max, filter, nat_le, if◌then◌else◌}
 use Rattle.std.specs.List.{AllByRecursion}
 use Rattle.std.proofs.lemmas.Bool.{leb-true, leb-false}
 use Rattle.history_model.proofs.Lists.{all_weaken, all_append, all_at, in_prefix}
-use Rattle.bson_model.specs.Tree.{Fields}
-use Rattle.chunk_model.specs.Catalogue.{Creation}
+use Rattle.bson_model.specs.Tree.{Datum, Fields}
+use Rattle.chunk_model.specs.Changes.{Change, create_change, split_change, commit_change, time_of}
 use Rattle.chunk_model.specs.Tables.{Table, first_shard}
 use Rattle.history_model.specs.Documents.{documents_at}
 use Rattle.pipeline_model.specs.Halves.{Half, Rows, kept_at_head, may_stand_in}
@@ -15,76 +15,19 @@ use Rattle.base_model.specs.Identities.{RequestId}
 use Rattle.reply_model.specs.Exchanges.{Asked, number_for, is_session_of, entries_by}
 use Rattle.reply_model.specs.Outcomes.{StatementOutcome, Done}
 use Rattle.reply_model.specs.OneHistory.{WasWanted, IsPlaced, Given}
-use Rattle.node_model.specs.Journal.{Kept, kept_table, kept_entry, kept_creation, kept_life, kept_block, entries_kept, creations_kept}
-use Rattle.node_model.specs.Letters.{At, no_time, at_time, Statement, HalfFault, half_overflow, half_excess, Body, table_ask, table_told, write_ask, write_done, read_ask, half_ask, read_rows, stale, time_ask, time_told, Letter}
-use Rattle.node_model.specs.States.{Work, writing, reading}
-use Rattle.node_laws.proofs.Views.{View, entries_in, creations_in, IsAbove, Later}
-use Rattle.node_laws.proofs.ReadFacts.{NoneBegan, IsReadOf, IsShown, IsMade, RowsFit}
+use Rattle.node_model.specs.Letters.{At, no_time, at_time, Statement, HalfFault, half_overflow, half_excess, Body, table_ask, table_told, split_ask, split_done, write_ask, write_done, read_ask, half_ask, read_rows, stale, time_ask, time_told, Letter}
+use Rattle.node_model.specs.States.{Work, writing, reading, sharding, splitting}
+use Rattle.reply_model.specs.Right.{WasSplit}
+use Rattle.node_laws.proofs.Views.{View, entries_in, changes_in, MovesNothing, Later}
+use Rattle.node_laws.proofs.LongerJournals.{IsNewChange, more_entries, more_changes, entry_stays, change_stays, still_grows}
+use Rattle.node_laws.proofs.CatalogueTables.{unmoved, owned_from}
+use Rattle.node_laws.proofs.ReadFacts.{BeginsAfter, NoneBegan, IsReadOf, IsShown, IsMade, RowsFit}
 use Rattle.node_laws.proofs.WriteFacts.{IsAnswerOf, by_entry, by_older, IsDoneAt, AreAnswers, WasMade}
+use Rattle.node_laws.proofs.SplitFacts.{IsSplitOf, IsSplitDone}
 use Rattle.node_laws.proofs.Facts.{IsKnownTable, IsOwned, IsWriteOf, HasBegun, IsDoneOf, TableFits, IsWanted, IsOfRequest, BodyFits, LetterFits, AreSeen, IsMet}
 use Rattle.node_laws.proofs.Choices.{decided_stays}
 use Rattle.node_laws.proofs.KeptDocuments.{Counts, documents_unchanged}
 use Rattle.node_laws.proofs.Lists.{all_behind}
-
--- LISTS OF RECORDS
-
-pub entries_longer : (old more : List Kept) → entries_kept (old ++ more) ≡ entries_kept old ++ entries_kept more
-entries_longer [] more = refl
-entries_longer (kept_entry e ∷ old) more = ap (λ l. e ∷ l) (entries_longer old more)
-entries_longer (kept_table t ∷ old) more = entries_longer old more
-entries_longer (kept_creation c ∷ old) more = entries_longer old more
-entries_longer (kept_life n ∷ old) more = entries_longer old more
-entries_longer (kept_block n ∷ old) more = entries_longer old more
-
-pub creations_longer : (old more : List Kept) → creations_kept (old ++ more) ≡ creations_kept old ++ creations_kept more
-creations_longer [] more = refl
-creations_longer (kept_creation c ∷ old) more = ap (λ l. c ∷ l) (creations_longer old more)
-creations_longer (kept_entry e ∷ old) more = creations_longer old more
-creations_longer (kept_table t ∷ old) more = creations_longer old more
-creations_longer (kept_life n ∷ old) more = creations_longer old more
-creations_longer (kept_block n ∷ old) more = creations_longer old more
-
-pub entries_above : (time : ℕ) (kept : List Kept) → AllByRecursion (IsAbove time) kept → AllByRecursion (λ (e : Entry). time < e.time) (entries_kept kept)
-entries_above time [] all = tt
-entries_above time (kept_entry e ∷ kept) all = (all.0, entries_above time kept all.1)
-entries_above time (kept_table t ∷ kept) all = entries_above time kept all.1
-entries_above time (kept_creation c ∷ kept) all = entries_above time kept all.1
-entries_above time (kept_life n ∷ kept) all = entries_above time kept all.1
-entries_above time (kept_block n ∷ kept) all = entries_above time kept all.1
-
-pub creations_above : (time : ℕ) (kept : List Kept) → AllByRecursion (IsAbove time) kept → AllByRecursion (λ (c : Creation). time < c.at) (creations_kept kept)
-creations_above time [] all = tt
-creations_above time (kept_creation c ∷ kept) all = (all.0, creations_above time kept all.1)
-creations_above time (kept_entry e ∷ kept) all = creations_above time kept all.1
-creations_above time (kept_table t ∷ kept) all = creations_above time kept all.1
-creations_above time (kept_life n ∷ kept) all = creations_above time kept all.1
-creations_above time (kept_block n ∷ kept) all = creations_above time kept all.1
-
--- one journal in a later view: the same entries and collections, and more above its time
-pub record MoreOf {X : Type 0} (time_of : X → ℕ) (bound : ℕ) (old new : List X) : Type 0 where
-  pub more : List X
-  pub same : new ≡ old ++ more
-  pub above : AllByRecursion (λ x. bound < time_of x) more
-
-pub more_entries : (v w : View) (at : ℕ) → Later v w → MoreOf (λ (e : Entry). e.time) (v.bound at) (entries_in v at) (entries_in w at)
-more_entries v w at later = record {
-  more = entries_kept (later.longer at).written;
-  same = ap (λ k. entries_kept k) (later.longer at).same ∙ entries_longer (v.journal at) (later.longer at).written;
-  above = entries_above (v.bound at) (later.longer at).written (later.longer at).rises;
-}
-
-pub more_creations : (v w : View) → Later v w → MoreOf (λ (c : Creation). c.at) (v.bound 0) (creations_in v) (creations_in w)
-more_creations v w later = record {
-  more = creations_kept (later.longer 0).written;
-  same = ap (λ k. creations_kept k) (later.longer 0).same ∙ creations_longer (v.journal 0) (later.longer 0).written;
-  above = creations_above (v.bound 0) (later.longer 0).written (later.longer 0).rises;
-}
-
-pub entry_stays : (v w : View) (at : ℕ) (e : Entry) → Later v w → IsIn e (entries_in v at) → IsIn e (entries_in w at)
-entry_stays v w at e later i = let m = more_entries v w at later in subst (λ l. IsIn e l) (sym m.same) (in_prefix e (entries_in v at) m.more i)
-
-pub creation_stays : (v w : View) (c : Creation) → Later v w → IsIn c (creations_in v) → IsIn c (creations_in w)
-creation_stays v w c later i = let m = more_creations v w later in subst (λ l. IsIn c l) (sym m.same) (in_prefix c (creations_in v) m.more i)
 
 -- WHAT A HISTORY SAYS OF A TIME
 
@@ -101,25 +44,39 @@ entries_by_longer id (e ∷ history) more = by_test (is_session_of id e.number.s
 -- FACTS ON TABLES
 
 pub known_grows : (v w : View) (a b : ℕ) (t : Table) → Later v w → a ≤ b → IsKnownTable v a t → IsKnownTable w b t
-known_grows v w a b t later le k = record
-    { creation = k.creation; begun = creation_stays v w k.creation later k.begun; table = k.table; before = let h = k.before in omega arith }
+known_grows v w a b t later le k =
+    let m = more_changes v w later in
+    record {
+      more = m.more ++ k.more;
+      older = k.older;
+      all = m.same ∙ ap (λ l. m.more ++ l) k.all ∙ sym (append_assoc m.more k.more k.older);
+      past = all_weaken (λ x. time_of x ≤ a) (λ x. time_of x ≤ b) k.older (λ x h. omega arith) k.past;
+      known = k.known;
+      fitting = k.fitting;
+      still = still_grows v w later k.still;
+    }
+
+later_begins : (namespace : List ℕ) (time bound : ℕ) (x : Change) → time ≤ bound → bound < time_of x → BeginsAfter namespace time x
+later_begins namespace time bound (create_change c) le less = λ name. omega arith
+later_begins namespace time bound (split_change s) le less = tt
+later_begins namespace time bound (commit_change c) le less = tt
 
 pub began_grows : (v w : View) (namespace : List ℕ) (time : ℕ) → Later v w → NoneBegan v namespace time → NoneBegan w namespace time
 began_grows v w namespace time later n =
-    let m = more_creations v w later in
+    let m = more_changes v w later in
     let le : v.bound 0 ≤ w.bound 0 = later.times 0 in
     let early : time ≤ v.bound 0 = n.0 in (
       omega arith,
-      subst (λ l. AllByRecursion (λ (c : Creation). c.namespace ≡ namespace → time < c.at) l) (sym m.same)
-          (all_append (λ (c : Creation). c.namespace ≡ namespace → time < c.at) (creations_in v) m.more n.1
-          (all_weaken (λ (c : Creation). v.bound 0 < c.at) (λ (c : Creation). c.namespace ≡ namespace → time < c.at) m.more
-          (λ c h e. omega arith) m.above)),
+      subst (λ l. AllByRecursion (BeginsAfter namespace time) l) (sym m.same)
+          (all_append (BeginsAfter namespace time) m.more (changes_in v)
+          (all_weaken (IsNewChange (v.bound 0)) (BeginsAfter namespace time) m.more (λ x h. later_begins namespace time (v.bound 0) x early h.0) m.above)
+          n.1),
     )
 
 -- an entry of a collection that did not begin by a time is above it
-before_all : (v : View) (namespace : List ℕ) (time : ℕ) (e : Entry) → NoneBegan v namespace time → IsPlaced (creations_in v) e → ¬ Counts namespace time e
+before_all : (v : View) (namespace : List ℕ) (time : ℕ) (e : Entry) → NoneBegan v namespace time → IsPlaced (changes_in v) e → ¬ Counts namespace time e
 before_all v namespace time e none p counts =
-    let after : time < p.creation.at = all_at (λ (c : Creation). c.namespace ≡ namespace → time < c.at) p.creation (creations_in v) none.1 p.begun
+    let after : time < p.creation.at = all_at (BeginsAfter namespace time) (create_change p.creation) (changes_in v) none.1 p.begun
     (p.name ∙ counts.1) in
     let before = p.before in
     let early = counts.0 in
@@ -127,29 +84,29 @@ before_all v namespace time e none p counts =
 
 pub owned_grows : (v w : View) (a b : ℕ) (namespace : List ℕ) (shard : ℕ) (s : Statement) → Later v w → a ≤ b → IsOwned v a namespace shard s
     → IsOwned w b namespace shard s
-owned_grows v w a b namespace shard s later le o = record
-    { creation = o.creation; begun = creation_stays v w o.creation later o.begun; name = o.name; before = let h = o.before in omega arith; owner = o.owner }
+owned_grows v w a b namespace shard s later le o =
+    record { table = o.table; known = known_grows v w a b o.table later le o.known; name = o.name; owner = o.owner }
 
 -- FACTS ON READS AND WRITES
 
 -- where the time of a read is past, or its collection begins after it, no later entry counts for it
 none_counts : (v w : View) (namespace : List ℕ) (time : ℕ) (more : List Entry) → Later v w → (time ≤ v.bound first_shard) ⊎ NoneBegan v namespace time
-    → AllByRecursion (λ (e : Entry). v.bound first_shard < e.time) more → AllByRecursion (IsPlaced (creations_in w)) more
+    → AllByRecursion (λ (e : Entry). v.bound first_shard < e.time) more → AllByRecursion (IsPlaced (changes_in w)) more
     → AllByRecursion (λ e. ¬ Counts namespace time e) more
 none_counts v w namespace time more later (inl settled) above placed =
     all_weaken (λ (e : Entry). v.bound first_shard < e.time) (λ e. ¬ Counts namespace time e) more
     (λ e h counts. let l = counts.0 in absurd (omega arith)) above
 none_counts v w namespace time more later (inr none) above placed =
     let began : NoneBegan w namespace time = began_grows v w namespace time later none in
-    all_weaken (IsPlaced (creations_in w)) (λ e. ¬ Counts namespace time e) more (λ e p counts. before_all w namespace time e began p counts) placed
+    all_weaken (IsPlaced (changes_in w)) (λ e. ¬ Counts namespace time e) more (λ e p counts. before_all w namespace time e began p counts) placed
 
 pub documents_stay : (v w : View) (namespace : List ℕ) (time : ℕ) → Later v w → (time ≤ v.bound first_shard) ⊎ NoneBegan v namespace time
-    → AllByRecursion (IsPlaced (creations_in w)) (entries_in w first_shard)
+    → AllByRecursion (IsPlaced (changes_in w)) (entries_in w first_shard)
     → documents_at (entries_in w first_shard) namespace time ≡ documents_at (entries_in v first_shard) namespace time
 documents_stay v w namespace time later fixed placed =
     let m = more_entries v w first_shard later in
-    let behind : AllByRecursion (IsPlaced (creations_in w)) m.more = all_behind (IsPlaced (creations_in w)) (entries_in v first_shard) m.more
-    (subst (λ l. AllByRecursion (IsPlaced (creations_in w)) l) m.same placed) in
+    let behind : AllByRecursion (IsPlaced (changes_in w)) m.more = all_behind (IsPlaced (changes_in w)) (entries_in v first_shard) m.more
+    (subst (λ l. AllByRecursion (IsPlaced (changes_in w)) l) m.same placed) in
     ap (λ l. documents_at l namespace time) m.same
     ∙ documents_unchanged namespace time (entries_in v first_shard) m.more (none_counts v w namespace time m.more later fixed m.above behind)
 
@@ -165,11 +122,11 @@ settled_stay v w namespace time later settled =
 
 -- nothing is stored in a collection that was not created
 pub nothing_stands : (v : View) (namespace : List ℕ) (time : ℕ) → NoneBegan v namespace time
-    → AllByRecursion (IsPlaced (creations_in v)) (entries_in v first_shard)
+    → AllByRecursion (IsPlaced (changes_in v)) (entries_in v first_shard)
     → documents_at (entries_in v first_shard) namespace time ≡ []
 nothing_stands v namespace time none placed =
     documents_unchanged namespace time [] (entries_in v first_shard)
-    (all_weaken (IsPlaced (creations_in v)) (λ e. ¬ Counts namespace time e) (entries_in v first_shard)
+    (all_weaken (IsPlaced (changes_in v)) (λ e. ¬ Counts namespace time e) (entries_in v first_shard)
     (λ e p counts. before_all v namespace time e none p counts) placed)
 
 abbrev pub read_grows : (v w : View) (asked more : List Asked) (id : RequestId) (namespace : List ℕ) (at : ℕ) (half : Half) → Later v w
@@ -273,7 +230,7 @@ write_grows v w asked more receiver time id ordered namespace statements later a
 
 pub begun_grows : (v w : View) (time : ℕ) (namespace : List ℕ) → Later v w → HasBegun v time namespace → HasBegun w time namespace
 begun_grows v w time namespace later b =
-    record { creation = b.creation; begun = creation_stays v w b.creation later b.begun; name = b.name; before = b.before }
+    record { creation = b.creation; begun = change_stays v w (create_change b.creation) later b.begun; name = b.name; before = b.before }
 
 pub done_grows : (v w : View) (asked more : List Asked) (sender time : ℕ) (id : RequestId) (dones : List Done) → Later v w
     → IsDoneOf v asked sender time id dones → IsDoneOf w (asked ++ more) sender time id dones
@@ -292,9 +249,46 @@ done_grows v w asked more sender time id dones later b = record {
 -- MESSAGES
 
 pub wanted_grows : (asked more : List Asked) (namespace : List ℕ) (time : ℕ) → IsWanted asked namespace time → IsWanted (asked ++ more) namespace time
-wanted_grows asked more namespace time s = record { request = s.request; taken = in_prefix s.request asked more s.taken; writes = s.writes; past = s.past }
+wanted_grows asked more namespace time s = record { request = s.request; taken = in_prefix s.request asked more s.taken; asks = s.asks; past = s.past }
 
-request_grows : (asked more : List Asked) (id : RequestId) → IsOfRequest asked id → IsOfRequest (asked ++ more) id
+split_grows : (asked more : List Asked) (id : RequestId) (namespace : List ℕ) (middle : Datum) (time : ℕ) → IsSplitOf asked id namespace middle time
+    → IsSplitOf (asked ++ more) id namespace middle time
+split_grows asked more id namespace middle time s = record {
+  request = s.request;
+  taken = in_prefix s.request asked more s.taken;
+  own = s.own;
+  asks = s.asks;
+  key = s.key;
+  past = s.past;
+}
+
+-- a chunk that began at a key by a time did so by the changes of then
+pub begins_grows : (v w : View) (namespace : List ℕ) (key : Datum) (early late : ℕ) → Later v w → early ≤ late
+    → WasSplit (changes_in v) namespace key early → WasSplit (changes_in w) namespace key late
+begins_grows v w namespace key early late later le s =
+    let m = more_changes v w later in
+    record {
+      later = m.more ++ s.later;
+      older = s.older;
+      table = s.table;
+      all = m.same ∙ ap (λ l. m.more ++ l) s.all ∙ sym (append_assoc m.more s.later s.older);
+      past = all_weaken (λ x. time_of x ≤ early) (λ x. time_of x ≤ late) s.older (λ x h. omega arith) s.past;
+      known = s.known;
+      bound = s.bound;
+    }
+
+split_done_grows : (v w : View) (asked more : List Asked) (id : RequestId) (time : ℕ) → Later v w → IsSplitDone v asked id time
+    → IsSplitDone w (asked ++ more) id time
+split_done_grows v w asked more id time later s = record {
+  request = s.request;
+  taken = in_prefix s.request asked more s.taken;
+  own = s.own;
+  split = s.split;
+  asks = s.asks;
+  begins = begins_grows v w s.split.namespace s.split.middle time time later (omega arith) s.begins;
+}
+
+pub request_grows : (asked more : List Asked) (id : RequestId) → IsOfRequest asked id → IsOfRequest (asked ++ more) id
 request_grows asked more id r = record { request = r.request; taken = in_prefix r.request asked more r.taken; own = r.own }
 
 table_fits_grows : (v w : View) (time : ℕ) (namespace : List ℕ) (at : At) (table : Option Table) → Later v w → TableFits v time namespace at table
@@ -308,6 +302,9 @@ body_grows : (v w : View) (asked more : List Asked) (sender receiver time : ℕ)
 body_grows v w asked more sender receiver time (table_ask namespace true at) later f = (f.0, wanted_grows asked more namespace time f.1)
 body_grows v w asked more sender receiver time (table_ask namespace false at) later f = f
 body_grows v w asked more sender receiver time (table_told namespace create at table) later f = table_fits_grows v w time namespace at table later f
+body_grows v w asked more sender receiver time (split_ask id namespace middle) later f = split_grows asked more id namespace middle time f
+body_grows v w asked more sender receiver time (split_done id true) later f = split_done_grows v w asked more id time later f
+body_grows v w asked more sender receiver time (split_done id false) later f = f
 body_grows v w asked more sender receiver time (write_ask id turn ordered namespace statements sent) later f = write_grows v w asked more receiver time id
     ordered namespace statements later f
 body_grows v w asked more sender receiver time (write_done id dones) later f =
@@ -330,6 +327,8 @@ pub seen_grows : (v w : View) (early late : ℕ) (a : Asked) (work : Work) → L
 seen_grows v w early late a (writing kind ordered statements answers) later le seen =
     λ write asks. answers_later v w early late write a.id 0 answers later le (seen write asks)
 seen_grows v w early late a (reading named at stages telling) later le seen = tt
+seen_grows v w early late a sharding later le seen = tt
+seen_grows v w early late a (splitting middle) later le seen = tt
 
 -- an entry was made for a request, also among more entries and requests
 pub entry_grows : (old new : List Entry) (asked more : List Asked) (e : Entry) → ((d : Entry) → IsIn d old → IsIn d new) → WasMade old asked e
@@ -342,24 +341,29 @@ entry_grows old new asked more e stays m = record {
   reached = λ ordered i before. let r = m.reached ordered i before in (r.0, stays r.0 r.1, r.2, r.3, r.4);
 }
 
-pub creation_wanted_grows : (asked more : List Asked) (c : Creation) → WasWanted asked c → WasWanted (asked ++ more) c
-creation_wanted_grows asked more c s = record { request = s.request; taken = in_prefix s.request asked more s.taken; writes = s.writes; later = s.later }
+pub change_wanted_grows : (asked more : List Asked) (x : Change) → WasWanted asked x → WasWanted (asked ++ more) x
+change_wanted_grows asked more x s = record { request = s.request; taken = in_prefix s.request asked more s.taken; asks = s.asks; later = s.later }
 
-pub placed_grows : (v w : View) (e : Entry) → Later v w → IsPlaced (creations_in v) e → IsPlaced (creations_in w) e
-placed_grows v w e later p = record {
-  creation = p.creation;
-  key = p.key;
-  begun = creation_stays v w p.creation later p.begun;
-  name = p.name;
-  before = p.before;
-  writes = p.writes;
-  owner = p.owner;
-}
+pub placed_grows : (v w : View) (e : Entry) → Later v w → AllByRecursion MovesNothing (changes_in v) → IsPlaced (changes_in v) e → IsPlaced (changes_in w) e
+placed_grows v w e later still p =
+    let begun : IsIn (create_change p.creation) (changes_in w) = change_stays v w (create_change p.creation) later p.begun in
+    let before = p.before in
+    record {
+      creation = p.creation;
+      key = p.key;
+      begun = begun;
+      name = p.name;
+      before = p.before;
+      writes = p.writes;
+      owner = owned_from (changes_in w) (still_grows v w later still) e.namespace p.key e.time
+          (record { creation = p.creation; begun = begun; name = p.name; before = omega arith })
+          ∙ ap (λ (n : ℕ). Some n) (sym (unmoved (changes_in v) still e.namespace p.key e.time e.shard p.owner).shard_is);
+    }
 
 pub met_grows : (v w : View) (given more : List Given) (time : ℕ) → Later v w → IsMet v given time → IsMet w (given ++ more) time
 met_grows v w given more time later (inl z) = inl z
 met_grows v w given more time later (inr (inl (g, i, e))) = inr (inl (g, in_prefix g given more i, e))
-met_grows v w given more time later (inr (inr (inl (c, i, e)))) = inr (inr (inl (c, creation_stays v w c later i, e)))
+met_grows v w given more time later (inr (inr (inl (x, i, e)))) = inr (inr (inl (x, change_stays v w x later i, e)))
 met_grows v w given more time later (inr (inr (inr (d, i, e)))) = inr (inr (inr (d, entry_stays v w first_shard d later i, e)))
 
 pub met_later : (v w : View) (given : List Given) (time : ℕ) → Later v w → IsMet v given time → IsMet w given time

@@ -1,23 +1,26 @@
 -- A step that owes what it owes keeps all facts.
 use Rattle.std.proofs.Common.{◌≡◌, ◌≢◌, ◌⊎◌, inl, inr, ℕ, zero, suc, ◌+◌, ◌<◌, ◌≤◌, List, [], ◌∷◌, ◌++◌, refl, sym, ap, subst, ◌∙◌, arith}
-use Rattle.std.specs.Prelude.{Some, filter}
+use Rattle.std.specs.Prelude.{Some, true, false, filter}
 use Rattle.std.specs.List.{AllByRecursion, slice_get, slice_set}
 use Rattle.history_model.proofs.Lists.{all_weaken, all_both, all_append, all_at, in_prefix, in_append}
 use Rattle.command_model.specs.Writes.{WriteCommand}
+use Rattle.chunk_model.specs.Changes.{known_table}
 use Rattle.chunk_model.specs.Tables.{first_shard}
 use Rattle.history_model.specs.History.{Entry, IsIn}
 use Rattle.reply_model.specs.Exchanges.{Asked, Answered}
-use Rattle.reply_model.specs.OneHistory.{StandsInPart, IsPlaced, AreNumbered, IsFresh, IsInOrder, Given, ids_asked, ids_told, AreDifferent}
-use Rattle.node_model.specs.Journal.{Kept, entries_kept, creations_kept}
-use Rattle.node_model.specs.Letters.{Body, table_ask, table_told, write_ask, write_done, read_ask, half_ask, read_rows, stale, time_ask, time_told, Letter, Effect}
+use Rattle.reply_model.specs.OneHistory.{WasWanted, StandsInPart, IsPlaced, AreNumbered, IsFresh, IsInOrder, Given, ids_asked, ids_told, AreDifferent, Dated, changes_in as changes_of}
+use Rattle.node_model.specs.Journal.{Kept, entries_kept, changes_kept}
+use Rattle.node_model.specs.Letters.{Body, table_ask, table_told, split_ask, split_done, write_ask, write_done, read_ask, half_ask, read_rows, stale, time_ask, time_told, Letter, Effect}
 use Rattle.node_model.specs.States.{Shard, NodeState, catalogue_state, shard_state, router_state, time_of_node}
-use Rattle.node_model.specs.World.{Held, World, asked_by, answered_by, after, journal_at}
+use Rattle.node_model.specs.World.{Held, World, asked_by, answered_by, dated_onto, after, journal_at}
 use Rattle.node_model.proofs.Journals.{journal_here}
-use Rattle.node_laws.proofs.Views.{Choice, Book, View, view_of, time_at, entries_in, creations_in, Later}
+use Rattle.node_laws.proofs.Views.{Choice, Book, View, view_of, time_at, entries_in, changes_in, MovesNothing, Later}
+use Rattle.node_laws.proofs.CatalogueTables.{wanted_still}
 use Rattle.node_laws.proofs.Places.{EachAt, each_set}
 use Rattle.node_laws.proofs.WriteFacts.{WasMade}
-use Rattle.node_laws.proofs.Facts.{BodyFits, ShardFits, StateFits, is_of, HeldFits, IsMet, AnswersFit, IsPast, IsToldOf, TimeFits, TellsAll, AreBegun, NeighboursFit, IsCatalogue, IsShard, InOrder, SentFits, Good, SameKind}
-use Rattle.node_laws.proofs.Owes.{asked_after, answered_after, IsSaid, OwesIn, Owes}
+use Rattle.node_laws.proofs.Facts.{BodyFits, ShardFits, StateFits, is_of, HeldFits, IsMet, AnswersFit, IsPast, IsToldOf, TimeFits, TellsAll, AreMade, NeighboursFit, IsCatalogue, IsShard, InOrder, SentFits, Good, SameKind}
+use Rattle.node_laws.proofs.Dates.{IsNoChange, none_before, missing_grows, dated_same}
+use Rattle.node_laws.proofs.Owes.{asked_after, answered_after, dated_after, IsSaid, OwesIn, Owes}
 use Rattle.node_laws.proofs.Lists.{map_longer}
 use Rattle.node_laws.proofs.Growth.{letter_grows, met_later}
 use Rattle.node_laws.proofs.Journals.{with_more, with_news, views_later, journal_else, time_here}
@@ -86,16 +89,20 @@ the_shard w asked answered given nodes (c, s, routers, same, is_c, is_s) all =
 -- WHAT THE CATALOGUE AND THE SHARD KEEP
 
 catalogue_begun : (w : View) (asked : List Asked) (answered : List Answered) (kept : List Kept) (s : NodeState) → IsCatalogue s
-    → StateFits w asked answered 0 kept s → AreBegun (time_of_node s) (creations_kept kept)
-catalogue_begun w asked answered kept (catalogue_state c) is fits = record { names = fits.names; past = fits.past }
+    → StateFits w asked answered 0 kept s → AreMade (time_of_node s) (changes_kept kept)
+catalogue_begun w asked answered kept (catalogue_state c) is fits = record {
+  fitting = fits.fitting;
+  past = fits.past;
+  still = all_weaken (WasWanted asked) MovesNothing (changes_kept kept) (λ x h. wanted_still asked x h) fits.wanted;
+}
 catalogue_begun w asked answered kept (shard_state s) is fits = absurd is
 catalogue_begun w asked answered kept (router_state r) is fits = absurd is
 
 pub the_begun : (w : View) (asked : List Asked) (answered : List Answered) (given : List Given) (nodes : List Held) → InOrder nodes
-    → EachAt (HeldFits w asked answered given) 0 nodes → AreBegun (time_at nodes 0) (creations_kept (journal_at nodes 0))
+    → EachAt (HeldFits w asked answered given) 0 nodes → AreMade (time_at nodes 0) (changes_kept (journal_at nodes 0))
 the_begun w asked answered given nodes (c, s, routers, same, is_c, is_s) all =
     let fits = (subst (λ l. EachAt (HeldFits w asked answered given) 0 l) same all).0 in
-    subst (λ l. AreBegun (time_at l 0) (creations_kept (journal_at l 0))) (sym same) (catalogue_begun w asked answered c.kept c.state is_c fits.state)
+    subst (λ l. AreMade (time_at l 0) (changes_kept (journal_at l 0))) (sym same) (catalogue_begun w asked answered c.kept c.state is_c fits.state)
 
 -- in a view of the nodes
 pub nodes_keep : (v : View) (asked : List Asked) (answered : List Answered) (given : List Given) (nodes : List Held) → InOrder nodes
@@ -104,17 +111,17 @@ pub nodes_keep : (v : View) (asked : List Asked) (answered : List Answered) (giv
 nodes_keep v asked answered given nodes order all journals bounds different =
     let s = the_shard v asked answered given nodes order all in
     let b = the_begun v asked answered given nodes order all in
-    let creations : creations_in v ≡ creations_kept (journal_at nodes 0) = ap (λ k. creations_kept k) (journals 0) in
+    let changes : changes_in v ≡ changes_kept (journal_at nodes 0) = ap (λ k. changes_kept k) (journals 0) in
     let entries : s.shard.entries ≡ entries_in v first_shard = s.fits.entries ∙ sym (ap (λ k. entries_kept k) (journals first_shard ∙ s.journal)) in
     record {
-      begun = subst (λ l. AreBegun (v.bound 0) l) (sym creations) (subst (λ t. AreBegun t (creations_kept (journal_at nodes 0))) (sym (bounds 0)) b);
+      begun = subst (λ l. AreMade (v.bound 0) l) (sym changes) (subst (λ t. AreMade t (changes_kept (journal_at nodes 0))) (sym (bounds 0)) b);
       one = different;
       past = subst (λ l. AllByRecursion (λ (e : Entry). e.time ≤ v.bound first_shard) l) entries
           (subst (λ n. AllByRecursion (λ (e : Entry). e.time ≤ n) s.shard.entries) (sym (bounds first_shard ∙ s.time)) s.fits.past);
       sent = subst (λ l. AllByRecursion (WasMade l asked) l) entries s.fits.sent;
       numbers = subst (λ l. AreNumbered l) entries s.fits.numbers;
       parts = subst (λ l. AllByRecursion (StandsInPart l) asked) entries s.fits.parts;
-      placed = subst (λ l. AllByRecursion (IsPlaced (creations_in v)) l) entries s.fits.placed;
+      placed = subst (λ l. AllByRecursion (IsPlaced (changes_in v)) l) entries s.fits.placed;
     }
 
 -- REQUESTS
@@ -130,27 +137,39 @@ order_stays asked more now a came news order =
 -- TIMES THAT SHARDS SEND
 
 -- what is sent fits
-times_told : (v : View) (asked : List Asked) (answered : List Answered) (sender receiver time : ℕ) (b : Body) → BodyFits v asked sender receiver time b
-    → TellsAll v time b
-    → TimeFits v asked answered time b
-times_told v asked answered sender receiver time (time_told id) fits all = (
+times_told : (v : View) (dated : List Dated) (asked : List Asked) (answered : List Answered) (sender receiver time : ℕ) (b : Body)
+    → changes_of dated ≡ changes_in v → BodyFits v asked sender receiver time b
+    → TellsAll v asked time b
+    → TimeFits v dated asked answered time b
+times_told v dated asked answered sender receiver time (split_done id false) same fits none = record {
+  request = none.request;
+  taken = none.taken;
+  own = none.own;
+  split = none.split;
+  asks = none.asks;
+  none = none_before none.request.came none.split.namespace dated (ap (λ l. known_table none.split.namespace l) same ∙ none.none);
+}
+times_told v dated asked answered sender receiver time (split_done id true) same fits all = tt
+times_told v dated asked answered sender receiver time (split_ask id namespace middle) same fits all = tt
+times_told v dated asked answered sender receiver time (time_told id) same fits all = (
   fits.request,
   fits.taken,
   fits.own,
   λ s write index e i before stands told. all_at (λ (d : Entry). d.time ≤ time) e (entries_in v first_shard) all stands,
 )
-times_told v asked answered sender receiver time (table_ask namespace create at) fits all = tt
-times_told v asked answered sender receiver time (table_told namespace create at table) fits all = tt
-times_told v asked answered sender receiver time (write_ask id turn ordered namespace statements sent) fits all = tt
-times_told v asked answered sender receiver time (write_done id dones) fits all = tt
-times_told v asked answered sender receiver time (read_ask id turn namespace at half sent) fits all = tt
-times_told v asked answered sender receiver time (half_ask id turn namespace at half documents) fits all = tt
-times_told v asked answered sender receiver time (read_rows id turn rows) fits all = tt
-times_told v asked answered sender receiver time (stale id turn met) fits all = tt
-times_told v asked answered sender receiver time (time_ask id) fits all = tt
+times_told v dated asked answered sender receiver time (table_ask namespace create at) same fits all = tt
+times_told v dated asked answered sender receiver time (table_told namespace create at table) same fits all = tt
+times_told v dated asked answered sender receiver time (write_ask id turn ordered namespace statements sent) same fits all = tt
+times_told v dated asked answered sender receiver time (write_done id dones) same fits all = tt
+times_told v dated asked answered sender receiver time (read_ask id turn namespace at half sent) same fits all = tt
+times_told v dated asked answered sender receiver time (half_ask id turn namespace at half documents) same fits all = tt
+times_told v dated asked answered sender receiver time (read_rows id turn rows) same fits all = tt
+times_told v dated asked answered sender receiver time (stale id turn met) same fits all = tt
+times_told v dated asked answered sender receiver time (time_ask id) same fits all = tt
 
 -- and continues to fit
-module _ (v w : View) (asked more : List Asked) (answered news : List Answered) (now : ℕ) (g : Grows v w asked more answered news now)
+module _ (v w : View) (dated : List Dated) (written : List Kept) (asked more : List Asked) (answered news : List Answered) (now : ℕ)
+    (g : Grows v w asked more answered news now)
     (closed : AllByRecursion (IsClosed v w) answered) where
   past_grows : (a : Asked) (time : ℕ) → IsIn a asked → IsPast v answered a time → IsPast w (answered ++ news) a time
   past_grows a time taken past = λ s write index e i before stands told. by_place s write index e before stands told (in_append s answered news i)
@@ -164,7 +183,11 @@ module _ (v w : View) (asked more : List Asked) (answered news : List Answered) 
           let came : a.came < now + 1 = all_at (λ (x : Asked). x.came < now + 1) a asked g.came taken in
           absurd (omega arith)
 
-  times_grow : (time : ℕ) (b : Body) → TimeFits v asked answered time b → TimeFits w (asked ++ more) (answered ++ news) time b
+  times_grow : (time : ℕ) (b : Body) → TimeFits v dated asked answered time b
+      → TimeFits w (dated_onto now dated written) (asked ++ more) (answered ++ news) time b
+  times_grow time (split_done id false) f = missing_grows now dated written asked more g.came id f
+  times_grow time (split_done id true) f = tt
+  times_grow time (split_ask id namespace middle) f = tt
   times_grow time (time_told id) (a, taken, own, past) = (a, in_prefix a asked more taken, own, past_grows a time taken past)
   times_grow time (table_ask namespace create at) f = tt
   times_grow time (table_told namespace create at table) f = tt
@@ -176,7 +199,8 @@ module _ (v w : View) (asked more : List Asked) (answered news : List Answered) 
   times_grow time (stale id turn met) f = tt
   times_grow time (time_ask id) f = tt
 
-  letters_grow : (given : List Given) (m : Letter) → SentFits v asked answered given m → SentFits w (asked ++ more) (answered ++ news) given m
+  letters_grow : (given : List Given) (m : Letter) → SentFits v dated asked answered given m
+      → SentFits w (dated_onto now dated written) (asked ++ more) (answered ++ news) given m
   letters_grow given m f = (letter_grows v w asked more m g.later f.0, met_later v w given m.time g.later f.1, times_grow m.time m.body f.2)
 
 -- A STEP
@@ -185,7 +209,7 @@ module _ (v w : View) (asked more : List Asked) (answered news : List Answered) 
 pub record GoodIn (v : View) (w : World) (at : ℕ) (old : Held) (f : Effect) (new : NodeState) : Type 0 where
   pub order : InOrder (slice_set w.nodes at (with_more old f.written new))
   pub nodes : EachAt (HeldFits v (asked_after w f) (answered_after w f) w.given) 0 (slice_set w.nodes at (with_more old f.written new))
-  pub letters : AllByRecursion (SentFits v (asked_after w f) (answered_after w f) w.given) (w.sent ++ f.mail)
+  pub letters : AllByRecursion (SentFits v (dated_after w f) (asked_after w f) (answered_after w f) w.given) (w.sent ++ f.mail)
   pub answers : AnswersFit v (asked_after w f) (answered_after w f) [] (answered_after w f) v.cursors
   pub decided : AllByRecursion (λ (c : Choice). IsIn c.id (ids_asked (asked_after w f))) v.chosen
   pub came : AllByRecursion (λ (a : Asked). a.came < w.now + 1) (asked_after w f)
@@ -198,8 +222,8 @@ pub record GoodIn (v : View) (w : World) (at : ℕ) (old : Held) (f : Effect) (n
 
 good_parts : (w : World) (book : Book) (at : ℕ) (old : Held) (f : Effect) (new : NodeState) (v : View) → Good w book → slice_get w.nodes at ≡ Some old
     → (owes : Owes w book at old f new) → v ≡ view_of (slice_set w.nodes at (with_more old f.written new)) (with_news book owes.news owes.cursors)
-    → Later (view_of w.nodes book) v → OwesIn v w book at old f new → GoodIn v w at old f new
-good_parts w book at old f new v good here owes is later owed =
+    → Later (view_of w.nodes book) v → changes_of (dated_after w f) ≡ changes_in v → OwesIn v w book at old f new → GoodIn v w at old f new
+good_parts w book at old f new v good here owes is later dated owed =
     let u : View = view_of w.nodes book in
     let more : List Asked = asked_by w.now f.taken in
     let news : List Answered = answered_by w.now f.replies in
@@ -232,11 +256,15 @@ good_parts w book at old f new v good here owes is later owed =
     record {
       order = order;
       nodes = nodes;
-      letters = all_append (SentFits v (asked_after w f) (answered_after w f) w.given) w.sent f.mail
-          (all_weaken (SentFits u w.asked w.answered w.given) (SentFits v (asked_after w f) (answered_after w f) w.given) w.sent
-          (λ m h. letters_grow u v w.asked more w.answered news w.now g closed w.given m h) good.letters)
-          (all_weaken (IsSaid v (asked_after w f) w.given) (SentFits v (asked_after w f) (answered_after w f) w.given) f.mail
-          (λ m h. (h.0, h.1, times_told v (asked_after w f) (answered_after w f) m.sender m.receiver m.time m.body h.0 h.2)) owed.letters);
+      letters = all_append (SentFits v (dated_after w f) (asked_after w f) (answered_after w f) w.given) w.sent f.mail
+          (all_weaken (SentFits u w.changed w.asked w.answered w.given) (SentFits v (dated_after w f) (asked_after w f) (answered_after w f) w.given) w.sent
+          (λ m h. letters_grow u v w.changed f.written w.asked more w.answered news w.now g closed w.given m h) good.letters)
+          (all_weaken (IsSaid v (asked_after w f) w.given) (SentFits v (dated_after w f) (asked_after w f) (answered_after w f) w.given) f.mail
+          (λ m h. (
+            h.0,
+            h.1,
+            times_told v (dated_after w f) (asked_after w f) (answered_after w f) m.sender m.receiver m.time m.body dated h.0 h.2,
+          )) owed.letters);
       answers = answers_joined v (asked_after w f) (answered_after w f) [] book.cursors v.cursors w.answered news
           (answers_grow u v w.asked more w.answered news w.now g closed [] book.cursors w.answered good.answers) owed.answers;
       decided = subst (λ l. AllByRecursion (λ (c : Choice). IsIn c.id (ids_asked (asked_after w f))) l) (sym (ap (λ (x : View). x.chosen) is))
@@ -271,21 +299,25 @@ good_parts w book at old f new v good here owes is later owed =
           owed.met;
     }
 
--- a step that owes what it owes keeps all facts
+-- a step that owes what it owes keeps all facts, where only the catalogue changes the catalogue
 pub good_after : (w : World) (book : Book) (at : ℕ) (old : Held) (f : Effect) (new : NodeState) → Good w book → slice_get w.nodes at ≡ Some old
+    → (at ≡ 0) ⊎ AllByRecursion IsNoChange f.written
     → (owes : Owes w book at old f new) → Good (after w at old f new) (with_news book owes.news owes.cursors)
-good_after w book at old f new good here owes =
+good_after w book at old f new good here changes owes =
     let v : View = view_of (slice_set w.nodes at (with_more old f.written new)) (with_news book owes.news owes.cursors) in
     let later : Later (view_of w.nodes book) (view_of (slice_set w.nodes at (with_more old f.written new)) (with_news book owes.news owes.cursors)) =
     views_later w.nodes at old f.written new book owes.news owes.cursors here owes.rises owes.later in
+    let dated : changes_of (dated_after w f) ≡ changes_kept (journal_at (slice_set w.nodes at (with_more old f.written new)) 0) =
+    dated_same w.now w.nodes at old f.written new w.changed here good.dated changes in
     let g : GoodIn (view_of (slice_set w.nodes at (with_more old f.written new)) (with_news book owes.news owes.cursors)) w at old f new =
-    good_parts w book at old f new v good here owes refl later
+    good_parts w book at old f new v good here owes refl later dated
     (owes.owed v later (λ p other. journal_else w.nodes at (with_more old f.written new) p other)
     (journal_here w.nodes at old (with_more old f.written new) here)
     (time_here w.nodes at old (with_more old f.written new) here) refl refl) in
     record {
       order = g.order;
       nodes = g.nodes;
+      dated = dated;
       letters = g.letters;
       answers = g.answers;
       decided = g.decided;

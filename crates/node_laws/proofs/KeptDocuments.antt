@@ -1,5 +1,5 @@
 -- The documents of a collection at a time: which entries count for them, and whose they are.
-use Rattle.std.proofs.Common.{◌≡◌, ◌≢◌, ◌⊎◌, inl, inr, ℕ, ◌≤◌, List, [], ◌∷◌, ◌++◌, refl, sym, ap, subst, ◌∙◌, arith, Bool}
+use Rattle.std.proofs.Common.{◌≡◌, ℕ, ◌≤◌, List, [], ◌∷◌, ◌++◌, refl, sym, ap, subst, ◌∙◌, arith, Bool}
 use Rattle.std.specs.Prelude.{Option, Some, None, IfSome, true, false, filter, nat_le, ◌==◌, if◌then◌else◌}
 use Rattle.std.specs.List.{All, AllByRecursion}
 use Rattle.std.specs.Map.{values_of}
@@ -16,17 +16,20 @@ use Rattle.value_model.specs.Keys.{is_key, key_of}
 use Rattle.value_model.proofs.Spans.{same_is_key}
 use Rattle.value_model.proofs.Flat.{order_total}
 use Rattle.query_model.specs.Effects.{HasSameKey, IsUnder}
-use Rattle.chunk_model.proofs.FirstTables.{every_key_at}
 use Rattle.history_model.specs.Documents.{document_under, row_written, rows_after, rows_at, documents_at}
 use Rattle.history_model.proofs.Collections.{lists_collection}
 use Rattle.history_model.proofs.Keyed.{after_under, written_is_key}
-use Rattle.history_model.proofs.Lists.{all_weaken, all_at, in_cons, in_none}
+use Rattle.history_model.proofs.Lists.{all_weaken}
 use Rattle.bson_model.specs.Tree.{Datum, Fields}
-use Rattle.chunk_model.specs.Catalogue.{Creation}
-use Rattle.chunk_model.specs.Tables.{first_table, first_shard, owner_at}
-use Rattle.history_model.specs.History.{key_written, same_key, writes_to, effect, Entry, document_after, IsIn}
-use Rattle.reply_model.specs.OneHistory.{IsPlaced, AreDifferentNames}
+use Rattle.chunk_model.specs.Changes.{Change}
+use Rattle.chunk_model.specs.Placement.{owner}
+use Rattle.chunk_model.specs.Tables.{first_shard}
+use Rattle.history_model.specs.History.{key_written, same_key, writes_to, effect, Entry, document_after}
+use Rattle.reply_model.specs.OneHistory.{IsPlaced}
+use Rattle.reply_model.specs.Right.{WasCreated}
 use Rattle.reply_model.specs.Reads.{is_on, is_owned, owned_by}
+use Rattle.node_laws.proofs.Views.{MovesNothing}
+use Rattle.node_laws.proofs.CatalogueTables.{owned_from}
 use Rattle.node_laws.proofs.Lists.{all_filtered}
 
 -- WHICH ENTRIES COUNT
@@ -72,12 +75,9 @@ documents_unchanged namespace time history more all =
 -- WHOSE DOCUMENTS THEY ARE
 
 -- a document has a key that may be one, in a collection that was created by the time
-pub record IsStanding (creations : List Creation) (namespace : List ℕ) (time : ℕ) (document : Fields) : Type 0 where
-  pub creation : Creation
+pub record IsStanding (changes : List Change) (namespace : List ℕ) (time : ℕ) (document : Fields) : Type 0 where
   pub key : Datum
-  pub begun : IsIn creation creations
-  pub name : creation.namespace ≡ namespace
-  pub before : creation.at ≤ time
+  pub created : WasCreated changes namespace time
   pub own : key_of document ≡ Some key
   pub valid : is_key key ≡ true
 
@@ -97,13 +97,13 @@ written_by P namespace key (e ∷ es) document all found =
 key_is_same : (written : Option Datum) (own key : Datum) → written ≡ Some own → same_key written (Some key) ≡ true → same_value own key ≡ true
 key_is_same written own key is same = sym (ap (λ o. same_key o (Some key)) is) ∙ same
 
-module _ (creations : List Creation) (history : List Entry) (namespace : List ℕ) (time : ℕ) (placed : AllByRecursion (IsPlaced creations) history) where
+module _ (changes : List Change) (history : List Entry) (namespace : List ℕ) (time : ℕ) (placed : AllByRecursion (IsPlaced changes) history) where
   found_stands : (q : Datum) (document : Fields) → document_after namespace (Some q) None (filter (λ (e : Entry). nat_le e.time time) history) ≡ Some document
-      → IsStanding creations namespace time document
+      → IsStanding changes namespace time document
   found_stands q document found =
-      let w = written_by (λ e. IsPlaced creations e × (nat_le e.time time ≡ true)) namespace (Some q)
+      let w = written_by (λ e. IsPlaced changes e × (nat_le e.time time ≡ true)) namespace (Some q)
       (filter (λ (e : Entry). nat_le e.time time) history) document
-      (all_filtered (IsPlaced creations) (λ (e : Entry). nat_le e.time time) history placed) found in
+      (all_filtered (IsPlaced changes) (λ (e : Entry). nat_le e.time time) history placed) found in
       let p = w.1.0 in
       let hits = both (bytes_eq w.0.namespace namespace) (same_key (key_written w.0.operation) (Some q)) w.2 in
       let same : same_value p.key q ≡ true = key_is_same (key_written w.0.operation) p.key q p.writes hits.1 in
@@ -113,77 +113,56 @@ module _ (creations : List Creation) (history : List Entry) (namespace : List �
       let early : w.0.time ≤ time = leb-true _ _ w.1.1 in
       let before = p.before in
       record {
-        creation = p.creation;
         key = under.0;
-        begun = p.begun;
-        name = p.name ∙ (bytes_eq-Decides w.0.namespace namespace).0 hits.0;
-        before = omega arith;
+        created = record {
+          creation = p.creation;
+          begun = p.begun;
+          name = p.name ∙ (bytes_eq-Decides w.0.namespace namespace).0 hits.0;
+          before = omega arith;
+        };
         own = under.1;
         valid = same_is_key under.0 q under.2 ∙ valid;
       }
 
   -- each document that is stored at a time
-  pub all_stand : AllByRecursion (IsStanding creations namespace time) (documents_at history namespace time)
+  pub all_stand : AllByRecursion (IsStanding changes namespace time) (documents_at history namespace time)
   all_stand =
       let listed = lists_collection history namespace time in
-      subst (λ l. AllByRecursion (IsStanding creations namespace time) l) (sym listed.shown)
+      subst (λ l. AllByRecursion (IsStanding changes namespace time) l) (sym listed.shown)
       (each (values_of listed.rows)
-      (All-values_from_lookup (eq_by_cmp_equiv order_total) (IsStanding creations namespace time) listed.rows
+      (All-values_from_lookup (eq_by_cmp_equiv order_total) (IsStanding changes namespace time) listed.rows
       (IsDistinct-from_sorted order _ listed.ordered) (λ q. by_found q (document_under q listed.rows) (listed.found q))))
     where
       by_found : (q : Datum) (o : Option Fields) → o ≡ document_after namespace (Some q) None (filter (λ (e : Entry). nat_le e.time time) history)
-          → IfSome o (IsStanding creations namespace time)
+          → IfSome o (IsStanding changes namespace time)
       by_found q None e = tt
       by_found q (Some document) e = found_stands q document (sym e)
 
-      each : (documents : List Fields) → All (IsStanding creations namespace time) documents → AllByRecursion (IsStanding creations namespace time) documents
+      each : (documents : List Fields) → All (IsStanding changes namespace time) documents → AllByRecursion (IsStanding changes namespace time) documents
       each [] all = tt
       each (d ∷ documents) all = (
-        All-head (IsStanding creations namespace time) d documents all,
+        All-head (IsStanding changes namespace time) d documents all,
         each documents
-            (All-tail (IsStanding creations namespace time) d documents all),
+            (All-tail (IsStanding changes namespace time) d documents all),
       )
 
 -- the first shard owned each
-owned_at_first : (creations : List Creation) (namespace : List ℕ) (shard time : ℕ) (document : Fields) (c : Creation) (key : Datum)
-    → AreDifferentNames creations
-    → IsIn c creations → c.namespace ≡ namespace → c.at ≤ time → key_of document ≡ Some key → is_key key ≡ true
-    → is_owned creations namespace shard time document ≡ (first_shard == shard)
-owned_at_first [] namespace shard time document c key names begun name before own valid = absurd (in_none c begun)
-owned_at_first (d ∷ creations) namespace shard time document c key names begun name before own valid =
-    by_place (in_cons c d creations begun) (bytes_eq d.namespace namespace) refl
-    (λ i. owned_at_first creations namespace shard time document c key names.1 i name before own valid)
-  where
-    here : d ≡ c → is_on shard (elim (key_of document) as (λ (o : Option Datum). Option ℕ) [ None ↦ None | Some k ↦ owner_at (first_table d) k time ]) ≡
-        (first_shard == shard)
-    here same =
-        ap (λ (o : Option Datum). is_on shard (elim o as (λ (x : Option Datum). Option ℕ) [ None ↦ None | Some k ↦ owner_at (first_table d) k time ])) own
-        ∙ ap (λ (x : Creation). is_on shard (owner_at (first_table x) key time)) same ∙ ap (λ o. is_on shard o) ((every_key_at c key time valid).1 before)
+owned_at_first : (changes : List Change) (namespace : List ℕ) (shard time : ℕ) (document : Fields) → AllByRecursion MovesNothing changes
+    → IsStanding changes namespace time document → is_owned changes namespace shard time document ≡ (first_shard == shard)
+owned_at_first changes namespace shard time document still s =
+    ap (λ (o : Option Datum). is_on shard (elim o as (λ (x : Option Datum). Option ℕ) [ None ↦ None | Some k ↦ owner namespace k time changes ])) s.own
+    ∙ ap (λ o. is_on shard o) (owned_from changes still namespace s.key time s.created)
 
-    by_place : (c ≡ d) ⊎ IsIn c creations → (b : Bool) → bytes_eq d.namespace namespace ≡ b
-        → (IsIn c creations → is_owned creations namespace shard time document ≡ (first_shard == shard))
-        → (if b then is_on shard (elim (key_of document) as (λ (o : Option Datum). Option ℕ) [ None ↦ None | Some k ↦ owner_at (first_table d) k time ])
-        else is_owned creations namespace shard time document) ≡ (first_shard == shard)
-    by_place (inl same) true h later = here (sym same)
-    by_place (inl same) false h later = absurd
-        (false_true (sym h ∙ (bytes_eq-Decides d.namespace namespace).1 (ap (λ (x : Creation). x.namespace) (sym same) ∙ name)))
-      where
-        false_true : false ≡ true → ⊥
-        false_true e = cc
-    by_place (inr i) true h later = absurd
-        (all_at (λ (x : Creation). x.namespace ≢ d.namespace) c creations names.0 i (name ∙ sym ((bytes_eq-Decides d.namespace namespace).0 h)))
-    by_place (inr i) false h later = later i
+abbrev pub AreOwned : List Change → (namespace : List ℕ) → (shard time : ℕ) → List Fields → Type 0
+AreOwned changes namespace shard time documents = AllByRecursion (λ d. is_owned changes namespace shard time d ≡ (first_shard == shard)) documents
 
-abbrev pub AreOwned : List Creation → (namespace : List ℕ) → (shard time : ℕ) → List Fields → Type 0
-AreOwned creations namespace shard time documents = AllByRecursion (λ d. is_owned creations namespace shard time d ≡ (first_shard == shard)) documents
-
-pub all_owned : (creations : List Creation) (history : List Entry) (namespace : List ℕ) (shard time : ℕ) → AreDifferentNames creations
-    → AllByRecursion (IsPlaced creations) history → AreOwned creations namespace shard time (documents_at history namespace time)
-all_owned creations history namespace shard time names placed =
-    all_weaken (IsStanding creations namespace time) (λ d. is_owned creations namespace shard time d ≡ (first_shard == shard))
+pub all_owned : (changes : List Change) (history : List Entry) (namespace : List ℕ) (shard time : ℕ) → AllByRecursion MovesNothing changes
+    → AllByRecursion (IsPlaced changes) history → AreOwned changes namespace shard time (documents_at history namespace time)
+all_owned changes history namespace shard time still placed =
+    all_weaken (IsStanding changes namespace time) (λ d. is_owned changes namespace shard time d ≡ (first_shard == shard))
     (documents_at history namespace time)
-    (λ d s. owned_at_first creations namespace shard time d s.creation s.key names s.begun s.name s.before s.own s.valid)
-    (all_stand creations history namespace time placed)
+    (λ d s. owned_at_first changes namespace shard time d still s)
+    (all_stand changes history namespace time placed)
 
 same_filter : {X : Type 0} (P Q : X → Bool) (t : Bool) (xs : List X) → AllByRecursion (λ x. P x ≡ t) xs → AllByRecursion (λ x. Q x ≡ t) xs
     → filter P xs ≡ filter Q xs
@@ -193,8 +172,8 @@ same_filter P Q t (x ∷ xs) p q =
     ∙ ap (λ l. if t then x ∷ l else l) (same_filter P Q t xs p.1 q.1)
     ∙ sym (ap (λ (b : Bool). if b then x ∷ filter Q xs else filter Q xs) q.0)
 
--- what a shard owned of them is the same by more collections
-pub owned_same : (old new : List Creation) (namespace : List ℕ) (shard time : ℕ) (documents : List Fields) → AreOwned old namespace shard time documents
+-- what a shard owned of them is the same by more changes
+pub owned_same : (old new : List Change) (namespace : List ℕ) (shard time : ℕ) (documents : List Fields) → AreOwned old namespace shard time documents
     → AreOwned new namespace shard time documents → owned_by new namespace shard time documents ≡ owned_by old namespace shard time documents
 owned_same old new namespace shard time documents a b =
     same_filter (is_owned new namespace shard time) (is_owned old namespace shard time) (first_shard == shard) documents b a
@@ -204,9 +183,9 @@ filter_all P [] all = refl
 filter_all P (x ∷ xs) all = ap (λ (b : Bool). if b then x ∷ filter P xs else filter P xs) all.0 ∙ ap (λ l. x ∷ l) (filter_all P xs all.1)
 
 -- the first shard owned all
-pub owned_by_first : (creations : List Creation) (history : List Entry) (namespace : List ℕ) (time : ℕ) → AreDifferentNames creations
-    → AllByRecursion (IsPlaced creations) history
-    → owned_by creations namespace first_shard time (documents_at history namespace time) ≡ documents_at history namespace time
-owned_by_first creations history namespace time names placed =
-    filter_all (is_owned creations namespace first_shard time) (documents_at history namespace time)
-    (all_owned creations history namespace first_shard time names placed)
+pub owned_by_first : (changes : List Change) (history : List Entry) (namespace : List ℕ) (time : ℕ) → AllByRecursion MovesNothing changes
+    → AllByRecursion (IsPlaced changes) history
+    → owned_by changes namespace first_shard time (documents_at history namespace time) ≡ documents_at history namespace time
+owned_by_first changes history namespace time still placed =
+    filter_all (is_owned changes namespace first_shard time) (documents_at history namespace time)
+    (all_owned changes history namespace first_shard time still placed)

@@ -1,15 +1,21 @@
 -- Tables that the catalogue had, and what they say of owners.
-use Rattle.std.proofs.Common.{◌≡◌, ◌≢◌, ◌⊎◌, inl, inr, ℕ, List, [], ◌∷◌, refl, sym, ap, subst, ◌∙◌, Bool}
+use Rattle.std.proofs.Common.{◌≡◌, ℕ, ◌≤◌, List, [], ◌∷◌, refl, sym, ap, subst, ◌∙◌, Bool}
 use Rattle.std.specs.Prelude.{Option, Some, None, true, false, if◌then◌else◌}
 use Rattle.std.specs.List.{AllByRecursion}
 use Rattle.std.specs.Str.{bytes_eq}
 use Rattle.std.proofs.lemmas.Slice.Eq.{bytes_eq-Decides}
-use Rattle.history_model.proofs.Lists.{all_at, in_first, in_later, in_none, in_cons}
-use Rattle.chunk_model.specs.Catalogue.{Creation}
-use Rattle.chunk_model.specs.Tables.{Table, table_of, with_table, is_longer}
+use Rattle.history_model.proofs.Lists.{all_at, in_first, in_later, in_back}
+use Rattle.bson_model.specs.Tree.{Datum}
+use Rattle.value_model.specs.Keys.{is_key}
+use Rattle.chunk_model.specs.Changes.{create_change, time_of}
+use Rattle.chunk_model.specs.Tables.{Table, first_shard, owner_now, owner_at, table_of, with_table, is_longer}
 use Rattle.history_model.specs.History.{IsIn}
-use Rattle.reply_model.specs.OneHistory.{AreDifferentNames}
+use Rattle.reply_model.specs.Right.{WasCreated}
 use Rattle.node_model.specs.RouterRows.{adopted}
+use Rattle.node_laws.proofs.Views.{View, changes_in, MovesNothing}
+use Rattle.node_laws.proofs.Facts.{IsKnownTable}
+use Rattle.node_laws.proofs.Lists.{all_behind}
+use Rattle.node_laws.proofs.CatalogueTables.{some_created, only_now, owns_now, only_at}
 
 pub record FoundTable (namespace : List ℕ) (tables : List Table) (t : Table) : Type 0 where
   pub stands : IsIn t tables
@@ -66,19 +72,31 @@ table_there namespace t (u ∷ tables) name = by_test (bytes_eq u.namespace t.na
         by_first true = (u, refl)
         by_first false = more
 
--- NAMES
+-- BY CHANGES
 
--- a collection has one name, and none has it beside
-pub one_creation : (c d : Creation) (creations : List Creation) → AreDifferentNames creations → IsIn c creations → IsIn d creations
-    → c.namespace ≡ d.namespace → c ≡ d
-one_creation c d [] different i j same = absurd (in_none c i)
-one_creation c d (f ∷ creations) different i j same = by_places (in_cons c f creations i) (in_cons d f creations j)
-    (λ k l. one_creation c d creations different.1 k l same)
-  where
-    by_places : (c ≡ f) ⊎ IsIn c creations → (d ≡ f) ⊎ IsIn d creations → (IsIn c creations → IsIn d creations → c ≡ d) → c ≡ d
-    by_places (inl a) (inl b) more = a ∙ sym b
-    by_places (inl a) (inr l) more = absurd (all_at (λ (e : Creation). e.namespace ≢ f.namespace) d creations different.0 l
-        (sym same ∙ ap (λ (e : Creation). e.namespace) a))
-    by_places (inr k) (inl b) more = absurd (all_at (λ (e : Creation). e.namespace ≢ f.namespace) c creations different.0 k
-        (same ∙ ap (λ (e : Creation). e.namespace) b))
-    by_places (inr k) (inr l) more = more k l
+-- a known table is that of a collection that was created by its time
+pub table_created : (v : View) (time : ℕ) (t : Table) → IsKnownTable v time t → WasCreated (changes_in v) t.namespace time
+table_created v time t k =
+    let c = some_created t.namespace k.older t k.known in
+    record {
+      creation = c.creation;
+      begun = subst (λ l. IsIn (create_change c.creation) l) (sym k.all) (in_back (create_change c.creation) k.more k.older c.begun);
+      name = c.name;
+      before = all_at (λ x. time_of x ≤ time) (create_change c.creation) k.older k.past c.begun;
+    }
+
+-- no change that made it moved a chunk
+pub older_still : (v : View) (time : ℕ) (t : Table) → (k : IsKnownTable v time t) → AllByRecursion MovesNothing k.older
+older_still v time t k = all_behind MovesNothing k.more k.older (subst (λ l. AllByRecursion MovesNothing l) k.all k.still)
+
+-- so the first shard owns all keys, now and at each time from the collection's creation on
+pub known_now : (v : View) (time : ℕ) (t : Table) (key : Datum) (shard : ℕ) → IsKnownTable v time t → is_key key ≡ true → owner_now t key ≡ Some shard
+    → shard ≡ first_shard
+known_now v time t key shard k valid owns = only_now t.namespace k.older t k.fitting (older_still v time t k) k.known key valid shard owns
+
+pub known_owned : (v : View) (time : ℕ) (t : Table) (key : Datum) → IsKnownTable v time t → is_key key ≡ true → owner_now t key ≡ Some first_shard
+known_owned v time t key k valid = owns_now t.namespace k.older t k.fitting (older_still v time t k) k.known key valid
+
+pub known_at : (v : View) (time : ℕ) (t : Table) (key : Datum) (at shard : ℕ) → IsKnownTable v time t → is_key key ≡ true
+    → owner_at t key at ≡ Some shard → shard ≡ first_shard
+known_at v time t key at shard k valid owns = only_at t.namespace k.older t k.fitting (older_still v time t k) k.known key valid at shard owns

@@ -1,7 +1,11 @@
 pub mod Views
+pub mod CatalogueTables
+pub mod SplitTables
+pub mod CatalogueAnswers
 pub mod Places
 pub mod ReadFacts
 pub mod WriteFacts
+pub mod SplitFacts
 pub mod Facts
 pub mod Owes
 pub mod Lists
@@ -9,8 +13,10 @@ pub mod SeenStatements
 pub mod Choices
 pub mod KeptDocuments
 pub mod OwnCursors
+pub mod LongerJournals
 pub mod Growth
 pub mod Journals
+pub mod Dates
 pub mod Requests
 pub mod Others
 pub mod AnswerTimes
@@ -20,6 +26,7 @@ pub mod Neighbours
 pub mod OpenRequests
 pub mod NextRequests
 pub mod KnownTables
+pub mod TableVersions
 pub mod NotedOutcomes
 pub mod ReadTimes
 pub mod RouterAsks
@@ -33,6 +40,7 @@ pub mod RouterLater
 pub mod RouterForms
 pub mod RouterMessages
 pub mod RouterReads
+pub mod RouterSplits
 pub mod RouterTakes
 pub mod RouterRows
 pub mod ServedStatements
@@ -43,6 +51,8 @@ pub mod RequestParts
 pub mod CatalogueRows
 pub mod Moments
 pub mod ShardSteps
+pub mod Causes
 pub mod ShardWrites
 pub mod ShardRows
+pub mod StepsKeep
 pub mod Runs

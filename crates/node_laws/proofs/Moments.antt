@@ -9,9 +9,9 @@ use Rattle.reply_model.specs.Exchanges.{Asked}
 use Rattle.reply_model.specs.OneHistory.{Given, last_from, last_given}
 use Rattle.node_model.specs.Letters.{Letter, Input, client_input, letter_input, moment_input, opened_input, Taken, Effect, nothing}
 use Rattle.node_model.specs.States.{Catalogue, Shard, Router, NodeState, catalogue_state, shard_state, router_state}
-use Rattle.node_model.specs.CatalogueRows.{CatalogueRow, catalogue_create, catalogue_tell, catalogue_skip, catalogue_moment, catalogue_opened, catalogue_client}
+use Rattle.node_model.specs.CatalogueRows.{CatalogueRow, catalogue_create, catalogue_tell, catalogue_split, catalogue_bound, catalogue_none, catalogue_skip, catalogue_moment, catalogue_opened, catalogue_client}
 use Rattle.node_model.specs.ShardRows.{ShardRow, shard_write, shard_repeat, shard_empty, shard_park, shard_waits, shard_stale, shard_read, shard_rows, shard_excess, shard_overflow, shard_time, shard_learn, shard_known, shard_skip, shard_moment, shard_opened, shard_client}
-use Rattle.node_model.specs.RouterRows.{RouterRow, begins, router_begin, router_opened, router_plain, router_more, router_no_cursor, router_kill, router_take, router_learn, router_reach, router_ahead, router_note, router_wrote, router_read, router_excess, router_overflow, router_late, router_skip, router_moment}
+use Rattle.node_model.specs.RouterRows.{RouterRow, begins, router_begin, router_opened, router_plain, router_more, router_no_cursor, router_kill, router_take, router_learn, router_split, router_not_sharded, router_reach, router_ahead, router_note, router_wrote, router_read, router_excess, router_overflow, router_late, router_skip, router_moment}
 use Rattle.node_model.specs.Steps.{Step, catalogue_step, shard_step, router_step, begin_step, other_step}
 use Rattle.node_model.specs.World.{World, asked_by, moment_in, Moves}
 use Rattle.node_laws.proofs.Places.{EachAt, each_get, each_set}
@@ -71,6 +71,10 @@ row_moments _ _ _ _ (router_take r link number request namespace work b p) = rec
     { me = refl; moment = refl; time = omega arith; reached = λ h. h; taken = ((refl, refl, refl), tt) }
 row_moments _ _ _ _ (router_learn r m namespace create at table says) = record
     { me = refl; moment = refl; time = omega arith; reached = λ h. omega arith; taken = tt }
+row_moments _ _ _ _ (router_split r m id q middle says o work) = record
+    { me = refl; moment = refl; time = omega arith; reached = λ h. omega arith; taken = tt }
+row_moments _ _ _ _ (router_not_sharded r m id q middle says o work) = record
+    { me = refl; moment = refl; time = omega arith; reached = λ h. omega arith; taken = tt }
 row_moments _ _ _ _ (router_reach r m id q named at stages telling says o w t le) = record
     { me = refl; moment = refl; time = omega arith; reached = λ h. omega arith; taken = tt }
 row_moments _ _ _ _ (router_ahead r m id q named at stages telling says o w t le) = record
@@ -97,7 +101,10 @@ StepMoments (shard_state s) i f (shard_state t) = f.taken ≡ []
 StepMoments s i f t = ⊥
 
 no_taken_catalogue : (c d : Catalogue) (i : Input) (f : Effect) → CatalogueRow c i f d → f.taken ≡ []
-no_taken_catalogue _ _ _ _ (catalogue_create c m namespace at says none) = refl
+no_taken_catalogue _ _ _ _ (catalogue_create c m namespace at x says new) = refl
+no_taken_catalogue _ _ _ _ (catalogue_split c m id namespace middle x says new) = refl
+no_taken_catalogue _ _ _ _ (catalogue_bound c m id namespace middle says there) = refl
+no_taken_catalogue _ _ _ _ (catalogue_none c m id namespace middle says none) = refl
 no_taken_catalogue _ _ _ _ (catalogue_tell c m namespace create at says may) = refl
 no_taken_catalogue _ _ _ _ (catalogue_skip c m skips) = refl
 no_taken_catalogue _ _ _ _ (catalogue_moment c moment) = refl

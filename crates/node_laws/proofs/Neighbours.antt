@@ -2,13 +2,14 @@
 use Rattle.std.proofs.Common.{◌≡◌, ◌≢◌, ℕ, ◌<◌, ◌≤◌, refl, sym, ap, subst, arith}
 use Rattle.std.specs.List.{AllByRecursion}
 use Rattle.history_model.proofs.Lists.{all_weaken}
-use Rattle.chunk_model.specs.Catalogue.{Creation}
+use Rattle.chunk_model.specs.Changes.{time_of}
+use Rattle.chunk_model.specs.Placement.{AreFitting}
 use Rattle.chunk_model.specs.Tables.{first_shard}
 use Rattle.history_model.specs.History.{Entry}
-use Rattle.reply_model.specs.OneHistory.{StandsInPart, IsPlaced, AreNumbered, AreDifferentNames}
-use Rattle.node_model.specs.Journal.{entries_kept, creations_kept}
+use Rattle.reply_model.specs.OneHistory.{StandsInPart, IsPlaced, AreNumbered}
+use Rattle.node_model.specs.Journal.{entries_kept, changes_kept}
 use Rattle.node_model.specs.World.{World, journal_at}
-use Rattle.node_laws.proofs.Views.{Book, View, view_of, time_at, entries_in, creations_in, Later}
+use Rattle.node_laws.proofs.Views.{Book, View, view_of, time_at, entries_in, changes_in, MovesNothing, Later}
 use Rattle.node_laws.proofs.WriteFacts.{WasMade}
 use Rattle.node_laws.proofs.Facts.{NeighboursFit, Good}
 use Rattle.node_laws.proofs.Growth.{placed_grows}
@@ -24,13 +25,14 @@ neighbours w book at v good place later others =
     (λ p. refl) good.one in
     let rises : time_at w.nodes 0 ≤ v.bound 0 = later.times 0 in
     let shard : time_at w.nodes first_shard ≤ v.bound first_shard = later.times first_shard in
-    let creations : creations_in v ≡ creations_in u = ap (λ l. creations_kept l) (others 0 (λ e. omega arith)) in
+    let changes : changes_in v ≡ changes_in u = ap (λ l. changes_kept l) (others 0 (λ e. omega arith)) in
     let entries : entries_in v first_shard ≡ entries_in u first_shard = ap (λ l. entries_kept l) (others first_shard (λ e. omega arith)) in
     record {
       begun = record {
-        names = subst (λ l. AreDifferentNames l) (sym creations) k.begun.names;
-        past = subst (λ l. AllByRecursion (λ (c : Creation). c.at ≤ v.bound 0) l) (sym creations)
-            (all_weaken (λ (c : Creation). c.at ≤ time_at w.nodes 0) (λ (c : Creation). c.at ≤ v.bound 0) (creations_in u) (λ c l. omega arith) k.begun.past);
+        fitting = subst (λ l. AreFitting l) (sym changes) k.begun.fitting;
+        past = subst (λ l. AllByRecursion (λ x. time_of x ≤ v.bound 0) l) (sym changes)
+            (all_weaken (λ x. time_of x ≤ time_at w.nodes 0) (λ x. time_of x ≤ v.bound 0) (changes_in u) (λ x l. omega arith) k.begun.past);
+        still = subst (λ l. AllByRecursion MovesNothing l) (sym changes) k.begun.still;
       };
       one = k.one;
       past = subst (λ l. AllByRecursion (λ (e : Entry). e.time ≤ v.bound first_shard) l) (sym entries)
@@ -39,6 +41,6 @@ neighbours w book at v good place later others =
       sent = subst (λ l. AllByRecursion (WasMade l w.asked) l) (sym entries) k.sent;
       numbers = subst (λ l. AreNumbered l) (sym entries) k.numbers;
       parts = subst (λ l. AllByRecursion (StandsInPart l) w.asked) (sym entries) k.parts;
-      placed = subst (λ l. AllByRecursion (IsPlaced (creations_in v)) l) (sym entries)
-          (all_weaken (IsPlaced (creations_in u)) (IsPlaced (creations_in v)) (entries_in u first_shard) (λ e p. placed_grows u v e later p) k.placed);
+      placed = subst (λ l. AllByRecursion (IsPlaced (changes_in v)) l) (sym entries)
+          (all_weaken (IsPlaced (changes_in u)) (IsPlaced (changes_in v)) (entries_in u first_shard) (λ e p. placed_grows u v e later k.begun.still p) k.placed);
     }

@@ -7,7 +7,7 @@ use Rattle.history_model.proofs.Lists.{all_at}
 use Rattle.base_model.specs.Identities.{RequestId}
 use Rattle.reply_model.specs.Exchanges.{Asked, Answered}
 use Rattle.node_model.specs.Letters.{Letter}
-use Rattle.node_model.specs.States.{Work, writing, reading, Wait, Open, Router}
+use Rattle.node_model.specs.States.{Work, writing, reading, sharding, splitting, Wait, Open, Router}
 use Rattle.node_model.specs.RouterRows.{id_of, is_ahead, with_work}
 use Rattle.node_laws.proofs.Views.{View, chosen_time, Later}
 use Rattle.node_laws.proofs.Facts.{LetterFits, WorkFits, AreSeen, HasTime, IsOpenOf, IsBy}
@@ -42,6 +42,8 @@ ahead_later a b (reading named at stages telling) le not_ahead = by_test (nat_lt
         let less : b < at = ltb-true b at h in
         absurd (omega arith)
     by_test false h = h
+ahead_later a b sharding le not_ahead = refl
+ahead_later a b (splitting middle) le not_ahead = refl
 
 -- an open request proceeds, with other work
 pub open_goes : (v : View) (asked : List Asked) (answered : List Answered) (r s : Router) (q : Open) (wait : Wait) (work : Work) → r.time ≤ s.time

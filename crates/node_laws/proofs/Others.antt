@@ -10,17 +10,18 @@ use Rattle.reply_model.specs.OneHistory.{WasWanted, IsPlaced, Given, ids_asked, 
 use Rattle.node_model.specs.Journal.{Kept}
 use Rattle.node_model.specs.Letters.{Letter}
 use Rattle.reply_model.specs.Cursors.{Cursor}
-use Rattle.node_model.specs.States.{Router, Work, writing, reading, Open, NodeState, catalogue_state, shard_state, router_state, time_of_node}
+use Rattle.node_model.specs.States.{Router, Work, writing, reading, sharding, splitting, Open, NodeState, catalogue_state, shard_state, router_state, time_of_node}
 use Rattle.node_model.specs.RouterRows.{id_of}
 use Rattle.node_model.specs.World.{Held}
-use Rattle.node_laws.proofs.Views.{Choice, View, creations_in, chosen_time, Later}
+use Rattle.node_laws.proofs.Views.{Choice, View, changes_in, chosen_time, Later}
 use Rattle.node_laws.proofs.ReadFacts.{WaitsFor, IsDecided}
 use Rattle.node_laws.proofs.WriteFacts.{WasMade}
 use Rattle.node_laws.proofs.Facts.{IsKnownTable, ParkedFits, HasTime, IsOpenOf, IsBy, ToldBelow, IsClosedOrOpen, RouterFits, StateFits, IsGiven, is_of, OwnCursors, HeldFits}
 use Rattle.node_laws.proofs.Choices.{none_longer, none_of_others, decided_stays}
 use Rattle.node_laws.proofs.OwnCursors.{same_lives}
 use Rattle.node_laws.proofs.Lists.{map_longer}
-use Rattle.node_laws.proofs.Growth.{known_grows, letter_grows, seen_grows, entry_grows, creation_wanted_grows, placed_grows, met_later}
+use Rattle.node_laws.proofs.LongerJournals.{still_grows}
+use Rattle.node_laws.proofs.Growth.{known_grows, letter_grows, seen_grows, entry_grows, change_wanted_grows, placed_grows, met_later}
 use Rattle.node_laws.proofs.Requests.{parts_grow}
 
 pub told_more : (id : RequestId) (answered news : List Answered) → IsIn id (ids_told answered) → IsIn id (ids_told (answered ++ news))
@@ -33,10 +34,14 @@ waits_grow : (v w : View) (a : Asked) (id : RequestId) (work : Work) → (chosen
 waits_grow v w a id (writing kind ordered statements answers) still f = f
 waits_grow v w a id (reading named at stages telling) still f =
     record { read = f.read; reads = f.reads; wanted = f.wanted; ahead = f.ahead; undecided = still f.undecided }
+waits_grow v w a id sharding still f = f
+waits_grow v w a id (splitting middle) still f = f
 
 pub decided_grows : (v w : View) (id : RequestId) (work : Work) → Later v w → IsDecided v id work → IsDecided w id work
 decided_grows v w id (writing kind ordered statements answers) later f = f
 decided_grows v w id (reading named at stages telling) later f = decided_stays v w id at later f
+decided_grows v w id sharding later f = f
+decided_grows v w id (splitting middle) later f = f
 
 -- an open request stays one, where the answers that are new are to others, and no time is decided for it
 pub open_grows : (v w : View) (asked more : List Asked) (answered news : List Answered) (r : Router) (q : Open) → Later v w
@@ -127,10 +132,10 @@ pub other_state : (v w : View) (asked more : List Asked) (answered news : List A
 other_state v w asked more answered news j at kept (catalogue_state c) other later decides different own told fits = record {
   own = fits.own;
   place = fits.place;
-  tables = fits.tables;
+  changes = fits.changes;
   past = fits.past;
-  names = fits.names;
-  wanted = all_weaken (WasWanted asked) (WasWanted (asked ++ more)) _ (λ c s. creation_wanted_grows asked more c s) fits.wanted;
+  fitting = fits.fitting;
+  wanted = all_weaken (WasWanted asked) (WasWanted (asked ++ more)) _ (λ x s. change_wanted_grows asked more x s) fits.wanted;
 }
 other_state v w asked more answered news j at kept (shard_state s) other later decides different own told fits = record {
   own = fits.own;
@@ -141,8 +146,9 @@ other_state v w asked more answered news j at kept (shard_state s) other later d
   sent = all_weaken (WasMade s.entries asked) (WasMade s.entries (asked ++ more)) s.entries
       (λ e h. entry_grows s.entries s.entries asked more e (λ d i. i) h) fits.sent;
   numbers = fits.numbers;
-  placed = all_weaken (IsPlaced (creations_in v)) (IsPlaced (creations_in w)) s.entries (λ e h. placed_grows v w e later h) fits.placed;
+  placed = all_weaken (IsPlaced (changes_in v)) (IsPlaced (changes_in w)) s.entries (λ e h. placed_grows v w e later fits.still h) fits.placed;
   parts = parts_grow asked more s.entries different fits.sent fits.parts;
+  still = still_grows v w later fits.still;
   tables = all_weaken (IsKnownTable v s.time) (IsKnownTable w s.time) s.tables (λ t k. known_grows v w s.time s.time t later (omega arith) k) fits.tables;
   parked = all_weaken (ParkedFits v asked s.time) (ParkedFits w (asked ++ more) s.time) s.parked
       (λ m p. parked_grows v w asked more s.time s.time m later (omega arith) p) fits.parked;

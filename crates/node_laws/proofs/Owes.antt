@@ -6,16 +6,16 @@ use Rattle.base_model.specs.Times.{time_of_moment}
 use Rattle.reply_model.specs.Cursors.{Cursor}
 use Rattle.reply_model.specs.Exchanges.{Asked, Answered}
 use Rattle.history_model.specs.History.{IsIn}
-use Rattle.reply_model.specs.OneHistory.{IsFresh, IsInOrder, Given, ids_asked, ids_told, AreDifferent}
+use Rattle.reply_model.specs.OneHistory.{IsFresh, IsInOrder, Given, ids_asked, ids_told, AreDifferent, Dated}
 use Rattle.node_model.specs.Letters.{Letter, Input, client_input, letter_input, moment_input, opened_input, Taken, Reply, Effect}
 use Rattle.node_model.specs.States.{NodeState, time_of_node}
-use Rattle.node_model.specs.World.{Held, World, asked_by, answered_by, journal_at}
+use Rattle.node_model.specs.World.{Held, World, asked_by, answered_by, dated_onto, journal_at}
 use Rattle.node_laws.proofs.Views.{Choice, Book, View, view_of, IsAbove, Later}
 use Rattle.node_laws.proofs.Facts.{LetterFits, SentFits, TellsAll, HeldFits, IsMet, AnswersFit, SameKind, is_of}
 
 -- what is known of an input: a message fits, and its time was met; so was a moment's time
 abbrev pub InputFits : World → Book → Input → Type 0
-InputFits w book (letter_input m) = SentFits (view_of w.nodes book) w.asked w.answered w.given m
+InputFits w book (letter_input m) = SentFits (view_of w.nodes book) w.changed w.asked w.answered w.given m
 InputFits w book (moment_input moment) = IsMet (view_of w.nodes book) w.given (time_of_moment moment)
 InputFits w book (client_input link number request) = Unit {0}
 InputFits w book opened_input = Unit {0}
@@ -26,9 +26,12 @@ asked_after w f = w.asked ++ asked_by w.now f.taken
 abbrev pub answered_after : World → Effect → List Answered
 answered_after w f = w.answered ++ answered_by w.now f.replies
 
+abbrev pub dated_after : World → Effect → List Dated
+dated_after w f = dated_onto w.now w.changed f.written
+
 -- a message that is sent: it fits, its time was met, and if it has a time, no entry is later
 abbrev pub IsSaid : View → List Asked → List Given → Letter → Type 0
-IsSaid v asked given m = LetterFits v asked m × IsMet v given m.time × TellsAll v m.time m.body
+IsSaid v asked given m = LetterFits v asked m × IsMet v given m.time × TellsAll v asked m.time m.body
 
 -- what the node at a place owes in a view of the world after the step
 pub record OwesIn (v : View) (w : World) (book : Book) (at : ℕ) (old : Held) (f : Effect) (new : NodeState) : Type 0 where

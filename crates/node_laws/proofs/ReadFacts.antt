@@ -4,7 +4,7 @@ use Rattle.std.specs.Prelude.{Some, None, Result, Ok, Err, Bool, true, false}
 use Rattle.std.specs.List.{AllByRecursion}
 use Rattle.std.specs.Option.{unwrap_or}
 use Rattle.bson_model.specs.Tree.{Fields}
-use Rattle.chunk_model.specs.Catalogue.{Creation}
+use Rattle.chunk_model.specs.Changes.{Change, create_change, split_change, commit_change}
 use Rattle.chunk_model.specs.Tables.{first_shard}
 use Rattle.command_model.specs.Command.{find_command, count_command, command_of}
 use Rattle.command_model.specs.Find.{Find}
@@ -19,14 +19,20 @@ use Rattle.pipeline_model.specs.Halves.{Half, Rows, IsHalf}
 use Rattle.pipeline_model.specs.Lengths.{excess_of_half}
 use Rattle.pipeline_model.specs.Split.{split}
 use Rattle.node_model.specs.Letters.{HalfFault, half_overflow, half_excess}
-use Rattle.node_model.specs.States.{Telling, in_batches, as_number, Work, writing, reading}
+use Rattle.node_model.specs.States.{Telling, in_batches, as_number, Work, writing, reading, sharding, splitting}
 use Rattle.node_model.specs.Service.{documents_at}
 use Rattle.node_model.specs.ShardRows.{IsTold}
-use Rattle.node_laws.proofs.Views.{View, entries_in, creations_in, chosen_time}
+use Rattle.node_laws.proofs.Views.{View, entries_in, changes_in, chosen_time}
+
+-- where the change creates a collection of this name, it is later than a time
+abbrev pub BeginsAfter : (namespace : List ℕ) → ℕ → Change → Type 0
+BeginsAfter namespace time (create_change c) = c.namespace ≡ namespace → time < c.at
+BeginsAfter namespace time (split_change s) = Unit {0}
+BeginsAfter namespace time (commit_change c) = Unit {0}
 
 -- no collection of this name was created at or below a time, nor will one be
 abbrev pub NoneBegan : View → (namespace : List ℕ) → ℕ → Type 0
-NoneBegan v namespace time = (time ≤ v.bound 0) × AllByRecursion (λ (c : Creation). c.namespace ≡ namespace → time < c.at) (creations_in v)
+NoneBegan v namespace time = (time ≤ v.bound 0) × AllByRecursion (BeginsAfter namespace time) (changes_in v)
 
 -- THE TIME OF A READ
 
@@ -47,10 +53,14 @@ pub record IsAwaited (v : View) (a : Asked) (id : RequestId) (at : ℕ) : Type 0
 abbrev pub WaitsFor : View → Asked → RequestId → Work → Type 0
 WaitsFor v a id (writing kind ordered statements answers) = ⊥
 WaitsFor v a id (reading named at stages telling) = IsAwaited v a id at
+WaitsFor v a id sharding = ⊥
+WaitsFor v a id (splitting middle) = ⊥
 
 abbrev pub IsDecided : View → RequestId → Work → Type 0
 IsDecided v id (writing kind ordered statements answers) = Unit {0}
 IsDecided v id (reading named at stages telling) = chosen_time id v.chosen ≡ Some at
+IsDecided v id sharding = Unit {0}
+IsDecided v id (splitting middle) = Unit {0}
 
 -- HOW IT IS RETURNED
 

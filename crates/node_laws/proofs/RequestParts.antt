@@ -3,12 +3,12 @@ use Rattle.std.proofs.Common.{◌≡◌, ◌≢◌, ℕ, ◌+◌, ◌<◌, List,
 use Rattle.std.specs.Prelude.{Option, Some, None, Result, Ok, true, false, map, length, drop, if◌then◌else◌}
 use Rattle.std.specs.List.{AllByRecursion}
 use Rattle.std.proofs.lemmas.List.{length-map}
-use Rattle.chunk_model.proofs.FirstTables.{only_now, owned_at}
+use Rattle.history_model.proofs.Keyed.{written_is_key}
 use Rattle.bson_model.specs.Tree.{Datum}
 use Rattle.command_model.specs.Writes.{ClientNumber, WriteCommand}
 use Rattle.base_model.specs.Refusals.{Refusal}
 use Rattle.command_model.specs.Command.{Command, write_command, command_of}
-use Rattle.chunk_model.specs.Tables.{Table, first_table, first_shard, owner_now}
+use Rattle.chunk_model.specs.Tables.{Table, first_shard, owner_now}
 use Rattle.history_model.specs.History.{StatementNumber, Operation, Entry, IsIn, key_written}
 use Rattle.base_model.specs.Identities.{RequestId, same_request}
 use Rattle.reply_model.specs.Exchanges.{Asked, number_for, is_session_of, entries_by}
@@ -18,8 +18,10 @@ use Rattle.reply_model.specs.OneHistory.{StandsInPart, IsPlaced, ids_asked, AreD
 use Rattle.node_model.specs.Letters.{Statement}
 use Rattle.node_model.specs.Service.{Serves}
 use Rattle.node_model.specs.RouterRows.{statements_from, owner_of_statement}
-use Rattle.node_laws.proofs.Views.{View, creations_in}
+use Rattle.node_laws.proofs.Views.{View, changes_in}
 use Rattle.node_laws.proofs.Facts.{IsOwned, IsWriteOf}
+use Rattle.node_laws.proofs.CatalogueTables.{owned_from}
+use Rattle.node_laws.proofs.KnownTables.{table_created, known_now}
 use Rattle.node_laws.proofs.Lists.{all_unmapped, all_within, all_prefix}
 use Rattle.node_laws.proofs.Growth.{entries_by_longer}
 use Rattle.reply_facts.proofs.Requests.{same_id, one_asked}
@@ -48,22 +50,28 @@ owned_key t s shard e = owned_key_by t (key_written s.operation) shard e
 
 -- currently the first shard owns all
 pub owned_by_first : (v : View) (time : ℕ) (namespace : List ℕ) (shard : ℕ) (s : Statement) → IsOwned v time namespace shard s → shard ≡ first_shard
-owned_by_first v time namespace shard s o = let k = owned_key (first_table o.creation) s shard o.owner in only_now o.creation k.key shard k.owner
+owned_by_first v time namespace shard s o =
+    let k = owned_key o.table s shard o.owner in
+    known_now v time o.table k.key shard o.known (written_is_key s.operation k.key k.writes) k.owner
 
 -- the entry of a statement that is owned is placed
 pub owned_placed : (v : View) (time : ℕ) (namespace : List ℕ) (receiver : ℕ) (e : Entry)
-    → IsEntryOf first_shard namespace (IsOwned v time namespace receiver) e → time < e.time → IsPlaced (creations_in v) e
+    → IsEntryOf first_shard namespace (IsOwned v time namespace receiver) e → time < e.time → IsPlaced (changes_in v) e
 owned_placed v time namespace receiver e (shard, name, o) later =
-    let k = owned_key (first_table o.creation) (statement_of e) receiver o.owner in
-    let begun = o.before in
+    let k = owned_key o.table (statement_of e) receiver o.owner in
+    let c = table_created v time o.table o.known in
+    let begun = c.before in
+    let named : c.creation.namespace ≡ e.namespace = c.name ∙ o.name ∙ sym name in
     record {
-      creation = o.creation;
+      creation = c.creation;
       key = k.key;
-      begun = o.begun;
-      name = o.name ∙ sym name;
+      begun = c.begun;
+      name = named;
       before = omega arith;
       writes = k.writes;
-      owner = owned_at o.creation k.key e.time receiver (omega arith) k.owner ∙ ap (λ n. Some n) (sym shard);
+      owner = owned_from (changes_in v) o.known.still e.namespace k.key e.time
+          (record { creation = c.creation; begun = c.begun; name = named; before = omega arith })
+          ∙ ap (λ n. Some n) (sym shard);
     }
 
 -- STATEMENTS OF A REQUEST

@@ -5,7 +5,7 @@ use Rattle.std.specs.List.{AllByRecursion}
 use Rattle.history_model.proofs.Lists.{all_weaken, all_at, in_push}
 use Rattle.base_model.specs.Refusals.{Refusal, time_ahead}
 use Rattle.command_model.specs.Writes.{ClientNumber, WriteCommand, WriteKind}
-use Rattle.command_model.specs.Command.{Command, hello_command, legacy_command, ping_command, end_sessions_command, write_command, find_command, count_command, more_command, kill_command, command_of}
+use Rattle.command_model.specs.Command.{Command, hello_command, legacy_command, ping_command, end_sessions_command, write_command, find_command, count_command, more_command, kill_command, shard_collection_command, split_command, command_of}
 use Rattle.command_model.specs.Answers.{Answer, hello_answer, legacy_answer, refusal_answer, answer_document}
 use Rattle.reply_model.specs.Cursors.{Cursor}
 use Rattle.chunk_model.specs.Tables.{first_shard}
@@ -326,3 +326,5 @@ plain_fits v asked told cursors a t r id silent bound answer (Ok (find_command f
 plain_fits v asked told cursors a t r id silent bound answer (Ok (count_command read)) asks moment plan document = absurd (cc)
 plain_fits v asked told cursors a t r id silent bound answer (Ok (more_command get)) asks moment plan document = absurd (cc)
 plain_fits v asked told cursors a t r id silent bound answer (Ok (kill_command kill)) asks moment plan document = absurd (cc)
+plain_fits v asked told cursors a t r id silent bound answer (Ok (shard_collection_command namespace)) asks moment plan document = absurd (cc)
+plain_fits v asked told cursors a t r id silent bound answer (Ok (split_command split)) asks moment plan document = absurd (cc)

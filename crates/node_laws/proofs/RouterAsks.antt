@@ -4,13 +4,11 @@ use Rattle.std.specs.Prelude.{Option, Some, None, true, false, drop, length, if�
 use Rattle.std.specs.List.{AllByRecursion}
 use Rattle.std.proofs.lemmas.Bool.{eqb-true, ltb-false}
 use Rattle.history_model.proofs.Lists.{all_weaken, all_at}
-use Rattle.chunk_model.proofs.FirstTables.{only_at}
+use Rattle.command_model.proofs.Taken.{middle_is_key}
 use Rattle.bson_model.specs.Tree.{null_value}
-use Rattle.chunk_model.specs.Catalogue.{Creation}
-use Rattle.value_model.specs.Keys.{Span}
 use Rattle.pipeline_model.specs.Stages.{Stage}
 use Rattle.pipeline_model.specs.Split.{split}
-use Rattle.chunk_model.specs.Tables.{Table, first_table, first_shard, table_of}
+use Rattle.chunk_model.specs.Tables.{Table, first_shard, table_of}
 use Rattle.chunk_model.specs.Verdicts.{sent_by}
 use Rattle.command_model.specs.Writes.{WriteKind}
 use Rattle.history_model.specs.History.{IsIn}
@@ -19,9 +17,9 @@ use Rattle.reply_model.specs.Exchanges.{Asked, Answered}
 use Rattle.reply_model.specs.Outcomes.{Done}
 use Rattle.reply_model.specs.OneHistory.{Given}
 use Rattle.node_model.specs.Letters.{Statement, write_ask, read_ask, Letter}
-use Rattle.node_model.specs.States.{Telling, Work, writing, reading, Wait, for_time, for_table, for_shards, Open, Router}
+use Rattle.node_model.specs.States.{Telling, Work, writing, reading, sharding, splitting, Wait, for_time, for_catalogue, for_shards, Open, Router}
 use Rattle.node_model.specs.RouterRows.{id_of, owner_of_statement, owner_of_span, is_on, run_to, unanswered, asks_to_write, asks_to_read, asks_shards}
-use Rattle.node_model.specs.RouterRows.{asks_table, is_enough, enough_of, table_for, asks_times, is_ahead, asks_by, asks_for, asks_again, says}
+use Rattle.node_model.specs.RouterRows.{asks_catalogue, is_enough, enough_of, table_for, asks_times, is_ahead, asks_by, asks_for, asks_again, says}
 use Rattle.node_laws.proofs.Views.{View}
 use Rattle.node_laws.proofs.ReadFacts.{IsDecided, IsReadOf}
 use Rattle.node_laws.proofs.Facts.{IsKnownTable, IsOwned, IsWriteOf, WorkFits, AreSeen, HasTime, IsOpenOf, IsMet}
@@ -29,7 +27,7 @@ use Rattle.node_laws.proofs.Owes.{IsSaid}
 use Rattle.node_laws.proofs.Growth.{seen_grows}
 use Rattle.node_laws.proofs.Journals.{later_self}
 use Rattle.node_laws.proofs.ReadTimes.{reads_of}
-use Rattle.node_laws.proofs.KnownTables.{FoundTable, table_found}
+use Rattle.node_laws.proofs.KnownTables.{FoundTable, table_found, known_at}
 
 -- the request with this number, taken by this time, has this work to do
 pub record IsAsking (v : View) (asked : List Asked) (id : RequestId) (time : ℕ) (namespace : List ℕ) (work : Work) : Type 0 where
@@ -80,17 +78,7 @@ run_owned t shard (s ∷ statements) = by_test (is_on shard (owner_of_statement 
 
 owned_by : (v : View) (time : ℕ) (namespace : List ℕ) (shard : ℕ) (t : Table) (s : Statement) → IsKnownTable v time t → t.namespace ≡ namespace
     → owner_of_statement t s ≡ Some shard → IsOwned v time namespace shard s
-owned_by v time namespace shard t s k name owner = record {
-  creation = k.creation;
-  begun = k.begun;
-  name = sym (ap (λ (u : Table). u.namespace) k.table) ∙ name;
-  before = k.before;
-  owner = subst (λ u. owner_of_statement u s ≡ Some shard) k.table owner;
-}
-
--- currently one shard owns a span
-pub only_span : (c : Creation) (at shard : ℕ) (span : List Span) → owner_of_span (first_table c) at span ≡ Some shard → shard ≡ first_shard
-only_span c at shard span e = (only_at c null_value at shard e).0
+owned_by v time namespace shard t s k name owner = record { table = t; known = k; name = name; owner = owner }
 
 module _ (v : View) (asked : List Asked) (given : List Given) (r : Router) (time : ℕ) (met : IsMet v given time) where
   -- WHAT IS REQUESTED OF SHARDS
@@ -159,8 +147,7 @@ module _ (v : View) (asked : List Asked) (given : List Given) (r : Router) (time
           ])
       by_owner None h = tt
       by_owner (Some shard) h =
-          let first : shard ≡ first_shard = only_span k.creation at shard (split stages).0.span
-          (subst (λ u. owner_of_span u at (split stages).0.span ≡ Some shard) k.table h) in
+          let first : shard ≡ first_shard = known_at v time t null_value at shard k refl h in
           (((read, ltb-false time at reached, first), met, tt), tt)
 
   pub shards_fit : (count : ℕ) (namespace : List ℕ) (t : Table) (work : Work) → IsAsking v asked (id_of r count) time namespace work → IsKnownTable v time t
@@ -168,15 +155,35 @@ module _ (v : View) (asked : List Asked) (given : List Given) (r : Router) (time
   shards_fit count namespace t (writing kind ordered statements answers) a k name reached =
       writes_fit (id_of r count) namespace t kind ordered statements answers (unanswered statements answers) a k name refl
   shards_fit count namespace t (reading named at stages telling) a k name reached = reads_fit (id_of r count) namespace t named at stages telling a k reached
+  shards_fit count namespace t sharding a k name reached = tt
+  shards_fit count namespace t (splitting middle) a k name reached = tt
 
   -- WHAT IS REQUESTED OF THE CATALOGUE
 
-  pub table_ask_fits : (id : RequestId) (namespace : List ℕ) (work : Work) → IsAsking v asked id time namespace work → is_ahead time work ≡ false
-      → IsSaid v asked given (asks_table r time namespace work)
-  table_ask_fits id namespace (writing kind ordered statements answers) a reached =
-      let work = a.does in
-      ((tt, record { request = a.request; taken = a.taken; writes = record { write = work.0; asks = work.1; name = sym work.3 }; past = a.past }), met, tt)
-  table_ask_fits id namespace (reading named at stages telling) a reached = (ltb-false time at reached, met, tt)
+  pub catalogue_ask_fits : (count : ℕ) (namespace : List ℕ) (work : Work) → IsAsking v asked (id_of r count) time namespace work
+      → is_ahead time work ≡ false
+      → IsSaid v asked given (asks_catalogue r time count namespace work)
+  catalogue_ask_fits count namespace (writing kind ordered statements answers) a reached =
+      let work = a.does in (
+        (tt, record { request = a.request; taken = a.taken; asks = inl (record { write = work.0; asks = work.1; name = sym work.3 }); past = a.past }),
+        met,
+        tt,
+      )
+  catalogue_ask_fits count namespace (reading named at stages telling) a reached = (ltb-false time at reached, met, tt)
+  catalogue_ask_fits count namespace sharding a reached =
+      ((tt, record { request = a.request; taken = a.taken; asks = inr a.does; past = a.past }), met, tt)
+  catalogue_ask_fits count namespace (splitting middle) a reached = (
+    record {
+      request = a.request;
+      taken = a.taken;
+      own = a.own;
+      asks = a.does;
+      key = middle_is_key a.request.request (record { namespace = namespace; middle = middle }) a.does;
+      past = a.past;
+    },
+    met,
+    tt,
+  )
 
   -- WHAT A REQUEST REQUESTS
 
@@ -199,7 +206,7 @@ module _ (v : View) (asked : List Asked) (given : List Given) (r : Router) (time
     where
       by_table : (table : Option Table) → table_for r.tables namespace work ≡ table → is_ahead time work ≡ false
           → AllByRecursion (IsSaid v asked given) (asks_by r time count namespace work table)
-      by_table None h reached = (table_ask_fits (id_of r count) namespace work a reached, tt)
+      by_table None h reached = (catalogue_ask_fits count namespace work a reached, tt)
       by_table (Some t) h reached =
           let f = table_for_found r.tables namespace work t h in
           shards_fit count namespace t work a (all_at (IsKnownTable v time) t r.tables known f.stands) f.name reached
@@ -237,11 +244,11 @@ module _ (v : View) (asked : List Asked) (given : List Given) (r : Router) (time
 
       by_wait : (wait : Wait) → q.wait ≡ wait → AllByRecursion (IsSaid v asked given) (elim wait as (λ (w : Wait). List Letter) [
         | for_time ↦ asks_times r time (id_of r q.count)
-        | for_table ↦ asks_table r time q.namespace q.work ∷ []
+        | for_catalogue ↦ asks_catalogue r time q.count q.namespace q.work ∷ []
         | for_shards ↦ elim (table_of q.namespace r.tables) [ None ↦ [] | Some t ↦ asks_shards r time q.count q.namespace t q.work ]
       ])
       by_wait for_time h = ((record { request = request; taken = taken; own = own }, met, tt), tt)
-      by_wait for_table h =
-          let n = not_time for_table h (λ e. cc) in
-          (table_ask_fits (id_of r q.count) q.namespace q.work (asking n.1) n.0, tt)
+      by_wait for_catalogue h =
+          let n = not_time for_catalogue h (λ e. cc) in
+          (catalogue_ask_fits q.count q.namespace q.work (asking n.1) n.0, tt)
       by_wait for_shards h = by_table (table_of q.namespace r.tables) refl (not_time for_shards h (λ e. cc))

@@ -18,7 +18,7 @@ use Rattle.reply_model.specs.Outcomes.{Done, answer_of}
 use Rattle.node_model.specs.Journal.{Kept, entries_kept}
 use Rattle.node_model.specs.Letters.{At, Statement, Body, table_told, write_done, time_told, Letter, Reply}
 use Rattle.node_model.specs.States.{Telling, writing, reading, for_time, Open, Router, router_state, replaced, without}
-use Rattle.node_model.specs.RouterRows.{id_of, heard, as_before, reached, asks_for, going_on, noted, is_answered, reply_to, adopted, next_of, Next}
+use Rattle.node_model.specs.RouterRows.{id_of, heard, as_before, reached, asks_for, going_on, noted, is_answered, reply_to, adopted, next_of, was_created, Next}
 use Rattle.node_model.specs.World.{World, answered_by}
 use Rattle.reply_facts.proofs.Requests.{one_asked}
 use Rattle.node_laws.proofs.Views.{Book, View, view_of, entries_in, chosen_time}
@@ -43,11 +43,11 @@ use Rattle.node_laws.proofs.RouterLater.{goes_to, tells, goes_owes}
 use Rattle.node_laws.proofs.RouterForms.{not_ahead, GoesOn, IsBehind, around, each_open, known_tables, came_by, turns_stay, quiet, goes_on_owes, told_owes}
 
 -- what becomes of each open request where a message carries a table
-abbrev next_by : Router → Letter → Option Table → (namespace : List ℕ) → At → Open → Next
-next_by r m table namespace told q = next_of r (heard r m) (adopted table r.tables) namespace told q
+abbrev next_by : Router → Letter → Option Table → (namespace : List ℕ) → (create : Bool) → At → Open → Next
+next_by r m table namespace create told q = next_of r (heard r m) (adopted table r.tables) namespace (was_created create table) told q
 
-abbrev learns : Router → Letter → Option Table → (namespace : List ℕ) → At → Router
-learns r m table namespace told = goes_to r (heard r m) r.moment (adopted table r.tables) (left_by (next_by r m table namespace told) r.requests) (as_before r)
+abbrev learns : Router → Letter → Option Table → (namespace : List ℕ) → (create : Bool) → At → Router
+learns r m table namespace create told = goes_to r (heard r m) r.moment (adopted table r.tables) (left_by (next_by r m table namespace create told) r.requests) (as_before r)
 
 -- answers that leave the cursors
 all_same : (v : View) (asked : List Asked) (said : List Answered) (cursors : List Cursor) (now : ℕ) (replies : List Reply)
@@ -76,7 +76,7 @@ not_others r count at n other =
 
 module _ (w : World) (book : Book) (at : ℕ) (kept : List Kept) (r : Router) (good : Good w book)
     (h : HeldFits (view_of w.nodes book) w.asked w.answered w.given at (record { state = router_state r; kept = kept }))
-    (m : Letter) (comes : SentFits (view_of w.nodes book) w.asked w.answered w.given m) where
+    (m : Letter) (comes : SentFits (view_of w.nodes book) w.changed w.asked w.answered w.given m) where
   abbrev Behind : View → Type 0
   Behind v = IsBehind w book at kept r good h v
 
@@ -106,43 +106,43 @@ module _ (w : World) (book : Book) (at : ℕ) (kept : List Kept) (r : Router) (g
 
   pub learn_owes : (namespace : List ℕ) (create : Bool) (told : At) (table : Option Table) → m.body ≡ table_told namespace create told table
       → Owes w book at (record { state = router_state r; kept = kept })
-      (tells (as_before r) (sent_by (next_by r m table namespace told) r.requests) (told_by (next_by r m table namespace told) r.requests))
-      (router_state (learns r m table namespace told))
+      (tells (as_before r) (sent_by (next_by r m table namespace create told) r.requests) (told_by (next_by r m table namespace create told) r.requests))
+      (router_state (learns r m table namespace create told))
   learn_owes namespace create told table says =
-      let said : List Answered = w.answered ++ answered_by w.now (told_by (next_by r m table namespace told) r.requests) in
-      goes_owes w book at r h.state good kept (heard r m) r.moment (adopted table r.tables) (left_by (next_by r m table namespace told) r.requests)
+      let said : List Answered = w.answered ++ answered_by w.now (told_by (next_by r m table namespace create told) r.requests) in
+      goes_owes w book at r h.state good kept (heard r m) r.moment (adopted table r.tables) (left_by (next_by r m table namespace create told) r.requests)
       (as_before r)
-      (sent_by (next_by r m table namespace told) r.requests) (told_by (next_by r m table namespace told) r.requests) later met_time
-      (parted_next r w.now (next_by r m table namespace told)
-      (λ q. next_keeps r (heard r m) (adopted table r.tables) namespace told q) r.requests h.state.different)
-      (quiet w book at kept r good h (heard r m) r.moment (adopted table r.tables) (left_by (next_by r m table namespace told) r.requests) later)
+      (sent_by (next_by r m table namespace create told) r.requests) (told_by (next_by r m table namespace create told) r.requests) later met_time
+      (parted_next r w.now (next_by r m table namespace create told)
+      (λ q. next_keeps r (heard r m) (adopted table r.tables) namespace (was_created create table) told q) r.requests h.state.different)
+      (quiet w book at kept r good h (heard r m) r.moment (adopted table r.tables) (left_by (next_by r m table namespace create told) r.requests) later)
       (λ v grows others chosen cursors.
       let fit : TableFits v m.time namespace told table = body_in v (grows, others) (table_told namespace create told table) says in
       let known = adopts v (grows, others) namespace told table fit in
       let n = around w book at kept r good h v (grows, others) in
-      let all = each_next (IsOpenOf v w.asked w.answered (learns r m table namespace told)) (IsSaid v w.asked w.given)
-      (IsToldRightly v w.asked said book.cursors (heard r m) w.now) (next_by r m table namespace told) r.requests
+      let all = each_next (IsOpenOf v w.asked w.answered (learns r m table namespace create told)) (IsSaid v w.asked w.given)
+      (IsToldRightly v w.asked said book.cursors (heard r m) w.now) (next_by r m table namespace create told) r.requests
       (all_weaken (IsOpenOf v w.asked w.answered r)
-      (λ q. NextIs (IsOpenOf v w.asked w.answered (learns r m table namespace told)) (IsSaid v w.asked w.given)
+      (λ q. NextIs (IsOpenOf v w.asked w.answered (learns r m table namespace create told)) (IsSaid v w.asked w.given)
       (IsToldRightly v w.asked said book.cursors (heard r m) w.now)
-      (next_by r m table namespace told q)) r.requests
-      (λ q o. next_fits v w.asked w.answered said book.cursors w.given r (learns r m table namespace told) w.now m.time namespace told table r.tables n
+      (next_by r m table namespace create told q)) r.requests
+      (λ q o. next_fits v w.asked w.answered said book.cursors w.given r (learns r m table namespace create told) w.now m.time namespace create told table r.tables n
       (met_later (view_of w.nodes book) v w.given (heard r m) grows met_time) later fit known q o (came_by w book at kept r good h o.request o.taken))
       (each_open w book at kept r good h v (grows, others) chosen)) in
       record {
         tables = known;
         requests = all.stay;
         letters = all.ask;
-        answers = subst (λ l. AnswersFit v w.asked said book.cursors (answered_by w.now (told_by (next_by r m table namespace told) r.requests)) l)
+        answers = subst (λ l. AnswersFit v w.asked said book.cursors (answered_by w.now (told_by (next_by r m table namespace create told) r.requests)) l)
             (sym cursors)
-            (all_same v w.asked said book.cursors w.now (told_by (next_by r m table namespace told) r.requests)
+            (all_same v w.asked said book.cursors w.now (told_by (next_by r m table namespace create told) r.requests)
             (all_weaken (IsToldRightly v w.asked said book.cursors (heard r m) w.now)
             (λ x. AnswerFits v w.asked said book.cursors (as_answered w.now x) book.cursors)
-            (told_by (next_by r m table namespace told) r.requests) (λ x t. t.0) all.tell));
+            (told_by (next_by r m table namespace create told) r.requests) (λ x t. t.0) all.tell));
         below = all_weaken (IsToldRightly v w.asked said book.cursors (heard r m) w.now) (λ x. ToldBelow (heard r m) (as_answered w.now x))
-            (told_by (next_by r m table namespace told) r.requests) (λ x t. t.1) all.tell;
+            (told_by (next_by r m table namespace create told) r.requests) (λ x t. t.1) all.tell;
         times = all_weaken (IsToldRightly v w.asked said book.cursors (heard r m) w.now) (λ (x : Reply). x.time ≡ heard r m)
-            (told_by (next_by r m table namespace told) r.requests) (λ x t. t.2) all.tell;
+            (told_by (next_by r m table namespace create told) r.requests) (λ x t. t.2) all.tell;
       })
 
   -- A TIME
@@ -206,8 +206,8 @@ module _ (w : World) (book : Book) (at : ℕ) (kept : List Kept) (r : Router) (g
   -- the shard's time came after the request, so that of no write that was answered before is an entry later
   told_before : (v : View) → Behind v → (id : RequestId) → m.body ≡ time_told id → (a : Asked) → IsIn a w.asked → a.id ≡ id → IsPast v w.answered a m.time
   told_before v behind id says a taken own =
-      let t : TimeFits (view_of w.nodes book) w.asked w.answered m.time (time_told id) = subst
-      (λ b. TimeFits (view_of w.nodes book) w.asked w.answered m.time b) says comes.2 in
+      let t : TimeFits (view_of w.nodes book) w.changed w.asked w.answered m.time (time_told id) = subst
+      (λ b. TimeFits (view_of w.nodes book) w.changed w.asked w.answered m.time b) says comes.2 in
       let same : t.0 ≡ a = one_asked t.0 a w.asked good.one t.1 taken (t.2 ∙ sym own) in
       let entries : entries_in v first_shard ≡ entries_in (view_of w.nodes book) first_shard =
       ap (λ l. entries_kept l) (behind.1 first_shard (λ e. let place = h.state.place in omega (arith, e, place))) in

@@ -56,7 +56,7 @@ record ReadIn (v : View) (a : Asked) (namespace : List ℕ) (named : Bool) (time
 
 module _ (w : World) (book : Book) (at : ℕ) (kept : List Kept) (r : Router) (good : Good w book)
     (h : HeldFits (view_of w.nodes book) w.asked w.answered w.given at (record { state = router_state r; kept = kept }))
-    (m : Letter) (comes : SentFits (view_of w.nodes book) w.asked w.answered w.given m) where
+    (m : Letter) (comes : SentFits (view_of w.nodes book) w.changed w.asked w.answered w.given m) where
   -- the time of a read that rows are sent for is decided
   decided_of : (v : View) (q : Open) (a : Asked) (named : Bool) (time other : ℕ) (stages : List Stage) (telling : Telling)
       → q.work ≡ reading named time stages telling

@@ -11,7 +11,7 @@ use Rattle.command_model.specs.KillCursors.{KillCursors}
 use Rattle.opmsg_model.specs.Requests.{Request}
 use Rattle.base_model.specs.Errors.{cursor_not_found}
 use Rattle.base_model.specs.Refusals.{Refusal, cursor_evidence}
-use Rattle.command_model.specs.Command.{Command, hello_command, legacy_command, ping_command, end_sessions_command, write_command, find_command, count_command, more_command, kill_command, command_of}
+use Rattle.command_model.specs.Command.{Command, hello_command, legacy_command, ping_command, end_sessions_command, write_command, find_command, count_command, more_command, kill_command, shard_collection_command, split_command, command_of}
 use Rattle.command_model.specs.Reading.{Reading}
 use Rattle.command_model.specs.Answers.{Answer, next_answer, killed_answer, refusal_answer, answer_document}
 use Rattle.reply_model.specs.Cursors.{Cursor, open_cursor, with_remaining, ShowsNext, Kills}
@@ -21,8 +21,8 @@ use Rattle.reply_model.specs.Exchanges.{Asked, Answered}
 use Rattle.reply_model.specs.Right.{asks_for_one, usual_size, unless_silent, right_more, right_no_cursor, right_kill}
 use Rattle.node_model.specs.Journal.{Kept}
 use Rattle.node_model.specs.Letters.{Input, Reply, Effect}
-use Rattle.node_model.specs.States.{Telling, in_batches, as_number, Work, writing, reading, for_time, Open, Router, router_state}
-use Rattle.node_model.specs.RouterRows.{id_of, heard, is_ahead, table_for, wait_by, wait_of, asks_for, RequestPlan, at_once, needs, needs_batch, needs_end, plan_of, plan_read, opened_request, taken_now, RouterRow, router_begin, router_opened, router_plain, router_more, router_no_cursor, router_kill, router_take, router_learn, router_reach, router_ahead, router_note, router_wrote, router_read, router_excess, router_overflow, router_late, router_skip, router_moment}
+use Rattle.node_model.specs.States.{Telling, in_batches, as_number, Work, writing, reading, sharding, splitting, for_time, Open, Router, router_state}
+use Rattle.node_model.specs.RouterRows.{id_of, heard, is_ahead, table_for, wait_by, wait_of, asks_for, RequestPlan, at_once, needs, needs_batch, needs_end, plan_of, plan_read, opened_request, taken_now, RouterRow, router_begin, router_opened, router_plain, router_more, router_no_cursor, router_kill, router_take, router_learn, router_split, router_not_sharded, router_reach, router_ahead, router_note, router_wrote, router_read, router_excess, router_overflow, router_late, router_skip, router_moment}
 use Rattle.node_model.specs.World.{World}
 use Rattle.node_laws.proofs.Views.{Choice, Book, View, view_of, chosen_time}
 use Rattle.node_laws.proofs.ReadFacts.{is_named, WaitsFor, IsDecided, IsTelling, tells_find, tells_count}
@@ -42,6 +42,7 @@ use Rattle.node_laws.proofs.RouterLater.{told_now}
 use Rattle.node_laws.proofs.RouterForms.{waits_not, known_tables, stays_owes, again_owes}
 use Rattle.node_laws.proofs.RouterMessages.{heard_met, learn_owes, reach_owes, ahead_owes, note_owes, wrote_owes}
 use Rattle.node_laws.proofs.RouterReads.{read_owes, much_owes, none_overflows}
+use Rattle.node_laws.proofs.RouterSplits.{split_owes, unsplit_owes}
 use Rattle.node_laws.proofs.RouterTakes.{asked_now, took, counts_behind, new_answer, undecided, begin_owes, takes_owes}
 
 -- WORK THAT IS PLANNED
@@ -101,20 +102,30 @@ module _ (v : View) (r : Router) (a : Asked) (time : a.time ≡ r.time) where
       (planned_read find.reading (in_batches (unwrap_or find.batches.size usual_size) (asks_for_one find.batches a.request)) (tells_find find asks)))
   planned silent namespace work (Ok (count_command read)) asks more plan =
       subst (λ p. IsPlanned v r a p) plan (planned_read read as_number (tells_count read asks))
+  planned silent namespace work (Ok (shard_collection_command name)) asks more plan =
+      subst (λ p. IsPlanned v r a p) plan (asks, tt, λ ahead undecided. absurd (cc))
+  planned silent namespace work (Ok (split_command split)) asks more plan =
+      subst (λ p. IsPlanned v r a p) plan (asks, tt, λ ahead undecided. absurd (cc))
 
 -- the time of a read that can proceed
 abbrev pub choice_of : RequestId → Work → List Choice
 choice_of id (writing kind ordered statements answers) = []
 choice_of id (reading named at stages telling) = record { id = id; at = at } ∷ []
+choice_of id sharding = []
+choice_of id (splitting middle) = []
 
 choice_own : (id : RequestId) (work : Work) → AllByRecursion (λ (c : Choice). c.id ≡ id) (choice_of id work)
 choice_own id (writing kind ordered statements answers) = tt
 choice_own id (reading named at stages telling) = (refl, tt)
+choice_own id sharding = tt
+choice_own id (splitting middle) = tt
 
 choice_decides : (v : View) (id : RequestId) (old : List Choice) (work : Work) → chosen_time id old ≡ None → v.chosen ≡ old ++ choice_of id work
     → IsDecided v id work
 choice_decides v id old (writing kind ordered statements answers) none same = tt
 choice_decides v id old (reading named at stages telling) none same = ap (λ l. chosen_time id l) same ∙ chosen_last id at old none
+choice_decides v id old sharding none same = tt
+choice_decides v id old (splitting middle) none same = tt
 
 module _ (w : World) (book : Book) (at : ℕ) (kept : List Kept) (r : Router) (good : Good w book)
     (h : HeldFits (view_of w.nodes book) w.asked w.answered w.given at (record { state = router_state r; kept = kept }))
@@ -194,6 +205,8 @@ module _ (w : World) (book : Book) (at : ℕ) (kept : List Kept) (r : Router) (g
   batch_asked get (Ok (count_command read)) e = absurd (cc)
   batch_asked get (Ok (more_command own)) e = let same : own ≡ get = cc in ap (λ g. Ok (more_command g)) same
   batch_asked get (Ok (kill_command kill)) e = absurd (cc)
+  batch_asked get (Ok (shard_collection_command namespace)) e = absurd (cc)
+  batch_asked get (Ok (split_command split)) e = absurd (cc)
 
   end_asked : (kill : KillCursors) (command : Result Command Refusal) → plan_of r (id_of r (r.count + 1)) request.more command ≡ needs_end kill
       → command ≡ Ok (kill_command kill)
@@ -206,6 +219,8 @@ module _ (w : World) (book : Book) (at : ℕ) (kept : List Kept) (r : Router) (g
   end_asked kill (Ok (find_command find)) e = absurd (cc)
   end_asked kill (Ok (count_command read)) e = absurd (cc)
   end_asked kill (Ok (more_command get)) e = absurd (cc)
+  end_asked kill (Ok (shard_collection_command namespace)) e = absurd (cc)
+  end_asked kill (Ok (split_command split)) e = absurd (cc)
   end_asked kill (Ok (kill_command own)) e = let same : own ≡ kill = cc in ap (λ k. Ok (kill_command k)) same
 
   -- the cursor among those of all
@@ -369,6 +384,10 @@ router_owes w book at kept _ _ _ _ good here h comes
     (router_take r link number request namespace work begun plan) = take_owes w book at kept r good h link number request begun namespace work plan
 router_owes w book at kept _ _ _ _ good here h comes
     (router_learn r m namespace create told table says) = learn_owes w book at kept r good h m comes namespace create told table says
+router_owes w book at kept _ _ _ _ good here h comes (router_split r m id q middle says found work) =
+    split_owes w book at kept r good h m comes id q middle says (open_of_found r id q found) work
+router_owes w book at kept _ _ _ _ good here h comes (router_not_sharded r m id q middle says found work) =
+    unsplit_owes w book at kept r good h m comes id q middle (open_of_found r id q found) work
 router_owes w book at kept _ _ _ _ good here h comes (router_reach r m id q named time stages telling says found work wait reached) =
     reach_owes w book at kept r good h m comes q named time stages telling (open_of_found r id q found).stands work wait reached
 router_owes w book at kept _ _ _ _ good here h comes (router_ahead r m id q named time stages telling says found work wait ahead) =

@@ -1,238 +1,26 @@
 -- Every run keeps all facts, and so makes one history.
-use Rattle.std.proofs.Common.{◌≡◌, ℕ, zero, suc, ◌+◌, ◌<◌, List, [], ◌∷◌, ◌++◌, refl, sym, ap, subst, ◌∙◌, arith, append-nil, append_assoc, inl, inr}
-use Rattle.std.specs.Prelude.{Some}
-use Rattle.std.specs.List.{AllByRecursion, slice_get, slice_set}
-use Rattle.reply_facts.proofs.Statements.{on_first}
-use Rattle.history_model.proofs.Lists.{all_weaken, all_both, all_at, in_back, in_first}
-use Rattle.base_model.specs.Times.{time_of_moment}
+use Rattle.std.proofs.Common.{◌≡◌, ℕ, zero, suc, ◌+◌, ◌<◌, List, [], ◌∷◌, refl, sym, ap, subst, ◌∙◌, arith, inl}
+use Rattle.std.specs.List.{AllByRecursion}
+use Rattle.history_model.proofs.Lists.{all_weaken, all_both, all_at}
+use Rattle.chunk_model.specs.Placement.{AreFitting}
 use Rattle.chunk_model.specs.Tables.{first_shard}
 use Rattle.history_model.specs.History.{Entry, IsIn, Legal}
 use Rattle.reply_model.specs.Exchanges.{Asked, Answered}
-use Rattle.reply_model.specs.OneHistory.{WasSent, AreNumbered, IsReached, WasWanted, StandsInPart, IsPlaced, AreRight, nothing_told, then_told, AreDifferentNames, Given, IsKnown, OneHistory}
+use Rattle.reply_model.specs.OneHistory.{WasSent, AreNumbered, IsReached, WasWanted, StandsInPart, IsPlaced, AreRight, nothing_told, then_told, Given, IsKnown, OneHistory, changes_in as changes_of}
 use Rattle.reply_model.specs.Cursors.{Cursor}
-use Rattle.node_model.specs.Journal.{Kept, kept_life, entries_kept, creations_kept}
-use Rattle.node_model.specs.Letters.{Input, client_input, letter_input, moment_input, opened_input, Taken, Reply, Effect, nothing, writes, both}
-use Rattle.node_model.specs.States.{Catalogue, NodeState, catalogue_state, shard_state, router_state, time_of_node, new_router}
-use Rattle.node_model.specs.RouterRows.{begins, router_begin}
-use Rattle.node_model.specs.Steps.{Step, catalogue_step, shard_step, router_step, begin_step, other_step, BeginsBefore}
-use Rattle.node_model.specs.World.{Held, World, asked_by, answered_by, after, moment_in, is_given, tick, Moves, Event, Happens, comes, delivers, passes, begins as was_opened, Run, stands, goes, routers_from, start, journal_at}
-use Rattle.node_laws.proofs.Views.{Book, View, view_of, entries_in, creations_in, Later}
-use Rattle.node_laws.proofs.Places.{EachAt, each_get, each_weaken}
+use Rattle.node_model.specs.Journal.{Kept, entries_kept, changes_kept}
+use Rattle.node_model.specs.States.{Catalogue, NodeState, catalogue_state, shard_state, router_state, new_router}
+use Rattle.node_model.specs.World.{Held, World, Event, Run, routers_from, start, journal_at}
+use Rattle.node_laws.proofs.Views.{View, view_of, entries_in, changes_in}
+use Rattle.node_laws.proofs.Places.{EachAt}
 use Rattle.node_laws.proofs.WriteFacts.{WasMade}
 use Rattle.node_laws.proofs.SentEntries.{was_sent, is_reached}
-use Rattle.node_laws.proofs.Facts.{CatalogueFits, StateFits, CursorsFit, HeldFits, IsMet, AnswersFit, no_answer, one_answer, IsCatalogue, InOrder, SentFits, Good}
-use Rattle.node_laws.proofs.Owes.{InputFits}
-use Rattle.node_laws.proofs.Growth.{met_grows, met_later}
-use Rattle.node_laws.proofs.Journals.{with_more, with_news, later_self, views_later}
-use Rattle.node_laws.proofs.Keeps.{good_after, the_shard}
-use Rattle.node_laws.proofs.CatalogueRows.{catalogue_owes}
-use Rattle.node_laws.proofs.ShardRows.{shard_owes}
-use Rattle.node_laws.proofs.RouterRows.{router_owes}
-use Rattle.node_laws.proofs.Moments.{HasMoment, HadMoment, Moments, moments_move}
-
--- A MOMENT THAT IS GIVEN
-
--- facts stay where a moment is given
-given_good : (w : World) (book : Book) (at : ℕ) (i : Input) → Good w book → Good (is_given w at i) book
-given_good w book at i good =
-    let v : View = view_of w.nodes book in
-    let more : List Given = moment_in at w.now i in
-    record {
-      order = good.order;
-      nodes = each_weaken (HeldFits v w.asked w.answered w.given) (HeldFits v w.asked w.answered (w.given ++ more)) 0 w.nodes
-          (λ j h f. record { state = f.state; met = met_grows v v w.given more (time_of_node h.state) (later_self v) f.met; cursors = f.cursors }) good.nodes;
-      letters = all_weaken (SentFits v w.asked w.answered w.given) (SentFits v w.asked w.answered (w.given ++ more)) w.sent
-          (λ m f. (f.0, met_grows v v w.given more m.time (later_self v) f.1, f.2)) good.letters;
-      answers = good.answers;
-      decided = good.decided;
-      came = good.came;
-      one = good.one;
-      once = good.once;
-      fresh = good.fresh;
-      in_order = good.in_order;
-      known = all_weaken (λ (a : Asked). IsMet v w.given a.time) (λ (a : Asked). IsMet v (w.given ++ more) a.time) w.asked
-          (λ a f. met_grows v v w.given more a.time (later_self v) f) good.known;
-      met = all_weaken (λ (t : Answered). IsMet v w.given t.time) (λ (t : Answered). IsMet v (w.given ++ more) t.time) w.answered
-          (λ t f. met_grows v v w.given more t.time (later_self v) f) good.met;
-    }
-
--- what is known of an input where it comes: its message was sent before
-abbrev pub WasPosted : World → Input → Type 0
-WasPosted w (letter_input m) = IsIn m w.sent
-WasPosted w (client_input link number request) = Unit {0}
-WasPosted w (moment_input moment) = Unit {0}
-WasPosted w opened_input = Unit {0}
-
-input_fits : (w : World) (book : Book) (at : ℕ) (i : Input) → Good w book → WasPosted w i → InputFits (is_given w at i) book i
-input_fits w book at (letter_input m) good there =
-    let v : View = view_of w.nodes book in
-    let f = all_at (SentFits v w.asked w.answered w.given) m w.sent good.letters there in
-    (f.0, met_grows v v w.given [] m.time (later_self v) f.1, f.2)
-input_fits w book at (client_input link number request) good there = tt
-input_fits w book at (moment_input moment) good there = inr
-    (inl (
-      record { node = at; moment = moment; step = w.now },
-      in_back (record { node = at; moment = moment; step = w.now }) w.given
-          (record { node = at; moment = moment; step = w.now } ∷ []) (in_first (record { node = at; moment = moment; step = w.now }) []),
-      refl,
-    ))
-input_fits w book at opened_input good there = tt
-
--- A STEP
-
-pub fits_here : (w : World) (book : Book) (at : ℕ) (old : Held) → Good w book → slice_get w.nodes at ≡ Some old
-    → HeldFits (view_of w.nodes book) w.asked w.answered w.given at old
-fits_here w book at old good here =
-    let zero_at : 0 + at ≡ at = omega arith in
-    subst (λ k. HeldFits (view_of w.nodes book) w.asked w.answered w.given k old) zero_at
-    (each_get (HeldFits (view_of w.nodes book) w.asked w.answered w.given) 0 at w.nodes old good.nodes here)
-
-set_set : {X : Type 0} (xs : List X) (k : ℕ) (x y : X) → slice_set (slice_set xs k x) k y ≡ slice_set xs k y
-set_set [] k x y = refl
-set_set (z ∷ xs) zero x y = refl
-set_set (z ∷ xs) (suc k) x y = ap (λ l. z ∷ l) (set_set xs k x y)
-
-pub get_set : {X : Type 0} (xs : List X) (k : ℕ) (x y : X) → slice_get xs k ≡ Some x → slice_get (slice_set xs k y) k ≡ Some y
-get_set [] k x y got = absurd (cc)
-get_set (z ∷ xs) zero x y got = refl
-get_set (z ∷ xs) (suc k) x y got = get_set xs k x y got
-
-set_same : {X : Type 0} (xs : List X) (k : ℕ) (x : X) → slice_get xs k ≡ Some x → slice_set xs k x ≡ xs
-set_same [] k x got = refl
-set_same (z ∷ xs) zero x got = let same : z ≡ x = cc in ap (λ y. y ∷ xs) (sym same)
-set_same (z ∷ xs) (suc k) x got = ap (λ l. z ∷ l) (set_same xs k x got)
-
-asked_more : (now : ℕ) (xs ys : List Taken) → asked_by now (xs ++ ys) ≡ asked_by now xs ++ asked_by now ys
-asked_more now [] ys = refl
-asked_more now (x ∷ xs) ys = ap
-    (λ l. record { id = x.id; link = x.link; number = x.number; came = now; time = x.time; moment = x.moment; request = x.request } ∷ l) (asked_more now xs ys)
-
-answered_more : (now : ℕ) (xs ys : List Reply) → answered_by now (xs ++ ys) ≡ answered_by now xs ++ answered_by now ys
-answered_more now [] ys = refl
-answered_more now (x ∷ xs) ys = ap
-    (λ l. record { id = x.id; link = x.link; number = x.number; request = x.request; step = now; time = x.time; document = x.document } ∷ l)
-    (answered_more now xs ys)
-
-after_both : (w : World) (at : ℕ) (old : Held) (f g : Effect) (u t : NodeState)
-    → after (after w at old f u) at (with_more old f.written u) g t ≡ after w at old (both f g) t
-after_both w at old f g u t =
-    let n = set_set w.nodes at (with_more old f.written u) (record { state = t; kept = (old.kept ++ f.written) ++ g.written })
-    ∙ ap (λ (l : List Kept). slice_set w.nodes at (record { state = t; kept = l })) (append_assoc old.kept f.written g.written) in
-    let s = append_assoc w.sent f.mail g.mail in
-    let a = append_assoc w.asked (asked_by w.now f.taken) (asked_by w.now g.taken) ∙ ap (λ l. w.asked ++ l) (sym (asked_more w.now f.taken g.taken)) in
-    let d = append_assoc w.answered (answered_by w.now f.replies) (answered_by w.now g.replies)
-    ∙ ap (λ l. w.answered ++ l) (sym (answered_more w.now f.replies g.replies)) in
-    λ i. record { nodes = n i; sent = s i; asked = a i; answered = d i; given = w.given; now = w.now }
-
--- a step with no effect leaves the world
-after_nothing : (w : World) (at : ℕ) (old : Held) → slice_get w.nodes at ≡ Some old → after w at old nothing old.state ≡ w
-after_nothing w at old here =
-    let held : with_more old [] old.state ≡ old = λ i. record { state = old.state; kept = append-nil old.kept i } in
-    let n : slice_set w.nodes at (with_more old [] old.state) ≡ w.nodes = ap (λ h. slice_set w.nodes at h) held ∙ set_same w.nodes at old here in
-    let s = append-nil w.sent in
-    let a = append-nil w.asked in
-    let d = append-nil w.answered in
-    λ i. record { nodes = n i; sent = s i; asked = a i; answered = d i; given = w.given; now = w.now }
-
--- an input that a life begins before says the same after the beginning
-fits_later : (w : World) (book : Book) (at : ℕ) (old : Held) (f : Effect) (new : NodeState) (next : Book) (i : Input) → BeginsBefore i
-    → Later (view_of w.nodes book) (view_of (slice_set w.nodes at (with_more old f.written new)) next) → InputFits w book i
-    → InputFits (after w at old f new) next i
-fits_later w book at old f new next (client_input link number request) before later fits = tt
-fits_later w book at old f new next (moment_input moment) before later fits =
-    met_later (view_of w.nodes book) (view_of (slice_set w.nodes at (with_more old f.written new)) next) w.given (time_of_moment moment) later fits
-fits_later w book at old f new next (letter_input m) before later fits = absurd before
-fits_later w book at old f new next opened_input before later fits = absurd before
-
--- a world with what is noted of its run
-pub record HasBook (w : World) : Type 0 where
-  pub book : Book
-  pub good : Good w book
-
-step_good : (w : World) (book : Book) (at : ℕ) (kept : List Kept) (s t : NodeState) (i : Input) (f : Effect) → Good w book
-    → slice_get w.nodes at ≡ Some (record { state = s; kept = kept }) → InputFits w book i → Step s i f t
-    → HasBook (after w at (record { state = s; kept = kept }) f t)
-step_good w book at kept _ _ _ _ good here input (catalogue_step c d i f own row) =
-    record {
-      book = _;
-      good = good_after w book at _ f _ good here
-          (catalogue_owes w book at kept c d i f good here (fits_here w book at _ good here) input row);
-    }
-step_good w book at kept _ _ _ _ good here input (shard_step s t i f own row) =
-    record { book = _; good = good_after w book at _ f _ good here (shard_owes w book at kept s t i f good here (fits_here w book at _ good here) input row) }
-step_good w book at kept _ _ _ _ good here input (router_step r q i f own row) =
-    record { book = _; good = good_after w book at _ f _ good here (router_owes w book at kept r q i f good here (fits_here w book at _ good here) input row) }
-step_good w book at kept _ _ _ _ good here input (other_step s m other) =
-    subst (λ x. HasBook x) (sym (after_nothing w at (record { state = s; kept = kept }) here)) (record { book = book; good = good })
-step_good w book at kept _ _ _ _ good here input (begin_step r q i f nb before row) =
-    let old : Held = record { state = router_state r; kept = kept } in
-    let first : Effect = writes (kept_life r.life ∷ []) [] in
-    let owes = router_owes w book at kept r (begins r) opened_input first good here (fits_here w book at old good here) tt (router_begin r nb) in
-    let begun : Book = with_news book owes.news owes.cursors in
-    let good_v : Good (after w at old first (router_state (begins r))) (with_news book owes.news owes.cursors) =
-    good_after w book at old first (router_state (begins r)) good here owes in
-    let here_v = get_set w.nodes at old (with_more old first.written (router_state (begins r))) here in
-    let later = views_later w.nodes at old first.written (router_state (begins r)) book owes.news owes.cursors here owes.rises owes.later in
-    let next = router_owes (after w at old first (router_state (begins r))) begun at (kept ++ kept_life r.life ∷ []) (begins r) q i f good_v here_v
-    (fits_here (after w at old first (router_state (begins r))) begun at (with_more old first.written (router_state (begins r))) good_v here_v)
-    (fits_later w book at old first (router_state (begins r)) begun i before later input) row in
-    subst (λ x. HasBook x) (after_both w at old first f (router_state (begins r)) (router_state q))
-    (record {
-      book = _;
-      good = good_after (after w at old first (router_state (begins r))) begun at (with_more old first.written (router_state (begins r))) f (router_state q)
-          good_v here_v next;
-    })
-
-tick_good : (w : World) (book : Book) → Good w book → Good (tick w) book
-tick_good w book good = record {
-  order = good.order;
-  nodes = good.nodes;
-  letters = good.letters;
-  answers = good.answers;
-  decided = good.decided;
-  came = all_weaken (λ (a : Asked). a.came < w.now + 1) (λ (a : Asked). a.came < w.now + 1 + 1) w.asked (λ a l. omega arith) good.came;
-  one = good.one;
-  once = good.once;
-  fresh = good.fresh;
-  in_order = good.in_order;
-  known = good.known;
-  met = good.met;
-}
-
-move_keeps : (w v : World) (book : Book) (at : ℕ) (i : Input) → Good w book → WasPosted w i → Moves w at i v → HasBook v
-move_keeps w v book at i good there m =
-    let s = step_good (is_given w at i) book at m.old.kept m.old.state m.new i m.f (given_good w book at i good) m.here
-    (input_fits w book at i good there) m.step in
-    subst (λ x. HasBook x) (sym m.then) (record { book = s.book; good = tick_good (after (is_given w at i) at m.old m.f m.new) s.book s.good })
-
-pub got_is_in : {X : Type 0} (xs : List X) (k : ℕ) (x : X) → slice_get xs k ≡ Some x → IsIn x xs
-got_is_in [] k x got = absurd (cc)
-got_is_in (y ∷ xs) zero x got = ([], xs, ap (λ z. z ∷ xs) (first_same got))
-  where
-    first_same : Some y ≡ Some x → y ≡ x
-    first_same e = cc
-got_is_in (y ∷ xs) (suc k) x got = behind_one (got_is_in xs k x got)
-  where
-    behind_one : IsIn x xs → IsIn x (y ∷ xs)
-    behind_one (prefix, back, e) = (y ∷ prefix, back, ap (λ l. y ∷ l) e)
-
--- the facts, and what routers know of moments
-abbrev pub StaysTrue : World → Type 0
-StaysTrue w = HasBook w × Moments w
-
-pub happens_keeps : (w v : World) (e : Event) → StaysTrue w → Happens w e v → StaysTrue v
-happens_keeps _ _ _ (known, moments) (comes w v at link number request is m) =
-    (move_keeps w v known.book at (client_input link number request) known.good tt m, moments_move w v at (client_input link number request) moments m)
-happens_keeps _ _ _ (known, moments) (delivers w v at which letter got to m) =
-    (move_keeps w v known.book at (letter_input letter) known.good (got_is_in w.sent which letter got) m, moments_move w v at (letter_input letter) moments m)
-happens_keeps _ _ _ (known, moments) (passes w v at moment m) =
-    (move_keeps w v known.book at (moment_input moment) known.good tt m, moments_move w v at (moment_input moment) moments m)
-happens_keeps _ _ _ (known, moments) (was_opened w v at m) =
-    (move_keeps w v known.book at opened_input known.good tt m, moments_move w v at opened_input moments m)
-
-pub run_keeps : (w v : World) (es : List Event) → StaysTrue w → Run w es v → StaysTrue v
-run_keeps _ _ _ kept (stands w) = kept
-run_keeps _ _ _ kept (goes u v w e es h r) = run_keeps v w es (happens_keeps u v e kept h) r
+use Rattle.node_laws.proofs.Facts.{CatalogueFits, StateFits, CursorsFit, HeldFits, IsMet, AnswersFit, no_answer, one_answer, IsCatalogue, InOrder}
+use Rattle.node_laws.proofs.CatalogueTables.{placed_first}
+use Rattle.node_laws.proofs.Causes.{is_caused}
+use Rattle.node_laws.proofs.Keeps.{the_shard, nodes_keep}
+use Rattle.node_laws.proofs.Moments.{HasMoment, HadMoment, Moments}
+use Rattle.node_laws.proofs.StepsKeep.{HasBook, StaysTrue, run_keeps}
 
 -- THE START
 
@@ -256,7 +44,7 @@ start_good routers = record {
   good = record {
     order = (_, _, _, refl, tt, tt);
     nodes = (
-      record { state = record { own = refl; place = refl; tables = refl; past = tt; names = tt; wanted = tt }; met = inl refl; cursors = tt },
+      record { state = record { own = refl; place = refl; changes = refl; past = tt; fitting = tt; wanted = tt }; met = inl refl; cursors = tt },
       (
         record {
           state = record {
@@ -269,6 +57,7 @@ start_good routers = record {
             numbers = tt;
             placed = tt;
             parts = tt;
+            still = tt;
             tables = tt;
             parked = tt;
           };
@@ -278,6 +67,7 @@ start_good routers = record {
         routers_fit (view_of (start_nodes routers) (record { chosen = []; cursors = [] })) 2 routers refl (omega arith),
       ),
     );
+    dated = refl;
     letters = tt;
     answers = no_answer [];
     decided = tt;
@@ -325,7 +115,7 @@ the_catalogue w asked answered given nodes (c, s, routers, same, is_c, is_s) all
 -- all replies are right, at times that were met
 all_right : (v : View) (given : List Given) (asked : List Asked) (answered : List Answered) (cursors last : List Cursor) (told : List Answered)
     → AnswersFit v asked answered cursors told last → AllByRecursion (λ (t : Answered). IsMet v given t.time) told
-    → AreRight given (creations_in v) (entries_in v first_shard) asked answered cursors told
+    → AreRight given (changes_in v) (entries_in v first_shard) asked answered cursors told
 all_right v given asked answered _ _ _ (no_answer cursors) met = nothing_told cursors
 all_right v given asked answered _ _ _ (one_answer cursors next last t rest f others) met = then_told cursors next t rest (record {
   request = f.request;
@@ -341,41 +131,43 @@ all_right v given asked answered _ _ _ (one_answer cursors next last t rest f ot
 }) (all_right v given asked answered next last rest others met.1)
 
 pub makes_one_history : (w : World) → StaysTrue w
-    → OneHistory w.given (creations_kept (journal_at w.nodes 0)) (entries_kept (journal_at w.nodes first_shard)) w.asked w.answered
-makes_one_history w (known, moments) =
+    → OneHistory w.given w.changed (entries_kept (journal_at w.nodes first_shard)) w.asked w.answered
+makes_one_history w (known, moments, told) =
     let good = known.good in
     let v : View = view_of w.nodes known.book in
     let s = the_shard v w.asked w.answered w.given w.nodes good.order good.nodes in
     let c = the_catalogue v w.asked w.answered w.given w.nodes good.order good.nodes in
+    let n = nodes_keep v w.asked w.answered w.given w.nodes good.order good.nodes (λ p. refl) (λ p. refl) good.one in
     let entries : s.shard.entries ≡ entries_kept (journal_at w.nodes first_shard) = s.fits.entries ∙ sym (ap (λ k. entries_kept k) s.journal) in
-    let creations : creations_kept c.kept ≡ creations_kept (journal_at w.nodes 0) = sym (ap (λ k. creations_kept k) c.journal) in
+    let changes : changes_kept c.kept ≡ changes_of w.changed = sym (ap (λ k. changes_kept k) c.journal) ∙ sym good.dated in
     let history : List Entry = entries_kept (journal_at w.nodes first_shard) in
-    let placed : AllByRecursion (IsPlaced (creations_kept (journal_at w.nodes 0))) history =
-    subst (λ l. AllByRecursion (IsPlaced (creations_kept (journal_at w.nodes 0))) l) entries s.fits.placed in
     let numbers : AreNumbered history = subst (λ l. AreNumbered l) entries s.fits.numbers in
     let made : AllByRecursion (WasMade history w.asked) history = subst (λ l. AllByRecursion (WasMade l w.asked) l) entries s.fits.sent in
     let first : (e : Entry) → IsIn e history → e.shard ≡ first_shard =
-    λ e i. on_first (creations_kept (journal_at w.nodes 0)) e (all_at (IsPlaced (creations_kept (journal_at w.nodes 0))) e history placed i) in
+    λ e i. placed_first (changes_in v) n.begun.still e (all_at (IsPlaced (changes_in v)) e history n.placed i) in
     record {
       legal = subst (λ l. Legal l) entries s.fits.legal;
       sent = all_weaken (WasMade history w.asked) (WasSent history w.asked w.answered) history (λ e m. was_sent history w.asked numbers first w.answered e m)
           made;
       numbers = numbers;
       reached = all_weaken (WasMade history w.asked) (IsReached history w.asked) history (λ e m. is_reached history w.asked numbers first e m) made;
-      placed = placed;
+      placed = subst (λ l. AllByRecursion (IsPlaced l) history) (sym good.dated) n.placed;
       parts = subst (λ l. AllByRecursion (StandsInPart l) w.asked) entries s.fits.parts;
-      wanted = subst (λ l. AllByRecursion (WasWanted w.asked) l) creations c.fits.wanted;
-      names = subst (λ l. AreDifferentNames l) creations c.fits.names;
-      right = all_right v w.given w.asked w.answered [] known.book.cursors w.answered good.answers good.met;
+      wanted = subst (λ l. AllByRecursion (WasWanted w.asked) l) changes c.fits.wanted;
+      fitting = subst (λ l. AreFitting l) changes c.fits.fitting;
+      caused = is_caused v w.changed w.asked w.answered [] known.book.cursors w.answered good.one good.answers told;
+      right = subst (λ l. AreRight w.given l history w.asked w.answered [] w.answered) (sym good.dated)
+          (all_right v w.given w.asked w.answered [] known.book.cursors w.answered good.answers good.met);
       one = good.one;
       once = good.once;
       fresh = good.fresh;
       order = good.in_order;
-      known = all_both (λ (a : Asked). IsMet v w.given a.time) (λ a. HadMoment w.given a × (a.came < w.now + 1))
-          (IsKnown w.given (creations_kept (journal_at w.nodes 0)) (entries_kept (journal_at w.nodes first_shard))) w.asked
-          (λ a met had. record { moment = had.0.0; time = met; reached = had.0.1 }) good.known moments.asked;
+      known = subst (λ l. AllByRecursion (IsKnown w.given l history) w.asked) (sym good.dated)
+          (all_both (λ (a : Asked). IsMet v w.given a.time) (λ a. HadMoment w.given a × (a.came < w.now + 1))
+          (IsKnown w.given (changes_in v) history) w.asked
+          (λ a met had. record { moment = had.0.0; time = met; reached = had.0.1 }) good.known moments.asked);
     }
 
 pub run_makes_one_history : (routers : ℕ) (events : List Event) (w : World) → Run (start routers) events w
-    → OneHistory w.given (creations_kept (journal_at w.nodes 0)) (entries_kept (journal_at w.nodes first_shard)) w.asked w.answered
-run_makes_one_history routers events w run = makes_one_history w (run_keeps (start routers) w events (start_good routers, start_moments routers) run)
+    → OneHistory w.given w.changed (entries_kept (journal_at w.nodes first_shard)) w.asked w.answered
+run_makes_one_history routers events w run = makes_one_history w (run_keeps (start routers) w events (start_good routers, start_moments routers, tt) run)

@@ -26,7 +26,8 @@ use Rattle.node_laws.proofs.ReadFacts.{IsReadOf, IsShown, IsMade}
 use Rattle.node_laws.proofs.Facts.{IsKnownTable, IsWriteOf, IsDoneOf, BodyFits, ParkedFits, HeldFits, IsMet, Good}
 use Rattle.node_laws.proofs.Owes.{InputFits, IsSaid, Owes}
 use Rattle.node_laws.proofs.Lists.{all_filtered, all_mapped}
-use Rattle.node_laws.proofs.Growth.{entries_longer, read_grows, known_grows, met_later, met_max}
+use Rattle.node_laws.proofs.LongerJournals.{entries_longer}
+use Rattle.node_laws.proofs.Growth.{read_grows, known_grows, met_later, met_max}
 use Rattle.node_laws.proofs.ServedStatements.{up_to_later, repeats_told, repeats_last}
 use Rattle.node_laws.proofs.RequestParts.{ask_own}
 use Rattle.node_laws.proofs.ShardSteps.{wrote, quiet, letter_later, shown_later, shard_later, ask_receiver, retried_fits, asks_again_fit, tells_none, AreToldBy, told_done}
@@ -133,6 +134,7 @@ parks w book at kept s m a is comes asks =
         numbers = f.numbers;
         placed = f.placed;
         parts = f.parts;
+        still = f.still;
         tables = f.tables;
         parked = all_append (ParkedFits v w.asked (heard s m)) s.parked (m ∷ []) f.parked (
           (
@@ -246,6 +248,7 @@ learns w book at kept s m namespace create moment t is comes told =
         numbers = f.numbers;
         placed = f.placed;
         parts = f.parts;
+        still = f.still;
         tables = all_with (IsKnownTable v (heard s m)) t s.tables
             (known_grows (view_of w.nodes book) v m.time (heard s m) t grows (omega arith) known.0) f.tables;
         parked = all_weaken (λ p. ParkedFits v w.asked (heard s m) p × (not (wants_table t.namespace p) ≡ true)) (ParkedFits v w.asked (heard s m))
@@ -262,7 +265,7 @@ learns w book at kept s m namespace create moment t is comes told =
           (λ l h. (
             retried_fits v w.asked s (heard s m) (heard s m) t.namespace l (is.fits.own ∙ is.fits.place) (omega arith) h.0 h.1,
             met,
-            tells_none v
+            tells_none v w.asked
                 (heard s m) t.namespace l.body h.1,
           ))
           (all_filtered (ParkedFits v w.asked (heard s m)) (wants_table t.namespace) s.parked f.parked));

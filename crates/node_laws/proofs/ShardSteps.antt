@@ -15,19 +15,21 @@ use Rattle.reply_model.specs.Exchanges.{Asked}
 use Rattle.reply_model.specs.Outcomes.{Done}
 use Rattle.reply_model.specs.OneHistory.{IsPlaced, Given, ids_asked, ids_told, AreDifferent}
 use Rattle.node_model.specs.Journal.{Kept}
-use Rattle.node_model.specs.Letters.{Statement, Body, table_ask, table_told, write_ask, write_done, read_ask, half_ask, read_rows, stale, time_ask, time_told, Letter}
+use Rattle.node_model.specs.Letters.{Statement, Body, table_ask, table_told, split_ask, split_done, write_ask, write_done, read_ask, half_ask, read_rows, stale, time_ask, time_told, Letter}
 use Rattle.node_model.specs.States.{Shard, NodeState, time_of_node}
 use Rattle.node_model.specs.ShardRows.{at_later, says, Ask, ask_in, wants_table, asks_table, asks_again}
 use Rattle.node_model.specs.World.{Held, World}
-use Rattle.node_laws.proofs.Views.{Book, View, view_of, entries_in, creations_in, IsAbove, Later}
+use Rattle.node_laws.proofs.Views.{Book, View, view_of, entries_in, changes_in, IsAbove, Later}
 use Rattle.node_laws.proofs.ReadFacts.{IsShown}
 use Rattle.node_laws.proofs.WriteFacts.{IsDoneAt, OnlyLast}
 use Rattle.node_laws.proofs.Facts.{IsKnownTable, IsOwned, HasBegun, IsDoneOf, BodyFits, LetterFits, ParkedFits, ShardFits, StateFits, OwnCursors, IsMet, TellsAll, SameKind, Good}
 use Rattle.node_laws.proofs.Owes.{IsSaid, Owes}
 use Rattle.node_laws.proofs.CatalogueRows.{no_answers}
+use Rattle.node_laws.proofs.LongerJournals.{still_grows}
 use Rattle.node_laws.proofs.Growth.{answers_later, begun_grows, known_grows, owned_grows, shown_grows, letter_grows, placed_grows}
 use Rattle.node_laws.proofs.Journals.{later_self}
 use Rattle.node_laws.proofs.ServedStatements.{up_to_later}
+use Rattle.node_laws.proofs.KnownTables.{table_created}
 use Rattle.node_laws.proofs.RequestParts.{owned_by_first}
 
 -- A STEP THAT TAKES AND REPLIES NOTHING
@@ -103,8 +105,9 @@ shard_later u v asked at time kept s later le f = record {
   legal = f.legal;
   sent = f.sent;
   numbers = f.numbers;
-  placed = all_weaken (IsPlaced (creations_in u)) (IsPlaced (creations_in v)) s.entries (λ e p. placed_grows u v e later p) f.placed;
+  placed = all_weaken (IsPlaced (changes_in u)) (IsPlaced (changes_in v)) s.entries (λ e p. placed_grows u v e later f.still p) f.placed;
   parts = f.parts;
+  still = still_grows u v later f.still;
   tables = all_weaken (IsKnownTable u s.time) (IsKnownTable v time) s.tables (λ t k. known_grows u v s.time time t later le k) f.tables;
   parked = all_weaken (ParkedFits u asked s.time) (ParkedFits v asked time) s.parked (λ m p. parked_later u v asked s.time time m later le p) f.parked;
 }
@@ -123,6 +126,8 @@ ask_receiver v asked sender receiver time (write_ask id turn ordered namespace (
 ask_receiver v asked sender receiver time (read_ask id turn namespace moment half sent) a is f = f.2
 ask_receiver v asked sender receiver time (table_ask namespace create moment) a is f = absurd (no_ask is)
 ask_receiver v asked sender receiver time (table_told namespace create moment table) a is f = absurd (no_ask is)
+ask_receiver v asked sender receiver time (split_ask id namespace middle) a is f = absurd (no_ask is)
+ask_receiver v asked sender receiver time (split_done id found) a is f = absurd (no_ask is)
 ask_receiver v asked sender receiver time (write_done id dones) a is f = absurd (no_ask is)
 ask_receiver v asked sender receiver time (half_ask id turn namespace moment half documents) a is f = absurd (no_ask is)
 ask_receiver v asked sender receiver time (read_rows id turn rows) a is f = absurd (no_ask is)
@@ -154,6 +159,8 @@ ask_retried v asked sender other receiver early late (read_ask id turn namespace
     (f.0, (let h = f.1 in omega arith), f.2)
 ask_retried v asked sender other receiver early late (table_ask namespace create moment) a is le f = absurd (no_ask is)
 ask_retried v asked sender other receiver early late (table_told namespace create moment table) a is le f = absurd (no_ask is)
+ask_retried v asked sender other receiver early late (split_ask id namespace middle) a is le f = absurd (no_ask is)
+ask_retried v asked sender other receiver early late (split_done id found) a is le f = absurd (no_ask is)
 ask_retried v asked sender other receiver early late (write_done id dones) a is le f = absurd (no_ask is)
 ask_retried v asked sender other receiver early late (half_ask id turn namespace moment half documents) a is le f = absurd (no_ask is)
 ask_retried v asked sender other receiver early late (read_rows id turn rows) a is le f = absurd (no_ask is)
@@ -218,18 +225,22 @@ told_done u v asked sender time id history dones later same t = record {
 pub begun_owned : (v : View) (early time : ℕ) (namespace other : List ℕ) (receiver : ℕ) (s : Statement) → early ≤ time → namespace ≡ other
     → IsOwned v early namespace receiver s → HasBegun v time other
 begun_owned v early time namespace other receiver s le name o =
-    record { creation = o.creation; begun = o.begun; name = o.name ∙ name; before = let h = o.before in omega arith }
+    let c = table_created v early o.table o.known in
+    record { creation = c.creation; begun = c.begun; name = c.name ∙ o.name ∙ name; before = let h = c.before in omega arith }
 
 -- what waited has no time
-pub tells_none : (v : View) (time : ℕ) (namespace : List ℕ) (b : Body)
-    → (elim (ask_in b) as (λ (x : Option Ask). Bool) [ None ↦ false | Some a ↦ bytes_eq a.namespace namespace ]) ≡ true → TellsAll v time b
-tells_none v time namespace (time_told id) h = absurd (cc)
-tells_none v time namespace (table_ask name create moment) h = tt
-tells_none v time namespace (table_told name create moment table) h = tt
-tells_none v time namespace (write_ask id turn ordered name statements sent) h = tt
-tells_none v time namespace (write_done id dones) h = tt
-tells_none v time namespace (read_ask id turn name moment half sent) h = tt
-tells_none v time namespace (half_ask id turn name moment half documents) h = tt
-tells_none v time namespace (read_rows id turn rows) h = tt
-tells_none v time namespace (stale id turn met) h = tt
-tells_none v time namespace (time_ask id) h = tt
+pub tells_none : (v : View) (asked : List Asked) (time : ℕ) (namespace : List ℕ) (b : Body)
+    → (elim (ask_in b) as (λ (x : Option Ask). Bool) [ None ↦ false | Some a ↦ bytes_eq a.namespace namespace ]) ≡ true → TellsAll v asked time b
+tells_none v asked time namespace (time_told id) h = absurd (cc)
+tells_none v asked time namespace (table_ask name create moment) h = tt
+tells_none v asked time namespace (table_told name create moment table) h = tt
+tells_none v asked time namespace (write_ask id turn ordered name statements sent) h = tt
+tells_none v asked time namespace (split_ask id name middle) h = tt
+tells_none v asked time namespace (split_done id true) h = tt
+tells_none v asked time namespace (split_done id false) h = absurd (cc)
+tells_none v asked time namespace (write_done id dones) h = tt
+tells_none v asked time namespace (read_ask id turn name moment half sent) h = tt
+tells_none v asked time namespace (half_ask id turn name moment half documents) h = tt
+tells_none v asked time namespace (read_rows id turn rows) h = tt
+tells_none v asked time namespace (stale id turn met) h = tt
+tells_none v asked time namespace (time_ask id) h = tt

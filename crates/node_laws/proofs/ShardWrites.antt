@@ -18,12 +18,13 @@ use Rattle.node_model.specs.RouterRows.{statements_from}
 use Rattle.node_model.specs.ShardRows.{heard, says}
 use Rattle.node_model.specs.World.{Held, World, journal_at}
 use Rattle.node_model.proofs.Journals.{journal_got}
-use Rattle.node_laws.proofs.Views.{Book, View, view_of, entries_in, creations_in, IsAbove}
+use Rattle.node_laws.proofs.Views.{Book, View, view_of, entries_in, changes_in, IsAbove}
 use Rattle.node_laws.proofs.WriteFacts.{AreAnswers, OnlyLast, AreDoneBefore, WasMade}
 use Rattle.node_laws.proofs.Facts.{IsKnownTable, IsOwned, IsWriteOf, HasBegun, IsDoneOf, ParkedFits, ShardFits, IsMet, Good}
 use Rattle.node_laws.proofs.Owes.{Owes}
 use Rattle.node_laws.proofs.Lists.{all_mapped}
-use Rattle.node_laws.proofs.Growth.{entries_longer, entry_grows, known_grows, placed_grows, met_later}
+use Rattle.node_laws.proofs.LongerJournals.{entries_longer, still_grows}
+use Rattle.node_laws.proofs.Growth.{entry_grows, known_grows, placed_grows, met_later}
 use Rattle.node_laws.proofs.NotedOutcomes.{HasNoOther, made_no_other, answers_stand}
 use Rattle.node_laws.proofs.ServedStatements.{AreUpTo, Rises, IsEntryOf, up_to_later, serves_rises, serves_legal, serves_numbered, legal_joined, serves_entries, serves_told, serves_last}
 use Rattle.node_laws.proofs.MadeEntries.{drop_statements, parted, few_answers, front_done, IsMadeAt, serves_made}
@@ -57,7 +58,7 @@ pub record Served (w : World) (book : Book) (at : ℕ) (s : Shard) (time : ℕ) 
   pub legal : Legal (s.entries ++ made)
   pub sent : AllByRecursion (WasMade (s.entries ++ made) w.asked) made
   pub numbers : AreNumbered (s.entries ++ made)
-  pub placed : AllByRecursion (IsPlaced (creations_in (view_of w.nodes book))) made
+  pub placed : AllByRecursion (IsPlaced (changes_in (view_of w.nodes book))) made
   pub parts : AllByRecursion (StandsInPart (s.entries ++ made)) w.asked
   pub told : AreToldBy (view_of w.nodes book) w.asked (s.entries ++ made) last id dones
 
@@ -171,7 +172,7 @@ module _ (w : World) (book : Book) (at : ℕ) (kept : List Kept) (s : Shard) (is
               reached = λ in_order. h.reached (ask.order ∙ in_order);
             }) made_at rises.above;
         numbers = serves_numbered s.me namespace ordered s.entries now statements dones made last serves is.fits.numbers;
-        placed = all_both (IsEntryOf s.me namespace (IsOwned u early namespace receiver)) (λ (e : Entry). now < e.time) (IsPlaced (creations_in u)) made
+        placed = all_both (IsEntryOf s.me namespace (IsOwned u early namespace receiver)) (λ (e : Entry). now < e.time) (IsPlaced (changes_in u)) made
             (λ e h above. owned_placed u early namespace receiver e (h.0 ∙ first, h.1, h.2) (omega arith)) owned rises.above;
         parts = parts_longer w.asked s.entries made Own ask.write is.good.one ask.taken ask.asks
             (all_weaken (IsMadeAt Own ask.write ordered (s.entries ++ made)) (IsBy ask.write.number Own.id) made
@@ -233,9 +234,10 @@ writes_all w book at kept s m id dones made last is met h =
             (all_weaken (WasMade s.entries w.asked) (WasMade (s.entries ++ made) w.asked) s.entries
             (λ e m. longer_made s.entries (s.entries ++ made) w.asked e (λ d i. in_prefix d s.entries made i) m) is.fits.sent) h.sent;
         numbers = h.numbers;
-        placed = all_weaken (IsPlaced (creations_in u)) (IsPlaced (creations_in v)) (s.entries ++ made) (λ e p. placed_grows u v e grows p)
-            (all_append (IsPlaced (creations_in u)) s.entries made is.fits.placed h.placed);
+        placed = all_weaken (IsPlaced (changes_in u)) (IsPlaced (changes_in v)) (s.entries ++ made) (λ e p. placed_grows u v e grows is.fits.still p)
+            (all_append (IsPlaced (changes_in u)) s.entries made is.fits.placed h.placed);
         parts = h.parts;
+        still = still_grows u v grows is.fits.still;
         tables = all_weaken (IsKnownTable u s.time) (IsKnownTable v last) s.tables (λ t k. known_grows u v s.time last t grows le k) is.fits.tables;
         parked = all_weaken (ParkedFits u w.asked s.time) (ParkedFits v w.asked last) s.parked
             (λ l p. parked_later u v w.asked s.time last l grows le p) is.fits.parked;

@@ -2,11 +2,11 @@
 use Rattle.std.proofs.Common.{◌≡◌, ℕ, zero, suc, ◌<◌, ◌≤◌, List, [], ◌∷◌, ◌++◌}
 use Rattle.std.specs.Prelude.{Option, Some, None, if◌then◌else◌}
 use Rattle.std.specs.List.{AllByRecursion}
-use Rattle.chunk_model.specs.Catalogue.{Creation}
+use Rattle.chunk_model.specs.Changes.{Change, create_change, split_change, commit_change, time_of}
 use Rattle.history_model.specs.History.{Entry}
 use Rattle.base_model.specs.Identities.{RequestId, same_request}
 use Rattle.reply_model.specs.Cursors.{Cursor}
-use Rattle.node_model.specs.Journal.{Kept, kept_table, kept_entry, kept_creation, kept_life, kept_block, entries_kept, creations_kept}
+use Rattle.node_model.specs.Journal.{Kept, kept_table, kept_entry, kept_change, kept_life, kept_block, entries_kept, changes_kept}
 use Rattle.node_model.specs.States.{time_of_node}
 use Rattle.node_model.specs.World.{Held, journal_at}
 
@@ -43,14 +43,20 @@ view_of nodes book = record { journal = λ at. journal_at nodes at; bound = λ a
 abbrev pub entries_in : View → ℕ → List Entry
 entries_in v at = entries_kept (v.journal at)
 
--- the collections that were created
-abbrev pub creations_in : View → List Creation
-creations_in v = creations_kept (v.journal 0)
+-- the changes of the catalogue, newest first
+abbrev pub changes_in : View → List Change
+changes_in v = changes_kept (v.journal 0)
 
--- an entry and a collection come after a time
+-- currently no change moves a chunk
+abbrev pub MovesNothing : Change → Type 0
+MovesNothing (create_change c) = Unit {0}
+MovesNothing (split_change s) = Unit {0}
+MovesNothing (commit_change c) = ⊥
+
+-- an entry and a change of the catalogue come after a time
 abbrev pub IsAbove : ℕ → Kept → Type 0
 IsAbove time (kept_entry e) = time < e.time
-IsAbove time (kept_creation c) = time < c.at
+IsAbove time (kept_change x) = (time < time_of x) × MovesNothing x
 IsAbove time (kept_table t) = Unit {0}
 IsAbove time (kept_life n) = Unit {0}
 IsAbove time (kept_block n) = Unit {0}

@@ -3,12 +3,12 @@
 ghost use Rattle.std.specs.Prelude.{ℕ, List};
 ghost use Rattle.chunk_model.specs.Tables.{first_shard};
 ghost use Rattle.reply_model.specs.OneHistory.{OneHistory};
-ghost use Rattle.node_model.specs.Journal.{creations_kept, entries_kept};
+ghost use Rattle.node_model.specs.Journal.{entries_kept};
 ghost use Rattle.node_model.specs.World.{Event, Run, World, journal_at, start};
 
-/// Whatever clients send, and however messages are lost, repeated and reordered: what the catalogue's and the shard's journal keep is
-/// one legal history of an unsharded collection with each statement at most once, of which each answer of each router is a right one.
+/// Whatever clients send, and however messages are lost, repeated and reordered: the changes of the catalogue and what the shard's journal keeps
+/// are one legal history of an unsharded collection with each statement at most once, and each answer of each router is right by it.
 #[tactic(auto, using(crate::proofs::Runs::run_makes_one_history))]
 pub fn run_makes_one_history()
-    ensures { (routers : ℕ) (events : List Event) (w : World) → Run (start routers) events w → OneHistory w.given (creations_kept (journal_at w.nodes 0)) (entries_kept (journal_at w.nodes first_shard)) w.asked w.answered }
+    ensures { (routers : ℕ) (events : List Event) (w : World) → Run (start routers) events w → OneHistory w.given w.changed (entries_kept (journal_at w.nodes first_shard)) w.asked w.answered }
 {}

@@ -1,5 +1,5 @@
 -- What the catalogue may do in a step.
-use Rattle.std.specs.Prelude.{◌≡◌, ◌⊎◌, ℕ, ℤ, ◌+◌, max, List, [], ◌∷◌, ◌++◌, Bool, true, false, Option, Some, None, IsSome}
+use Rattle.std.specs.Prelude.{◌≡◌, ◌⊎◌, ℕ, ℤ, ◌+◌, max, List, [], ◌∷◌, Bool, true, false, Option, IsSome}
 use Rattle.reply_model.specs.Requests.{Request}
 use Rattle.reply_model.specs.Times.{time_of_moment}
 use Rattle.reply_model.specs.Tree.{Datum}
@@ -8,7 +8,7 @@ use Rattle.chunk_model.specs.Changes.{Change, known_table}
 use Rattle.chunk_model.specs.Requests.{changed, unchanged, no_collection, create_answer, split_answer}
 use Rattle.reply_model.specs.Tables.{Table}
 use Rattle.node_model.specs.Journal.{kept_change}
-use Rattle.node_model.specs.Letters.{At, Body, table_ask, table_told, split_ask, split_done, write_ask, write_done, read_ask, half_ask, read_rows, stale, time_ask, time_told, Letter, Input, client_input, letter_input, moment_input, opened_input, Effect, nothing, sends, writes}
+use Rattle.node_model.specs.Letters.{At, Body, table_ask, table_told, split_ask, split_done, Letter, Input, client_input, letter_input, moment_input, opened_input, Effect, nothing, sends, writes}
 use Rattle.node_model.specs.States.{Catalogue}
 
 -- the time of the message, or the own one where that is later

@@ -1,5 +1,5 @@
 -- What a node stores in its journal, record by record, with a shard's entries as the history has them.
-use Rattle.std.specs.Prelude.{ℕ, List, [], ◌∷◌, max}
+use Rattle.std.specs.Prelude.{ℕ, List, [], ◌∷◌}
 use Rattle.chunk_model.specs.Changes.{Change, create_change, split_change, commit_change}
 use Rattle.reply_model.specs.Tables.{Table}
 use Rattle.reply_model.specs.History.{Entry}

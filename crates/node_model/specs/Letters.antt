@@ -1,6 +1,6 @@
 -- What nodes send each other, and what a node takes and returns in one step. Nodes are numbered: the catalogue is 0, shards and then
 -- routers follow.
-use Rattle.std.specs.Prelude.{ℕ, ℤ, List, [], ◌∷◌, ◌++◌, Bool, Option, Result}
+use Rattle.std.specs.Prelude.{ℕ, ℤ, List, [], ◌++◌, Bool, Option, Result}
 use Rattle.reply_model.specs.Tree.{Datum, Fields}
 use Rattle.pipeline_model.specs.Halves.{Half, Rows}
 use Rattle.reply_model.specs.Requests.{Request}

@@ -1,5 +1,5 @@
 -- What a router may do in a step.
-use Rattle.std.specs.Prelude.{◌≡◌, ◌≢◌, ◌<◌, ◌≤◌, ◌⊎◌, ℕ, ℤ, pos, ◌+◌, ◌*◌, max, List, [], ◌∷◌, ◌++◌, length, drop, map, Bool, true, false, ◌==◌, ◌&&◌, ◌||◌, codes, Option, Some, None, Result, Ok, Err, nat_lt, if◌then◌else◌}
+use Rattle.std.specs.Prelude.{◌≡◌, ◌≢◌, ◌<◌, ◌≤◌, ◌⊎◌, ℕ, ℤ, pos, ◌+◌, ◌*◌, max, List, [], ◌∷◌, ◌++◌, length, drop, Bool, true, false, ◌==◌, ◌&&◌, ◌||◌, codes, Option, Some, None, Result, Ok, Err, nat_lt, if◌then◌else◌}
 use Rattle.std.specs.List.{flat_map}
 use Rattle.std.specs.Str.{bytes_eq}
 use Rattle.std.specs.Option.{unwrap_or}
@@ -27,13 +27,12 @@ use Rattle.reply_model.specs.Answers.{Answer, hello_answer, legacy_answer, done_
 use Rattle.reply_model.specs.History.{Operation, key_written}
 use Rattle.reply_model.specs.Tables.{Table, first_shard, table_of, with_table, owner_now, owner_at}
 use Rattle.reply_model.specs.Verdicts.{sent_by}
-use Rattle.reply_model.specs.Versions.{Version}
 use Rattle.base_model.specs.Identities.{RequestId, same_request}
 use Rattle.reply_model.specs.Exchanges.{number_for}
 use Rattle.reply_model.specs.Outcomes.{Done, answer_of}
 use Rattle.reply_model.specs.Right.{ends, unless_silent, usual_size}
 use Rattle.node_model.specs.Journal.{Kept, kept_block, kept_life}
-use Rattle.node_model.specs.Letters.{At, no_time, at_time, Statement, half_overflow, half_excess, Body, table_ask, table_told, split_ask, split_done, write_ask, write_done, read_ask, half_ask, read_rows, stale, time_ask, time_told, Letter, Input, client_input, letter_input, moment_input, opened_input, Taken, Reply, Effect, nothing, sends, writes}
+use Rattle.node_model.specs.Letters.{At, no_time, at_time, Statement, half_overflow, half_excess, Body, table_ask, table_told, split_ask, split_done, write_ask, write_done, read_ask, read_rows, stale, time_ask, time_told, Letter, Input, client_input, letter_input, moment_input, opened_input, Taken, Reply, Effect, nothing, sends, writes}
 use Rattle.node_model.specs.States.{Telling, in_batches, as_number, Work, writing, reading, sharding, splitting, Wait, for_time, for_catalogue, for_shards, Open, Router, open_with, without, replaced}
 
 -- THE STATE

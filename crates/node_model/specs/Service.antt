@@ -1,8 +1,8 @@
 -- How a shard serves statements and reads on what it stores.
-use Rattle.std.specs.Prelude.{◌≡◌, ℕ, ◌+◌, List, [], ◌∷◌, ◌++◌, Bool, true, false, Option, Some, None, filter, if◌then◌else◌}
+use Rattle.std.specs.Prelude.{◌≡◌, ℕ, ◌+◌, List, [], ◌∷◌, ◌++◌, Bool, true, false, Option, Some, None, filter}
 use Rattle.reply_model.specs.Tree.{Fields}
 use Rattle.reply_model.specs.Notes.{Seen, new_statement, done_before, older_than, notes_of, seen}
-use Rattle.reply_model.specs.History.{StatementNumber, Operation, Outcome, key_written, effect, Entry, document_left}
+use Rattle.reply_model.specs.History.{StatementNumber, Outcome, key_written, effect, Entry, document_left}
 use Rattle.reply_model.specs.Outcomes.{Done, done_of, was_done, is_older}
 use Rattle.reply_model.specs.Right.{ends}
 use Rattle.pipeline_model.specs.Halves.{Half, kept_at_head, may_stand_in}

@@ -1,5 +1,5 @@
 -- What a shard may do in a step.
-use Rattle.std.specs.Prelude.{◌≡◌, ◌≢◌, ◌⊎◌, ◌≤◌, ◌^◌, ℕ, ℤ, ◌+◌, max, List, [], ◌∷◌, ◌++◌, map, filter, not, Bool, true, false, ◌==◌, ◌&&◌, Option, Some, None, is_some, Ok, Err}
+use Rattle.std.specs.Prelude.{◌≡◌, ◌≢◌, ◌⊎◌, ◌≤◌, ◌^◌, ℕ, ℤ, max, List, [], ◌∷◌, ◌++◌, map, filter, not, Bool, true, false, ◌==◌, ◌&&◌, Option, Some, None, is_some, Ok, Err}
 use Rattle.std.specs.List.{list_any}
 use Rattle.std.specs.Str.{bytes_eq}
 use Rattle.reply_model.specs.Tree.{Fields}
@@ -8,10 +8,10 @@ use Rattle.reply_model.specs.Times.{time_of_moment}
 use Rattle.reply_model.specs.History.{Entry}
 use Rattle.reply_model.specs.Versions.{Version}
 use Rattle.reply_model.specs.Tables.{Table, table_of, with_table, is_longer}
-use Rattle.reply_model.specs.Verdicts.{Sent, Verdict, fits, shard_is_old, router_is_old, verdict_of}
+use Rattle.reply_model.specs.Verdicts.{Sent, fits, shard_is_old, router_is_old, verdict_of}
 use Rattle.base_model.specs.Identities.{RequestId, same_request}
 use Rattle.reply_model.specs.Outcomes.{Done}
-use Rattle.node_model.specs.Journal.{Kept, kept_table, kept_entry}
+use Rattle.node_model.specs.Journal.{kept_table, kept_entry}
 use Rattle.pipeline_model.specs.Halves.{Half, Rows, IsHalf}
 use Rattle.pipeline_model.specs.Lengths.{excess_of_half}
 use Rattle.pipeline_model.specs.Runs.{Runs, overflowed}

@@ -3,12 +3,11 @@ use Rattle.std.proofs.Common.{◌≡◌, ℕ, zero, suc, ◌+◌, List, [], ◌�
 use Rattle.std.specs.Prelude.{Option, Some, None, true, false, if◌then◌else◌}
 use Rattle.std.specs.List.{AllByRecursion}
 use Rattle.std.proofs.lemmas.Bool.Decides.{Decides-eqb}
-use Rattle.bson_model.specs.Tree.{Datum}
 use Rattle.value_model.specs.Keys.{is_key, Span}
 use Rattle.pipeline_model.specs.Halves.{Half}
 use Rattle.pipeline_model.specs.Split.{split}
-use Rattle.chunk_model.specs.Catalogue.{Creation}
-use Rattle.chunk_model.specs.Tables.{Table, first_table, first_shard, table_of, owner_now}
+use Rattle.bson_model.specs.Tree.{Datum, null_value}
+use Rattle.chunk_model.specs.Tables.{Table, first_shard, table_of, owner_now, owner_at}
 use Rattle.chunk_model.specs.Verdicts.{sent_by}
 use Rattle.history_model.specs.History.{Operation, key_written}
 use Rattle.command_model.specs.Writes.{ClientNumber}
@@ -17,14 +16,12 @@ use Rattle.reply_model.specs.Exchanges.{number_for}
 use Rattle.reply_model.specs.Outcomes.{Done}
 use Rattle.reply_model.specs.Right.{ends}
 use Rattle.node_model.specs.Letters.{no_time, at_time, Statement, write_ask, read_ask, time_ask, Letter}
-use Rattle.node_model.specs.States.{Router, Work, writing, reading, for_time, for_table, Open}
-use Rattle.node_model.specs.RouterRows.{id_of, statements_from, owner_of_statement, is_on, run_to, says, asks_to_write, owner_of_span, asks_to_read, asks_shards, asks_table, is_enough, enough_of, table_for, asks_times, is_ahead, wait_by, asks_by, wait_of, asks_for, is_answered}
-use Rattle.chunk_model.proofs.FirstTables.{every_key}
+use Rattle.node_model.specs.States.{Router, Work, writing, reading, sharding, splitting, for_time, for_catalogue, Open}
+use Rattle.node_model.specs.RouterRows.{id_of, statements_from, owner_of_statement, is_on, run_to, says, asks_to_write, owner_of_span, asks_to_read, asks_shards, asks_catalogue, is_enough, enough_of, table_for, asks_times, is_ahead, wait_by, asks_by, wait_of, asks_for, is_answered}
 use Rattle.command_model.proofs.Judged.{HasKey}
 use Rattle.history_model.proofs.Keyed.{written_is_key}
-use Rattle.node_laws.proofs.RouterAsks.{only_span}
 use Rattle.node_laws.proofs.MadeEntries.{index_at}
-use Rattle.node_progress.proofs.Leads.{AskFits, IsReading, HasNext, IsGoing, IsNext, Leads}
+use Rattle.node_progress.proofs.Leads.{AskFits, IsReading, IsSplitting, HasNext, IsGoing, IsNext, Leads}
 
 -- one message, which has this property
 pub record Sends (mail : List Letter) (P : Letter → Type 0) : Type 0 where
@@ -32,17 +29,17 @@ pub record Sends (mail : List Letter) (P : Letter → Type 0) : Type 0 where
   pub is : mail ≡ letter ∷ []
   pub leads : P letter
 
--- the table with which a collection was created
-abbrev pub IsFirst : Table → Type 0
-IsFirst t = (c : Creation) × (t ≡ first_table c)
+-- by the table the first shard owns all keys, and it alone owned any before
+pub record IsFirst (t : Table) : Type 0 where
+  pub now : (key : Datum) → is_key key ≡ true → owner_now t key ≡ Some first_shard
+  pub before : (key : Datum) (at shard : ℕ) → is_key key ≡ true → owner_at t key at ≡ Some shard → shard ≡ first_shard
 
 -- THE SHARD
 
 owner_of : (t : Table) (s : Statement) (key : Datum) → IsFirst t → key_written s.operation ≡ Some key → is_key key ≡ true
     → owner_of_statement t s ≡ Some first_shard
-owner_of t s key (c, same) written is =
-    ap (λ o. elim o as (λ (o : Option Datum). Option ℕ) [ None ↦ None | Some k ↦ owner_now t k ]) written
-    ∙ (ap (λ u. owner_now u key) same ∙ every_key c key is)
+owner_of t s key first written is =
+    ap (λ o. elim o as (λ (o : Option Datum). Option ℕ) [ None ↦ None | Some k ↦ owner_now t k ]) written ∙ first.now key is
 
 to_write : (r : Router) (time : ℕ) (id : RequestId) (namespace : List ℕ) (t : Table) (ordered : Bool) (s : Statement) (more : List Statement)
     → owner_of_statement t s ≡ Some first_shard
@@ -68,12 +65,12 @@ to_read r time id namespace t at half owner =
 
 span_owner : (t : Table) (at : ℕ) (span : List Span) → IsFirst t
     → (elim (owner_of_span t at span) as (λ (o : Option ℕ). Bool) [ None ↦ false | Some shard ↦ true ]) ≡ true → owner_of_span t at span ≡ Some first_shard
-span_owner t at span (c, same) enough = by_owner (owner_of_span t at span) refl enough
+span_owner t at span first enough = by_owner (owner_of_span t at span) refl enough
   where
     by_owner : (o : Option ℕ) → owner_of_span t at span ≡ o → (elim o as (λ (o : Option ℕ). Bool) [ None ↦ false | Some shard ↦ true ]) ≡ true
         → o ≡ Some first_shard
     by_owner None is enough = absurd (cc enough)
-    by_owner (Some shard) is enough = ap (λ n. Some n) (only_span c at shard span (ap (λ u. owner_of_span u at span) (sym same) ∙ is))
+    by_owner (Some shard) is enough = ap (λ n. Some n) (first.before null_value at shard refl is)
 
 module _ (r u : Router) (time : ℕ) (q : Open) (me : u.me ≡ r.me) (own : id_of u q.count ≡ id_of r q.count) where
   -- by its table, what comes next is requested of the shard
@@ -98,6 +95,8 @@ module _ (r u : Router) (time : ℕ) (q : Open) (me : u.me ≡ r.me) (own : id_o
           ),
         );
       }
+      by_work sharding same going enough = absurd (cc enough)
+      by_work (splitting middle) same going enough = absurd (cc enough)
       by_work (reading named at stages telling) same going enough = record {
         letter = says r first_shard time (read_ask (id_of r q.count) 1 q.namespace at (split stages).0 (sent_by t first_shard));
         is = to_read r time (id_of r q.count) q.namespace t at (split stages).0 (span_owner t at (split stages).0.span first enough);
@@ -106,16 +105,20 @@ module _ (r u : Router) (time : ℕ) (q : Open) (me : u.me ≡ r.me) (own : id_o
 
   -- THE CATALOGUE
 
-  table_leads : q.wait ≡ for_table → (work : Work) → q.work ≡ work → Leads u q [] (asks_table r time q.namespace work)
+  table_leads : q.wait ≡ for_catalogue → (work : Work) → q.work ≡ work → Leads u q [] (asks_catalogue r time q.count q.namespace work)
   table_leads waits (writing kind ordered statements answers) same = (refl, sym me, refl, waits, subst (λ w. AskFits true no_time w) (sym same) refl)
   table_leads waits (reading named at stages telling) same =
       (refl, sym me, refl, waits, subst (λ w. AskFits false (at_time at) w) (sym same) (refl, (Decides-eqb at at).1 refl))
+  table_leads waits sharding same = (refl, sym me, refl, waits, subst (λ w. AskFits true no_time w) (sym same) refl)
+  table_leads waits (splitting middle) same = (refl, sym me, sym own, subst (λ w. IsSplitting w) (sym same) tt)
 
   -- WHAT COMES FIRST
 
   ahead_reads : (work : Work) → is_ahead time work ≡ true → IsReading work
   ahead_reads (writing kind ordered statements answers) is = absurd (cc is)
   ahead_reads (reading named at stages telling) is = tt
+  ahead_reads sharding is = absurd (cc is)
+  ahead_reads (splitting middle) is = absurd (cc is)
 
   pub asks_lead : u.tables ≡ r.tables → ((t : Table) → table_of q.namespace r.tables ≡ Some t → IsFirst t) → IsGoing q.work
       → q.wait ≡ wait_of r time q.namespace q.work
@@ -137,7 +140,7 @@ module _ (r u : Router) (time : ℕ) (q : Open) (me : u.me ≡ r.me) (own : id_o
 
       by_table : (o : Option Table) → table_for r.tables q.namespace q.work ≡ o → q.wait ≡ wait_by o
           → Sends (asks_by r time q.count q.namespace q.work o) (Leads u q [])
-      by_table None is waits = record { letter = asks_table r time q.namespace q.work; is = refl; leads = table_leads waits q.work refl }
+      by_table None is waits = record { letter = asks_catalogue r time q.count q.namespace q.work; is = refl; leads = table_leads waits q.work refl }
       by_table (Some t) is waits = by_found t (table_of q.namespace r.tables) refl is
 
       by_ahead : (b : Bool) → is_ahead time q.work ≡ b → q.wait ≡ (if b then for_time else wait_by (table_for r.tables q.namespace q.work))

@@ -7,8 +7,8 @@ use Rattle.value_model.specs.Keys.{is_key}
 use Rattle.history_model.specs.History.{key_written}
 use Rattle.chunk_model.specs.Tables.{Table, table_of, first_shard}
 use Rattle.chunk_model.specs.Verdicts.{Sent, sent_by}
-use Rattle.node_model.specs.Letters.{At, Statement, Body, table_ask, table_told, write_ask, write_done, read_ask, half_ask, read_rows, stale, time_ask, time_told, Letter, Effect}
-use Rattle.node_model.specs.States.{Shard, Router, Work, writing, reading, for_time, for_table, Open}
+use Rattle.node_model.specs.Letters.{At, Statement, Body, table_ask, table_told, split_ask, split_done, write_ask, write_done, read_ask, half_ask, read_rows, stale, time_ask, time_told, Letter, Effect}
+use Rattle.node_model.specs.States.{Shard, Router, Work, writing, reading, sharding, splitting, for_time, for_catalogue, Open}
 use Rattle.node_model.specs.RouterRows.{id_of, is_for}
 
 -- WORK
@@ -16,6 +16,14 @@ use Rattle.node_model.specs.RouterRows.{id_of, is_for}
 abbrev pub IsReading : Work → Type 0
 IsReading (writing kind ordered statements answers) = ⊥
 IsReading (reading named at stages telling) = Unit {0}
+IsReading sharding = ⊥
+IsReading (splitting middle) = ⊥
+
+abbrev pub IsSplitting : Work → Type 0
+IsSplitting (writing kind ordered statements answers) = ⊥
+IsSplitting (reading named at stages telling) = ⊥
+IsSplitting sharding = ⊥
+IsSplitting (splitting middle) = Unit {0}
 
 -- of these statements so many are answered: there is a next one, which has that index and a key
 pub record HasNext (statements : List Statement) (count : ℕ) : Type 0 where
@@ -30,11 +38,15 @@ pub record HasNext (statements : List Statement) (count : ℕ) : Type 0 where
 abbrev pub IsGoing : Work → Type 0
 IsGoing (writing kind ordered statements answers) = HasNext statements (length answers)
 IsGoing (reading named at stages telling) = Unit {0}
+IsGoing sharding = Unit {0}
+IsGoing (splitting middle) = Unit {0}
 
 -- the next answer is that with this index
 abbrev pub IsNext : Work → ℕ → Type 0
 IsNext (writing kind ordered statements answers) index = index ≡ length answers
 IsNext (reading named at stages telling) index = ⊥
+IsNext sharding index = ⊥
+IsNext (splitting middle) index = ⊥
 
 -- REQUESTS
 
@@ -53,6 +65,8 @@ IsAskOf r q (read_ask id turn namespace at half sent) =
     (id ≡ id_of r q.count) × (namespace ≡ q.namespace) × (turn ≡ 1) × IsReading q.work × HasSent r.tables q.namespace sent
 IsAskOf r q (table_ask namespace create at) = ⊥
 IsAskOf r q (table_told namespace create at table) = ⊥
+IsAskOf r q (split_ask id namespace middle) = ⊥
+IsAskOf r q (split_done id found) = ⊥
 IsAskOf r q (write_done id dones) = ⊥
 IsAskOf r q (half_ask id turn namespace at half documents) = ⊥
 IsAskOf r q (read_rows id turn rows) = ⊥
@@ -64,6 +78,8 @@ IsAskOf r q (time_told id) = ⊥
 abbrev pub AskFits : (create : Bool) → At → Work → Type 0
 AskFits create at (writing kind ordered statements answers) = create ≡ true
 AskFits create at (reading named time stages telling) = (create ≡ false) × (is_for at time ≡ true)
+AskFits create at sharding = create ≡ true
+AskFits create at (splitting middle) = ⊥
 
 -- the table of the collection arrives
 pub record HasTable (namespace : List ℕ) (told : Option Table) : Type 0 where
@@ -72,14 +88,18 @@ pub record HasTable (namespace : List ℕ) (told : Option Table) : Type 0 where
   pub name : table.namespace ≡ namespace
 
 -- a table arrives as the work wants it
-abbrev pub ToldFits : (namespace : List ℕ) → At → Option Table → Work → Type 0
-ToldFits namespace at table (writing kind ordered statements answers) = HasTable namespace table
-ToldFits namespace at table (reading named time stages telling) = is_for at time ≡ true
+abbrev pub ToldFits : (namespace : List ℕ) → (create : Bool) → At → Option Table → Work → Type 0
+ToldFits namespace create at table (writing kind ordered statements answers) = HasTable namespace table
+ToldFits namespace create at table (reading named time stages telling) = is_for at time ≡ true
+ToldFits namespace create at table sharding = (create ≡ true) × HasTable namespace table
+ToldFits namespace create at table (splitting middle) = ⊥
 
 abbrev pub LeadsBody : Router → Open → (to from : ℕ) → Body → Type 0
-LeadsBody r q to from (table_ask namespace create at) = (to ≡ 0) × (from ≡ r.me) × (namespace ≡ q.namespace) × (q.wait ≡ for_table) × AskFits create at q.work
+LeadsBody r q to from (table_ask namespace create at) = (to ≡ 0) × (from ≡ r.me) × (namespace ≡ q.namespace) × (q.wait ≡ for_catalogue) × AskFits create at q.work
 LeadsBody r q to from (table_told namespace create at table) =
-    (to ≡ r.me) × (namespace ≡ q.namespace) × (q.wait ≡ for_table) × ToldFits q.namespace at table q.work
+    (to ≡ r.me) × (namespace ≡ q.namespace) × (q.wait ≡ for_catalogue) × ToldFits q.namespace create at table q.work
+LeadsBody r q to from (split_ask id namespace middle) = (to ≡ 0) × (from ≡ r.me) × (id ≡ id_of r q.count) × IsSplitting q.work
+LeadsBody r q to from (split_done id found) = (to ≡ r.me) × (id ≡ id_of r q.count) × IsSplitting q.work
 LeadsBody r q to from (write_ask id turn ordered namespace statements sent) = (to ≡ 1) × IsAskOf r q (write_ask id turn ordered namespace statements sent)
 LeadsBody r q to from (read_ask id turn namespace at half sent) = (to ≡ 1) × IsAskOf r q (read_ask id turn namespace at half sent)
 LeadsBody r q to from (half_ask id turn namespace at half documents) = (to ≡ 1) × (id ≡ id_of r q.count) × (turn ≡ 1) × IsReading q.work
@@ -94,6 +114,8 @@ LeadsBody r q to from (stale id turn met) = ⊥
 abbrev pub Fetches : Open → (to from : ℕ) → Body → Type 0
 Fetches q to from (table_ask namespace create at) = (to ≡ 0) × (from ≡ 1) × (namespace ≡ q.namespace) × (create ≡ false)
 Fetches q to from (table_told namespace create at table) = (to ≡ 1) × HasTable q.namespace table
+Fetches q to from (split_ask id namespace middle) = ⊥
+Fetches q to from (split_done id found) = ⊥
 Fetches q to from (write_ask id turn ordered namespace statements sent) = ⊥
 Fetches q to from (read_ask id turn namespace at half sent) = ⊥
 Fetches q to from (half_ask id turn namespace at half documents) = ⊥

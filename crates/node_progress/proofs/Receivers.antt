@@ -1,6 +1,6 @@
 -- To whom the message goes that leads on.
 use Rattle.std.proofs.Common.{◌≡◌, ◌⊎◌, inl, inr, ℕ, List, [], ◌∷◌}
-use Rattle.node_model.specs.Letters.{Body, table_ask, table_told, write_ask, write_done, read_ask, half_ask, read_rows, stale, time_ask, time_told, Letter}
+use Rattle.node_model.specs.Letters.{Body, table_ask, table_told, split_ask, split_done, write_ask, write_done, read_ask, half_ask, read_rows, stale, time_ask, time_told, Letter}
 use Rattle.node_model.specs.States.{Router, Open}
 use Rattle.node_progress.proofs.Leads.{LeadsBody, Fetches, Leads}
 
@@ -8,6 +8,8 @@ use Rattle.node_progress.proofs.Leads.{LeadsBody, Fetches, Leads}
 goes_body : (r : Router) (q : Open) (to from : ℕ) (b : Body) → LeadsBody r q to from b → (to ≡ 0) ⊎ ((to ≡ 1) ⊎ (to ≡ r.me))
 goes_body r q to from (table_ask namespace create at) leads = inl leads.0
 goes_body r q to from (table_told namespace create at table) leads = inr (inr leads.0)
+goes_body r q to from (split_ask id namespace middle) leads = inl leads.0
+goes_body r q to from (split_done id found) leads = inr (inr leads.0)
 goes_body r q to from (write_ask id turn ordered namespace statements sent) leads = inr (inl leads.0)
 goes_body r q to from (read_ask id turn namespace at half sent) leads = inr (inl leads.0)
 goes_body r q to from (half_ask id turn namespace at half documents) leads = inr (inl leads.0)
@@ -22,6 +24,8 @@ goes_body r q to from (stale id turn met) leads = absurd leads
 pub fetches_body : (q : Open) (to from : ℕ) (b : Body) → Fetches q to from b → (to ≡ 0) ⊎ (to ≡ 1)
 fetches_body q to from (table_ask namespace create at) leads = inl leads.0
 fetches_body q to from (table_told namespace create at table) leads = inr leads.0
+fetches_body q to from (split_ask id namespace middle) leads = absurd leads
+fetches_body q to from (split_done id found) leads = absurd leads
 fetches_body q to from (write_ask id turn ordered namespace statements sent) leads = absurd leads
 fetches_body q to from (read_ask id turn namespace at half sent) leads = absurd leads
 fetches_body q to from (half_ask id turn namespace at half documents) leads = absurd leads

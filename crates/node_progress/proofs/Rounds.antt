@@ -6,13 +6,12 @@ use Rattle.std.proofs.lemmas.Option.{slice_get_within}
 use Rattle.history_model.proofs.Lists.{in_first, in_later, in_cons, in_none, in_prefix}
 use Rattle.chunk_model.specs.Tables.{first_shard}
 use Rattle.command_model.specs.Command.{write_command, command_of}
-use Rattle.chunk_model.specs.Catalogue.{Creation}
 use Rattle.reply_model.specs.Right.{IsWhole}
 use Rattle.history_model.specs.History.{Entry, IsIn}
 use Rattle.base_model.specs.Identities.{RequestId}
 use Rattle.reply_model.specs.Exchanges.{Asked, Answered}
 use Rattle.reply_model.specs.OneHistory.{ids_told}
-use Rattle.node_model.specs.Journal.{entries_kept, creations_kept}
+use Rattle.node_model.specs.Journal.{entries_kept}
 use Rattle.node_model.specs.World.{World, asked_by, answered_by, Moves, Event, client_event, deliver_event, Happens, comes, delivers, passes, begins as was_opened, Run, stands, goes, start, journal_at}
 use Rattle.node_model.specs.Letters.{Input}
 use Rattle.node_model.specs.Schedule.{openings, moments_given, Delivers, delivers_none, delivers_next, Round, IsRound, Pipes, opens, serves}
@@ -20,7 +19,8 @@ use Rattle.reply_facts.proofs.Requests.{one_asked}
 use Rattle.node_laws.proofs.Lists.{all_within}
 use Rattle.node_laws.proofs.Others.{told_more}
 use Rattle.reply_facts.proofs.Freshness.{told_to, told_write}
-use Rattle.node_laws.proofs.Runs.{StaysTrue, happens_keeps, run_keeps, start_good, start_moments, makes_one_history}
+use Rattle.node_laws.proofs.StepsKeep.{StaysTrue, happens_keeps, run_keeps}
+use Rattle.node_laws.proofs.Runs.{start_good, start_moments, makes_one_history}
 use Rattle.node_progress.specs.Completion.{IsAnswered, IsServed, AreAnswered}
 use Rattle.node_progress.proofs.Idle.{Idle, IsStillEvent, run_idle, start_idle}
 use Rattle.node_progress.proofs.Stages.{Stage, delivery_keeps}
@@ -63,7 +63,7 @@ round_idle u next r events w good idle round =
 pub pipes_idle : (routers : ℕ) (rounds : List Round) (events : List Event) (w : World) (next : ℕ) → Pipes routers rounds events w next
     → StaysTrue w × Idle w next
 pipes_idle routers _ _ _ _ (opens w run) = (
-  run_keeps (start routers) w (openings 0 (length (start routers).nodes)) (start_good routers, start_moments routers) run,
+  run_keeps (start routers) w (openings 0 (length (start routers).nodes)) (start_good routers, start_moments routers, tt) run,
   run_idle (start routers) (openings 0 (length (start routers).nodes)) w 0 (openings_still 0 (length (start routers).nodes)) (start_idle routers) run,
 )
 pipes_idle routers _ _ _ _ (serves rounds r before events u w next pipes round) =
@@ -85,15 +85,14 @@ told_in id (t ∷ answered) there = by_place (in_cons id t.id (ids_told answered
 answered_served : (w : World) → StaysTrue w → (a : Asked) → IsIn a w.asked → IsAnswered w.answered a
     → IsServed (entries_kept (journal_at w.nodes first_shard)) w.asked w.answered a
 answered_served w good a taken done = λ write asks.
-    let creations : List Creation = creations_kept (journal_at w.nodes 0) in
     let history : List Entry = entries_kept (journal_at w.nodes first_shard) in
     let one = makes_one_history w good in
     let told = told_in a.id w.answered done in
-    let to = told_to w.given creations history w.asked w.answered one told.0 told.1 in
+    let to = told_to w.given w.changed history w.asked w.answered one told.0 told.1 in
     let same : to.request ≡ a = one_asked to.request a w.asked one.one to.is.taken taken (to.is.own ∙ told.2) in
     let its : command_of told.0.request ≡ Ok (write_command write) = ap (λ q. command_of q) (sym to.same) ∙ ap (λ (b : Asked). command_of b.request) same
     ∙ asks in
-    let x = told_write w.given creations history w.asked w.answered one told.0 write told.1 its in
+    let x = told_write w.given w.changed history w.asked w.answered one told.0 write told.1 its in
     record {
       whole = λ none. subst (λ id. IsWhole history id write) told.2 (x.whole none);
       tells = record { answer = told.0; told = told.1; own = told.2; dones = x.dones; tells = x.tells };

@@ -7,17 +7,18 @@ use Rattle.std.proofs.lemmas.Bool.Decides.{Decides-eqb}
 use Rattle.std.proofs.lemmas.Slice.Eq.{bytes_eq-Decides}
 use Rattle.history_model.proofs.Lists.{all_at, in_cons, in_none}
 use Rattle.chunk_model.specs.Tables.{Table, table_of}
+use Rattle.command_model.specs.Answers.{sharded_answer}
 use Rattle.command_model.specs.Writes.{WriteKind}
 use Rattle.history_model.specs.History.{IsIn}
 use Rattle.base_model.specs.Identities.{RequestId}
 use Rattle.reply_model.specs.Outcomes.{Done}
-use Rattle.node_model.specs.Letters.{At, Statement, Body, table_ask, table_told, write_ask, write_done, read_ask, half_ask, read_rows, stale, time_ask, time_told, Letter, letter_input, Reply, Effect, sends}
-use Rattle.node_model.specs.States.{Router, Work, writing, reading, for_time, for_table, for_shards, Open, open_with, without, replaced}
-use Rattle.node_model.specs.RouterRows.{id_of, heard, open_of, noted, reached, with_work, going_on, asks_for, is_enough, enough_of, table_for, adopted, is_for, is_for_table, Next, stays, is_told, next_of, next_waiting, stay_in, letters_in, replies_in, reply_to, empty_answer, knows, AreNoNews, IsNoRead, IsNotAwaited, IsLate, TellsNothing, RouterRow, router_learn, router_reach, router_ahead, router_note, router_wrote, router_read, router_excess, router_overflow, router_late, router_skip}
+use Rattle.node_model.specs.Letters.{At, Statement, Body, table_ask, table_told, split_ask, split_done, write_ask, write_done, read_ask, half_ask, read_rows, stale, time_ask, time_told, Letter, letter_input, Reply, Effect, sends}
+use Rattle.node_model.specs.States.{Router, Work, writing, reading, sharding, splitting, for_time, for_catalogue, for_shards, Open, open_with, without, replaced}
+use Rattle.node_model.specs.RouterRows.{id_of, heard, open_of, noted, reached, with_work, going_on, asks_for, is_enough, enough_of, table_for, adopted, is_for, is_for_catalogue, Next, stays, is_told, was_created, next_of, next_waiting, stay_in, letters_in, replies_in, reply_to, empty_answer, knows, AreNoNews, IsNoRead, IsNotAwaited, IsNoSplit, IsLate, TellsNothing, RouterRow, router_learn, router_split, router_not_sharded, router_reach, router_ahead, router_note, router_wrote, router_read, router_excess, router_overflow, router_late, router_skip}
 use Rattle.node_laws.proofs.KnownTables.{table_found, table_there, all_adopted}
 use Rattle.node_laws.proofs.OpenRequests.{open_of_found}
 use Rattle.node_laws.proofs.SeenStatements.{own_session}
-use Rattle.node_progress.proofs.Leads.{IsReading, IsGoing, IsNext, ToldFits, LeadsBody, Leads, Passes}
+use Rattle.node_progress.proofs.Leads.{IsReading, IsSplitting, IsGoing, IsNext, ToldFits, LeadsBody, Leads, Passes}
 use Rattle.node_progress.proofs.Receivers.{fetches_body}
 use Rattle.node_progress.proofs.Asks.{Sends, IsFirst, shards_lead, asks_lead, AreStated, going_of}
 
@@ -26,6 +27,8 @@ use Rattle.node_progress.proofs.Asks.{Sends, IsFirst, shards_lead, asks_lead, Ar
 abbrev pub IsStated : Work → Type 0
 IsStated (writing kind ordered statements answers) = AreStated statements
 IsStated (reading named at stages telling) = Unit {0}
+IsStated sharding = Unit {0}
+IsStated (splitting middle) = Unit {0}
 
 -- a router has this open request and no other
 pub record HasOne (r : Router) (q : Open) : Type 0 where
@@ -77,28 +80,34 @@ becomes_over r t q (stays p letters) f requests mail taken replies b =
     goes_on p requests b.1 b.2 (record { letter = b.3.letter; mail = mail ∙ b.3.is; taken = taken; replies = replies; leads = b.3.leads })
 becomes_over r t q (is_told reply) f requests mail taken replies b = is_over reply requests mail taken replies b
 
-record Learns (r u : Router) (q : Open) (at : At) (table : Option Table) : Type 0 where
+record Learns (r u : Router) (q : Open) (create : Bool) (at : At) (table : Option Table) : Type 0 where
   me : u.me ≡ r.me
   own : id_of u q.count ≡ id_of r q.count
   tables : u.tables ≡ adopted table r.tables
   firsts : AllByRecursion IsFirst u.tables
-  fits : ToldFits q.namespace at table q.work
+  fits : ToldFits q.namespace create at table q.work
   going : IsGoing q.work
 
-without_table : (r : Router) (q : Open) (at : At) (table : Option Table) (time : ℕ) (u : Router) (work : Work) → q.work ≡ work
-    → ToldFits q.namespace at table work → table_for (adopted table r.tables) q.namespace work ≡ None
+without_table : (r : Router) (q : Open) (create : Bool) (at : At) (table : Option Table) (time : ℕ) (u : Router) (work : Work) → q.work ≡ work
+    → ToldFits q.namespace create at table work → table_for (adopted table r.tables) q.namespace work ≡ None
     → Becomes r q u (elim work as (λ (w : Work). Next) [
       | writing kind ordered statements answers ↦ stays q []
       | reading named told stages telling ↦ if is_for at told then is_told (reply_to r time q (empty_answer q told telling)) else stays q []
+      | sharding ↦ if was_created create table then is_told (reply_to r time q (sharded_answer q.namespace time)) else stays q []
+      | splitting middle ↦ stays q []
     ])
-without_table r q at table time u (writing kind ordered statements answers) same fits none =
+without_table r q create at table time u (writing kind ordered statements answers) same fits none =
     let there = table_there q.namespace fits.table r.tables fits.name in
     let some : table_for (adopted table r.tables) q.namespace (writing kind ordered statements answers) ≡ Some there.0 =
     ap (λ o. table_for (adopted o r.tables) q.namespace (writing kind ordered statements answers)) fits.is
     ∙ ap (λ o. enough_of o (writing kind ordered statements answers)) there.1 in
     absurd (cc (some, none))
-without_table r q at table time u (reading named told stages telling) same fits none =
+without_table r q create at table time u (reading named told stages telling) same fits none =
     subst (λ (b : Bool). Becomes r q u (if b then is_told (reply_to r time q (empty_answer q told telling)) else stays q [])) (sym fits) refl
+without_table r q create at table time u sharding same fits none =
+    let made : was_created create table ≡ true = ap (λ o. was_created create o) fits.1.is ∙ fits.0 in
+    subst (λ (b : Bool). Becomes r q u (if b then is_told (reply_to r time q (sharded_answer q.namespace time)) else stays q [])) (sym made) refl
+without_table r q create at table time u (splitting middle) same fits none = absurd fits
 
 enough_found : (o : Option Table) (work : Work) (t : Table) → enough_of o work ≡ Some t → (o ≡ Some t) × (is_enough t work ≡ true)
 enough_found None work t got = absurd (cc got)
@@ -110,21 +119,21 @@ enough_found (Some x) work t got = by_enough (is_enough x work) refl got
         let same : x ≡ t = cc got in
         (got, subst (λ z. is_enough z work ≡ true) same enough)
 
-waiting_becomes : (r u : Router) (q : Open) (at : At) (table : Option Table) (time : ℕ) → Learns r u q at table → (o : Option Table)
+waiting_becomes : (r u : Router) (q : Open) (create : Bool) (at : At) (table : Option Table) (time : ℕ) → Learns r u q create at table → (o : Option Table)
     → table_for (adopted table r.tables) q.namespace q.work ≡ o
-    → Becomes r q u (next_waiting r time at q o)
-waiting_becomes r u q at table time l None is = without_table r q at table time u q.work refl l.fits is
-waiting_becomes r u q at table time l (Some t) is =
+    → Becomes r q u (next_waiting r time (was_created create table) at q o)
+waiting_becomes r u q create at table time l None is = without_table r q create at table time u q.work refl l.fits is
+waiting_becomes r u q create at table time l (Some t) is =
     let found = enough_found (table_of q.namespace (adopted table r.tables)) q.work t is in
     let there : table_of q.namespace u.tables ≡ Some t = ap (λ x. table_of q.namespace x) l.tables ∙ found.0 in
     let s = shards_lead r u time (with_work q for_shards q.work) l.me l.own t there (every_found u.tables q.namespace t l.firsts there) l.going found.1 in
     (refl, l.own, l.going, s)
 
-next_is : (r : Router) (time : ℕ) (tables : List Table) (namespace : List ℕ) (at : At) (q : Open) → namespace ≡ q.namespace → q.wait ≡ for_table
-    → next_of r time tables namespace at q ≡ next_waiting r time at q (table_for tables q.namespace q.work)
-next_is r time tables namespace at q name waits =
-    ap (λ w. if is_for_table w && bytes_eq q.namespace namespace then next_waiting r time at q (table_for tables q.namespace q.work) else stays q []) waits
-    ∙ ap (λ b. if b then next_waiting r time at q (table_for tables q.namespace q.work) else stays q [])
+next_is : (r : Router) (time : ℕ) (tables : List Table) (namespace : List ℕ) (made : Bool) (at : At) (q : Open) → namespace ≡ q.namespace → q.wait ≡ for_catalogue
+    → next_of r time tables namespace made at q ≡ next_waiting r time made at q (table_for tables q.namespace q.work)
+next_is r time tables namespace made at q name waits =
+    ap (λ w. if is_for_catalogue w && bytes_eq q.namespace namespace then next_waiting r time made at q (table_for tables q.namespace q.work) else stays q []) waits
+    ∙ ap (λ b. if b then next_waiting r time made at q (table_for tables q.namespace q.work) else stays q [])
     ((bytes_eq-Decides q.namespace namespace).1 (sym name))
 
 learn_goes : (r : Router) (q : Open) (m : Letter) (namespace : List ℕ) (create : Bool) (at : At) (table : Option Table) → HasOne r q
@@ -132,22 +141,22 @@ learn_goes : (r : Router) (q : Open) (m : Letter) (namespace : List ℕ) (create
     → LeadsBody r q m.receiver m.sender (table_told namespace create at table)
     → Goes r q (record {
       written = [];
-      mail = flat_map (λ q. letters_in (next_of r (heard r m) (adopted table r.tables) namespace at q)) r.requests;
+      mail = flat_map (λ q. letters_in (next_of r (heard r m) (adopted table r.tables) namespace (was_created create table) at q)) r.requests;
       taken = [];
-      replies = flat_map (λ q. replies_in (next_of r (heard r m) (adopted table r.tables) namespace at q)) r.requests;
-    }) (knows r (heard r m) (adopted table r.tables) (flat_map (λ q. stay_in (next_of r (heard r m) (adopted table r.tables) namespace at q)) r.requests))
+      replies = flat_map (λ q. replies_in (next_of r (heard r m) (adopted table r.tables) namespace (was_created create table) at q)) r.requests;
+    }) (knows r (heard r m) (adopted table r.tables) (flat_map (λ q. stay_in (next_of r (heard r m) (adopted table r.tables) namespace (was_created create table) at q)) r.requests))
 learn_goes r q m namespace create at table one first l =
-    let is : next_of r (heard r m) (adopted table r.tables) namespace at q ≡ next_waiting r (heard r m) at q
-    (table_for (adopted table r.tables) q.namespace q.work) = next_is r (heard r m) (adopted table r.tables) namespace at q l.1 l.2 in
+    let is : next_of r (heard r m) (adopted table r.tables) namespace (was_created create table) at q ≡ next_waiting r (heard r m) (was_created create table) at q
+    (table_for (adopted table r.tables) q.namespace q.work) = next_is r (heard r m) (adopted table r.tables) namespace (was_created create table) at q l.1 l.2 in
     becomes_over r (knows r (heard r m) (adopted table r.tables)
-    (flat_map (λ q. stay_in (next_of r (heard r m) (adopted table r.tables) namespace at q)) r.requests)) q
-    (next_waiting r (heard r m) at q (table_for (adopted table r.tables) q.namespace q.work)) _
-    (of_one (λ q. stay_in (next_of r (heard r m) (adopted table r.tables) namespace at q)) r.requests q one.only ∙ ap (λ n. stay_in n) is)
-    (of_one (λ q. letters_in (next_of r (heard r m) (adopted table r.tables) namespace at q)) r.requests q one.only ∙ ap (λ n. letters_in n) is)
+    (flat_map (λ q. stay_in (next_of r (heard r m) (adopted table r.tables) namespace (was_created create table) at q)) r.requests)) q
+    (next_waiting r (heard r m) (was_created create table) at q (table_for (adopted table r.tables) q.namespace q.work)) _
+    (of_one (λ q. stay_in (next_of r (heard r m) (adopted table r.tables) namespace (was_created create table) at q)) r.requests q one.only ∙ ap (λ n. stay_in n) is)
+    (of_one (λ q. letters_in (next_of r (heard r m) (adopted table r.tables) namespace (was_created create table) at q)) r.requests q one.only ∙ ap (λ n. letters_in n) is)
     refl
-    (of_one (λ q. replies_in (next_of r (heard r m) (adopted table r.tables) namespace at q)) r.requests q one.only ∙ ap (λ n. replies_in n) is)
+    (of_one (λ q. replies_in (next_of r (heard r m) (adopted table r.tables) namespace (was_created create table) at q)) r.requests q one.only ∙ ap (λ n. replies_in n) is)
     (waiting_becomes r (knows r (heard r m) (adopted table r.tables)
-    (flat_map (λ q. stay_in (next_of r (heard r m) (adopted table r.tables) namespace at q)) r.requests)) q at table (heard r m)
+    (flat_map (λ q. stay_in (next_of r (heard r m) (adopted table r.tables) namespace (was_created create table) at q)) r.requests)) q create at table (heard r m)
     (record { me = refl; own = refl; tables = refl; firsts = all_adopted IsFirst table r.tables first one.tables; fits = l.3; going = one.going })
     (table_for (adopted table r.tables) q.namespace q.work) refl)
 
@@ -194,29 +203,48 @@ news_come q d dones next late = by_work q.work next late
   where
     by_work : (work : Work) → IsNext work d.index
         → (elim work as (λ (w : Work). Type 0)
-        [ writing kind ordered statements answers ↦ noted answers (d ∷ dones) ≡ answers | reading named at stages telling ↦ Unit {0} ]) → ⊥
+        [ writing kind ordered statements answers ↦ noted answers (d ∷ dones) ≡ answers | reading named at stages telling ↦ Unit {0} | sharding ↦ Unit {0} | splitting middle ↦ Unit {0} ]) → ⊥
     by_work (writing kind ordered statements answers) next late = noted_more answers dones d next late
     by_work (reading named at stages telling) next late = next
+    by_work sharding next late = next
+    by_work (splitting middle) next late = next
 
 rows_come : (q : Open) (turn : ℕ) → IsReading q.work → turn ≡ 1 → IsNoRead (Some q) turn → ⊥
 rows_come q turn reads is late = by_work q.work reads late
   where
     by_work : (work : Work) → IsReading work
-        → (elim work as (λ (w : Work). Type 0) [ writing kind ordered statements answers ↦ Unit {0} | reading named at stages telling ↦ turn ≢ 1 ]) → ⊥
+        → (elim work as (λ (w : Work). Type 0) [ writing kind ordered statements answers ↦ Unit {0} | reading named at stages telling ↦ turn ≢ 1 | sharding ↦ Unit {0} | splitting middle ↦ Unit {0} ]) → ⊥
     by_work (writing kind ordered statements answers) reads late = reads
     by_work (reading named at stages telling) reads late = late is
+    by_work sharding reads late = reads
+    by_work (splitting middle) reads late = reads
 
 time_comes : (q : Open) → IsReading q.work → q.wait ≡ for_time → IsNotAwaited (Some q) → ⊥
 time_comes q reads waits late = by_work q.work reads late
   where
     by_work : (work : Work) → IsReading work
-        → (elim work as (λ (w : Work). Type 0) [ writing kind ordered statements answers ↦ Unit {0} | reading named at stages telling ↦ q.wait ≢ for_time ]) → ⊥
+        → (elim work as (λ (w : Work). Type 0) [ writing kind ordered statements answers ↦ Unit {0} | reading named at stages telling ↦ q.wait ≢ for_time | sharding ↦ Unit {0} | splitting middle ↦ Unit {0} ]) → ⊥
     by_work (writing kind ordered statements answers) reads late = reads
     by_work (reading named at stages telling) reads late = late waits
+    by_work sharding reads late = reads
+    by_work (splitting middle) reads late = reads
+
+split_comes : (q : Open) → IsSplitting q.work → IsNoSplit (Some q) → ⊥
+split_comes q splits late = by_work q.work splits late
+  where
+    by_work : (work : Work) → IsSplitting work
+        → (elim work as (λ (w : Work). Type 0)
+        [ writing kind ordered statements answers ↦ Unit {0} | reading named at stages telling ↦ Unit {0} | sharding ↦ Unit {0} | splitting middle ↦ ⊥ ]) → ⊥
+    by_work (writing kind ordered statements answers) splits late = splits
+    by_work (reading named at stages telling) splits late = splits
+    by_work sharding splits late = splits
+    by_work (splitting middle) splits late = late
 
 not_late : (r : Router) (q : Open) (to from : ℕ) (b : Body) → r.requests ≡ q ∷ [] → IsLate r b → LeadsBody r q to from b → ⊥
 not_late r q to from (table_ask namespace create at) only late leads = late
 not_late r q to from (table_told namespace create at table) only late leads = late
+not_late r q to from (split_ask id namespace middle) only late leads = late
+not_late r q to from (split_done id found) only late leads = split_comes q leads.2 (subst (λ o. IsNoSplit o) (open_there r q id only leads.1) late)
 not_late r q to from (write_ask id turn ordered namespace statements sent) only late leads = late
 not_late r q to from (read_ask id turn namespace at half sent) only late leads = late
 not_late r q to from (half_ask id turn namespace at half documents) only late leads = late
@@ -232,6 +260,8 @@ not_late r q to from (stale id turn met) only late leads = leads
 not_skipped : (r : Router) (q : Open) (to from : ℕ) (b : Body) → to ≡ r.me → r.me ≢ 0 → r.me ≢ 1 → TellsNothing b → LeadsBody r q to from b → ⊥
 not_skipped r q to from (table_ask namespace create at) place not_zero not_one none leads = not_zero (sym place ∙ leads.0)
 not_skipped r q to from (table_told namespace create at table) place not_zero not_one none leads = none
+not_skipped r q to from (split_ask id namespace middle) place not_zero not_one none leads = not_zero (sym place ∙ leads.0)
+not_skipped r q to from (split_done id found) place not_zero not_one none leads = none
 not_skipped r q to from (write_ask id turn ordered namespace statements sent) place not_zero not_one none leads = not_one (sym place ∙ leads.0)
 not_skipped r q to from (read_ask id turn namespace at half sent) place not_zero not_one none leads = not_one (sym place ∙ leads.0)
 not_skipped r q to from (half_ask id turn namespace at half documents) place not_zero not_one none leads = not_one (sym place ∙ leads.0)
@@ -254,6 +284,10 @@ router_goes : (r : Router) (q : Open) (m : Letter) (f : Effect) (t : Router) →
 router_goes _ q _ _ _ place not_zero not_one one first leads (router_learn r m namespace create at table says) =
     learn_goes r q m namespace create at table one (λ t is. first namespace create at t (says ∙ ap (λ o. table_told namespace create at o) is))
     (subst (λ b. LeadsBody r q m.receiver m.sender b) says leads)
+router_goes _ q _ _ _ place not_zero not_one one first leads (router_split r m id p middle says found work) =
+    over_goes r q p _ _ _ one (open_is r q p id one.only found) refl refl refl refl refl
+router_goes _ q _ _ _ place not_zero not_one one first leads (router_not_sharded r m id p middle says found work) =
+    over_goes r q p _ _ _ one (open_is r q p id one.only found) refl refl refl refl refl
 router_goes _ q _ _ _ place not_zero not_one one first leads (router_reach r m id p named at stages telling says found work waits le) =
     going_goes r q p (heard r m) (reached (heard r m) p.work) one (open_is r q p id one.only found)
     (subst (λ w. IsGoing (reached (heard r m) w)) (sym work) tt)

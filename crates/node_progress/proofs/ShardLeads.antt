@@ -9,22 +9,19 @@ use Rattle.chunk_model.specs.Verdicts.{Sent, fits, shard_is_old, router_is_old, 
 use Rattle.chunk_model.specs.Versions.{Version}
 use Rattle.base_model.specs.Identities.{RequestId}
 use Rattle.reply_model.specs.Outcomes.{Done}
-use Rattle.node_model.specs.Letters.{Statement, half_overflow, half_excess, Body, table_ask, table_told, write_ask, write_done, read_ask, half_ask, read_rows, stale, time_ask, time_told, Letter, letter_input, Effect}
+use Rattle.node_model.specs.Letters.{Statement, half_overflow, half_excess, Body, table_ask, table_told, split_ask, split_done, write_ask, write_done, read_ask, half_ask, read_rows, stale, time_ask, time_told, Letter, letter_input, Effect}
 use Rattle.node_model.specs.States.{Shard, Router, Open}
 use Rattle.node_model.specs.Service.{seen_before, Serves, serves_again, serves_new, ends_again, ends_new, Repeats, repeats, ends_repeat, documents_at}
 use Rattle.node_model.specs.ShardRows.{Ask, is_parked, ask_in, wants_table, tries, says, heard, AsksNothing, IsNoNews, is_news, asks_table as asks_for_table, ShardRow, shard_write, shard_repeat, shard_empty, shard_park, shard_waits, shard_stale, shard_read, shard_rows, shard_excess, shard_overflow, shard_time, shard_learn, shard_known, shard_skip}
-use Rattle.chunk_model.proofs.OwnTables.{own_table as table_fits}
 use Rattle.node_laws.proofs.SeenStatements.{IsFound, found_entry, found_older, seen_found}
 use Rattle.node_progress.proofs.Leads.{IsNext, HasSent, IsAskOf, HasTable, LeadsBody, Fetches, Leads, Parks, Passes}
 
--- the shard's table of the collection is the router's, where both have one
+-- by the shard's table of the collection and the router's the first shard has the same keys, where both have one
 abbrev pub AreOne : Router → Open → Shard → Type 0
-AreOne r q s = (t u : Table) → table_of q.namespace r.tables ≡ Some t → table_of q.namespace s.tables ≡ Some u → u ≡ t
+AreOne r q s = (t u : Table) → table_of q.namespace r.tables ≡ Some t → table_of q.namespace s.tables ≡ Some u
+    → verdict_of (sent_by t first_shard) first_shard (Some u) ≡ fits
 
 -- THE VERDICT
-
-own_table : (t : Table) → verdict_of (sent_by t first_shard) first_shard (Some t) ≡ fits
-own_table t = table_fits t first_shard
 
 -- a request is served, but where there is no table
 is_served : (r : Router) (q : Open) (s : Shard) (namespace : List ℕ) (sent : Sent) → s.me ≡ 1 → AreOne r q s → namespace ≡ q.namespace
@@ -36,10 +33,9 @@ is_served r q s namespace sent me one name has = by_table (table_of q.namespace 
         → (table_of q.namespace s.tables ≡ None) ⊎ (verdict_of sent s.me (table_of namespace s.tables) ≡ fits)
     by_table None is = inl is
     by_table (Some u) is =
-        let same : u ≡ has.table = one has.table u has.there is in
-        let found : table_of namespace s.tables ≡ Some has.table = ap (λ n. table_of n s.tables) name ∙ (is ∙ ap (λ t. Some t) same) in
+        let found : table_of namespace s.tables ≡ Some u = ap (λ n. table_of n s.tables) name ∙ is in
         inr (ap (λ o. verdict_of sent s.me o) found
-        ∙ (ap (λ n. verdict_of sent n (Some has.table)) me ∙ (ap (λ x. verdict_of x 1 (Some has.table)) has.versions ∙ own_table has.table)))
+        ∙ (ap (λ n. verdict_of sent n (Some u)) me ∙ (ap (λ x. verdict_of x 1 (Some u)) has.versions ∙ one has.table u has.there is)))
 
 old_is_none : (r : Router) (q : Open) (s : Shard) (namespace : List ℕ) (sent : Sent) → verdict_of sent s.me (table_of namespace s.tables) ≡ shard_is_old
     → (table_of q.namespace s.tables ≡ None) ⊎ (verdict_of sent s.me (table_of namespace s.tables) ≡ fits) → table_of q.namespace s.tables ≡ None
@@ -76,6 +72,8 @@ ask_parts r q to from (table_ask namespace create at) a is leads = absurd (cc is
 ask_parts r q to from (table_told namespace create at table) a is leads = absurd (cc is)
 ask_parts r q to from (half_ask id turn namespace at half documents) a is leads = absurd (cc is)
 ask_parts r q to from (read_rows id turn rows) a is leads = absurd (cc is)
+ask_parts r q to from (split_ask id namespace middle) a is leads = absurd (cc is)
+ask_parts r q to from (split_done id found) a is leads = absurd (cc is)
 ask_parts r q to from (write_done id dones) a is leads = absurd (cc is)
 ask_parts r q to from (time_ask id) a is leads = absurd (cc is)
 ask_parts r q to from (time_told id) a is leads = absurd (cc is)
@@ -88,6 +86,8 @@ fetch_no_ask q to from (write_ask id turn ordered namespace statements sent) a i
 fetch_no_ask q to from (read_ask id turn namespace at half sent) a is leads = leads
 fetch_no_ask q to from (half_ask id turn namespace at half documents) a is leads = leads
 fetch_no_ask q to from (read_rows id turn rows) a is leads = leads
+fetch_no_ask q to from (split_ask id namespace middle) a is leads = leads
+fetch_no_ask q to from (split_done id found) a is leads = leads
 fetch_no_ask q to from (write_done id dones) a is leads = leads
 fetch_no_ask q to from (time_ask id) a is leads = leads
 fetch_no_ask q to from (time_told id) a is leads = leads
@@ -102,6 +102,8 @@ ask_leads r q to from (table_ask namespace create at) place ask = absurd ask
 ask_leads r q to from (table_told namespace create at table) place ask = absurd ask
 ask_leads r q to from (half_ask id turn namespace at half documents) place ask = absurd ask
 ask_leads r q to from (read_rows id turn rows) place ask = absurd ask
+ask_leads r q to from (split_ask id namespace middle) place ask = absurd ask
+ask_leads r q to from (split_done id found) place ask = absurd ask
 ask_leads r q to from (write_done id dones) place ask = absurd ask
 ask_leads r q to from (time_ask id) place ask = absurd ask
 ask_leads r q to from (time_told id) place ask = absurd ask
@@ -117,6 +119,8 @@ wants_body r q (table_ask namespace create at) wanted name ask = absurd ask
 wants_body r q (table_told namespace create at table) wanted name ask = absurd ask
 wants_body r q (half_ask id turn namespace at half documents) wanted name ask = absurd ask
 wants_body r q (read_rows id turn rows) wanted name ask = absurd ask
+wants_body r q (split_ask id namespace middle) wanted name ask = absurd ask
+wants_body r q (split_done id found) wanted name ask = absurd ask
 wants_body r q (write_done id dones) wanted name ask = absurd ask
 wants_body r q (time_ask id) wanted name ask = absurd ask
 wants_body r q (time_told id) wanted name ask = absurd ask
@@ -171,6 +175,8 @@ not_skipped r q to from (write_ask id turn ordered namespace statements sent) pl
 not_skipped r q to from (read_ask id turn namespace at half sent) place own none leads = none
 not_skipped r q to from (half_ask id turn namespace at half documents) place own none leads = none
 not_skipped r q to from (read_rows id turn rows) place own none leads = own (sym leads.0 ∙ place)
+not_skipped r q to from (split_ask id namespace middle) place own none leads = cc (leads.0, place)
+not_skipped r q to from (split_done id found) place own none leads = own (sym leads.0 ∙ place)
 not_skipped r q to from (write_done id []) place own none leads = leads
 not_skipped r q to from (write_done id (d ∷ dones)) place own none leads = own (sym leads.0 ∙ place)
 not_skipped r q to from (time_ask id) place own none leads = none
@@ -184,6 +190,8 @@ not_skipped_parked q to from (write_ask id turn ordered namespace statements sen
 not_skipped_parked q to from (read_ask id turn namespace at half sent) place none leads = leads
 not_skipped_parked q to from (half_ask id turn namespace at half documents) place none leads = leads
 not_skipped_parked q to from (read_rows id turn rows) place none leads = leads
+not_skipped_parked q to from (split_ask id namespace middle) place none leads = leads
+not_skipped_parked q to from (split_done id found) place none leads = leads
 not_skipped_parked q to from (write_done id dones) place none leads = leads
 not_skipped_parked q to from (time_ask id) place none leads = leads
 not_skipped_parked q to from (time_told id) place none leads = leads

@@ -4,28 +4,29 @@ use Rattle.std.specs.Prelude.{Some}
 use Rattle.std.specs.List.{AllByRecursion, slice_get, slice_set}
 use Rattle.std.proofs.lemmas.Option.{slice_get_within}
 use Rattle.history_model.proofs.Lists.{all_weaken, all_at, in_first, in_back}
-use Rattle.chunk_model.specs.Catalogue.{Creation}
-use Rattle.chunk_model.specs.Tables.{Table, first_table, table_of}
+use Rattle.chunk_model.specs.Changes.{create_change, known_table}
+use Rattle.chunk_model.specs.Tables.{Table, table_of}
 use Rattle.history_model.specs.History.{IsIn}
 use Rattle.reply_model.specs.Exchanges.{Asked, Answered}
 use Rattle.reply_model.specs.OneHistory.{ids_told}
-use Rattle.node_model.specs.Journal.{Kept, creations_kept}
+use Rattle.node_model.specs.Journal.{Kept, changes_kept}
 use Rattle.node_model.specs.Letters.{At, table_told, Letter, Input, letter_input, Reply, Effect}
-use Rattle.node_model.specs.States.{Catalogue, Shard, Router, Work, writing, reading, Open, NodeState, catalogue_state, shard_state, router_state}
+use Rattle.node_model.specs.States.{Catalogue, Shard, Router, Work, writing, reading, sharding, splitting, Open, NodeState, catalogue_state, shard_state, router_state}
 use Rattle.node_model.specs.RouterRows.{id_of, RouterRow}
 use Rattle.node_model.specs.Steps.{Step, catalogue_step, shard_step, router_step, begin_step, other_step, number_of}
 use Rattle.node_model.specs.World.{Held, World, asked_by, answered_by, after, is_given, tick, Moves, journal_at, Happens, delivers, deliver_event}
 use Rattle.command_model.proofs.Taken.{operations_with_keys}
 use Rattle.node_model.proofs.Journals.{journal_got}
-use Rattle.node_laws.proofs.Views.{Book, View, view_of, creations_in}
+use Rattle.node_laws.proofs.Views.{Book, View, view_of}
 use Rattle.node_laws.proofs.Places.{EachAt, each_get, each_set}
 use Rattle.node_laws.proofs.Facts.{IsKnownTable, BodyFits, WorkFits, IsOpenOf, CatalogueFits, ShardFits, RouterFits, StateFits, HeldFits, SentFits, Good}
 use Rattle.node_laws.proofs.Lists.{map_longer}
-use Rattle.node_laws.proofs.KnownTables.{table_found, one_creation}
-use Rattle.node_laws.proofs.CatalogueRows.{table_missing}
+use Rattle.node_laws.proofs.CatalogueTables.{IsNoCreation, none_created}
+use Rattle.node_laws.proofs.TableVersions.{known_fits}
+use Rattle.node_laws.proofs.KnownTables.{table_found, table_created, known_owned, known_at}
 use Rattle.node_laws.proofs.Keeps.{the_begun}
 use Rattle.node_laws.proofs.Others.{told_more}
-use Rattle.node_laws.proofs.Runs.{fits_here, get_set, got_is_in}
+use Rattle.node_laws.proofs.StepsKeep.{fits_here, get_set, got_is_in}
 use Rattle.node_progress.specs.Completion.{IsQuiet, IsAnswered}
 use Rattle.node_progress.proofs.Leads.{IsGoing, Leads, Parks, Passes}
 use Rattle.node_progress.proofs.Receivers.{goes_to}
@@ -154,17 +155,22 @@ module _ (w : World) (next p : ℕ) (i : Input) (old : Held) (f : Effect) (new :
 
 -- WHAT ALL NODES KNOW
 
-pub first_of_known : (v : View) (time : ℕ) (tables : List Table) → AllByRecursion (IsKnownTable v time) tables → AllByRecursion IsFirst tables
-first_of_known v time tables all = all_weaken (IsKnownTable v time) IsFirst tables (λ t k. (k.creation, k.table)) all
+-- by a known table the first shard owns all
+known_first : (v : View) (time : ℕ) (t : Table) → IsKnownTable v time t → IsFirst t
+known_first v time t k = record {
+  now = λ key valid. known_owned v time t key k valid;
+  before = λ key at shard valid owns. known_at v time t key at shard k valid owns;
+}
 
--- a known table has the creation of its name
-known_name : (v : View) (time : ℕ) (namespace : List ℕ) (tables : List Table) (t : Table) → AllByRecursion (IsKnownTable v time) tables
-    → table_of namespace tables ≡ Some t
-    → (c : Creation) × IsIn c (creations_in v) × (t ≡ first_table c) × (c.namespace ≡ namespace)
-known_name v time namespace tables t all got =
+pub first_of_known : (v : View) (time : ℕ) (tables : List Table) → AllByRecursion (IsKnownTable v time) tables → AllByRecursion IsFirst tables
+first_of_known v time tables all = all_weaken (IsKnownTable v time) IsFirst tables (λ t k. known_first v time t k) all
+
+-- the table of a name among known tables
+known_in : (v : View) (time : ℕ) (namespace : List ℕ) (tables : List Table) (t : Table) → AllByRecursion (IsKnownTable v time) tables
+    → table_of namespace tables ≡ Some t → IsKnownTable v time t × (t.namespace ≡ namespace)
+known_in v time namespace tables t all got =
     let found = table_found namespace tables t got in
-    let k = all_at (IsKnownTable v time) t tables all found.stands in
-    (k.creation, k.begun, k.table, ap (λ (u : Table). u.namespace) (sym k.table) ∙ found.name)
+    (all_at (IsKnownTable v time) t tables all found.stands, found.name)
 
 fits_router : (w : World) (book : Book) (at : ℕ) (r : Router) (kept : List Kept) → Good w book
     → slice_get w.nodes at ≡ Some (record { state = router_state r; kept = kept })
@@ -176,26 +182,30 @@ catalogue_knows : (w : World) (book : Book) (next p : ℕ) (kept : List Kept) (c
 catalogue_knows w book next p kept c good s here t there missing =
     let fits : CatalogueFits w.asked p kept c = (fits_here w book p (record { state = catalogue_state c; kept = kept }) good here).state in
     let r = fits_router w book s.at s.router s.kept good s.here in
-    let k = known_name (view_of w.nodes book) s.router.time s.request.namespace s.router.tables t r.tables there in
+    let k = known_in (view_of w.nodes book) s.router.time s.request.namespace s.router.tables t r.tables there in
+    let made = table_created (view_of w.nodes book) s.router.time t k.0 in
     let journal : journal_at w.nodes 0 ≡ kept =
     ap (λ n. journal_at w.nodes n) (sym fits.place) ∙ journal_got w.nodes p (record { state = catalogue_state c; kept = kept }) here in
-    let none = table_missing s.request.namespace (creations_kept kept) (ap (λ l. table_of s.request.namespace l) (sym fits.tables) ∙ missing) in
-    all_at (λ (d : Creation). d.namespace ≢ s.request.namespace) k.0 (creations_kept kept) none (subst (λ l. IsIn k.0 (creations_kept l)) journal k.1) k.3
+    let none = none_created s.request.namespace (changes_kept kept) (ap (λ l. known_table s.request.namespace l) (sym fits.changes) ∙ missing) in
+    all_at (IsNoCreation s.request.namespace) (create_change made.creation) (changes_kept kept) none
+    (subst (λ l. IsIn (create_change made.creation) (changes_kept l)) journal made.begun) (made.name ∙ k.1)
 
 shard_agrees : (w : World) (book : Book) (next p : ℕ) (kept : List Kept) (x : Shard) → Good w book → (s : Waits w next)
     → slice_get w.nodes p ≡ Some (record { state = shard_state x; kept = kept }) → AreOne s.router s.request x
 shard_agrees w book next p kept x good s here t u there own =
     let fits : ShardFits (view_of w.nodes book) w.asked p kept x = (fits_here w book p (record { state = shard_state x; kept = kept }) good here).state in
     let r = fits_router w book s.at s.router s.kept good s.here in
-    let k = known_name (view_of w.nodes book) s.router.time s.request.namespace s.router.tables t r.tables there in
-    let l = known_name (view_of w.nodes book) x.time s.request.namespace x.tables u fits.tables own in
-    let names = (the_begun (view_of w.nodes book) w.asked w.answered w.given w.nodes good.order good.nodes).names in
-    l.2 ∙ (ap (λ c. first_table c) (one_creation l.0 k.0 (creations_in (view_of w.nodes book)) names l.1 k.1 (l.3 ∙ sym k.3)) ∙ sym k.2)
+    let k = known_in (view_of w.nodes book) s.router.time s.request.namespace s.router.tables t r.tables there in
+    let l = known_in (view_of w.nodes book) x.time s.request.namespace x.tables u fits.tables own in
+    let made = the_begun (view_of w.nodes book) w.asked w.answered w.given w.nodes good.order good.nodes in
+    known_fits (view_of w.nodes book) s.router.time x.time t u made.fitting k.0 l.0 (k.1 ∙ sym l.1)
 
 stated_work : (a : Asked) (namespace : List ℕ) (work : Work) → WorkFits a namespace work → IsStated work
 stated_work a namespace (writing kind ordered statements answers) fits =
     record { given = fits.0.number; id = a.id; operations = fits.0.operations; are = fits.5; keys = operations_with_keys a.request fits.0 fits.1 }
 stated_work a namespace (reading named at stages telling) fits = tt
+stated_work a namespace sharding fits = tt
+stated_work a namespace (splitting middle) fits = tt
 
 has_one : (w : World) (book : Book) (next : ℕ) → Good w book → (s : Waits w next) → HasOne s.router s.request
 has_one w book next good s =
@@ -212,9 +222,9 @@ has_one w book next good s =
 told_first : (w : World) (book : Book) (m : Letter) → Good w book → IsIn m w.sent → (namespace : List ℕ) (create : Bool) (at : At) (t : Table)
     → m.body ≡ table_told namespace create at (Some t) → IsFirst t
 told_first w book m good there namespace create at t says =
-    let fits = (all_at (SentFits (view_of w.nodes book) w.asked w.answered w.given) m w.sent good.letters there).0 in
+    let fits = (all_at (SentFits (view_of w.nodes book) w.changed w.asked w.answered w.given) m w.sent good.letters there).0 in
     let table = subst (λ b. BodyFits (view_of w.nodes book) w.asked m.sender m.receiver m.time b) says fits in
-    (table.0.creation, table.0.table)
+    known_first (view_of w.nodes book) m.time t table.0
 
 -- A DELIVERY
 

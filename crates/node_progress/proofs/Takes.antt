@@ -6,7 +6,7 @@ use Rattle.std.specs.Option.{unwrap_or}
 use Rattle.history_model.proofs.Lists.{all_weaken, all_append, in_first, in_back}
 use Rattle.opmsg_model.specs.Requests.{Request}
 use Rattle.base_model.specs.Refusals.{Refusal}
-use Rattle.command_model.specs.Command.{Command, hello_command, legacy_command, ping_command, end_sessions_command, write_command, find_command, count_command, more_command, kill_command, command_of}
+use Rattle.command_model.specs.Command.{Command, hello_command, legacy_command, ping_command, end_sessions_command, write_command, find_command, count_command, more_command, kill_command, shard_collection_command, split_command, command_of}
 use Rattle.command_model.specs.Reading.{Reading}
 use Rattle.reply_model.specs.Right.{usual_size}
 use Rattle.command_model.specs.Writes.{ClientNumber, WriteKind}
@@ -27,7 +27,7 @@ use Rattle.node_laws.proofs.Places.{EachAt, each_set}
 use Rattle.node_laws.proofs.Facts.{RouterFits, Good}
 use Rattle.node_laws.proofs.Lists.{map_longer}
 use Rattle.node_laws.proofs.Others.{told_more}
-use Rattle.node_laws.proofs.Runs.{fits_here, get_set}
+use Rattle.node_laws.proofs.StepsKeep.{fits_here, get_set}
 use Rattle.node_progress.specs.Completion.{IsQuiet, IsAnswered}
 use Rattle.node_progress.proofs.Leads.{IsGoing, Leads}
 use Rattle.node_progress.proofs.Asks.{Sends, IsFirst, asks_lead, going_of}
@@ -74,6 +74,8 @@ plan_goes r id silent request namespace work (Ok (find_command find)) is plan =
 plan_goes r id silent request namespace work (Ok (count_command read)) is plan = subst (λ w. IsGoing w) (same_plan plan) (read_goes r read as_number read.at)
 plan_goes r id silent request namespace work (Ok (more_command get)) is plan = absurd (cc plan)
 plan_goes r id silent request namespace work (Ok (kill_command kill)) is plan = absurd (cc plan)
+plan_goes r id silent request namespace work (Ok (shard_collection_command name)) is plan = subst (λ w. IsGoing w) (same_plan plan) tt
+plan_goes r id silent request namespace work (Ok (split_command split)) is plan = subst (λ w. IsGoing w) (same_plan plan) tt
 
 -- THE ROWS
 
