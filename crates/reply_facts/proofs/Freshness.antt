@@ -10,7 +10,7 @@ use Rattle.command_model.specs.Reading.{Reading}
 use Rattle.command_model.specs.Command.{write_command, command_of}
 use Rattle.command_model.specs.Answers.{refusal_answer, answer_document}
 use Rattle.command_model.proofs.Taken.{some_operations}
-use Rattle.chunk_model.specs.Catalogue.{Creation}
+use Rattle.chunk_model.specs.Changes.{Change}
 use Rattle.history_model.specs.History.{Operation, Outcome, Entry, IsIn}
 use Rattle.history_model.proofs.Lists.{all_at, in_cons, in_first, in_none}
 use Rattle.base_model.specs.Identities.{RequestId}
@@ -19,7 +19,7 @@ use Rattle.reply_model.specs.Outcomes.{StatementOutcome, was_done, WasDone, Done
 use Rattle.reply_model.specs.Cursors.{Cursor}
 use Rattle.reply_model.specs.Reads.{IsTimeRead}
 use Rattle.reply_model.specs.Right.{Sends, MayBeTold, AreTold, told_by, IsRight, Reads}
-use Rattle.reply_model.specs.OneHistory.{WasSent, IsPlaced, IsRightOf, AreRight, nothing_told, then_told, IsNotBefore, IsFresh, IsInOrder, Given, OneHistory}
+use Rattle.reply_model.specs.OneHistory.{WasSent, IsPlaced, IsRightOf, AreRight, nothing_told, then_told, IsNotBefore, IsFresh, IsInOrder, Given, OneHistory, Dated, changes_in}
 use Rattle.reply_facts.specs.Earlier.{IsTold, WasToldBefore, WasTakenBefore}
 use Rattle.reply_facts.proofs.Requests.{number_same, one_asked, by_in}
 use Rattle.reply_facts.proofs.RightAnswers.{TellsWrite, right_of, write_time, most}
@@ -27,48 +27,48 @@ use Rattle.reply_facts.proofs.Statements.{on_first, one_number, IsAnswerOf, answ
 use Rattle.reply_facts.proofs.ReadTimes.{shown_time, not_before, not_before_after, ahead_time, is_ahead, wanted_is}
 
 -- each of the answers is right, with some cursors before it and after it
-pub record IsRightIn (given : List Given) (creations : List Creation) (history : List Entry) (asked : List Asked) (answered : List Answered)
+pub record IsRightIn (given : List Given) (changes : List Change) (history : List Entry) (asked : List Asked) (answered : List Answered)
     (t : Answered) : Type 0 where
   pub cursors : List Cursor
   pub next : List Cursor
-  pub is : IsRightOf given creations history asked answered cursors t next
+  pub is : IsRightOf given changes history asked answered cursors t next
 
-pub right_in : (given : List Given) (creations : List Creation) (history : List Entry) (asked : List Asked) (answered : List Answered) (cursors : List Cursor)
+pub right_in : (given : List Given) (changes : List Change) (history : List Entry) (asked : List Asked) (answered : List Answered) (cursors : List Cursor)
     (told : List Answered)
-    → AreRight given creations history asked answered cursors told → (t : Answered) → IsIn t told → IsRightIn given creations history asked answered t
-right_in given creations history asked answered cursors told (nothing_told c) t i = absurd (in_none t i)
-right_in given creations history asked answered cursors told (then_told c next s later right rest) t i =
-    by_place (in_cons t s later i) (λ j. right_in given creations history asked answered next later rest t j)
+    → AreRight given changes history asked answered cursors told → (t : Answered) → IsIn t told → IsRightIn given changes history asked answered t
+right_in given changes history asked answered cursors told (nothing_told c) t i = absurd (in_none t i)
+right_in given changes history asked answered cursors told (then_told c next s later right rest) t i =
+    by_place (in_cons t s later i) (λ j. right_in given changes history asked answered next later rest t j)
   where
-    by_place : (t ≡ s) ⊎ IsIn t later → (IsIn t later → IsRightIn given creations history asked answered t) → IsRightIn given creations history asked answered t
+    by_place : (t ≡ s) ⊎ IsIn t later → (IsIn t later → IsRightIn given changes history asked answered t) → IsRightIn given changes history asked answered t
     by_place (inl same) more = record {
       cursors = c;
       next = next;
-      is = subst (λ (x : Answered). IsRightOf given creations history asked answered c x next) (sym same) right;
+      is = subst (λ (x : Answered). IsRightOf given changes history asked answered c x next) (sym same) right;
     }
     by_place (inr j) more = more j
 
 -- one request's answer, with the cursors around it
-pub record IsRightFor (creations : List Creation) (history : List Entry) (asked : List Asked) (answered : List Answered) (a : Asked)
+pub record IsRightFor (changes : List Change) (history : List Entry) (asked : List Asked) (answered : List Answered) (a : Asked)
     (t : Answered) : Type 0 where
   pub cursors : List Cursor
   pub next : List Cursor
-  pub right : IsRight creations history asked answered cursors a t next
+  pub right : IsRight changes history asked answered cursors a t next
   pub risen : a.time ≤ t.time
 
-module _ (given : List Given) (creations : List Creation) (history : List Entry) (asked : List Asked) (answered : List Answered)
-    (one : OneHistory given creations history asked answered) where
+module _ (given : List Given) (dated : List Dated) (history : List Entry) (asked : List Asked) (answered : List Answered)
+    (one : OneHistory given dated history asked answered) where
   -- REQUESTS AND THEIR ANSWERS
 
-  right_told : (t : Answered) → IsIn t answered → IsRightIn given creations history asked answered t
-  right_told t i = right_in given creations history asked answered [] answered one.right t i
+  right_told : (t : Answered) → IsIn t answered → IsRightIn given (changes_in dated) history asked answered t
+  right_told t i = right_in given (changes_in dated) history asked answered [] answered one.right t i
 
   -- the reply to a request is right, and its router's time was not lower then
-  pub answer_right : (a : Asked) (t : Answered) → IsTold asked answered a t → IsRightFor creations history asked answered a t
+  pub answer_right : (a : Asked) (t : Answered) → IsTold asked answered a t → IsRightFor (changes_in dated) history asked answered a t
   answer_right a t told =
       let r = right_told t told.told in
       let same : r.is.request ≡ a = one_asked r.is.request a asked one.one r.is.taken told.taken (r.is.own ∙ sym told.own) in
-      subst (λ (b : Asked). IsRightFor creations history asked answered b t) same
+      subst (λ (b : Asked). IsRightFor (changes_in dated) history asked answered b t) same
       (record { cursors = r.cursors; next = r.next; right = r.is.right; risen = r.is.risen })
 
   -- each reply belongs to a request
@@ -85,7 +85,7 @@ module _ (given : List Given) (creations : List Creation) (history : List Entry)
   tells_its_write a t write told asks =
       let r = answer_right a t told in
       subst (λ (id : RequestId). TellsWrite history asked id t write) told.own
-      (right_of creations history asked answered r.cursors a t (Ok (write_command write)) r.next asks r.right).0
+      (right_of (changes_in dated) history asked answered r.cursors a t (Ok (write_command write)) r.next asks r.right).0
 
   -- the reply to a write
   pub told_write : (t : Answered) (write : WriteCommand) → IsIn t answered → command_of t.request ≡ Ok (write_command write)
@@ -95,7 +95,9 @@ module _ (given : List Given) (creations : List Creation) (history : List Entry)
   -- ENTRIES AND THEIR REQUESTS
 
   pub one_entry : (d e : Entry) → IsIn d history → IsIn e history → d.number ≡ e.number → d ≡ e
-  one_entry d e i j same = one_number history one.numbers (λ x k. on_first creations x (all_at (IsPlaced creations) x history one.placed k)) d e i j same
+  one_entry d e i j same =
+      one_number history one.numbers
+      (λ x k. on_first asked (changes_in dated) one.wanted x (all_at (IsPlaced (changes_in dated)) x history one.placed k)) d e i j same
 
   -- without a client's number the reply has the outcomes of the entries of all its statements
   pub tells_all : (t : Answered) (write : WriteCommand) → IsIn t answered → command_of t.request ≡ Ok (write_command write) → write.number ≡ None
@@ -171,7 +173,7 @@ module _ (given : List Given) (creations : List Creation) (history : List Entry)
       → operation_time (Some t.document) ≡ Some now → IsTimeRead a t reading now
   read_at a t reading now told asks shown =
       let r = answer_right a t told in
-      shown_time creations history asked answered r.cursors a t r.next reading now asks r.right shown
+      shown_time (changes_in dated) history asked answered r.cursors a t r.next reading now asks r.right shown
 
   pub reads_at_least : (a : Asked) (s t : Answered) (reading : Reading) (before now : ℕ) → IsTold asked answered a t → WasToldBefore answered a s
       → Reads (command_of a.request) reading → reading.at ≡ None → operation_time (Some s.document) ≡ Some before
@@ -201,7 +203,7 @@ module _ (given : List Given) (creations : List Creation) (history : List Entry)
       → operation_time (Some s.document) ≡ Some before → t.document ≡ answer_document (refusal_answer (time_ahead greatest)) → before ≤ greatest
   greatest_at_least a s t before greatest told w shows says =
       let r = answer_right a t told in
-      omega (arith, ahead_time creations history asked answered r.cursors a t r.next greatest r.right says, r.risen, told_before a s before told.taken w shows)
+      omega (arith, ahead_time (changes_in dated) history asked answered r.cursors a t r.next greatest r.right says, r.risen, told_before a s before told.taken w shows)
 
   -- WRITES THAT COME LATER
 
@@ -244,6 +246,6 @@ module _ (given : List Given) (creations : List Creation) (history : List Entry)
       → t.document ≡ answer_document (refusal_answer (time_ahead greatest)) → ⊥
   never_ahead_of_told a s t write index e reading greatest told i before writes j numbered shows asks wants says =
       let r = answer_right a t told in
-      let ahead = is_ahead creations history asked answered r.cursors a t r.next reading greatest asks r.right says in
+      let ahead = is_ahead (changes_in dated) history asked answered r.cursors a t r.next reading greatest asks r.right says in
       let same : ahead.wanted ≡ e.time = wanted_is reading ahead.wanted e.time ahead.wants wants in
       omega (arith, same, ahead.of_all s write index e i before writes j numbered shows)

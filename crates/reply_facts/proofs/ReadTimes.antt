@@ -8,11 +8,11 @@ use Rattle.base_model.specs.ReplyParts.{operation_time}
 use Rattle.command_model.specs.Writes.{WriteKind, insert_kind, update_kind, delete_kind}
 use Rattle.command_model.specs.Reading.{Reading}
 use Rattle.command_model.specs.Cursors.{Batch}
-use Rattle.command_model.specs.Command.{Command, hello_command, legacy_command, ping_command, end_sessions_command, write_command, find_command, count_command, more_command, kill_command, command_of}
+use Rattle.command_model.specs.Command.{Command, hello_command, legacy_command, ping_command, end_sessions_command, write_command, find_command, count_command, more_command, kill_command, shard_collection_command, split_command, command_of}
 use Rattle.command_model.specs.Answers.{first_answer, count_answer, refusal_answer, answer_document}
 use Rattle.command_model.proofs.AnswerTimes.{time_refused}
 use Rattle.reply_facts.proofs.ToldRefusals.{never_ahead}
-use Rattle.chunk_model.specs.Catalogue.{Creation}
+use Rattle.chunk_model.specs.Changes.{Change}
 use Rattle.history_model.specs.History.{Entry}
 use Rattle.reply_model.specs.Exchanges.{Asked, Answered}
 use Rattle.reply_model.specs.Outcomes.{Done, answer_of}
@@ -37,10 +37,10 @@ not_before_after a t reading time after (later_time later other at are less reac
     let same : other ≡ after = (let both : Some other ≡ Some after = sym are ∙ wants in cc) in
     omega (arith, same)
 
-module _ (creations : List Creation) (history : List Entry) (asked : List Asked) (answered : List Answered) (cursors : List Cursor) (a : Asked)
+module _ (changes : List Change) (history : List Entry) (asked : List Asked) (answered : List Answered) (cursors : List Cursor) (a : Asked)
     (t : Answered) where
   -- a read that is refused shows no time
-  timeless : (reading : Reading) (now : ℕ) → IsReadRefused creations history answered a t reading → operation_time (Some t.document) ≡ Some now → ⊥
+  timeless : (reading : Reading) (now : ℕ) → IsReadRefused changes history answered a t reading → operation_time (Some t.document) ≡ Some now → ⊥
   timeless reading now (refused_overflow time read gives says) shown = none_shown (without_evidence overflow) says
     where
       none_shown : (refusal : Refusal) → t.document ≡ answer_document (refusal_answer refusal) → ⊥
@@ -52,7 +52,7 @@ module _ (creations : List Creation) (history : List Entry) (asked : List Asked)
       let both : None ≡ Some now = sym (time_refused (time_ahead t.time)) ∙ ap (λ (d : Fields). operation_time (Some d)) (sym says) ∙ shown in cc
 
   shown_by : (r : Result Command Refusal) (next : List Cursor) (reading : Reading) (now : ℕ) → Reads r reading
-      → RightBy creations history asked answered cursors a t r next
+      → RightBy changes history asked answered cursors a t r next
       → operation_time (Some t.document) ≡ Some now → IsTimeRead a t reading now
   shown_by r next reading now (find_reads find) (inl first) shown =
       let both : Some first.batch.time ≡ Some now = ap (λ (d : Fields). operation_time (Some d)) (sym first.says) ∙ shown in
@@ -67,10 +67,10 @@ module _ (creations : List Creation) (history : List Entry) (asked : List Asked)
 
   -- the time that an answer to a read shows is one that the read may be of
   pub shown_time : (next : List Cursor) (reading : Reading) (now : ℕ) → Reads (command_of a.request) reading
-      → IsRight creations history asked answered cursors a t next
+      → IsRight changes history asked answered cursors a t next
       → operation_time (Some t.document) ≡ Some now → IsTimeRead a t reading now
   shown_time next reading now asks right shown =
-      shown_by (command_of a.request) next reading now asks (right_by creations history asked answered cursors a t next right) shown
+      shown_by (command_of a.request) next reading now asks (right_by changes history asked answered cursors a t next right) shown
 
   -- A TIME THAT IS AHEAD
 
@@ -80,7 +80,7 @@ module _ (creations : List Creation) (history : List Entry) (asked : List Asked)
   write_not_ahead update_kind dones s same = cc
   write_not_ahead delete_kind dones s same = cc
 
-  refused_so : (reading : Reading) (s : ℕ) → IsReadRefused creations history answered a t reading → t.document
+  refused_so : (reading : Reading) (s : ℕ) → IsReadRefused changes history answered a t reading → t.document
       ≡ answer_document (refusal_answer (time_ahead s))
       → (s ≡ t.time) × IsAhead history answered a t reading
   refused_so reading s (refused_overflow time read gives says) told = absurd (let e = sym says ∙ told in cc)
@@ -94,7 +94,7 @@ module _ (creations : List Creation) (history : List Entry) (asked : List Asked)
   count_not_ahead : (n time s : ℕ) → answer_document (count_answer n time) ≡ answer_document (refusal_answer (time_ahead s)) → ⊥
   count_not_ahead n time s same = cc
 
-  ahead_by : (r : Result Command Refusal) (next : List Cursor) (s : ℕ) → command_of a.request ≡ r → RightBy creations history asked answered cursors a t r next
+  ahead_by : (r : Result Command Refusal) (next : List Cursor) (s : ℕ) → command_of a.request ≡ r → RightBy changes history asked answered cursors a t r next
       → t.document ≡ answer_document (refusal_answer (time_ahead s)) → s ≡ t.time
   ahead_by (Ok hello_command) next s asks right told = absurd (let e = sym right.0 ∙ told in cc)
   ahead_by (Ok (legacy_command legacy)) next s asks right told = absurd (let e = sym right.0 ∙ told in cc)
@@ -108,16 +108,19 @@ module _ (creations : List Creation) (history : List Entry) (asked : List Asked)
   ahead_by (Ok (more_command more)) next s asks (inl shown) told = absurd (let e = sym shown.says ∙ told in cc)
   ahead_by (Ok (more_command more)) next s asks (inr none) told = absurd (let e = sym none.0.says ∙ told in cc)
   ahead_by (Ok (kill_command kill)) next s asks right told = absurd (let e = sym right.says ∙ told in cc)
+  ahead_by (Ok (shard_collection_command namespace)) next s asks right told = absurd (let e = sym right.0.says ∙ told in cc)
+  ahead_by (Ok (split_command split)) next s asks (inl changed, same) told = absurd (let e = sym changed.says ∙ told in cc)
+  ahead_by (Ok (split_command split)) next s asks (inr none, same) told = absurd (let e = sym none ∙ told in cc)
   ahead_by (Err refusal) next s asks right told = absurd (never_ahead a.request refusal s asks (sym right.0 ∙ told))
 
   -- a greatest time that is returned is the router's
-  pub ahead_time : (next : List Cursor) (s : ℕ) → IsRight creations history asked answered cursors a t next
+  pub ahead_time : (next : List Cursor) (s : ℕ) → IsRight changes history asked answered cursors a t next
       → t.document ≡ answer_document (refusal_answer (time_ahead s))
       → s ≡ t.time
-  ahead_time next s right told = ahead_by (command_of a.request) next s refl (right_by creations history asked answered cursors a t next right) told
+  ahead_time next s right told = ahead_by (command_of a.request) next s refl (right_by changes history asked answered cursors a t next right) told
 
   read_ahead_by : (r : Result Command Refusal) (next : List Cursor) (reading : Reading) (s : ℕ) → Reads r reading
-      → RightBy creations history asked answered cursors a t r next
+      → RightBy changes history asked answered cursors a t r next
       → t.document ≡ answer_document (refusal_answer (time_ahead s)) → IsAhead history answered a t reading
   read_ahead_by r next reading s (find_reads find) (inl first) told = absurd (first_not_ahead first.batch s (sym first.says ∙ told))
   read_ahead_by r next reading s (find_reads find) (inr refused) told = (refused_so find.reading s refused.0 told).1
@@ -127,10 +130,10 @@ module _ (creations : List Creation) (history : List Entry) (asked : List Asked)
 
   -- a read that returns one is ahead
   pub is_ahead : (next : List Cursor) (reading : Reading) (s : ℕ) → Reads (command_of a.request) reading
-      → IsRight creations history asked answered cursors a t next
+      → IsRight changes history asked answered cursors a t next
       → t.document ≡ answer_document (refusal_answer (time_ahead s)) → IsAhead history answered a t reading
   is_ahead next reading s asks right told =
-      read_ahead_by (command_of a.request) next reading s asks (right_by creations history asked answered cursors a t next right) told
+      read_ahead_by (command_of a.request) next reading s asks (right_by changes history asked answered cursors a t next right) told
 
 -- the time that is wanted
 pub wanted_is : (reading : Reading) (wanted time : ℕ) → time_wanted reading ≡ Some wanted → (reading.at ≡ Some time)

@@ -12,13 +12,14 @@ use Rattle.command_model.specs.Find.{Find}
 use Rattle.command_model.specs.Cursors.{Batch}
 use Rattle.command_model.specs.GetMore.{GetMore}
 use Rattle.command_model.specs.KillCursors.{KillCursors}
+use Rattle.command_model.specs.Split.{SplitCommand}
 use Rattle.command_model.specs.AnswerParts.{document_items}
-use Rattle.command_model.specs.Command.{Command, hello_command, legacy_command, ping_command, end_sessions_command, write_command, find_command, count_command, more_command, kill_command, command_of}
-use Rattle.command_model.specs.Answers.{hello_answer, legacy_answer, done_answer, first_answer, next_answer, count_answer, killed_answer, refusal_answer, answer_document}
+use Rattle.command_model.specs.Command.{Command, hello_command, legacy_command, ping_command, end_sessions_command, write_command, find_command, count_command, more_command, kill_command, shard_collection_command, split_command, command_of}
+use Rattle.command_model.specs.Answers.{hello_answer, legacy_answer, done_answer, first_answer, next_answer, count_answer, killed_answer, sharded_answer, changed_answer, refusal_answer, answer_document}
 use Rattle.command_model.proofs.AnswerTimes.{time_of_write}
 use Rattle.pipeline_model.specs.Runs.{listed, count_documents}
 use Rattle.pipeline_model.specs.Lengths.{excess_of_answer}
-use Rattle.chunk_model.specs.Catalogue.{Creation}
+use Rattle.chunk_model.specs.Changes.{Change}
 use Rattle.history_model.specs.History.{Entry, IsIn, Outcome}
 use Rattle.history_model.proofs.Lists.{in_cons, in_none}
 use Rattle.base_model.specs.Identities.{RequestId}
@@ -26,7 +27,7 @@ use Rattle.reply_model.specs.Exchanges.{Asked, Answered}
 use Rattle.reply_model.specs.Outcomes.{StatementOutcome, was_done, was_refused, Done, later, summary_of, time_of, answer_of}
 use Rattle.reply_model.specs.Cursors.{Cursor, open_cursor, ShowsFirst, ShowsNext, Kills}
 use Rattle.reply_model.specs.Reads.{IsTimeRead, MayGive}
-use Rattle.reply_model.specs.Right.{AreTold, IsWhole, usual_size, asks_for_one, unless_silent, Reads, find_reads, count_reads, IsReadRefused, IsRight, right_write, right_find, right_count, right_refused_read, right_more, right_no_cursor, right_kill, right_hello, right_legacy, right_ping, right_end_sessions, right_refusal}
+use Rattle.reply_model.specs.Right.{AreTold, IsWhole, usual_size, asks_for_one, unless_silent, Reads, find_reads, count_reads, IsReadRefused, WasCreated, WasSplit, not_sharded, IsRight, right_write, right_find, right_count, right_refused_read, right_more, right_no_cursor, right_kill, right_shard, right_split, right_not_sharded, right_hello, right_legacy, right_ping, right_end_sessions, right_refusal}
 
 -- BY THE COMMAND
 
@@ -37,7 +38,7 @@ pub record TellsWrite (history : List Entry) (asked : List Asked) (id : RequestI
   pub whole : write.number ≡ None → IsWhole history id write
   pub says : t.document ≡ answer_document (answer_of write.kind t.time dones)
 
-module _ (creations : List Creation) (history : List Entry) (asked : List Asked) (answered : List Answered) (cursors : List Cursor) (a : Asked)
+module _ (changes : List Change) (history : List Entry) (asked : List Asked) (answered : List Answered) (cursors : List Cursor) (a : Asked)
     (t : Answered) where
   pub record TellsFirst (find : Find) (next : List Cursor) : Type 0 where
     pub documents : List Fields
@@ -75,8 +76,16 @@ module _ (creations : List Creation) (history : List Entry) (asked : List Asked)
     pub kills : Kills a.id kill.namespace cursors kill.cursors killed missing next
     pub says : t.document ≡ answer_document (killed_answer killed missing)
 
+  pub record TellsSharded (namespace : List ℕ) : Type 0 where
+    pub created : WasCreated changes namespace t.time
+    pub says : t.document ≡ answer_document (sharded_answer namespace t.time)
+
+  pub record TellsSplit (split : SplitCommand) : Type 0 where
+    pub begins : WasSplit changes split.namespace split.middle t.time
+    pub says : t.document ≡ answer_document (changed_answer t.time)
+
   abbrev IsReadRefusedHere : Reading → List Cursor → Type 0
-  IsReadRefusedHere reading next = IsReadRefused creations history answered a t reading × (next ≡ cursors)
+  IsReadRefusedHere reading next = IsReadRefused changes history answered a t reading × (next ≡ cursors)
 
   -- what is right of a request that is read as this
   abbrev pub RightBy : Result Command Refusal → List Cursor → Type 0
@@ -89,14 +98,16 @@ module _ (creations : List Creation) (history : List Entry) (asked : List Asked)
   RightBy (Ok (count_command reading)) next = (TellsCount reading × (next ≡ cursors)) ⊎ IsReadRefusedHere reading next
   RightBy (Ok (more_command more)) next = TellsNext more next ⊎ (TellsNoCursor more × (next ≡ cursors))
   RightBy (Ok (kill_command kill)) next = TellsKilled kill next
+  RightBy (Ok (shard_collection_command namespace)) next = TellsSharded namespace × (next ≡ cursors)
+  RightBy (Ok (split_command split)) next = (TellsSplit split ⊎ (t.document ≡ not_sharded)) × (next ≡ cursors)
   RightBy (Err refusal) next = (t.document ≡ answer_document (refusal_answer refusal)) × (next ≡ cursors)
 
-  refused_by : (r : Result Command Refusal) (reading : Reading) → Reads r reading → IsReadRefused creations history answered a t reading → RightBy r cursors
+  refused_by : (r : Result Command Refusal) (reading : Reading) → Reads r reading → IsReadRefused changes history answered a t reading → RightBy r cursors
   refused_by r reading (find_reads find) refused = inr (refused, refl)
   refused_by r reading (count_reads other) refused = inr (refused, refl)
 
   -- a reply is right by what its request is
-  pub right_by : (next : List Cursor) → IsRight creations history asked answered cursors a t next → RightBy (command_of a.request) next
+  pub right_by : (next : List Cursor) → IsRight changes history asked answered cursors a t next → RightBy (command_of a.request) next
   right_by next (right_write write dones c wants tells whole begun name at says) =
       subst (λ r. RightBy r cursors) (sym wants) (record { dones = dones; tells = tells; whole = whole; says = says }, refl)
   right_by next (right_find find time documents batch after wants read gives small name at shows says) =
@@ -120,13 +131,17 @@ module _ (creations : List Creation) (history : List Entry) (asked : List Asked)
   right_by next (right_no_cursor more wants closed says) = subst (λ r. RightBy r cursors) (sym wants) (inr (record { closed = closed; says = says }, refl))
   right_by next (right_kill kill killed missing after wants kills says) =
       subst (λ r. RightBy r after) (sym wants) (record { killed = killed; missing = missing; kills = kills; says = says })
+  right_by next (right_shard namespace wants created says) =
+      subst (λ r. RightBy r cursors) (sym wants) (record { created = created; says = says }, refl)
+  right_by next (right_split split wants begins says) = subst (λ r. RightBy r cursors) (sym wants) (inl (record { begins = begins; says = says }), refl)
+  right_by next (right_not_sharded split wants says) = subst (λ r. RightBy r cursors) (sym wants) (inr says, refl)
   right_by next (right_hello wants says) = subst (λ r. RightBy r cursors) (sym wants) (says, refl)
   right_by next (right_legacy legacy wants says) = subst (λ r. RightBy r cursors) (sym wants) (says, refl)
   right_by next (right_ping wants says) = subst (λ r. RightBy r cursors) (sym wants) (says, refl)
   right_by next (right_end_sessions wants says) = subst (λ r. RightBy r cursors) (sym wants) (says, refl)
   right_by next (right_refusal refusal wants says) = subst (λ r. RightBy r cursors) (sym wants) (says, refl)
 
-  pub right_of : (r : Result Command Refusal) (next : List Cursor) → command_of a.request ≡ r → IsRight creations history asked answered cursors a t next
+  pub right_of : (r : Result Command Refusal) (next : List Cursor) → command_of a.request ≡ r → IsRight changes history asked answered cursors a t next
       → RightBy r next
   right_of r next asks right = subst (λ s. RightBy s next) asks (right_by next right)
 

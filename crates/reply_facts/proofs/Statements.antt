@@ -1,22 +1,39 @@
 -- A number has one entry, and the outcome of a statement that was done is that of the entry of its number.
 use Rattle.std.proofs.Common.{◌≡◌, ℕ, ◌+◌, ◌⊎◌, inl, inr, List, [], ◌∷◌, refl, sym, ap, subst, ◌∙◌}
-use Rattle.std.specs.Prelude.{Bool, true, false, Option, None, map}
+use Rattle.std.specs.Prelude.{Bool, true, false, ◌&&◌, Option, Some, None, map, nat_le, if◌then◌else◌}
+use Rattle.std.specs.List.{AllByRecursion}
+use Rattle.std.specs.Str.{bytes_eq}
+use Rattle.bson_model.specs.Tree.{Datum}
 use Rattle.command_model.specs.Writes.{ClientNumber, WriteCommand}
-use Rattle.chunk_model.specs.Catalogue.{Creation}
+use Rattle.chunk_model.specs.Placement.{owner}
 use Rattle.chunk_model.specs.Tables.{first_shard}
-use Rattle.chunk_model.proofs.FirstTables.{only_at}
+use Rattle.chunk_model.specs.Changes.{Change, create_change, split_change, commit_change}
 use Rattle.history_model.specs.History.{StatementNumber, Operation, Entry, IsIn}
 use Rattle.history_model.proofs.Lists.{all_at, in_cons, in_first, in_later, in_none}
 use Rattle.reply_model.specs.Exchanges.{Asked, Answered, number_for}
 use Rattle.reply_model.specs.Outcomes.{StatementOutcome, WasDone, Done, answer_by, done_of}
 use Rattle.reply_model.specs.Right.{MayBeTold, told_own, told_other, told_older, AreTold, AreStatements, AreAll, ends}
-use Rattle.reply_model.specs.OneHistory.{KeepsNumbers, AreNumbered, IsPlaced}
+use Rattle.reply_model.specs.OneHistory.{KeepsNumbers, AreNumbered, IsPlaced, WasWanted}
 
 -- ONE ENTRY
 
--- a collection has all its keys on the first shard
-pub on_first : (creations : List Creation) (e : Entry) → IsPlaced creations e → e.shard ≡ first_shard
-on_first creations e placed = (only_at placed.creation placed.key e.time e.shard placed.owner).0
+-- no request asks to move a chunk, so all keys are on the first shard
+unmoved : (asked : List Asked) (changes : List Change) → AllByRecursion (WasWanted asked) changes → (namespace : List ℕ) (key : Datum) (time shard : ℕ)
+    → owner namespace key time changes ≡ Some shard → shard ≡ first_shard
+unmoved asked [] wanted namespace key time shard owns = absurd (cc)
+unmoved asked (create_change c ∷ older) wanted namespace key time shard owns =
+    by_test (bytes_eq c.namespace namespace && nat_le c.at time) owns (λ e. unmoved asked older wanted.1 namespace key time shard e)
+  where
+    by_test : (test : Bool) → (if test then Some first_shard else owner namespace key time older) ≡ Some shard
+        → (owner namespace key time older ≡ Some shard → shard ≡ first_shard) → shard ≡ first_shard
+    by_test true e more = cc
+    by_test false e more = more e
+unmoved asked (split_change s ∷ older) wanted namespace key time shard owns = unmoved asked older wanted.1 namespace key time shard owns
+unmoved asked (commit_change c ∷ older) wanted namespace key time shard owns = absurd wanted.0.asks
+
+pub on_first : (asked : List Asked) (changes : List Change) → AllByRecursion (WasWanted asked) changes → (e : Entry) → IsPlaced changes e
+    → e.shard ≡ first_shard
+on_first asked changes wanted e placed = unmoved asked changes wanted e.namespace placed.key e.time e.shard placed.owner
 
 pub one_number : (history : List Entry) → AreNumbered history → ((e : Entry) → IsIn e history → e.shard ≡ first_shard)
     → (d e : Entry) → IsIn d history → IsIn e history → d.number ≡ e.number → d ≡ e
