@@ -13,3 +13,5 @@ pub mod NumberedWrites
 pub mod StandingCursors
 pub mod CursorBatches
 pub mod StandingDocuments
+pub mod StandingChanges
+pub mod ChunkReplies
