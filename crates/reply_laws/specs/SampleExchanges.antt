@@ -11,6 +11,8 @@ use Rattle.command_laws.specs.SampleRequests.{deep, find_body, five, greeting, i
 use Rattle.command_model.specs.Find.{Find}
 use Rattle.query_model.specs.Queries.{Query, no_clauses, clause, path_clause, no_tests, test, eq_test}
 use Rattle.pipeline_model.specs.Stages.{match_stage}
+use Rattle.chunk_model.specs.Changes.{Change, create_change}
+use Rattle.chunk_model.specs.SampleCollections.{creation}
 use Rattle.history_model.specs.History.{router_session, insert_operation, update_operation, delete_operation, Outcome, done, fails_with, Entry}
 use Rattle.base_model.specs.Identities.{RequestId}
 use Rattle.reply_model.specs.Exchanges.{Asked, Answered}
