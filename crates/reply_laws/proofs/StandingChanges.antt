@@ -127,7 +127,7 @@ module _ (more changes : List Change) (history : List Entry) (asked : List Asked
   stays next taken replied (right_refused_read reading wants refused) = right_refused_read reading wants (refused_stays reading taken replied refused)
   stays next taken replied (right_more further c batch shown wants found shows says) = right_more further c batch shown wants found shows says
   stays next taken replied (right_no_cursor further wants closed says) = right_no_cursor further wants closed says
-  stays next taken replied (right_kill kill killed missing after wants kills says) = right_kill kill killed missing after wants kills says
+  stays next taken replied (right_kill kill killed missing after wants closes says) = right_kill kill killed missing after wants closes says
   stays next taken replied (right_shard namespace wants was says) =
       right_shard namespace wants (created_stays more changes namespace t.time t.time was (omega arith)) says
   stays next taken replied (right_split split wants was says) =

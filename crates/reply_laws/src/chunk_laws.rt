@@ -11,7 +11,6 @@ ghost use Rattle.reply_model.specs.Right.{IsRight, WasCreated, WasSplit};
 
 /// What was created stays created, and what was split stays split, whatever changes follow: so what a reply to shardCollection or split rests on holds at each
 /// later time.
-#[tactic(auto, using(crate::proofs::StandingChanges::created_stays, crate::proofs::StandingChanges::split_stays))]
 pub fn changes_stay()
     ensures created { (more changes : List Change) (namespace : List ℕ) (before time : ℕ) → WasCreated changes namespace before → before ≤ time
         → WasCreated (more ++ changes) namespace time }

@@ -1,5 +1,7 @@
 -- By the one creation.
-use Rattle.std.proofs.Common.{[], ◌∷◌, refl, ap, arith, codes}
+use Rattle.std.proofs.Common.{◌≡◌, ℕ, List, [], ◌∷◌, refl, ap, arith, codes}
+use Rattle.std.specs.Prelude.{true, false}
+use Rattle.std.specs.Str.{bytes_eq}
 use Rattle.chunk_model.specs.Changes.{create_change}
 use Rattle.chunk_model.specs.SampleCollections.{creation}
 use Rattle.history_model.proofs.Lists.{in_first}
@@ -21,7 +23,8 @@ pub returns-clause-early : goal.returns-clause-early
 returns-clause-early c next right = wrongly_sharded created (told_sharded 0) next ((λ begun. omega (arith, begun.1)), tt) right
 
 pub returns-clause-another_name : goal.returns-clause-another_name
-returns-clause-another_name c next right = wrongly_sharded created_other (told_sharded 2) next ((λ begun. let name = begun.0 in cc), tt) right
+returns-clause-another_name c next right = wrongly_sharded created_other (told_sharded 2) next
+    ((λ begun. let both : true ≡ false = ap (λ (name : List ℕ). bytes_eq name (codes "d.b")) begun.0 in cc), tt) right
 
 pub returns-clause-none : goal.returns-clause-none
 returns-clause-none c next right = wrongly_sharded [] (told_sharded 2) next tt right

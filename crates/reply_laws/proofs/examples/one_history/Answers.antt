@@ -271,4 +271,4 @@ returns-clause-not_asked c one =
     ((λ own. another_count (sym own)), ((λ own. another_router 1 2 own), tt)) r.is.taken r.is.own
 
 pub returns-clause-not_begun : goal.returns-clause-not_begun
-returns-clause-not_begun c one = in_none one.placed.0.creation one.placed.0.begun
+returns-clause-not_begun c one = in_none (create_change one.placed.0.creation) one.placed.0.begun

@@ -43,7 +43,7 @@ placed : IsPlaced created second_entry
 placed = record { creation = creation; key = long_five; begun = in_first (create_change creation) []; name = refl; before = omega arith; writes = refl; owner = refl }
 
 unplaced : IsPlaced [] second_entry → ⊥
-unplaced is = in_none is.creation is.begun
+unplaced is = in_none (create_change is.creation) is.begun
 
 pub returns-clause-placed : goal.returns-clause-placed
 returns-clause-placed c = (placed, unplaced)
