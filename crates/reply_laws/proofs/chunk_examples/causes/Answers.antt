@@ -1,13 +1,11 @@
 -- By the steps in which there was no collection.
 use Rattle.std.proofs.Common.{◌≡◌, ℕ, ◌≤◌, List, [], ◌∷◌, refl, sym, ap, ◌∙◌, arith, codes}
-use Rattle.std.specs.Prelude.{Bool, true, Option, Some, None, Ok, nat_lt, if◌then◌else◌}
+use Rattle.std.specs.Prelude.{Bool, true, Some, None, nat_lt, if◌then◌else◌}
 use Rattle.std.proofs.lemmas.Bool.Decides.{nat_tests}
 use Rattle.command_laws.specs.SampleRequests.{five}
-use Rattle.command_model.specs.Command.{command_of, split_command}
-use Rattle.command_model.specs.Split.{SplitCommand}
 use Rattle.chunk_model.specs.Changes.{known_table}
 use Rattle.chunk_model.specs.SampleCollections.{creation}
-use Rattle.chunk_model.specs.Tables.{Table, first_table}
+use Rattle.chunk_model.specs.Tables.{first_table}
 use Rattle.history_model.proofs.Lists.{all_at, in_first}
 use Rattle.reply_model.specs.Exchanges.{Asked}
 use Rattle.reply_model.specs.Right.{right_not_sharded}

@@ -1,5 +1,5 @@
 -- By the one creation.
-use Rattle.std.proofs.Common.{◌≡◌, ℕ, List, [], ◌∷◌, refl, ap, arith, codes}
+use Rattle.std.proofs.Common.{◌≡◌, ℕ, List, [], refl, ap, arith, codes}
 use Rattle.std.specs.Prelude.{true, false}
 use Rattle.std.specs.Str.{bytes_eq}
 use Rattle.chunk_model.specs.Changes.{create_change}

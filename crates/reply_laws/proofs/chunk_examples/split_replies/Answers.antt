@@ -1,6 +1,5 @@
 -- By the table that each part of the changes makes.
 use Rattle.std.proofs.Common.{◌≡◌, ℕ, [], ◌∷◌, refl, arith, codes}
-use Rattle.std.specs.Prelude.{Some, true}
 use Rattle.command_laws.specs.SampleRequests.{five, long_five, six}
 use Rattle.bson_model.specs.Tree.{Datum}
 use Rattle.base_model.specs.Times.{timestamp}

@@ -1,5 +1,5 @@
 -- No document is there.
-use Rattle.std.proofs.Common.{◌≡◌, ℤ, pos, inl, inr, List, [], ◌∷◌, refl, sym, subst, ◌∙◌, arith, codes}
+use Rattle.std.proofs.Common.{◌≡◌, ℤ, pos, inl, inr, List, [], refl, sym, subst, ◌∙◌, arith, codes}
 use Rattle.std.specs.Prelude.{false, Ok}
 use Rattle.std.proofs.lemmas.List.Sorted.{IsPermutation-refl, IsPermutation-trans}
 use Rattle.bson_model.specs.Tree.{Fields, no_fields}

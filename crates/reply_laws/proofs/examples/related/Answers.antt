@@ -2,7 +2,6 @@
 use Rattle.std.proofs.Common.{◌<◌, inl, inr, [], ◌∷◌, refl, ap, codes, arith}
 use Rattle.std.specs.Prelude.{true, None}
 use Rattle.command_laws.specs.SampleRequests.{five, long_five, with_id}
-use Rattle.base_model.specs.Times.{timestamp}
 use Rattle.chunk_model.specs.SampleCollections.{creation}
 use Rattle.chunk_model.specs.Changes.{Change, create_change, time_of}
 use Rattle.command_model.specs.Writes.{insert_kind}
