@@ -15,3 +15,4 @@ pub mod CursorBatches
 pub mod StandingDocuments
 pub mod StandingChanges
 pub mod ChunkReplies
+pub mod CreatedNames

@@ -14,7 +14,7 @@ mod read_laws;
 pub mod retry_examples;
 pub mod sum_examples;
 
-pub use chunk_laws::{changes_stay, replies_stay_right};
+pub use chunk_laws::{changes_stay, one_creation, replies_stay_right};
 pub use cursor_laws::{
     batches_join, ended_cursors_are_gone, numbers_are_apart, silent_reads_leave,
 };
