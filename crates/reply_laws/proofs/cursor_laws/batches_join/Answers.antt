@@ -15,8 +15,8 @@ returns-clause-prefix c given dated history asked before later back s find first
     let front = behind given (changes_in dated) history asked whole [] before (s ∷ (later ++ back)) one.right in
     let step = unrolled given (changes_in dated) history asked whole front.0 (s ∷ (later ++ back)) front.1 in
     let first_shown = opened given (changes_in dated) history asked whole s find first front.0 step.0 opens step.1 in
-    let last = shown_there given (changes_in dated) history asked whole s find first later shown back step.0 first_shown.rest opens.opens first_shown.some shows step.2
-    first_shown.there in
+    let last = shown_there given (changes_in dated) history asked whole s find first later shown
+    back step.0 first_shown.rest opens.opens first_shown.some shows step.2 first_shown.there in
     (last.left, last.some, subst (λ (l : List Fields). MayGive history find.reading first.time (listed (first.documents ++ l))) last.split first_shown.gives)
 
 told_number : (first next : Batch) (left : List Fields) → next.cursor ≡ number_left first.cursor left → ((left ≡ []) × (next.cursor ≡ pos 0))

@@ -13,7 +13,8 @@ returns c given dated history asked before later middle back s u t find first sh
     let last = shown_there given (changes_in dated) history asked whole s find first later shown
     (u ∷ (middle ++ t ∷ back)) step.0 first_shown.rest opens.opens first_shown.some shows step.2 first_shown.there in
     let end = unrolled given (changes_in dated) history asked whole last.cursors (u ∷ (middle ++ t ∷ back)) last.right in
-    let ended = ends_there given (changes_in dated) history asked whole s find first u last.cursors end.0 last.left opens.opens last.some ends end.1 last.there in
+    let ended = ends_there given (changes_in dated) history asked whole s find first u
+    last.cursors end.0 last.left opens.opens last.some ends end.1 last.there in
     let so = there_still given (changes_in dated) history asked whole s find first middle (t ∷ back) end.0 [] end.2 ended in
     let then = unrolled given (changes_in dated) history asked whole so.cursors (t ∷ back) so.right in
     gone given (changes_in dated) history asked whole s find first t so.cursors then.0 asks then.1

@@ -100,10 +100,26 @@ second_sent = record {
 }
 
 first_placed : IsPlaced created first_entry
-first_placed = record { creation = creation; key = five; begun = in_first (create_change creation) []; name = refl; before = omega arith; writes = refl; owner = refl }
+first_placed = record {
+  creation = creation;
+  key = five;
+  begun = in_first (create_change creation) [];
+  name = refl;
+  before = omega arith;
+  writes = refl;
+  owner = refl;
+}
 
 second_placed : IsPlaced created second_entry
-second_placed = record { creation = creation; key = long_five; begun = in_first (create_change creation) []; name = refl; before = omega arith; writes = refl; owner = refl }
+second_placed = record {
+  creation = creation;
+  key = long_five;
+  begun = in_first (create_change creation) [];
+  name = refl;
+  before = omega arith;
+  writes = refl;
+  owner = refl;
+}
 
 first_part : IsPart both_entries (id_at 2 1) inserts_five
 first_part = (record { same_number = refl; name = refl; does = refl }, (λ e. refl), tt)

@@ -39,7 +39,15 @@ pub returns-clause-own : goal.returns-clause-own
 returns-clause-own c = (own, another_router)
 
 placed : IsPlaced created second_entry
-placed = record { creation = creation; key = long_five; begun = in_first (create_change creation) []; name = refl; before = omega arith; writes = refl; owner = refl }
+placed = record {
+  creation = creation;
+  key = long_five;
+  begun = in_first (create_change creation) [];
+  name = refl;
+  before = omega arith;
+  writes = refl;
+  owner = refl;
+}
 
 unplaced : IsPlaced [] second_entry → ⊥
 unplaced is = in_none (create_change is.creation) is.begun
