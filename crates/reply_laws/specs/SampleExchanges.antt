@@ -66,7 +66,7 @@ entry_at counter router count index key outcome = record {
 abbrev pub created : List Change
 created = create_change creation ∷ []
 
--- with the step in which it was
+-- with the step in which it was created
 abbrev pub created_dated : List Dated
 created_dated = record { change = create_change creation; step = 0 } ∷ []
 

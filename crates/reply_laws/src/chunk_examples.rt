@@ -43,8 +43,8 @@ pub fn causes()
     ensures created_before { IsCaused (created_in 3) (splitting ∷ []) told_none → ⊥ }
 {}
 
-/// What a request asks for: to create its collection, to split a chunk at its key, as the client wrote it; none asks for a move.
-pub fn wishes()
+/// The changes that are made for a request: its collection is created, or a chunk is split at its key, as the client wrote it. None is made to move a chunk.
+pub fn wanted_changes()
     ensures created { WasWanted (sharding ∷ []) (create_change creation) }
     ensures split { WasWanted (splitting ∷ []) (split_of five 2) }
     ensures split_alone { WasWanted (splitting ∷ []) (create_change creation) → ⊥ }

@@ -13,7 +13,7 @@ use Rattle.history_model.proofs.Lists.{all_at, in_first}
 use Rattle.reply_model.specs.Exchanges.{Asked}
 use Rattle.reply_model.specs.OneHistory.{AsksFor}
 use Rattle.reply_laws.specs.SampleChunks.{sharding, split_of, splitting}
-use Rattle.reply_laws.proofs.chunk_examples.wishes.Goals as goal
+use Rattle.reply_laws.proofs.chunk_examples.wanted_changes.Goals as goal
 
 pub returns-clause-created : goal.returns-clause-created
 returns-clause-created c = record { request = sharding; taken = in_first sharding []; asks = inr refl; later = omega arith }
