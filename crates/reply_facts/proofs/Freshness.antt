@@ -203,7 +203,12 @@ module _ (given : List Given) (dated : List Dated) (history : List Entry) (asked
       → operation_time (Some s.document) ≡ Some before → t.document ≡ answer_document (refusal_answer (time_ahead greatest)) → before ≤ greatest
   greatest_at_least a s t before greatest told w shows says =
       let r = answer_right a t told in
-      omega (arith, ahead_time (changes_in dated) history asked answered r.cursors a t r.next greatest r.right says, r.risen, told_before a s before told.taken w shows)
+      omega (
+        arith,
+        ahead_time (changes_in dated) history asked answered r.cursors a t r.next greatest r.right says,
+        r.risen,
+        told_before a s before told.taken w shows,
+      )
 
   -- WRITES THAT COME LATER
 

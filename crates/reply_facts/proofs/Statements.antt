@@ -17,7 +17,7 @@ use Rattle.reply_model.specs.OneHistory.{KeepsNumbers, AreNumbered, IsPlaced, Wa
 
 -- ONE ENTRY
 
--- no request asks to move a chunk, so all keys are on the first shard
+-- no request moves a chunk, so all keys are on the first shard
 unmoved : (asked : List Asked) (changes : List Change) → AllByRecursion (WasWanted asked) changes → (namespace : List ℕ) (key : Datum) (time shard : ℕ)
     → owner namespace key time changes ≡ Some shard → shard ≡ first_shard
 unmoved asked [] wanted namespace key time shard owns = absurd (cc)

@@ -12,9 +12,9 @@ use Rattle.opmsg_model.specs.Requests.{Request}
 use Rattle.command_model.specs.Find.{Find}
 use Rattle.command_model.specs.Cursors.{Batch}
 use Rattle.command_model.specs.GetMore.{GetMore}
-use Rattle.command_model.specs.Command.{Command, hello_command, legacy_command, ping_command, end_sessions_command, write_command, find_command, count_command, more_command, kill_command, command_of}
+use Rattle.command_model.specs.Command.{Command, hello_command, legacy_command, ping_command, end_sessions_command, write_command, find_command, count_command, more_command, kill_command, shard_collection_command, split_command, command_of}
 use Rattle.command_model.specs.Answers.{next_answer, refusal_answer, answer_document}
-use Rattle.chunk_model.specs.Catalogue.{Creation}
+use Rattle.chunk_model.specs.Changes.{Change}
 use Rattle.pipeline_model.specs.Runs.{listed}
 use Rattle.history_model.specs.History.{Entry}
 use Rattle.base_model.specs.Identities.{RequestId}
@@ -37,19 +37,19 @@ unless_silent_is request before after e = ap (λ (b : Bool). if b then before el
 parts : (batch documents : List Fields) → batch ≡ take (length batch) documents → documents ≡ batch ++ drop (length batch) documents
 parts batch documents front = sym (take-append-drop (length batch) documents) ∙ ap (λ (l : List Fields). l ++ drop (length batch) documents) (sym front)
 
-module _ (given : List Given) (creations : List Creation) (history : List Entry) (asked : List Asked) (answered : List Answered) where
+module _ (given : List Given) (changes : List Change) (history : List Entry) (asked : List Asked) (answered : List Answered) where
   abbrev RestRight : List Cursor → List Answered → Type 0
   RestRight cursors [] = Unit {0}
-  RestRight cursors (t ∷ later) = (next : List Cursor) × IsRightOf given creations history asked answered cursors t next
-      × AreRight given creations history asked answered next later
+  RestRight cursors (t ∷ later) = (next : List Cursor) × IsRightOf given changes history asked answered cursors t next
+      × AreRight given changes history asked answered next later
 
-  pub unrolled : (cursors : List Cursor) (told : List Answered) → AreRight given creations history asked answered cursors told → RestRight cursors told
+  pub unrolled : (cursors : List Cursor) (told : List Answered) → AreRight given changes history asked answered cursors told → RestRight cursors told
   unrolled cursors told (nothing_told c) = tt
   unrolled cursors told (then_told c next t later right rest) = (next, right, rest)
 
   -- the replies after a part, from the cursors that there are then
-  pub behind : (cursors : List Cursor) (front back : List Answered) → AreRight given creations history asked answered cursors (front ++ back)
-      → (found : List Cursor) × AreRight given creations history asked answered found back
+  pub behind : (cursors : List Cursor) (front back : List Answered) → AreRight given changes history asked answered cursors (front ++ back)
+      → (found : List Cursor) × AreRight given changes history asked answered found back
   behind cursors [] back right = (cursors, right)
   behind cursors (t ∷ front) back right = let r = unrolled cursors (t ∷ (front ++ back)) right in behind r.0 front back r.2
 
@@ -113,10 +113,10 @@ module _ (given : List Given) (creations : List Creation) (history : List Entry)
     }
 
     first_of : (a : Asked) (cursors next : List Cursor) → a.id ≡ s.id → OpensCursor s find first
-        → RightBy creations history asked answered cursors a s (Ok (find_command find)) next → IsOpened cursors next
+        → RightBy changes history asked answered cursors a s (Ok (find_command find)) next → IsOpened cursors next
     first_of a cursors next own opens (inr refused) = absurd (not_refused refused.0)
       where
-        not_refused : IsReadRefused creations history answered a s find.reading → ⊥
+        not_refused : IsReadRefused changes history answered a s find.reading → ⊥
         not_refused (refused_overflow time read gives says) = let e = sym says ∙ opens.told in cc
         not_refused (refused_excess time n read excess says) = let e = sym says ∙ opens.told in cc
         not_refused (refused_ahead ahead says) = let e = sym says ∙ opens.told in cc
@@ -131,11 +131,11 @@ module _ (given : List Given) (creations : List Creation) (history : List Entry)
         (parts first.documents told.documents shows.batch_of.front) gives) shows.opens
 
     -- the find whose reply has the number opened a cursor
-    pub opened : (cursors next : List Cursor) → OpensCursor s find first → IsRightOf given creations history asked answered cursors s next
+    pub opened : (cursors next : List Cursor) → OpensCursor s find first → IsRightOf given changes history asked answered cursors s next
         → IsOpened cursors next
     opened cursors next opens right =
         first_of right.request cursors next right.own opens
-        (right_of creations history asked answered cursors right.request s (Ok (find_command find)) next (ap command_of right.same ∙ opens.asks) right.right)
+        (right_of changes history asked answered cursors right.request s (Ok (find_command find)) next (ap command_of right.same ∙ opens.asks) right.right)
 
     -- EACH STEP
 
@@ -148,7 +148,7 @@ module _ (given : List Given) (creations : List Creation) (history : List Entry)
     }
 
     shown_still : (a : Asked) (t : Answered) (more : GetMore) (cursors next : List Cursor) (remaining : List Fields)
-        (told : TellsNext creations history asked answered cursors a t more next)
+        (told : TellsNext changes history asked answered cursors a t more next)
         (silent : Bool) → a.request.more ≡ silent → IsThere remaining cursors
         → StandsStill s.id.router s.id.life first.cursor first.namespace first.time remaining next
     shown_still a t more cursors next remaining told true silent there = same_still remaining cursors next
@@ -164,7 +164,7 @@ module _ (given : List Given) (creations : List Creation) (history : List Entry)
         told.found there)
 
     still_by : (r : Result Command Refusal) (a : Asked) (t : Answered) (cursors next : List Cursor) (remaining : List Fields)
-        → RightBy creations history asked answered cursors a t r next → IsThere remaining cursors
+        → RightBy changes history asked answered cursors a t r next → IsThere remaining cursors
         → StandsStill s.id.router s.id.life first.cursor first.namespace first.time remaining next
     still_by (Ok hello_command) a t cursors next remaining right there = same_still remaining cursors next right.1 there
     still_by (Ok (legacy_command legacy)) a t cursors next remaining right there = same_still remaining cursors next right.1 there
@@ -186,21 +186,23 @@ module _ (given : List Given) (creations : List Creation) (history : List Entry)
     still_by (Ok (kill_command kill)) a t cursors next remaining right there =
         kills_still s.id.router s.id.life first.cursor first.namespace first.time a.id kill.namespace cursors kill.cursors right.killed right.missing next
         remaining right.kills there
+    still_by (Ok (shard_collection_command namespace)) a t cursors next remaining right there = same_still remaining cursors next right.1 there
+    still_by (Ok (split_command split)) a t cursors next remaining right there = same_still remaining cursors next right.1 there
     still_by (Err refusal) a t cursors next remaining right there = same_still remaining cursors next right.1 there
 
     -- whatever is replied, the cursor is there
-    pub still : (t : Answered) (cursors next : List Cursor) (remaining : List Fields) → IsRightOf given creations history asked answered cursors t next
+    pub still : (t : Answered) (cursors next : List Cursor) (remaining : List Fields) → IsRightOf given changes history asked answered cursors t next
         → IsThere remaining cursors
         → StandsStill s.id.router s.id.life first.cursor first.namespace first.time remaining next
     still t cursors next remaining right there =
         still_by (command_of right.request.request) right.request t cursors next remaining
-        (right_by creations history asked answered cursors right.request t next right.right) there
+        (right_by changes history asked answered cursors right.request t next right.right) there
 
     -- A STEP THAT DOES NOT CONCERN IT
 
     leaves_shown : (a : Asked) (t : Answered) (more : GetMore) (cursors next : List Cursor) (remaining : List Fields) → a.id ≡ t.id → a.request ≡ t.request
         → command_of a.request ≡ Ok (more_command more) → ¬ (AsksMore s first t × (t.request.more ≡ false))
-        → TellsNext creations history asked answered cursors a t more next
+        → TellsNext changes history asked answered cursors a t more next
         → (silent : Bool) → a.request.more ≡ silent → IsThere remaining cursors → IsThere remaining next
     leaves_shown a t more cursors next remaining own same asks never told true silent there =
         subst (λ (l : List Cursor). IsThere remaining l) (sym (told.then ∙ unless_silent_is a.request cursors told.shown silent)) there
@@ -241,7 +243,7 @@ module _ (given : List Given) (creations : List Creation) (history : List Entry)
     leaves_by : (r : Result Command Refusal) (a : Asked) (t : Answered) (cursors next : List Cursor) (remaining : List Fields) → a.id ≡ t.id → a.request
         ≡ t.request
         → command_of a.request ≡ r → ¬ (AsksMore s first t × (t.request.more ≡ false)) → ¬ AsksToClose s first t
-        → RightBy creations history asked answered cursors a t r next → IsThere remaining cursors → IsThere remaining next
+        → RightBy changes history asked answered cursors a t r next → IsThere remaining cursors → IsThere remaining next
     leaves_by (Ok hello_command) a t cursors next remaining own same asks never closed right there = same_there remaining cursors next right.1 there
     leaves_by (Ok (legacy_command legacy)) a t cursors next remaining own same asks never closed right there = same_there remaining cursors next right.1 there
     leaves_by (Ok ping_command) a t cursors next remaining own same asks never closed right there = same_there remaining cursors next right.1 there
@@ -271,14 +273,17 @@ module _ (given : List Given) (creations : List Creation) (history : List Entry)
           life = (ap (λ (q : RequestId). q.router) (sym own) ∙ router_is, ap (λ (q : RequestId). q.life) (sym own) ∙ life_is);
         }))
         right.kills there
+    leaves_by (Ok (shard_collection_command namespace)) a t cursors next remaining own same asks never closed right there =
+        same_there remaining cursors next right.1 there
+    leaves_by (Ok (split_command split)) a t cursors next remaining own same asks never closed right there = same_there remaining cursors next right.1 there
     leaves_by (Err refusal) a t cursors next remaining own same asks never closed right there = same_there remaining cursors next right.1 there
 
     pub leaves : (t : Answered) (cursors next : List Cursor) (remaining : List Fields) → ¬ (AsksMore s first t × (t.request.more ≡ false))
         → ¬ AsksToClose s first t
-        → IsRightOf given creations history asked answered cursors t next → IsThere remaining cursors → IsThere remaining next
+        → IsRightOf given changes history asked answered cursors t next → IsThere remaining cursors → IsThere remaining next
     leaves t cursors next remaining never closed right there =
         leaves_by (command_of right.request.request) right.request t cursors next remaining right.own right.same refl never closed
-        (right_by creations history asked answered cursors right.request t next right.right) there
+        (right_by changes history asked answered cursors right.request t next right.right) there
 
     -- ITS NEXT BATCH
 
@@ -301,7 +306,7 @@ module _ (given : List Given) (creations : List Creation) (history : List Entry)
 
     next_by : (a : Asked) (t : Answered) (cursors next : List Cursor) (remaining : List Fields) (more : AsksMore s first t) → a.id ≡ t.id
         → a.request ≡ t.request → remaining ≢ []
-        → RightBy creations history asked answered cursors a t (Ok (more_command more.more)) next → IsThere remaining cursors → NextShown t next remaining
+        → RightBy changes history asked answered cursors a t (Ok (more_command more.more)) next → IsThere remaining cursors → NextShown t next remaining
     next_by a t cursors next remaining more own same some (inr none) there =
         let found = found_standing s.id.router s.id.life first.cursor first.namespace first.time a.id more.more.cursor remaining cursors
         (owns a t more own) some there in
@@ -333,25 +338,25 @@ module _ (given : List Given) (creations : List Creation) (history : List Entry)
 
     -- a request of the next batch of an open cursor gets it
     pub next_shown : (t : Answered) (cursors next : List Cursor) (remaining : List Fields) → AsksMore s first t → remaining ≢ []
-        → IsRightOf given creations history asked answered cursors t next → IsThere remaining cursors → NextShown t next remaining
+        → IsRightOf given changes history asked answered cursors t next → IsThere remaining cursors → NextShown t next remaining
     next_shown t cursors next remaining more some right there =
         next_by right.request t cursors next remaining more right.own right.same some
-        (right_of creations history asked answered cursors right.request t (Ok (more_command more.more)) next
+        (right_of changes history asked answered cursors right.request t (Ok (more_command more.more)) next
         (ap command_of right.same ∙ more.asks) right.right) there
 
     -- and one that has ended is not found
-    pub gone : (t : Answered) (cursors next : List Cursor) → AsksMore s first t → IsRightOf given creations history asked answered cursors t next
+    pub gone : (t : Answered) (cursors next : List Cursor) → AsksMore s first t → IsRightOf given changes history asked answered cursors t next
         → IsThere [] cursors
         → t.document ≡ answer_document (refusal_answer (record { error = cursor_not_found; evidence = cursor_evidence first.cursor }))
     gone t cursors next more right there =
-        by_found (right_of creations history asked answered cursors right.request t (Ok (more_command more.more)) next
+        by_found (right_of changes history asked answered cursors right.request t (Ok (more_command more.more)) next
         (ap command_of right.same ∙ more.asks) right.right)
       where
         none : open_cursor right.request.id more.more.cursor more.more.namespace cursors ≡ None
         none = none_found s.id.router s.id.life first.cursor first.namespace first.time right.request.id more.more.cursor more.more.namespace cursors
             (owns right.request t more right.own) there
 
-        by_found : RightBy creations history asked answered cursors right.request t (Ok (more_command more.more)) next
+        by_found : RightBy changes history asked answered cursors right.request t (Ok (more_command more.more)) next
             → t.document ≡ answer_document (refusal_answer (record { error = cursor_not_found; evidence = cursor_evidence first.cursor }))
         by_found (inl told) = absurd (let e : None ≡ Some told.cursor = sym none ∙ told.found in cc)
         by_found (inr closed) =
@@ -365,7 +370,7 @@ module _ (given : List Given) (creations : List Creation) (history : List Entry)
       pub some : left ≢ []
       pub cursors : List Cursor
       pub there : IsThere left cursors
-      pub right : AreRight given creations history asked answered cursors back
+      pub right : AreRight given changes history asked answered cursors back
 
     some_left : (left : List Fields) → first.cursor ≢ pos 0 → first.cursor ≡ number_left first.cursor left → left ≢ []
     some_left [] some number none = some number
@@ -374,7 +379,7 @@ module _ (given : List Given) (creations : List Creation) (history : List Entry)
     -- the documents that are shown and those that remain are all
     pub shown_there : (later : List Answered) (shown : List Fields) (back : List Answered) (cursors : List Cursor) (remaining : List Fields)
         → first.cursor ≢ pos 0 → remaining ≢ []
-        → Shows s first later shown → AreRight given creations history asked answered cursors (later ++ back) → IsThere remaining cursors
+        → Shows s first later shown → AreRight given changes history asked answered cursors (later ++ back) → IsThere remaining cursors
         → Remains remaining shown back
     shown_there later shown back cursors remaining number some shows_nothing right there =
         record { left = remaining; split = refl; some = some; cursors = cursors; there = there; right = right }
@@ -403,10 +408,10 @@ module _ (given : List Given) (creations : List Creation) (history : List Entry)
       pub cursors : List Cursor
       pub there : IsThere left cursors
       pub stays_ended : remaining ≡ [] → left ≡ []
-      pub right : AreRight given creations history asked answered cursors back
+      pub right : AreRight given changes history asked answered cursors back
 
     pub there_still : (middle back : List Answered) (cursors : List Cursor) (remaining : List Fields)
-        → AreRight given creations history asked answered cursors (middle ++ back)
+        → AreRight given changes history asked answered cursors (middle ++ back)
         → IsThere remaining cursors → RemainsSo remaining back
     there_still [] back cursors remaining right there = record {
       left = remaining;
@@ -433,13 +438,13 @@ module _ (given : List Given) (creations : List Creation) (history : List Entry)
 
     -- what ends it
     pub ends_there : (u : Answered) (cursors next : List Cursor) (remaining : List Fields) → first.cursor ≢ pos 0 → remaining ≢ [] → EndsCursor s first u
-        → IsRightOf given creations history asked answered cursors u next → IsThere remaining cursors → IsThere [] next
+        → IsRightOf given changes history asked answered cursors u next → IsThere remaining cursors → IsThere [] next
     ends_there u cursors next remaining number some (shows_last batch more loud says is) right there =
         let n = next_shown u cursors next remaining more some right there in
         let same : n.batch ≡ batch = same_next n.batch batch (sym n.says ∙ says) in
         subst (λ (l : List Fields). IsThere l next) (none_left n.left number (sym is ∙ ap (λ (b : Batch). b.cursor) (sym same) ∙ n.number)) (n.there loud)
     ends_there u cursors next remaining number some (closes closed) right there =
-        let told = right_of creations history asked answered cursors right.request u (Ok (kill_command closed.kill)) next
+        let told = right_of changes history asked answered cursors right.request u (Ok (kill_command closed.kill)) next
         (ap command_of right.same ∙ closed.asks) right.right in
         kills_end s.id.router s.id.life first.cursor first.namespace first.time right.request.id closed.kill.namespace cursors closed.kill.cursors told.killed
         told.missing next remaining

@@ -13,3 +13,6 @@ pub mod NumberedWrites
 pub mod StandingCursors
 pub mod CursorBatches
 pub mod StandingDocuments
+pub mod StandingChanges
+pub mod ChunkReplies
+pub mod CreatedNames

@@ -16,12 +16,12 @@ use Rattle.pipeline_model.specs.Lengths.{document_length, documents_length, most
 use Rattle.pipeline_model.proofs.EachElement.{every_permuted}
 use Rattle.pipeline_model.proofs.Fronts.{Opens, opened}
 use Rattle.pipeline_laws.proofs.SampleRuns.{less}
-use Rattle.chunk_model.specs.SampleCollections.{creation}
 use Rattle.history_model.specs.History.{Entry}
 use Rattle.history_model.specs.Documents.{documents_at}
 use Rattle.reply_model.specs.Reads.{is_owned, owned_by, excess_answer, excess_half}
 use Rattle.reply_laws.specs.SampleLengths.{Holds, IsTooLong}
 use Rattle.reply_laws.proofs.SortedOrders.{length_filtered}
+use Rattle.reply_laws.specs.SampleExchanges.{created}
 
 -- all of these are as long
 abbrev pub EachIs : ℕ → List Fields → Type 0
@@ -114,10 +114,10 @@ moved_too bytes most documents others moved are = record {
 }
 
 owned_too : (bytes most shard time : ℕ) (documents : List Fields) → AreAtMost bytes most documents
-    → AreAtMost bytes most (owned_by (creation ∷ []) (codes "d.c") shard time documents)
+    → AreAtMost bytes most (owned_by created (codes "d.c") shard time documents)
 owned_too bytes most shard time documents are = record {
-  few = omega (arith, are.few, length_filtered (is_owned (creation ∷ []) (codes "d.c") shard time) documents);
-  each = each_passed bytes (is_owned (creation ∷ []) (codes "d.c") shard time) documents are.each;
+  few = omega (arith, are.few, length_filtered (is_owned created (codes "d.c") shard time) documents);
+  each = each_passed bytes (is_owned created (codes "d.c") shard time) documents are.each;
 }
 
 -- what is too much is the length of some of these
@@ -144,10 +144,10 @@ module _ (history : List Entry) (bytes count n : ℕ) (held : Holds count bytes 
       (rows_are half.left rows half.ends) is
     where
       of_half : (shard : ℕ) (ordered : List Fields) (rows : Rows) (left : List Fields)
-          → IsPermutation (owned_by (creation ∷ []) (codes "d.c") shard (timestamp 1000 4) there) ordered
+          → IsPermutation (owned_by created (codes "d.c") shard (timestamp 1000 4) there) ordered
           → left ≡ ordered → rows ≡ document_rows left → excess_of_half rows ≡ Some n → IsLengthOf bytes count n
       of_half shard ordered rows left moved same ends is =
-          let are = moved_too bytes count (owned_by (creation ∷ []) (codes "d.c") shard (timestamp 1000 4) there) ordered moved
+          let are = moved_too bytes count (owned_by created (codes "d.c") shard (timestamp 1000 4) there) ordered moved
           (owned_too bytes count shard (timestamp 1000 4) there all_there) in
           let such = half_is bytes n ordered are.each (subst (λ (r : Rows). excess_of_half r ≡ Some n) (ends ∙ ap document_rows same) is) in
           record { some = length ordered; few = are.few; length_of = such.0; more = such.1 }
@@ -165,13 +165,13 @@ module _ (history : List Entry) (bytes count n : ℕ) (held : Holds count bytes 
       (rows_are half.left rows half.ends) is
     where
       of_half : (shard : ℕ) (ordered : List Fields) (rows : Rows) (left : List Fields)
-          → IsPermutation (owned_by (creation ∷ []) (codes "d.c") shard (timestamp 1000 4) there) ordered
+          → IsPermutation (owned_by created (codes "d.c") shard (timestamp 1000 4) there) ordered
           → Opens (sort_stage spec ∷ limit_stage most ∷ []) ordered (listed left) → rows ≡ document_rows left → excess_of_half rows ≡ Some n
           → IsLengthOf bytes most n
       of_half shard ordered rows left moved run ends is =
           let same : left ≡ take most run.0 = same_list left (take most run.0) (opened (opened run.3)) in
-          let are = moved_too bytes count (owned_by (creation ∷ []) (codes "d.c") shard (timestamp 1000 4) there) run.0
-          (IsPermutation-trans (owned_by (creation ∷ []) (codes "d.c") shard (timestamp 1000 4) there) ordered run.0 moved run.1)
+          let are = moved_too bytes count (owned_by created (codes "d.c") shard (timestamp 1000 4) there) run.0
+          (IsPermutation-trans (owned_by created (codes "d.c") shard (timestamp 1000 4) there) ordered run.0 moved run.1)
           (owned_too bytes count shard (timestamp 1000 4) there all_there) in
           let such = half_is bytes n (take most run.0) (each_taken bytes most run.0 are.each)
           (subst (λ (r : Rows). excess_of_half r ≡ Some n) (ends ∙ ap document_rows same) is) in
@@ -207,10 +207,10 @@ only_longer history n held (excess_half shard ordered rows moved half is) =
     absurd (of_half ordered rows half.left moved (same_list half.left ordered (opened half.runs)) (rows_are half.left rows half.ends) is)
   where
     of_half : (ordered : List Fields) (rows : Rows) (left : List Fields) → IsPermutation
-        (owned_by (creation ∷ []) (codes "d.c") shard (timestamp 1000 4) (documents_at history (codes "d.c") (timestamp 1000 4))) ordered
+        (owned_by created (codes "d.c") shard (timestamp 1000 4) (documents_at history (codes "d.c") (timestamp 1000 4))) ordered
         → left ≡ ordered → rows ≡ document_rows left → excess_of_half rows ≡ Some n → ⊥
     of_half ordered rows left moved same ends is =
-        let are = moved_too 16777217 1 (owned_by (creation ∷ []) (codes "d.c") shard (timestamp 1000 4)
+        let are = moved_too 16777217 1 (owned_by created (codes "d.c") shard (timestamp 1000 4)
         (documents_at history (codes "d.c") (timestamp 1000 4))) ordered moved
         (owned_too 16777217 1 shard (timestamp 1000 4) (documents_at history (codes "d.c") (timestamp 1000 4))
         (record { few = omega (arith, held.many); each = held.long })) in

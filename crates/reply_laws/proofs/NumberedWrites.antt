@@ -8,12 +8,13 @@ use Rattle.command_model.specs.Answers.{answer_document}
 use Rattle.command_model.specs.Command.{command_of, write_command}
 use Rattle.base_model.specs.Times.{timestamp}
 use Rattle.chunk_model.specs.SampleCollections.{creation}
+use Rattle.chunk_model.specs.Changes.{create_change}
 use Rattle.history_model.specs.History.{Operation, StatementNumber, Entry}
 use Rattle.history_model.proofs.Lists.{all_at, in_first}
 use Rattle.reply_model.specs.Exchanges.{Asked, Answered, number_for}
 use Rattle.reply_model.specs.Outcomes.{StatementOutcome, is_older, Done, answer_by, fails, answer_of}
 use Rattle.reply_model.specs.Right.{IsStatement, HadSent, MayBeTold, told_own, told_other, told_older, AreTold, right_write}
-use Rattle.reply_laws.specs.SampleExchanges.{tells}
+use Rattle.reply_laws.specs.SampleExchanges.{tells, created}
 use Rattle.reply_laws.specs.SampleRetries.{IsToldJust, IsUntold}
 use Rattle.reply_facts.proofs.RightAnswers.{right_of}
 use Rattle.reply_facts.proofs.Statements.{UnlessEnded}
@@ -158,9 +159,9 @@ module _ (history : List Entry) (asked : List Asked) (a : Asked) (step counter :
       → document ≡ answer_document (answer_of kind (timestamp 1000 counter) (dones_from 0 answers)) → IsToldJust history asked a step counter document
   told_just operations answers document asks just begun says = (
     right_write (command_with operations) (dones_from 0 answers) creation asks (just_told operations document 0 operations answers just) (λ none. absurd (cc))
-        (in_first creation []) refl begun says,
+        (in_first (create_change creation) []) refl begun says,
     λ other next right.
-        let told = (right_of (creation ∷ []) history asked [] [] a (tells a step counter other)
+        let told = (right_of created history asked [] [] a (tells a step counter other)
         (Ok (write_command (command_with operations))) next asks right).0 in
         told.says
         ∙ ap (λ (dones : List Done). answer_document (answer_of kind (timestamp 1000 counter) dones))
@@ -174,7 +175,7 @@ module _ (history : List Entry) (asked : List Asked) (a : Asked) (step counter :
       (Gives asked (tells a step counter document) (number_for (Some by) a.id 0) (codes "d.c") operation (λ x. ⊥)) history)
       → IsUntold history asked a step counter
   untold operation rest asks none other next right =
-      let told = (right_of (creation ∷ []) history asked [] [] a (tells a step counter other)
+      let told = (right_of created history asked [] [] a (tells a step counter other)
       (Ok (write_command (command_with (operation ∷ rest)))) next asks right).0 in
       no_first told.dones told.tells
     where

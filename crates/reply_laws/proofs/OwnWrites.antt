@@ -8,6 +8,7 @@ use Rattle.command_model.specs.Answers.{answer_document}
 use Rattle.command_model.specs.Command.{Command, command_of, write_command}
 use Rattle.chunk_model.specs.SampleCollections.{creation}
 use Rattle.chunk_model.specs.Tables.{first_shard}
+use Rattle.chunk_model.specs.Changes.{create_change}
 use Rattle.history_model.specs.History.{Operation, StatementNumber, Entry, IsIn}
 use Rattle.history_model.proofs.Lists.{all_at, in_first, in_later}
 use Rattle.base_model.specs.Identities.{RequestId}
@@ -19,6 +20,7 @@ use Rattle.reply_model.specs.OneHistory.{AreNumbered, EndsBefore}
 use Rattle.reply_facts.proofs.Requests.{by_in}
 use Rattle.reply_facts.proofs.RightAnswers.{TellsWrite, right_of}
 use Rattle.reply_facts.proofs.Statements.{UnlessEnded, one_number, all_told}
+use Rattle.reply_laws.specs.SampleExchanges.{created}
 
 -- nothing ends before the first statement
 pub none_before : (write : WriteCommand) (dones : List Done) → EndsBefore 0 write dones → ⊥
@@ -58,22 +60,22 @@ module _ (history : List Entry) (asked : List Asked) (t : Answered) (write : Wri
   -- with these answers beside it
   pub own_right : (answered : List Answered) (a : Asked) → a.id ≡ t.id → command_of a.request ≡ Ok (write_command write) → IsWhole history t.id write
       → AllByRecursion (λ (e : Entry). e.time ≤ t.time) (entries_by t.id history) → creation.namespace ≡ write.namespace → creation.at ≤ t.time
-      → t.document ≡ answer_document (answer_of write.kind t.time (told_by t.id history)) → IsRight (creation ∷ []) history asked answered [] a t []
+      → t.document ≡ answer_document (answer_of write.kind t.time (told_by t.id history)) → IsRight created history asked answered [] a t []
   own_right answered a own asks whole early name began says =
       right_write write (told_by t.id history) creation asks (own_tells whole early)
-      (λ given. subst (λ (id : RequestId). IsWhole history id write) (sym own) whole) (in_first creation []) name began says
+      (λ given. subst (λ (id : RequestId). IsWhole history id write) (sym own) whole) (in_first (create_change creation) []) name began says
 
   -- WHAT A RIGHT ANSWER SAYS
 
   pub own_says : AreNumbered history → AllByRecursion (λ (e : Entry). e.shard ≡ first_shard) history
       → (answered : List Answered) (a : Asked) (next : List Cursor)
-      → a.id ≡ t.id → command_of a.request ≡ Ok (write_command write) → IsRight (creation ∷ []) history asked answered [] a t next
+      → a.id ≡ t.id → command_of a.request ≡ Ok (write_command write) → IsRight created history asked answered [] a t next
       → IsWhole history t.id write × (t.document ≡ answer_document (answer_of write.kind t.time (told_by t.id history)))
   own_says numbered first answered a next own asks right =
       (whole, told.says ∙ ap (λ (dones : List Done). answer_document (answer_of write.kind t.time dones)) same)
     where
       told : TellsWrite history asked a.id t write
-      told = (right_of (creation ∷ []) history asked answered [] a t (Ok (write_command write)) next asks right).0
+      told = (right_of created history asked answered [] a t (Ok (write_command write)) next asks right).0
 
       whole : IsWhole history t.id write
       whole = subst (λ (id : RequestId). IsWhole history id write) own (told.whole none)

@@ -5,3 +5,4 @@ pub mod SampleReads
 pub mod SampleTimes
 pub mod SampleLengths
 pub mod SampleSums
+pub mod SampleChunks

@@ -11,13 +11,14 @@ use Rattle.command_laws.specs.SampleRequests.{deep, find_body, five, greeting, i
 use Rattle.command_model.specs.Find.{Find}
 use Rattle.query_model.specs.Queries.{Query, no_clauses, clause, path_clause, no_tests, test, eq_test}
 use Rattle.pipeline_model.specs.Stages.{match_stage}
+use Rattle.chunk_model.specs.Changes.{Change, create_change}
 use Rattle.chunk_model.specs.SampleCollections.{creation}
 use Rattle.history_model.specs.History.{router_session, insert_operation, update_operation, delete_operation, Outcome, done, fails_with, Entry}
 use Rattle.base_model.specs.Identities.{RequestId}
 use Rattle.reply_model.specs.Exchanges.{Asked, Answered}
 use Rattle.reply_model.specs.Cursors.{Cursor}
 use Rattle.reply_model.specs.Right.{IsRight}
-use Rattle.reply_model.specs.OneHistory.{Given}
+use Rattle.reply_model.specs.OneHistory.{Dated, Given}
 
 -- both routers, nodes 2 and 3, are given one moment, of the second 1000
 abbrev pub moments : List Given
@@ -61,13 +62,25 @@ entry_at counter router count index key outcome = record {
   outcome = outcome;
 }
 
+-- d.c was created
+abbrev pub created : List Change
+created = create_change creation ∷ []
+
+-- with the step in which it was created
+abbrev pub created_dated : List Dated
+created_dated = record { change = create_change creation; step = 0 } ∷ []
+
+-- it was created at Timestamp(1000, 3)
+abbrev pub created_late : List Change
+created_late = create_change (record creation { at = timestamp 1000 3 }) ∷ []
+
 -- Its reply is right, where there was no reply before, and no cursor is open before or afterwards.
 abbrev pub IsToldRightly : List Entry → Asked → Answered → Type 0
-IsToldRightly history a t = IsRight (creation ∷ []) history [] [] [] a t []
+IsToldRightly history a t = IsRight created history [] [] [] a t []
 
 -- it is not, whatever cursors there are afterwards
 abbrev pub IsToldWrongly : List Entry → Asked → Answered → Type 0
-IsToldWrongly history a t = (next : List Cursor) → IsRight (creation ∷ []) history [] [] [] a t next → ⊥
+IsToldWrongly history a t = (next : List Cursor) → IsRight created history [] [] [] a t next → ⊥
 
 -- the query that {_id: key} is, and the find of it, at a time where one is named
 abbrev pub id_is : Datum → Query

@@ -1,15 +1,15 @@
 -- Reads of long documents, to try the definitions on.
-use Rattle.std.specs.Prelude.{◌≡◌, ℕ, List, [], ◌∷◌, length, codes, None}
+use Rattle.std.specs.Prelude.{◌≡◌, ℕ, List, length, codes, None}
 use Rattle.std.specs.List.{AllByRecursion}
 use Rattle.bson_model.specs.Tree.{Fields}
 use Rattle.base_model.specs.Times.{timestamp}
 use Rattle.pipeline_model.specs.Stages.{Stage}
 use Rattle.pipeline_model.specs.Lengths.{document_length}
-use Rattle.chunk_model.specs.SampleCollections.{creation}
 use Rattle.history_model.specs.History.{Entry}
 use Rattle.history_model.specs.Documents.{documents_at}
 use Rattle.reply_model.specs.Reads.{IsExcess}
 use Rattle.reply_laws.specs.SampleTimes.{reading_of}
+use Rattle.reply_laws.specs.SampleExchanges.{created}
 
 -- so many documents of so many bytes each
 pub record AreLong (count bytes : ℕ) (documents : List Fields) : Type 0 where
@@ -22,4 +22,4 @@ Holds count bytes history = AreLong count bytes (documents_at history (codes "d.
 
 -- of these stages, at that time, this is too long
 abbrev pub IsTooLong : List Entry → List Stage → (n : ℕ) → Type 0
-IsTooLong history stages n = IsExcess history (creation ∷ []) (reading_of stages None None) (timestamp 1000 4) n
+IsTooLong history stages n = IsExcess history created (reading_of stages None None) (timestamp 1000 4) n

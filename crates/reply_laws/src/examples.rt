@@ -2,6 +2,7 @@
 
 ghost use Rattle.std.specs.Prelude.{◌≡◌, ◌∷◌, ℕ, List, [], codes, map, Some, None, Ok, true, false, pos};
 ghost use Rattle.chunk_model.specs.SampleCollections.{creation};
+ghost use Rattle.chunk_model.specs.Changes.{create_change};
 ghost use Rattle.command_model.specs.Answers.{answer_document, legacy_answer, refusal_answer};
 ghost use Rattle.command_model.specs.Command.{find_command, write_command, command_of};
 ghost use Rattle.base_model.specs.Errors.{duplicate_key};
@@ -19,7 +20,7 @@ ghost use Rattle.reply_model.specs.Exchanges.{reply_put};
 ghost use Rattle.reply_model.specs.OneHistory.{AreDifferent, IsFresh, IsInOrder, IsKnown, IsPlaced, IsRightOf, OneHistory, WasSent, WasWanted, ids_asked, ids_told};
 ghost use Rattle.reply_model.specs.Cursors.{Cursor};
 ghost use Rattle.reply_model.specs.Right.{IsPart, IsWhole, Sends};
-ghost use Rattle.reply_laws.specs.SampleExchanges.{IsToldRightly, IsToldWrongly, find_of, all_asked, all_told, both_entries, changed_five, changed_reply, changing, changing_entry, deep_asked, deep_entry, deleted_reply, deleting, entry_at, finding, finding_later, first, first_entry, first_told, greeted, id_at, is_shown, is_shown_later, moments, second, second_entry, second_told, tells, third, third_told, three_asked, three_entries, three_writes, two_entries, finding_at, is_shown_at, unmet_delete, unmet_entries, upserting, upserting_entries, upserting_reply};
+ghost use Rattle.reply_laws.specs.SampleExchanges.{IsToldRightly, IsToldWrongly, find_of, all_asked, all_told, both_entries, changed_five, changed_reply, changing, changing_entry, deep_asked, deep_entry, deleted_reply, deleting, entry_at, finding, finding_later, first, first_entry, first_told, greeted, id_at, is_shown, is_shown_later, moments, second, second_entry, second_told, tells, third, third_told, three_asked, three_entries, three_writes, two_entries, finding_at, is_shown_at, unmet_delete, unmet_entries, upserting, upserting_entries, upserting_reply, created, created_dated, created_late};
 
 /// What the requests are.
 pub fn asked()
@@ -56,14 +57,14 @@ pub fn asked()
 /// none where an entry is lost, where one was made that nobody sent, where a reply is missing from those to the requests, and where a request
 /// gets two replies.
 pub fn one_history()
-    ensures whole { OneHistory moments (creation ∷ []) both_entries all_asked all_told }
-    ensures lost { OneHistory moments (creation ∷ []) [] all_asked all_told → ⊥ }
-    ensures lost_duplicate { OneHistory moments (creation ∷ []) (first_entry ∷ []) all_asked all_told → ⊥ }
-    ensures nobody_sent { OneHistory moments (creation ∷ []) both_entries (first ∷ third ∷ []) (first_told ∷ third_told ∷ []) → ⊥ }
-    ensures not_asked { OneHistory moments (creation ∷ []) both_entries (first ∷ second ∷ []) all_told → ⊥ }
-    ensures twice { OneHistory moments (creation ∷ []) both_entries all_asked (first_told ∷ all_told) → ⊥ }
+    ensures whole { OneHistory moments created_dated both_entries all_asked all_told }
+    ensures lost { OneHistory moments created_dated [] all_asked all_told → ⊥ }
+    ensures lost_duplicate { OneHistory moments created_dated (first_entry ∷ []) all_asked all_told → ⊥ }
+    ensures nobody_sent { OneHistory moments created_dated both_entries (first ∷ third ∷ []) (first_told ∷ third_told ∷ []) → ⊥ }
+    ensures not_asked { OneHistory moments created_dated both_entries (first ∷ second ∷ []) all_told → ⊥ }
+    ensures twice { OneHistory moments created_dated both_entries all_asked (first_told ∷ all_told) → ⊥ }
     ensures not_begun { OneHistory moments [] both_entries all_asked all_told → ⊥ }
-    ensures disordered { OneHistory moments (creation ∷ []) (second_entry ∷ first_entry ∷ []) all_asked all_told → ⊥ }
+    ensures disordered { OneHistory moments created_dated (second_entry ∷ first_entry ∷ []) all_asked all_told → ⊥ }
 {}
 
 /// Of three documents the second has the key of the first. The error ends the insert where it is ordered, and else the third document
@@ -192,10 +193,10 @@ pub fn found_around_delete()
 /// taken.
 pub fn wrong_replies()
     ensures another { IsToldWrongly both_entries first (record first_told { document = duplicate_reply }) }
-    ensures number { (next : List Cursor) → IsRightOf moments (creation ∷ []) both_entries all_asked [] [] (record first_told { number = pos 2 }) next → ⊥ }
-    ensures link { (next : List Cursor) → IsRightOf moments (creation ∷ []) both_entries all_asked [] [] (record first_told { link = 1 }) next → ⊥ }
-    ensures early { (next : List Cursor) → IsRightOf moments (creation ∷ []) both_entries all_asked [] [] (record first_told { step = 1 }) next → ⊥ }
-    ensures not_taken { (next : List Cursor) → IsRightOf moments (creation ∷ []) both_entries [] [] [] first_told next → ⊥ }
+    ensures number { (next : List Cursor) → IsRightOf moments created both_entries all_asked [] [] (record first_told { number = pos 2 }) next → ⊥ }
+    ensures link { (next : List Cursor) → IsRightOf moments created both_entries all_asked [] [] (record first_told { link = 1 }) next → ⊥ }
+    ensures early { (next : List Cursor) → IsRightOf moments created both_entries all_asked [] [] (record first_told { step = 1 }) next → ⊥ }
+    ensures not_taken { (next : List Cursor) → IsRightOf moments created both_entries [] [] [] first_told next → ⊥ }
 {}
 
 /// What is stale: a request that comes to a router, in the life in which it had returned a time, with a lower one, or with a lower one
@@ -211,21 +212,21 @@ pub fn stale()
 /// What a router knew: its last moment, and a time that was met. A time that nobody met, a moment that was given to another node or
 /// comes later, and a time before its moment's are made up.
 pub fn known()
-    ensures right { IsKnown moments (creation ∷ []) both_entries third }
-    ensures made_up { IsKnown moments (creation ∷ []) both_entries (record third { time = timestamp 1000 7 }) → ⊥ }
-    ensures moment { IsKnown moments (creation ∷ []) both_entries (record third { moment = 999000 }) → ⊥ }
-    ensures another_node { IsKnown (record { node = 3; moment = 1000000; step = 0 } ∷ []) (creation ∷ []) both_entries third → ⊥ }
-    ensures too_early { IsKnown moments (creation ∷ []) both_entries (record third { came = 0 }) → ⊥ }
-    ensures behind { IsKnown moments (creation ∷ []) both_entries (record third { time = 0 }) → ⊥ }
+    ensures right { IsKnown moments created both_entries third }
+    ensures made_up { IsKnown moments created both_entries (record third { time = timestamp 1000 7 }) → ⊥ }
+    ensures moment { IsKnown moments created both_entries (record third { moment = 999000 }) → ⊥ }
+    ensures another_node { IsKnown (record { node = 3; moment = 1000000; step = 0 } ∷ []) created both_entries third → ⊥ }
+    ensures too_early { IsKnown moments created both_entries (record third { came = 0 }) → ⊥ }
+    ensures behind { IsKnown moments created both_entries (record third { time = 0 }) → ⊥ }
 {}
 
 /// How entries, collections and requests relate to each other.
 pub fn related()
     ensures own { Sends first first_entry × (Sends second first_entry → ⊥) }
-    ensures placed { IsPlaced (creation ∷ []) second_entry × (IsPlaced [] second_entry → ⊥) }
-    ensures misplaced { IsPlaced (creation ∷ []) (record second_entry { shard = 2 }) → ⊥ }
-    ensures before_collection { IsPlaced (record creation { at = timestamp 1000 3 } ∷ []) second_entry → ⊥ }
-    ensures wanted { WasWanted all_asked creation × (WasWanted (third ∷ []) creation → ⊥) }
+    ensures placed { IsPlaced created second_entry × (IsPlaced [] second_entry → ⊥) }
+    ensures misplaced { IsPlaced created (record second_entry { shard = 2 }) → ⊥ }
+    ensures before_collection { IsPlaced created_late second_entry → ⊥ }
+    ensures wanted { WasWanted all_asked (create_change creation) × (WasWanted (third ∷ []) (create_change creation) → ⊥) }
     ensures different { AreDifferent (ids_asked all_asked) × (AreDifferent (ids_told (first_told ∷ second_told ∷ first_told ∷ [])) → ⊥) }
     ensures legal { Legal both_entries × (Legal (second_entry ∷ first_entry ∷ []) → ⊥) }
 {}

@@ -2,6 +2,8 @@
 //! nothing, whose contract is the law.
 #![tactic(auto)]
 
+pub mod chunk_examples;
+mod chunk_laws;
 pub mod cursor_examples;
 mod cursor_laws;
 pub mod examples;
@@ -12,6 +14,7 @@ mod read_laws;
 pub mod retry_examples;
 pub mod sum_examples;
 
+pub use chunk_laws::{changes_stay, one_creation, replies_stay_right};
 pub use cursor_laws::{
     batches_join, ended_cursors_are_gone, numbers_are_apart, silent_reads_leave,
 };

@@ -11,19 +11,18 @@ ghost use Rattle.command_laws.specs.SampleNumbers.{sevens};
 ghost use Rattle.base_model.specs.SampleReplies.{done_reply, duplicate_reply};
 ghost use Rattle.command_laws.specs.SampleRequests.{five, long_five, second_fails, six, three, with_id};
 ghost use Rattle.base_model.specs.Times.{timestamp};
-ghost use Rattle.chunk_model.specs.SampleCollections.{creation};
 ghost use Rattle.history_model.specs.History.{done, fails_with, insert_operation};
 ghost use Rattle.reply_model.specs.Cursors.{Cursor};
 ghost use Rattle.reply_model.specs.Exchanges.{reply_put};
 ghost use Rattle.reply_model.specs.Right.{IsRight, Sends};
 ghost use Rattle.reply_model.specs.OneHistory.{AreNumbered, IsReached, IsRightOf, OneHistory, WasSent};
-ghost use Rattle.reply_laws.specs.SampleExchanges.{entry_at, first_entry, moments, tells};
+ghost use Rattle.reply_laws.specs.SampleExchanges.{entry_at, first_entry, moments, tells, created, created_dated};
 ghost use Rattle.reply_laws.specs.SampleRetries.{IsToldJust, IsToldThen, IsUntold, both_answers, both_done, both_sent, delete_three, eights, ended, entry_under, errors_reply, failed, failing, failing_again, failing_sent, finding_two, first_answer, first_three, five_elsewhere, insert_elsewhere, insert_five, insert_six, inserted_five, inserts_under, late_two, newer, newer_entry, number_in, older_error, put_five, second_done, sent_again, sent_first, sent_two, six_as, then_three, three_done, three_sent, three_without, told_ahead, two_sent, unmodified_reply, unnumbered_six, unordered_later, until_removed, upsert_three, upserted_five, zero_sent};
 
 /// An insert that is sent again, at another router: it is done once, and returns the same, also where the router knows of a later time. No
 /// reply is right where its entry is lost, or later than what the router knows; it has no second entry; and an entry under a router's own number is not of it.
 pub fn retried()
-    ensures whole { OneHistory moments (creation ∷ []) (put_five ∷ []) both_sent both_answers }
+    ensures whole { OneHistory moments created_dated (put_five ∷ []) both_sent both_answers }
     ensures same { IsToldJust (put_five ∷ []) both_sent sent_again 5 4 done_reply }
     ensures lost { IsUntold [] both_sent sent_again 5 2 }
     ensures foretold { IsUntold (put_five ∷ []) both_sent sent_again 5 1 }
@@ -65,7 +64,7 @@ pub fn older_transactions()
     ensures another_session { IsUntold (record newer_entry { number = number_in eights (pos 5) 0 } ∷ []) (newer ∷ late_two true ∷ []) (late_two true) 5 4 }
     ensures unnumbered { IsUntold (newer_entry ∷ []) (newer ∷ unnumbered_six ∷ []) unnumbered_six 5 4 }
     ensures foretold { IsUntold (newer_entry ∷ []) (record newer { came = 8 } ∷ late_two true ∷ []) (late_two true) 5 4 }
-    ensures made_up { (document : Fields) (next : List Cursor) → IsRightOf moments (creation ∷ []) (newer_entry ∷ []) (newer ∷ late_two true ∷ []) [] []
+    ensures made_up { (document : Fields) (next : List Cursor) → IsRightOf moments created (newer_entry ∷ []) (newer ∷ late_two true ∷ []) [] []
         (record (tells (late_two true) 5 4 document) { time = timestamp 2000 0 }) next → ⊥ }
     ensures behind { AreNumbered (newer_entry ∷ entry_under sevens 3 (pos 4) 0 (insert_operation (with_id six)) done ∷ []) → ⊥ }
     ensures behind_zero { AreNumbered (entry_under sevens 2 (pos 0) 0 (insert_operation (with_id five)) done
@@ -91,7 +90,7 @@ pub fn reached_statements()
 
 /// Of two statements without order the first may return what was done, and the second that it is too old; the time is that of the first.
 pub fn answered_together()
-    ensures { IsRight (creation ∷ []) (put_five ∷ entry_under sevens 3 (pos 5) 0 (insert_operation (with_id six)) done ∷ [])
+    ensures { IsRight created (put_five ∷ entry_under sevens 3 (pos 5) 0 (insert_operation (with_id six)) done ∷ [])
         (sent_two ∷ six_as (pos 5) ∷ []) [] [] sent_two (tells sent_two 7 4 (errors_reply 1 2 (older_error (pos 5) 1 ∷ []))) [] }
 {}
 
@@ -99,7 +98,7 @@ pub fn answered_together()
 /// another request, that had ended by then, had sent its statement before.
 pub fn told_before()
     ensures ahead { (next : List Cursor)
-        → IsRight (creation ∷ []) (put_five ∷ []) (sent_first ∷ finding_two ∷ []) (first_answer ∷ []) [] finding_two told_ahead next → ⊥ }
+        → IsRight created (put_five ∷ []) (sent_first ∷ finding_two ∷ []) (first_answer ∷ []) [] finding_two told_ahead next → ⊥ }
     ensures ended { WasSent (first_entry ∷ failed ∷ second_done 50 ∷ []) (two_sent 2 2 4 true ∷ unordered_later ∷ []) (ended ∷ []) (second_done 50) → ⊥ }
 {}
 

@@ -5,9 +5,8 @@ use Rattle.command_laws.specs.SampleCommands.{change_one}
 use Rattle.command_laws.specs.SampleRequests.{five, long_five, with_id}
 use Rattle.command_model.specs.Writes.{WriteCommand, delete_kind, update_kind}
 use Rattle.history_model.specs.History.{StatementNumber, delete_operation, router_session, update_operation}
-use Rattle.reply_laws.specs.SampleExchanges.{changed_reply, changing, changing_entry, deleted_reply, deleting, deleting_entry, first_entry, tells, three_writes}
+use Rattle.reply_laws.specs.SampleExchanges.{changed_reply, changing, changing_entry, deleted_reply, deleting, deleting_entry, first_entry, tells, three_writes, created}
 use Rattle.bson_model.specs.Tree.{Fields}
-use Rattle.chunk_model.specs.SampleCollections.{creation}
 use Rattle.reply_model.specs.Cursors.{Cursor}
 use Rattle.reply_model.specs.Right.{IsRight}
 use Rattle.reply_model.specs.OneHistory.{AreNumbered}
@@ -67,7 +66,7 @@ numbered = (
   ((record { apart = λ shard e. two_three (sym e); rises = λ shard e. refl }, tt), (tt, tt)),
 )
 
-update_says : (document : Fields) (next : List Cursor) → IsRight (creation ∷ []) three_writes [] [] [] changing (tells changing 5 3 document) next
+update_says : (document : Fields) (next : List Cursor) → IsRight created three_writes [] [] [] changing (tells changing 5 3 document) next
     → document ≡ changed_reply 1 1
 update_says document next right =
     (own_says three_writes [] (tells changing 5 3 document) changes refl numbered (refl, (refl, (refl, tt))) [] changing next refl refl right).1

@@ -7,6 +7,7 @@ use Rattle.bson_model.specs.Tree.{Fields}
 use Rattle.base_model.specs.Times.{timestamp}
 use Rattle.command_model.specs.Writes.{WriteCommand, insert_kind}
 use Rattle.chunk_model.specs.SampleCollections.{creation}
+use Rattle.chunk_model.specs.Changes.{create_change}
 use Rattle.history_model.specs.History.{Legal, IsIn, insert_operation, StatementNumber, router_session}
 use Rattle.history_model.proofs.Lists.{all_at, in_first, in_later, in_none}
 use Rattle.base_model.specs.Identities.{RequestId}
@@ -14,7 +15,7 @@ use Rattle.reply_model.specs.Exchanges.{Asked}
 use Rattle.reply_model.specs.OneHistory.{AreDifferent, Given, WasMet, WasSent, WasWanted, IsRightOf, AreRight, nothing_told, then_told, IsKnown, IsPlaced}
 use Rattle.reply_model.specs.Right.{IsPart, IsRight, Sends}
 use Rattle.reply_model.specs.Reads.{own_time}
-use Rattle.reply_laws.specs.SampleExchanges.{all_told, all_asked, both_entries, first, first_entry, first_told, id_at, moments, second, second_entry, second_told, tells, third, third_told}
+use Rattle.reply_laws.specs.SampleExchanges.{all_told, all_asked, both_entries, first, first_entry, first_told, id_at, moments, second, second_entry, second_told, tells, third, third_told, created, created_dated}
 use Rattle.reply_laws.proofs.OwnWrites.{none_before, own_right, same_write}
 use Rattle.reply_facts.proofs.Requests.{number_same}
 use Rattle.reply_laws.proofs.KeyFinds.{key_find_right_among}
@@ -98,11 +99,27 @@ second_sent = record {
   goes_on = λ t dones i own told says before. none_before inserts_long_five dones before;
 }
 
-first_placed : IsPlaced (creation ∷ []) first_entry
-first_placed = record { creation = creation; key = five; begun = in_first creation []; name = refl; before = omega arith; writes = refl; owner = refl }
+first_placed : IsPlaced created first_entry
+first_placed = record {
+  creation = creation;
+  key = five;
+  begun = in_first (create_change creation) [];
+  name = refl;
+  before = omega arith;
+  writes = refl;
+  owner = refl;
+}
 
-second_placed : IsPlaced (creation ∷ []) second_entry
-second_placed = record { creation = creation; key = long_five; begun = in_first creation []; name = refl; before = omega arith; writes = refl; owner = refl }
+second_placed : IsPlaced created second_entry
+second_placed = record {
+  creation = creation;
+  key = long_five;
+  begun = in_first (create_change creation) [];
+  name = refl;
+  before = omega arith;
+  writes = refl;
+  owner = refl;
+}
 
 first_part : IsPart both_entries (id_at 2 1) inserts_five
 first_part = (record { same_number = refl; name = refl; does = refl }, (λ e. refl), tt)
@@ -110,62 +127,62 @@ first_part = (record { same_number = refl; name = refl; does = refl }, (λ e. re
 second_part : IsPart both_entries (id_at 3 1) inserts_long_five
 second_part = (record { same_number = refl; name = refl; does = refl }, (λ e. refl), tt)
 
-wanted : WasWanted all_asked creation
+wanted : WasWanted all_asked (create_change creation)
 wanted = record {
   request = first;
   taken = in_first first (second ∷ third ∷ []);
-  writes = record { write = inserts_five; asks = refl; name = refl };
+  asks = inl (record { write = inserts_five; asks = refl; name = refl });
   later = omega arith;
 }
 
 right_of : (a : Asked) (step counter : ℕ) (document : Fields) → IsIn a all_asked → a.came ≤ step → a.time ≤ timestamp 1000 counter
-    → WasMet moments (creation ∷ []) both_entries (timestamp 1000 counter)
-    → IsRight (creation ∷ []) both_entries all_asked all_told [] a (tells a step counter document) []
-    → IsRightOf moments (creation ∷ []) both_entries all_asked all_told [] (tells a step counter document) []
+    → WasMet moments created both_entries (timestamp 1000 counter)
+    → IsRight created both_entries all_asked all_told [] a (tells a step counter document) []
+    → IsRightOf moments created both_entries all_asked all_told [] (tells a step counter document) []
 right_of a step counter document there came risen met right =
     record { request = a; taken = there; own = refl; link = refl; number = refl; same = refl; came = came; risen = risen; met = met; right = right }
 
-met_first : WasMet moments (creation ∷ []) both_entries (timestamp 1000 2)
+met_first : WasMet moments created both_entries (timestamp 1000 2)
 met_first = inr (inr (inr (first_entry, in_first first_entry (second_entry ∷ []), refl)))
 
-met_second : WasMet moments (creation ∷ []) both_entries (timestamp 1000 3)
+met_second : WasMet moments created both_entries (timestamp 1000 3)
 met_second = inr (inr (inr (second_entry, in_later second_entry first_entry (second_entry ∷ []) (in_first second_entry []), refl)))
 
-first_right : IsRightOf moments (creation ∷ []) both_entries all_asked all_told [] first_told []
+first_right : IsRightOf moments created both_entries all_asked all_told [] first_told []
 first_right =
     right_of first 3 2 done_reply (in_first first (second ∷ third ∷ [])) (omega arith) (omega arith) met_first
     (own_right both_entries all_asked first_told inserts_five refl all_told first refl refl (record { part = first_part; all = refl }) (omega arith, tt) refl
     (omega arith) refl)
 
-second_right : IsRightOf moments (creation ∷ []) both_entries all_asked all_told [] second_told []
+second_right : IsRightOf moments created both_entries all_asked all_told [] second_told []
 second_right =
     right_of second 5 3 duplicate_reply second_taken (omega arith) (omega arith) met_second
     (own_right both_entries all_asked second_told inserts_long_five refl all_told second refl refl (record { part = second_part; all = refl })
     (omega arith, tt) refl (omega arith) refl)
 
-third_right : IsRightOf moments (creation ∷ []) both_entries all_asked all_told [] third_told []
+third_right : IsRightOf moments created both_entries all_asked all_told [] third_told []
 third_right =
     right_of third 7 2 (shown (with_id five ∷ []) 2) third_taken (omega arith) (omega arith) met_first
     (key_find_right_among both_entries all_asked all_told third third_told long_five None (timestamp 1000 2) (with_id five ∷ []) refl (own_time refl tt) refl
     (omega arith) refl refl)
 
-all_right : AreRight moments (creation ∷ []) both_entries all_asked all_told [] all_told
+all_right : AreRight moments created both_entries all_asked all_told [] all_told
 all_right =
     then_told [] [] first_told (second_told ∷ third_told ∷ []) first_right
     (then_told [] [] second_told (third_told ∷ []) second_right (then_told [] [] third_told [] third_right (nothing_told [])))
 
 -- each router had its moment, and router 2 its own entry after that
-first_known : IsKnown moments (creation ∷ []) both_entries first
+first_known : IsKnown moments created both_entries first
 first_known = record { moment = refl; time = inr (inl (two_moment, in_first two_moment (three_moment ∷ []), refl)); reached = omega arith }
 
-second_known : IsKnown moments (creation ∷ []) both_entries second
+second_known : IsKnown moments created both_entries second
 second_known = record {
   moment = refl;
   time = inr (inl (three_moment, in_later three_moment two_moment (three_moment ∷ []) (in_first three_moment []), refl));
   reached = omega arith;
 }
 
-third_known : IsKnown moments (creation ∷ []) both_entries third
+third_known : IsKnown moments created both_entries third
 third_known = record { moment = refl; time = inr (inr (inr (first_entry, in_first first_entry (second_entry ∷ []), refl))); reached = omega arith }
 
 another_count : id_at 2 2 ≡ id_at 2 1 → ⊥
@@ -207,7 +224,8 @@ returns-clause-whole c = record {
     ),
   );
   wanted = (wanted, tt);
-  names = (tt, tt);
+  fitting = (record { later = tt; fits = record { absent = refl; next = refl } }, tt);
+  caused = ((λ a split i own asks says. absurd (cc)), ((λ a split i own asks says. absurd (cc)), ((λ a split i own asks says. absurd (cc)), tt)));
   right = all_right;
   one = all_different;
   once = all_different;
@@ -253,20 +271,20 @@ returns-clause-nobody_sent c one =
 
 pub returns-clause-lost : goal.returns-clause-lost
 returns-clause-lost c one =
-    ((told_write moments (creation ∷ []) [] all_asked all_told one first_told inserts_five
+    ((told_write moments created_dated [] all_asked all_told one first_told inserts_five
     (in_first first_told (second_told ∷ third_told ∷ [])) refl).whole refl).all
 
 pub returns-clause-lost_duplicate : goal.returns-clause-lost_duplicate
 returns-clause-lost_duplicate c one =
-    ((told_write moments (creation ∷ []) (first_entry ∷ []) all_asked all_told one second_told inserts_long_five
+    ((told_write moments created_dated (first_entry ∷ []) all_asked all_told one second_told inserts_long_five
     (in_later second_told first_told (second_told ∷ third_told ∷ []) (in_first second_told (third_told ∷ []))) refl).whole refl).all
 
 pub returns-clause-not_asked : goal.returns-clause-not_asked
 returns-clause-not_asked c one =
     let there = in_later third_told first_told (second_told ∷ third_told ∷ []) (in_later third_told second_told (third_told ∷ []) (in_first third_told [])) in
-    let r = told_to moments (creation ∷ []) both_entries (first ∷ second ∷ []) all_told one third_told there in
+    let r = told_to moments created_dated both_entries (first ∷ second ∷ []) all_told one third_told there in
     all_at (λ (a : Asked). a.id ≡ id_at 2 2 → ⊥) r.request (first ∷ second ∷ [])
     ((λ own. another_count (sym own)), ((λ own. another_router 1 2 own), tt)) r.is.taken r.is.own
 
 pub returns-clause-not_begun : goal.returns-clause-not_begun
-returns-clause-not_begun c one = in_none one.placed.0.creation one.placed.0.begun
+returns-clause-not_begun c one = in_none (create_change one.placed.0.creation) one.placed.0.begun

@@ -1,18 +1,17 @@
 -- By their numbers and times.
-use Rattle.std.proofs.Common.{◌<◌, [], ◌∷◌, refl, ap, codes, arith}
+use Rattle.std.proofs.Common.{◌<◌, inl, inr, [], ◌∷◌, refl, ap, codes, arith}
 use Rattle.std.specs.Prelude.{true, None}
 use Rattle.command_laws.specs.SampleRequests.{five, long_five, with_id}
-use Rattle.base_model.specs.Times.{timestamp}
-use Rattle.chunk_model.specs.Catalogue.{Creation}
 use Rattle.chunk_model.specs.SampleCollections.{creation}
+use Rattle.chunk_model.specs.Changes.{Change, create_change, time_of}
 use Rattle.command_model.specs.Writes.{insert_kind}
 use Rattle.history_model.specs.History.{insert_operation}
 use Rattle.history_model.proofs.Lists.{all_at, in_first, in_none}
 use Rattle.base_model.specs.Identities.{RequestId}
 use Rattle.reply_model.specs.Exchanges.{Asked}
 use Rattle.reply_model.specs.Right.{Sends}
-use Rattle.reply_model.specs.OneHistory.{IsWriteIn, IsPlaced, WasWanted}
-use Rattle.reply_laws.specs.SampleExchanges.{all_asked, id_at, first, first_entry, second, second_entry, third}
+use Rattle.reply_model.specs.OneHistory.{AsksFor, IsPlaced, WasWanted}
+use Rattle.reply_laws.specs.SampleExchanges.{all_asked, id_at, first, first_entry, second, second_entry, third, created, created_late}
 use Rattle.reply_facts.proofs.Requests.{number_same}
 use Rattle.reply_laws.proofs.examples.related.Goals as goal
 
@@ -39,27 +38,32 @@ another_router sends =
 pub returns-clause-own : goal.returns-clause-own
 returns-clause-own c = (own, another_router)
 
-placed : IsPlaced (creation ∷ []) second_entry
-placed = record { creation = creation; key = long_five; begun = in_first creation []; name = refl; before = omega arith; writes = refl; owner = refl }
+placed : IsPlaced created second_entry
+placed = record {
+  creation = creation;
+  key = long_five;
+  begun = in_first (create_change creation) [];
+  name = refl;
+  before = omega arith;
+  writes = refl;
+  owner = refl;
+}
 
 unplaced : IsPlaced [] second_entry → ⊥
-unplaced is = in_none is.creation is.begun
+unplaced is = in_none (create_change is.creation) is.begun
 
 pub returns-clause-placed : goal.returns-clause-placed
 returns-clause-placed c = (placed, unplaced)
 
-abbrev late : Creation
-late = record creation { at = timestamp 1000 3 }
-
 pub returns-clause-before_collection : goal.returns-clause-before_collection
-returns-clause-before_collection c is = all_at (λ (c : Creation). c.at < second_entry.time → ⊥) is.creation (late ∷ [])
+returns-clause-before_collection c is = all_at (λ (x : Change). time_of x < second_entry.time → ⊥) (create_change is.creation) created_late
     ((λ less. omega (arith, less)), tt) is.begun is.before
 
-wanted : WasWanted all_asked creation
+wanted : WasWanted all_asked (create_change creation)
 wanted = record {
   request = first;
   taken = in_first first (second ∷ third ∷ []);
-  writes = record {
+  asks = inl (record {
     write = record {
       kind = insert_kind;
       namespace = codes "d.c";
@@ -69,12 +73,16 @@ wanted = record {
     };
     asks = refl;
     name = refl;
-  };
+  });
   later = omega arith;
 }
 
-by_no_find : WasWanted (third ∷ []) creation → ⊥
-by_no_find w = all_at (λ (a : Asked). IsWriteIn creation.namespace a → ⊥) w.request (third ∷ []) ((λ i. let e = i.asks in cc), tt) w.taken w.writes
+by_no_write : AsksFor third (create_change creation) → ⊥
+by_no_write (inl write) = let e = write.asks in cc
+by_no_write (inr asks) = cc
+
+by_no_find : WasWanted (third ∷ []) (create_change creation) → ⊥
+by_no_find w = all_at (λ (a : Asked). AsksFor a (create_change creation) → ⊥) w.request (third ∷ []) (by_no_write, tt) w.taken w.asks
 
 pub returns-clause-wanted : goal.returns-clause-wanted
 returns-clause-wanted c = (wanted, by_no_find)

@@ -4,7 +4,7 @@ use Rattle.std.specs.Prelude.{Ok}
 use Rattle.command_model.specs.Reading.{Reading}
 use Rattle.command_model.specs.Command.{count_command}
 use Rattle.command_model.specs.Answers.{answer_document, count_answer}
-use Rattle.chunk_model.specs.Catalogue.{Creation}
+use Rattle.chunk_model.specs.Changes.{Change}
 use Rattle.pipeline_model.specs.Runs.{count_documents, listed}
 use Rattle.history_model.specs.History.{Entry}
 use Rattle.reply_model.specs.Exchanges.{Asked, Answered}
@@ -14,19 +14,20 @@ use Rattle.reply_model.specs.Right.{IsReadRefused}
 use Rattle.reply_facts.proofs.RightAnswers.{RightBy, right_of}
 use Rattle.reply_facts.proofs.Freshness.{answer_right}
 use Rattle.reply_laws.proofs.read_laws.counts_are_answered.Goals as goal
+use Rattle.reply_model.specs.OneHistory.{changes_in}
 
-tells : (creations : List Creation) (history : List Entry) (asked : List Asked) (answered : List Answered) (cursors next : List Cursor) (a : Asked)
+tells : (changes : List Change) (history : List Entry) (asked : List Asked) (answered : List Answered) (cursors next : List Cursor) (a : Asked)
     (t : Answered) (reading : Reading)
-    → RightBy creations history asked answered cursors a t (Ok (count_command reading)) next
+    → RightBy changes history asked answered cursors a t (Ok (count_command reading)) next
     → ((time n : ℕ) × IsTimeRead a t reading time × MayGive history reading time (listed (count_documents (codes "n") n))
     × (t.document ≡ answer_document (count_answer n time)))
-    ⊎ IsReadRefused creations history answered a t reading
-tells creations history asked answered cursors next a t reading (inl (counted, same)) =
+    ⊎ IsReadRefused changes history answered a t reading
+tells changes history asked answered cursors next a t reading (inl (counted, same)) =
     inl (counted.time, counted.number, counted.read, counted.gives, counted.says)
-tells creations history asked answered cursors next a t reading (inr refused) = inr refused.0
+tells changes history asked answered cursors next a t reading (inr refused) = inr refused.0
 
 pub returns : goal.returns
-returns c given creations history asked answered a t reading one told asks =
-    let r = answer_right given creations history asked answered one a t told in
-    tells creations history asked answered r.cursors r.next a t reading
-    (right_of creations history asked answered r.cursors a t (Ok (count_command reading)) r.next asks r.right)
+returns c given dated history asked answered a t reading one told asks =
+    let r = answer_right given dated history asked answered one a t told in
+    tells (changes_in dated) history asked answered r.cursors r.next a t reading
+    (right_of (changes_in dated) history asked answered r.cursors a t (Ok (count_command reading)) r.next asks r.right)

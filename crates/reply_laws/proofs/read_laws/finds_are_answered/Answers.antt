@@ -7,7 +7,7 @@ use Rattle.command_model.specs.Find.{Find}
 use Rattle.command_model.specs.Cursors.{Batch}
 use Rattle.command_model.specs.Command.{find_command}
 use Rattle.command_model.specs.Answers.{answer_document, first_answer}
-use Rattle.chunk_model.specs.Catalogue.{Creation}
+use Rattle.chunk_model.specs.Changes.{Change}
 use Rattle.pipeline_model.specs.Batches.{IsBatch}
 use Rattle.pipeline_model.specs.Runs.{listed}
 use Rattle.history_model.specs.History.{Entry}
@@ -18,20 +18,21 @@ use Rattle.reply_model.specs.Right.{IsReadRefused, usual_size}
 use Rattle.reply_facts.proofs.RightAnswers.{RightBy, right_of}
 use Rattle.reply_facts.proofs.Freshness.{answer_right}
 use Rattle.reply_laws.proofs.read_laws.finds_are_answered.Goals as goal
+use Rattle.reply_model.specs.OneHistory.{changes_in}
 
-tells : (creations : List Creation) (history : List Entry) (asked : List Asked) (answered : List Answered) (cursors next : List Cursor) (a : Asked)
+tells : (changes : List Change) (history : List Entry) (asked : List Asked) (answered : List Answered) (cursors next : List Cursor) (a : Asked)
     (t : Answered) (find : Find)
-    → RightBy creations history asked answered cursors a t (Ok (find_command find)) next
+    → RightBy changes history asked answered cursors a t (Ok (find_command find)) next
     → ((documents : List Fields) × (batch : Batch) × IsTimeRead a t find.reading batch.time × MayGive history find.reading batch.time (listed documents)
     × IsBatch (Some (unwrap_or find.batches.size usual_size)) documents batch.documents × (batch.namespace ≡ find.reading.namespace)
     × (t.document ≡ answer_document (first_answer batch)))
-    ⊎ IsReadRefused creations history answered a t find.reading
-tells creations history asked answered cursors next a t find (inl first) =
+    ⊎ IsReadRefused changes history answered a t find.reading
+tells changes history asked answered cursors next a t find (inl first) =
     inl (first.documents, first.batch, first.time, first.gives, first.shows.batch_of, first.name, first.says)
-tells creations history asked answered cursors next a t find (inr refused) = inr refused.0
+tells changes history asked answered cursors next a t find (inr refused) = inr refused.0
 
 pub returns : goal.returns
-returns c given creations history asked answered a t find one told asks =
-    let r = answer_right given creations history asked answered one a t told in
-    tells creations history asked answered r.cursors r.next a t find
-    (right_of creations history asked answered r.cursors a t (Ok (find_command find)) r.next asks r.right)
+returns c given dated history asked answered a t find one told asks =
+    let r = answer_right given dated history asked answered one a t told in
+    tells (changes_in dated) history asked answered r.cursors r.next a t find
+    (right_of (changes_in dated) history asked answered r.cursors a t (Ok (find_command find)) r.next asks r.right)

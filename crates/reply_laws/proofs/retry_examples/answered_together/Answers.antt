@@ -5,6 +5,7 @@ use Rattle.command_laws.specs.SampleNumbers.{sevens}
 use Rattle.command_laws.specs.SampleRequests.{five, six, with_id}
 use Rattle.command_model.specs.Writes.{ClientNumber}
 use Rattle.chunk_model.specs.SampleCollections.{creation}
+use Rattle.chunk_model.specs.Changes.{create_change}
 use Rattle.history_model.specs.History.{Entry, done, insert_operation}
 use Rattle.history_model.proofs.Lists.{in_first, in_later}
 use Rattle.reply_model.specs.Outcomes.{answer_by, is_older}
@@ -51,4 +52,4 @@ returns c =
         refl,
       ),
     )
-    (λ none. absurd (cc)) (in_first creation []) refl (omega arith) refl
+    (λ none. absurd (cc)) (in_first (create_change creation) []) refl (omega arith) refl

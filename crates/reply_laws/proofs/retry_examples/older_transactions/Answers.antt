@@ -6,8 +6,7 @@ use Rattle.command_laws.specs.SampleNumbers.{sevens}
 use Rattle.command_laws.specs.SampleRequests.{five, long_five, six, with_id}
 use Rattle.base_model.specs.Times.{time_of_moment, timestamp}
 use Rattle.command_model.specs.Writes.{ClientNumber, WriteCommand, insert_kind}
-use Rattle.chunk_model.specs.Catalogue.{Creation}
-use Rattle.chunk_model.specs.SampleCollections.{creation}
+use Rattle.chunk_model.specs.Changes.{Change, time_of}
 use Rattle.history_model.specs.History.{Entry, Operation, StatementNumber, done, insert_operation}
 use Rattle.history_model.proofs.Lists.{all_at, in_first}
 use Rattle.base_model.specs.Identities.{RequestId}
@@ -15,7 +14,7 @@ use Rattle.reply_model.specs.Exchanges.{Asked, number_for}
 use Rattle.reply_model.specs.Outcomes.{is_older}
 use Rattle.reply_model.specs.OneHistory.{Given, WasMet}
 use Rattle.reply_model.specs.Right.{HadSent, MayBeTold, Sends, told_older}
-use Rattle.reply_laws.specs.SampleExchanges.{moments, tells}
+use Rattle.reply_laws.specs.SampleExchanges.{moments, tells, created}
 use Rattle.reply_laws.specs.SampleRetries.{eights, entry_under, errors_reply, inserts_under, late_two, newer, newer_entry, number_in, older_error, six_as, two_documents, zero_sent}
 use Rattle.reply_laws.proofs.NumberedWrites.{Gives, gives_elsewhere, gives_older, told_just, untold}
 use Rattle.reply_laws.proofs.OwnWrites.{same_write}
@@ -162,11 +161,11 @@ returns-clause-foretold c =
     ))
 
 -- no moment, collection or entry is of this time
-never_met : WasMet moments (creation ∷ []) (newer_entry ∷ []) (timestamp 2000 0) → ⊥
+never_met : WasMet moments created (newer_entry ∷ []) (timestamp 2000 0) → ⊥
 never_met (inl zero) = omega (arith, zero)
 never_met (inr (inl (g, i, same))) =
     all_at (λ (g : Given). timestamp 2000 0 ≡ time_of_moment g.moment → ⊥) g moments ((λ e. omega (arith, e)), ((λ e. omega (arith, e)), tt)) i same
-never_met (inr (inr (inl (c, i, same)))) = all_at (λ (c : Creation). timestamp 2000 0 ≡ c.at → ⊥) c (creation ∷ []) ((λ e. omega (arith, e)), tt) i same
+never_met (inr (inr (inl (x, i, same)))) = all_at (λ (x : Change). timestamp 2000 0 ≡ time_of x → ⊥) x created ((λ e. omega (arith, e)), tt) i same
 never_met (inr (inr (inr (e, i, same)))) = all_at (λ (e : Entry). timestamp 2000 0 ≡ e.time → ⊥) e (newer_entry ∷ []) ((λ e. omega (arith, e)), tt) i same
 
 pub returns-clause-made_up : goal.returns-clause-made_up

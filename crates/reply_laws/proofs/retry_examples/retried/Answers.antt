@@ -7,6 +7,7 @@ use Rattle.base_model.specs.SampleReplies.{done_reply}
 use Rattle.command_laws.specs.SampleRequests.{five, with_id}
 use Rattle.command_model.specs.Writes.{ClientNumber, WriteCommand, insert_kind}
 use Rattle.chunk_model.specs.SampleCollections.{creation}
+use Rattle.chunk_model.specs.Changes.{create_change}
 use Rattle.history_model.specs.History.{IsIn, insert_operation}
 use Rattle.history_model.proofs.Lists.{in_first, in_later}
 use Rattle.base_model.specs.Identities.{RequestId}
@@ -14,7 +15,7 @@ use Rattle.reply_model.specs.Exchanges.{Asked}
 use Rattle.reply_model.specs.Outcomes.{answer_by}
 use Rattle.reply_model.specs.OneHistory.{AreDifferent, Given, IsKnown, IsRightOf, StandsInPart, nothing_told, then_told}
 use Rattle.reply_model.specs.Right.{IsRight, Sends, right_write, told_own}
-use Rattle.reply_laws.specs.SampleExchanges.{id_at, moments, tells}
+use Rattle.reply_laws.specs.SampleExchanges.{id_at, moments, tells, created}
 use Rattle.reply_laws.specs.SampleRetries.{answer_again, both_answers, both_sent, first_answer, inserts_under, put_five, sent_again, sent_first}
 use Rattle.reply_laws.proofs.NumberedWrites.{gives_itself, gives_later, told_just, untold}
 use Rattle.reply_laws.proofs.OwnWrites.{none_before, same_write}
@@ -51,13 +52,13 @@ again_taken : IsOfBoth sent_again
 again_taken = in_later sent_again sent_first (sent_again ∷ []) (in_first sent_again [])
 
 both_right : (a : Asked) (step : ℕ) → command_of a.request ≡ Ok (write_command inserts)
-    → IsRight (creation ∷ []) (put_five ∷ []) both_sent both_answers [] a (tells a step 2 done_reply) []
+    → IsRight created (put_five ∷ []) both_sent both_answers [] a (tells a step 2 done_reply) []
 both_right a step asks =
     right_write inserts (record { index = 0; answer = answer_by put_five } ∷ []) creation asks
     (refl, told_own put_five (in_first put_five []) (record { same_number = refl; name = refl; does = refl }) (omega arith), refl)
-    (λ none. absurd (cc)) (in_first creation []) refl (omega arith) refl
+    (λ none. absurd (cc)) (in_first (create_change creation) []) refl (omega arith) refl
 
-first_right : IsRightOf moments (creation ∷ []) (put_five ∷ []) both_sent both_answers [] first_answer []
+first_right : IsRightOf moments created (put_five ∷ []) both_sent both_answers [] first_answer []
 first_right = record {
   request = sent_first;
   taken = first_taken;
@@ -71,7 +72,7 @@ first_right = record {
   right = both_right sent_first 3 refl;
 }
 
-again_right : IsRightOf moments (creation ∷ []) (put_five ∷ []) both_sent both_answers [] answer_again []
+again_right : IsRightOf moments created (put_five ∷ []) both_sent both_answers [] answer_again []
 again_right = record {
   request = sent_again;
   taken = again_taken;
@@ -97,10 +98,10 @@ two_moment = record { node = 2; moment = 1000000; step = 0 }
 abbrev three_moment : Given
 three_moment = record { node = 3; moment = 1000000; step = 1 }
 
-first_known : IsKnown moments (creation ∷ []) (put_five ∷ []) sent_first
+first_known : IsKnown moments created (put_five ∷ []) sent_first
 first_known = record { moment = refl; time = inr (inl (two_moment, in_first two_moment (three_moment ∷ []), refl)); reached = omega arith }
 
-again_known : IsKnown moments (creation ∷ []) (put_five ∷ []) sent_again
+again_known : IsKnown moments created (put_five ∷ []) sent_again
 again_known = record {
   moment = refl;
   time = inr (inl (three_moment, in_later three_moment two_moment (three_moment ∷ []) (in_first three_moment []), refl));
@@ -126,12 +127,13 @@ returns-clause-whole c = record {
   numbers = (tt, tt);
   reached = ((λ ordered i less. absurd (omega (arith, less))), tt);
   placed = (
-    record { creation = creation; key = five; begun = in_first creation []; name = refl; before = omega arith; writes = refl; owner = refl },
+    record { creation = creation; key = five; begun = in_first (create_change creation) []; name = refl; before = omega arith; writes = refl; owner = refl },
     tt,
   );
   parts = (no_part sent_first refl, (no_part sent_again refl, tt));
-  wanted = (record { request = sent_first; taken = first_taken; writes = record { write = inserts; asks = refl; name = refl }; later = omega arith }, tt);
-  names = (tt, tt);
+  wanted = (record { request = sent_first; taken = first_taken; asks = inl (record { write = inserts; asks = refl; name = refl }); later = omega arith }, tt);
+  fitting = (record { later = tt; fits = record { absent = refl; next = refl } }, tt);
+  caused = ((λ a split i own asks says. absurd (cc)), ((λ a split i own asks says. absurd (cc)), tt));
   right = then_told [] [] first_answer (answer_again ∷ []) first_right (then_told [] [] answer_again [] again_right (nothing_told []));
   one = different;
   once = different;

@@ -5,7 +5,6 @@ use Rattle.command_model.specs.Answers.{answer_document}
 use Rattle.command_laws.specs.SampleRequests.{five, with_id}
 use Rattle.base_model.specs.Times.{timestamp}
 use Rattle.command_model.specs.Writes.{ClientNumber, WriteCommand}
-use Rattle.chunk_model.specs.SampleCollections.{creation}
 use Rattle.history_model.specs.History.{Entry, IsIn, StatementNumber}
 use Rattle.history_model.proofs.Lists.{all_at, in_first, in_later}
 use Rattle.base_model.specs.Identities.{RequestId}
@@ -14,7 +13,7 @@ use Rattle.reply_model.specs.Outcomes.{Done, answer_by, answer_of}
 use Rattle.reply_model.specs.OneHistory.{EndsBefore}
 use Rattle.reply_model.specs.Reads.{IsAhead}
 use Rattle.reply_model.specs.Right.{AreTold, Sends, find_reads, told_own}
-use Rattle.reply_laws.specs.SampleExchanges.{find_of, first_entry}
+use Rattle.reply_laws.specs.SampleExchanges.{find_of, first_entry, created}
 use Rattle.reply_laws.specs.SampleRetries.{ended, failed, finding_two, first_answer, inserts_under, put_five, second_done, sent_first, told_ahead, two_documents, two_sent, unordered_later}
 use Rattle.reply_laws.proofs.OwnWrites.{same_write}
 use Rattle.reply_facts.proofs.ReadTimes.{is_ahead}
@@ -23,7 +22,7 @@ use Rattle.reply_laws.proofs.retry_examples.told_before.Goals as goal
 pub returns-clause-ahead : goal.returns-clause-ahead
 returns-clause-ahead c next right =
     let ahead : IsAhead (put_five ∷ []) (first_answer ∷ []) finding_two told_ahead (find_of five (Some (timestamp 1000 2))).reading =
-    is_ahead (creation ∷ []) (put_five ∷ []) (sent_first ∷ finding_two ∷ []) (first_answer ∷ []) [] finding_two told_ahead next
+    is_ahead created (put_five ∷ []) (sent_first ∷ finding_two ∷ []) (first_answer ∷ []) [] finding_two told_ahead next
     (find_of five (Some (timestamp 1000 2))).reading (timestamp 1000 0) (find_reads (find_of five (Some (timestamp 1000 2)))) right refl in
     let same : timestamp 1000 2 ≡ ahead.wanted = wanted ahead.wanted ahead.wants in
     omega (

@@ -1,0 +1,63 @@
+-- Replies to shardCollection and split, to try the definitions on: what is wrong.
+use Rattle.std.proofs.Common.{◌≡◌, ◌≢◌, ℕ, ◌≤◌, ◌⊎◌, inl, inr, List, [], ◌∷◌, ◌++◌, refl, ap, subst, ◌∙◌, codes}
+use Rattle.std.specs.Prelude.{Bool, true, false, Option, Some, None, Ok}
+use Rattle.std.specs.List.{AllByRecursion}
+use Rattle.command_laws.specs.SampleRequests.{five}
+use Rattle.command_model.specs.Command.{shard_collection_command, split_command}
+use Rattle.chunk_model.specs.Tables.{Table}
+use Rattle.chunk_model.specs.Changes.{Change, create_change, split_change, commit_change, time_of, known_table, begins_at}
+use Rattle.history_model.proofs.Lists.{all_at}
+use Rattle.reply_model.specs.Exchanges.{Answered}
+use Rattle.reply_model.specs.Cursors.{Cursor}
+use Rattle.reply_model.specs.Right.{WasSplit, IsRight, not_sharded}
+use Rattle.reply_facts.proofs.RightAnswers.{TellsSplit, right_of}
+use Rattle.reply_laws.specs.SampleChunks.{sharding, splitting}
+
+-- the change creates d.c, by this time
+abbrev pub Creates : ℕ → Change → Type 0
+Creates time (create_change c) = (c.namespace ≡ codes "d.c") × (c.at ≤ time)
+Creates time (split_change s) = ⊥
+Creates time (commit_change c) = ⊥
+
+pub wrongly_sharded : (changes : List Change) (t : Answered) (next : List Cursor) → AllByRecursion (λ (x : Change). Creates t.time x → ⊥) changes
+    → IsRight changes [] [] [] [] sharding t next → ⊥
+wrongly_sharded changes t next none right =
+    let told = (right_of changes [] [] [] [] sharding t (Ok (shard_collection_command (codes "d.c"))) next refl right).0 in
+    all_at (λ (x : Change). Creates t.time x → ⊥) (create_change told.created.creation) changes none told.created.begun
+    (told.created.name, told.created.before)
+
+-- a chunk of the table begins at 5
+abbrev pub begins_in : Option Table → Bool
+begins_in None = false
+begins_in (Some table) = begins_at five table.chunks
+
+-- by none of these changes and those before it that are not later than this time
+abbrev pub NeverBegins : ℕ → List Change → Type 0
+NeverBegins time [] = Unit {0}
+NeverBegins time (x ∷ older) =
+    (AllByRecursion (λ y. time_of y ≤ time) (x ∷ older) → begins_in (known_table (codes "d.c") (x ∷ older)) ≡ true → ⊥) × NeverBegins time older
+
+at_first : (changes : List Change) (time : ℕ) → NeverBegins time changes → AllByRecursion (λ y. time_of y ≤ time) changes
+    → begins_in (known_table (codes "d.c") changes) ≡ true → ⊥
+at_first [] time never past begins = cc
+at_first (x ∷ changes) time never past begins = never.0 past begins
+
+at_none : (later changes older : List Change) (time : ℕ) → NeverBegins time changes → changes ≡ later ++ older
+    → AllByRecursion (λ y. time_of y ≤ time) older → begins_in (known_table (codes "d.c") older) ≡ true → ⊥
+at_none [] changes older time never all past begins = at_first older time (subst (NeverBegins time) all never) past begins
+at_none (y ∷ later) [] older time never all past begins = absurd (cc)
+at_none (y ∷ later) (x ∷ changes) older time never all past begins =
+    let rest : changes ≡ later ++ older = cc in
+    at_none later changes older time never.1 rest past begins
+
+module _ (changes : List Change) (t : Answered) (never : NeverBegins t.time changes) where
+  unsplit : WasSplit changes (codes "d.c") five t.time → ⊥
+  unsplit was = at_none was.later changes was.older t.time never was.all was.past (ap begins_in was.known ∙ was.bound)
+
+  pub wrongly_split : (next : List Cursor) → t.document ≢ not_sharded → IsRight changes [] [] [] [] splitting t next → ⊥
+  wrongly_split next told right =
+      by_told (right_of changes [] [] [] [] splitting t (Ok (split_command (record { namespace = codes "d.c"; middle = five }))) next refl right).0
+    where
+      by_told : TellsSplit changes [] [] [] [] splitting t (record { namespace = codes "d.c"; middle = five }) ⊎ (t.document ≡ not_sharded) → ⊥
+      by_told (inl changed) = unsplit changed.begins
+      by_told (inr none) = told none
