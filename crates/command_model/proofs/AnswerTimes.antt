@@ -7,7 +7,7 @@ use Rattle.base_model.proofs.Replies.{time_of_refusal}
 use Rattle.command_model.specs.Writes.{WriteKind, insert_kind, update_kind, delete_kind, WriteError, Upserted, WriteSummary, write_errors_shown, upserted_shown}
 use Rattle.command_model.specs.AnswerParts.{ok, operation_time_at}
 use Rattle.command_model.specs.Cursors.{Batch}
-use Rattle.command_model.specs.Answers.{hello_answer, legacy_answer, done_answer, write_answer, first_answer, next_answer, count_answer, killed_answer, refusal_answer, answer_document}
+use Rattle.command_model.specs.Answers.{hello_answer, legacy_answer, done_answer, write_answer, first_answer, next_answer, count_answer, killed_answer, sharded_answer, changed_answer, refusal_answer, answer_document}
 
 behind_errors : (errors : List WriteError) (time : ℕ) → operation_time (Some (write_errors_shown errors (ok (operation_time_at time)))) ≡ Some time
 behind_errors [] time = refl
@@ -33,6 +33,12 @@ time_of_count n time = refl
 
 pub time_of_killed : (killed missing : List ℤ) → operation_time (Some (answer_document (killed_answer killed missing))) ≡ None
 time_of_killed killed missing = refl
+
+pub time_of_sharded : (namespace : List ℕ) (time : ℕ) → operation_time (Some (answer_document (sharded_answer namespace time))) ≡ Some time
+time_of_sharded namespace time = refl
+
+pub time_of_changed : (time : ℕ) → operation_time (Some (answer_document (changed_answer time))) ≡ Some time
+time_of_changed time = refl
 
 pub time_of_hello : (moment : ℕ) → operation_time (Some (answer_document (hello_answer moment))) ≡ None
 time_of_hello moment = refl

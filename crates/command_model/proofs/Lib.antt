@@ -4,5 +4,8 @@ pub mod Judged
 pub mod ShortErrors
 pub mod Rows
 pub mod Int64
+pub mod OnlyKeys
+pub mod Sound
+pub mod SoundWrites
 pub mod Taken
 pub mod AnswerTimes

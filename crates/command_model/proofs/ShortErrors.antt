@@ -29,6 +29,9 @@ use Rattle.command_model.specs.Aggregate.{aggregate_rules, cursor_rules, pipelin
 use Rattle.command_model.specs.Count.{count_rules}
 use Rattle.command_model.specs.KillCursors.{are_whole_numbers, cursors_needed, kill_rules}
 use Rattle.command_model.specs.GetMore.{check_cursor, more_rules}
+use Rattle.command_model.specs.AdminCommands.{check_full_name, key_needed, only_key}
+use Rattle.command_model.specs.ShardCollection.{is_shard_key, shard_collection_rules, shard_key_needed}
+use Rattle.command_model.specs.Split.{split_rules}
 use Rattle.command_model.specs.Cursors.{is_open_database}
 use Rattle.command_model.specs.Command.{Command}
 
@@ -216,6 +219,18 @@ cursors_short value = omega arith
 pub kill_short : (database : List ℕ) → AreShort (kill_rules database)
 kill_short database = (cursors_short, common_short)
 
+shard_key_short : (value : Datum) → IsShort (shard_key_needed value)
+shard_key_short value = document_short (λ ms. unless_passes (is_shard_key ms) bad_value) (λ ms. unless_short (is_shard_key ms) bad_value (omega arith)) value
+
+pub shard_collection_short : AreShort shard_collection_rules
+shard_collection_short = (shard_key_short, common_short)
+
+middle_short : (value : Datum) → IsShort (key_needed value)
+middle_short value = document_short (λ ms. unless_passes (is_some (only_key ms)) bad_value) (λ ms. unless_short (is_some (only_key ms)) bad_value (omega arith)) value
+
+pub split_short : AreShort split_rules
+split_short = (middle_short, common_short)
+
 pub handshake_short : AreShort handshake_rules
 handshake_short = (text_short, (boolean_short, tt))
 
@@ -227,6 +242,10 @@ cursor_number_short database value = by_test (is_some (whole_number value))
     by_test : (b : Bool) → IsShort (if b then unless_passes (is_open_database database) invalid_namespace else Some type_mismatch)
     by_test true = unless_short (is_open_database database) invalid_namespace (omega arith)
     by_test false = omega arith
+
+pub full_name_short : (database : List ℕ) (value : Datum) → IsShort (check_full_name database value)
+full_name_short database (string_value s) = unless_short _ _ (omega arith)
+full_name_short database value = omega arith
 
 pub some_short : (o : Option (List Fields)) → IsShort (some_needed o)
 some_short None = omega arith

@@ -10,6 +10,8 @@ use Rattle.command_model.specs.Writes.{WriteKind, WriteSummary, write_document}
 use Rattle.command_model.specs.Count.{count_document}
 use Rattle.command_model.specs.Cursors.{Batch, batch_document}
 use Rattle.command_model.specs.KillCursors.{killed_document}
+use Rattle.command_model.specs.AdminCommands.{changed_document}
+use Rattle.command_model.specs.ShardCollection.{sharded_document}
 
 pub data Answer : Type 0 where
   -- to `hello`, with the router's last moment
@@ -27,6 +29,10 @@ pub data Answer : Type 0 where
   count_answer : ℕ → ℕ → Answer
   -- the cursors that were closed, and those that were not found
   killed_answer : (killed missing : List ℤ) → Answer
+  -- to `shardCollection`: the collection's full name, and the time of the reply
+  sharded_answer : (namespace : List ℕ) → (time : ℕ) → Answer
+  -- to `split`: the time of the reply
+  changed_answer : (time : ℕ) → Answer
   refusal_answer : Refusal → Answer
 
 -- the document of an answer
@@ -39,4 +45,6 @@ answer_document (first_answer batch) = batch_document (codes "firstBatch") batch
 answer_document (next_answer batch) = batch_document (codes "nextBatch") batch
 answer_document (count_answer n time) = count_document n time
 answer_document (killed_answer killed missing) = killed_document killed missing
+answer_document (sharded_answer namespace time) = sharded_document namespace time
+answer_document (changed_answer time) = changed_document time
 answer_document (refusal_answer refusal) = refusal_reply refusal

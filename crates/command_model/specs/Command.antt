@@ -19,6 +19,8 @@ use Rattle.command_model.specs.Aggregate.{aggregate_form}
 use Rattle.command_model.specs.Count.{count_form}
 use Rattle.command_model.specs.GetMore.{GetMore, more_form}
 use Rattle.command_model.specs.KillCursors.{KillCursors, kill_form}
+use Rattle.command_model.specs.ShardCollection.{shard_collection_form}
+use Rattle.command_model.specs.Split.{SplitCommand, split_form}
 
 pub data Command : Type 0 where
   hello_command : Command
@@ -32,6 +34,8 @@ pub data Command : Type 0 where
   count_command : Reading → Command
   more_command : GetMore → Command
   kill_command : KillCursors → Command
+  shard_collection_command : (namespace : List ℕ) → Command
+  split_command : SplitCommand → Command
 
 pub record Row : Type 0 where
   pub name : List ℕ
@@ -52,6 +56,8 @@ rows =
     ∷ record { name = codes "count"; form = made_into count_command count_form }
     ∷ record { name = codes "getMore"; form = made_into more_command more_form }
     ∷ record { name = codes "killCursors"; form = made_into kill_command kill_form }
+    ∷ record { name = codes "shardCollection"; form = made_into shard_collection_command shard_collection_form }
+    ∷ record { name = codes "split"; form = made_into split_command split_form }
     ∷ []
 
 abbrev pub find_form_in : List ℕ → List Row → Option (CommandForm Command)

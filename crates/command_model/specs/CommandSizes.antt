@@ -1,8 +1,8 @@
 -- How large the documents of commands and answers are. A message has at most 48,000,000 bytes, and a write at most 100,000
 -- statements (MongoDB manual, "MongoDB Limits and Thresholds").
-use Rattle.std.specs.Prelude.{◌≡◌, ◌<◌, ◌≤◌, ◌+◌, ◌^◌, ℕ, List, [], ◌∷◌, length, Some, Result, Ok, Err}
+use Rattle.std.specs.Prelude.{◌≡◌, ◌<◌, ◌≤◌, ◌+◌, ◌^◌, ℕ, List, [], ◌∷◌, length, Some, Result, Ok, Err, codes}
 use Rattle.std.specs.List.{AllByRecursion}
-use Rattle.bson_model.specs.Tree.{Datum, value_depth}
+use Rattle.bson_model.specs.Tree.{Datum, no_fields, field, value_depth}
 use Rattle.opmsg_model.specs.MessageSizes.{IsSmall, IsWithin}
 use Rattle.base_model.specs.Refusals.{Refusal}
 use Rattle.bson_model.specs.Spelling.{written_value}
@@ -10,8 +10,8 @@ use Rattle.query_model.specs.Writes.{Write}
 use Rattle.query_model.specs.Effects.{write_key}
 use Rattle.history_model.specs.History.{Operation, insert_operation, update_operation, delete_operation, read_operation}
 use Rattle.command_model.specs.Writes.{Upserted, WriteCommand, WriteError, WriteSummary}
-use Rattle.command_model.specs.Answers.{Answer, hello_answer, legacy_answer, done_answer, write_answer, first_answer, next_answer, count_answer, killed_answer, refusal_answer}
-use Rattle.command_model.specs.Command.{Command, hello_command, legacy_command, ping_command, end_sessions_command, write_command, find_command, count_command, more_command, kill_command}
+use Rattle.command_model.specs.Answers.{Answer, hello_answer, legacy_answer, done_answer, write_answer, first_answer, next_answer, count_answer, killed_answer, sharded_answer, changed_answer, refusal_answer}
+use Rattle.command_model.specs.Command.{Command, hello_command, legacy_command, ping_command, end_sessions_command, write_command, find_command, count_command, more_command, kill_command, shard_collection_command, split_command}
 use Rattle.command_model.specs.CommandLimits.{most_statements, most_bytes_upserted, most_cursors}
 use Rattle.command_model.specs.Cursors.{Batch}
 use Rattle.pipeline_model.specs.Batches as batches
@@ -45,6 +45,8 @@ IsSmallCommand (find_command find) = Unit {0}
 IsSmallCommand (count_command reading) = Unit {0}
 IsSmallCommand (more_command more) = Unit {0}
 IsSmallCommand (kill_command kill) = Unit {0}
+IsSmallCommand (shard_collection_command namespace) = Unit {0}
+IsSmallCommand (split_command split) = IsSmall (field (codes "_id") split.middle no_fields)
 
 -- the error's name is short; evidence always is
 abbrev pub IsSmallRefusal : Refusal → Type 0
@@ -88,4 +90,6 @@ IsSmallAnswer (first_answer batch) = IsSmallBatch batch
 IsSmallAnswer (next_answer batch) = IsSmallBatch batch
 IsSmallAnswer (count_answer n time) = n < 2 ^ 63
 IsSmallAnswer (killed_answer killed missing) = length killed + length missing ≤ most_cursors
+IsSmallAnswer (sharded_answer namespace time) = length namespace ≤ 255
+IsSmallAnswer (changed_answer time) = Unit {0}
 IsSmallAnswer (refusal_answer refusal) = IsSmallRefusal refusal

@@ -20,6 +20,9 @@ pub mod Count
 pub mod Cursors
 pub mod GetMore
 pub mod KillCursors
+pub mod AdminCommands
+pub mod ShardCollection
+pub mod Split
 pub mod Command
 pub mod Answers
 pub mod CommandSizes
