@@ -14,7 +14,9 @@ use Rattle.command_model.specs.Writes.{WriteKind, insert_kind, update_kind, dele
 use Rattle.command_model.specs.Cursors.{Batch, cursor_shown, batch_document}
 use Rattle.command_model.specs.KillCursors.{number_items, killed_document}
 use Rattle.command_model.specs.Count.{count_document}
-use Rattle.command_model.specs.Answers.{Answer, hello_answer, legacy_answer, done_answer, write_answer, first_answer, next_answer, count_answer, killed_answer, refusal_answer, answer_document}
+use Rattle.command_model.specs.AdminCommands.{changed_document}
+use Rattle.command_model.specs.ShardCollection.{sharded_document}
+use Rattle.command_model.specs.Answers.{Answer, hello_answer, legacy_answer, done_answer, write_answer, first_answer, next_answer, count_answer, killed_answer, sharded_answer, changed_answer, refusal_answer, answer_document}
 use Rattle.command_model.specs.CommandSizes.{IsSmallAnswer, IsSmallBatch, IsSmallError, IsSmallRefusal, IsSmallSummary, keys_length}
 use Rattle.history_model.proofs.Lists.{all_weaken}
 use Rattle.bson_model.proofs.Lengths.{length-framed, length-item, length-field, length-string}
@@ -275,6 +277,22 @@ killed_small killed missing few =
       ),
     )
 
+sharded_small : (namespace : List ℕ) (time : ℕ) → length namespace ≤ 255 → IsWithin most_depth_written most_bytes_written (sharded_document namespace time)
+sharded_small namespace time short =
+    let behind : Fields = ok (operation_time_at time) in (
+      omega arith,
+      omega (
+        arith,
+        short,
+        length-string namespace,
+        length-field (codes "collectionsharded") (string_value namespace) behind,
+        length-framed (written_fields (field (codes "collectionsharded") (string_value namespace) behind)),
+      ),
+    )
+
+changed_small : (time : ℕ) → IsWithin most_depth_written most_bytes_written (changed_document time)
+changed_small time = (omega arith, omega arith)
+
 refusal_small : (refusal : Refusal) → IsSmallRefusal refusal → IsWithin most_depth_written most_bytes_written (refusal_reply refusal)
 refusal_small refusal small =
     let name : List ℕ = refusal.error.name in
@@ -306,4 +324,6 @@ answer_small (first_answer batch) small = batch_small (codes "firstBatch") batch
 answer_small (next_answer batch) small = batch_small (codes "nextBatch") batch (omega arith) small
 answer_small (count_answer n time) small = count_document_small n time
 answer_small (killed_answer killed missing) few = killed_small killed missing few
+answer_small (sharded_answer namespace time) short = sharded_small namespace time short
+answer_small (changed_answer time) small = changed_small time
 answer_small (refusal_answer refusal) small = refusal_small refusal small

@@ -1,6 +1,7 @@
 //! The laws of commands and answers, and worked requests: each is a function that does nothing, whose contract says what the definitions say of it.
 #![tactic(auto)]
 
+mod admin_requests;
 mod cursor_requests;
 mod find_requests;
 mod laws;
@@ -19,6 +20,9 @@ ghost use Rattle.command_laws.specs.SampleCommands.{change_one, database_d, dele
 ghost use Rattle.command_model.specs.Answers.{answer_document, refusal_answer, write_answer, count_answer, first_answer, killed_answer, next_answer};
 ghost use Rattle.pipeline_model.specs.Stages.{count_stage, limit_stage, match_stage, skip_stage};
 
+pub use admin_requests::{
+    admin_answers, admin_commands, refused_full_names, refused_middles, refused_shard_keys,
+};
 pub use cursor_requests::{cursor_answers, named_cursors};
 pub use find_requests::{readings, refused_aggregates, refused_concerns, refused_fields};
 pub use laws::{answers_are_small, commands_are_small, evidence_is_small, numbers_are_small};
