@@ -18,12 +18,7 @@ pub(crate) fn sharded_document(
     ensures { IfOk result (λ d. d ≡ model.sharded_document namespace.now time.0) }
 {
     let mut answer = Document::new(alloc);
-    add_text(
-        &mut answer,
-        alloc,
-        "collectionsharded",
-        namespace.as_str(),
-    )?;
+    add_text(&mut answer, alloc, "collectionsharded", namespace.as_str())?;
     add_end(&mut answer, alloc, time)?;
     Ok(answer)
 }
