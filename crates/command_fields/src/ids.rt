@@ -1,7 +1,8 @@
 //! Documents `{_id: value}`, of this one field: the key that a collection is sharded by, and a key of a document (MongoDB manual, "shardCollection", "split").
 
-ghost use Rattle.std.specs.Prelude.{◌≡◌, IfOk};
+ghost use Rattle.std.specs.Prelude.{◌≡◌, IfOk, Some, None, if◌then◌else◌, codes};
 ghost use Rattle.std.specs.Option.{option_map};
+ghost use Rattle.std.specs.Str.{bytes_eq};
 ghost use Rattle.bson_model.specs.Tree.{get};
 ghost use Rattle.bson_values.specs.View.{datum_of};
 ghost use Rattle.command_model.specs.AdminCommands as admin;
@@ -10,23 +11,29 @@ ghost use Rattle.command_fields.specs.Verdicts.{verdict_view};
 
 use crate::checks::{unless_passes, whole_number};
 use crate::statements::is_key;
-use bson_values::{Document, Memory, Value};
+use bson_values::{Document, Field, Memory, Value};
 use cluster_base::Code;
 use value_compare::Key;
+
+// Returns the value of a field that is named `_id`.
+fn id_of(field: &Field) -> Option<&Value>
+    ensures { option_map (λ v. datum_of v.now) result ≡ (if bytes_eq field.now.name (codes "_id") then Some (datum_of field.now.value) else None) }
+{
+    if field.name.as_str() == "_id" {
+        Some(&field.value)
+    } else {
+        None
+    }
+}
 
 // Returns the value of `_id`, if the document has this one field.
 fn only_id(document: &Document) -> Option<&Value>
     ensures { option_map (λ v. datum_of v.now) result ≡ admin.only_id document.now }
 {
     match document.fields() {
-        [field] => {
-            if field.name.as_str() == "_id" {
-                Some(&field.value)
-            } else {
-                None
-            }
-        }
-        _ => None,
+        [field] => id_of(field),
+        [] => None,
+        [_, _, ..] => None,
     }
 }
 
@@ -35,13 +42,7 @@ fn only_key(document: &Document) -> Option<&Value>
     ensures { option_map (λ v. datum_of v.now) result ≡ admin.only_key document.now }
 {
     match only_id(document) {
-        Some(value) => {
-            if is_key(value) {
-                Some(value)
-            } else {
-                None
-            }
-        }
+        Some(value) => { if is_key(value) { Some(value) } else { None } }
         None => None,
     }
 }

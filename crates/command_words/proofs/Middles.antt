@@ -1,12 +1,15 @@
 -- The results of the rules of a split for its middle.
 use Rattle.std.proofs.Common.{◌≡◌, ℕ, List, [], ◌∷◌, refl, sym, ap, ◌∙◌, subst, false, Option, Some, None, codes}
 use Rattle.std.specs.Prelude.{Result, Ok, Err}
+use Rattle.std.specs.Option.{unwrap_or}
 use Rattle.std.specs.Str.{bytes_eq}
-use Rattle.bson_model.specs.Tree.{Datum, Fields, field, get}
+use Rattle.bson_model.specs.Tree.{Datum, null_value, Fields, field, get}
 use Rattle.base_model.specs.Errors.{failed_to_parse}
 use Rattle.command_model.specs.AdminCommands.{key_given}
 use Rattle.command_model.specs.Checks.{Verdict}
 use Rattle.command_model.specs.Fields.{check_fields, check_required}
+use Rattle.command_model.specs.Command.{split_command}
+use Rattle.command_model.specs.Forms.{string_or}
 use Rattle.command_model.specs.Split.{split_rules}
 use Rattle.command_model.proofs.OnlyKeys.{key_passed}
 use Rattle.command_model.proofs.Passed.{field_passed}
@@ -41,3 +44,8 @@ middle_read own value others document read verdict named is told passed =
 -- so there is a key where a middle is required
 pub middle_there : (document : Fields) → MiddlePasses document → check_required (codes "middle") document ≡ None → (key : Datum) × (key_given (get (codes "middle") document) ≡ Some key)
 middle_there document passes needed = key_passed (get (codes "middle") document) passes needed
+
+-- the command of what was read
+pub split_told : (namespace : List ℕ) (value : Datum) (found : Option Datum) (middle : Datum) → namespace ≡ string_or [] (Some value) → Some middle ≡ found →
+    split_command (record { namespace = string_or [] (Some value); middle = unwrap_or found null_value }) ≡ split_command (record { namespace = namespace; middle = middle })
+split_told namespace value found middle read is = rw (← read, ← is) refl
