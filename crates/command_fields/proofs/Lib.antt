@@ -1,4 +1,6 @@
 mod Copied
+mod FullNames
+mod Ids
 mod Judged
 mod Named
 pub mod Rulings

@@ -13,3 +13,7 @@ names_given names (m ∷ fields) = names_given (m.name ∷ names) fields
 -- the namespace of the database and the collection that a command's own field names
 abbrev pub NamesCollection : List ℕ → (database : List ℕ) → Datum → Type 0
 NamesCollection namespace database value = namespace ≡ full_name database (string_or [] (Some value))
+
+-- the namespace that a command's own field names in full
+abbrev pub NamesInFull : List ℕ → Datum → Type 0
+NamesInFull namespace value = namespace ≡ string_or [] (Some value)

@@ -7,8 +7,9 @@ ghost use Rattle.command_model.specs.Checks.{unless_passes};
 ghost use Rattle.base_model.specs.Errors.{invalid_namespace};
 ghost use Rattle.command_model.specs.Forms as model;
 ghost use Rattle.base_model.specs.Names.{full_name, is_open_namespace};
+ghost use Rattle.command_model.specs.AdminCommands.{check_full_name, is_open_name};
 ghost use Rattle.opmsg_frames.specs.RequestMeanings.{form_view};
-ghost use Rattle.command_fields.specs.FieldNames.{NamesCollection};
+ghost use Rattle.command_fields.specs.FieldNames.{NamesCollection, NamesInFull};
 ghost use Rattle.command_fields.specs.Verdicts.{ReadsBy, verdict_view};
 
 use crate::checks::{string_needed, text_in};
@@ -70,6 +71,34 @@ pub fn collection_of(alloc: Global, database: &str, own: &Value) -> Result<Names
 {
     match own {
         Value::Text(collection) => namespace_of(alloc, database, collection.as_str()),
+        _ => Err(CheckFault::Refused(Code::TypeMismatch)),
+    }
+}
+
+// Returns the namespace of that full name, if clients may use it. Returns `InvalidNamespace` if they may not, and `Memory` if memory runs out.
+fn open_name(alloc: Global, name: &str) -> Result<Namespace, CheckFault>
+    ensures { ReadsBy (λ n. n ≡ name.now) result (unless_passes (is_open_name name.now) invalid_namespace) }
+{
+    match name.split_once('.') {
+        Some((database, collection)) => namespace_of(alloc, database, collection),
+        None => Err(CheckFault::Refused(Code::InvalidNamespace)),
+    }
+}
+
+/// Returns the namespace that a command's own field names in full, where the command is sent to the database `admin`. Returns `TypeMismatch` for a value that
+/// is not a string, `InvalidNamespace` on another database and for a text that is no full name of a namespace that clients may use, and `Memory` if memory
+/// runs out.
+pub fn full_name_of(alloc: Global, database: &str, own: &Value) -> Result<Namespace, CheckFault>
+    ensures { ReadsBy (λ n. NamesInFull n (datum_of own.now)) result (check_full_name database.now (datum_of own.now)) }
+{
+    match own {
+        Value::Text(name) => {
+            if database == "admin" {
+                open_name(alloc, name.as_str())
+            } else {
+                Err(CheckFault::Refused(Code::InvalidNamespace))
+            }
+        }
         _ => Err(CheckFault::Refused(Code::TypeMismatch)),
     }
 }

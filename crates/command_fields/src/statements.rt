@@ -200,8 +200,8 @@ fn words_of(alloc: Global, kind: WriteKind, statement: Document) -> OpWords
     }
 }
 
-// Returns whether a value may be a key.
-fn is_key(value: &Value) -> bool
+/// Returns whether a value may be a key.
+pub(crate) fn is_key(value: &Value) -> bool
     ensures { result ≡ keys.is_key (datum_of value.now) }
 {
     !matches!(

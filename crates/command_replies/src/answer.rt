@@ -132,6 +132,15 @@ pub enum Answer {
         killed: Vec<i64>,
         missing: Vec<i64>,
     },
+    /// To `shardCollection`: the collection, and the time of the reply.
+    Sharded {
+        namespace: Namespace,
+        time: Time,
+    },
+    /// To `split`: the time of the reply.
+    Changed {
+        time: Time,
+    },
     /// To a request that is refused.
     Refused(Refusal),
 }

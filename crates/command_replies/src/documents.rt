@@ -4,6 +4,7 @@ ghost use Rattle.std.specs.Prelude.{◌≡◌, IfOk};
 ghost use Rattle.command_model.specs.Answers.{answer_document};
 ghost use Rattle.command_replies.specs.AnswerMeanings.{answer_view};
 
+use crate::admin::{changed_document, sharded_document};
 use crate::answer::Answer;
 use crate::batches::batch_document;
 use crate::counts::count_document;
@@ -37,6 +38,8 @@ pub fn write_answer(alloc: Global, answer: &Answer) -> Result<Document, Memory>
         Answer::Next(batch) => batch_document(alloc, "nextBatch", batch),
         Answer::Count { count, time } => count_document(alloc, *count, *time),
         Answer::Killed { killed, missing } => killed_document(alloc, killed, missing),
+        Answer::Sharded { namespace, time } => sharded_document(alloc, namespace, *time),
+        Answer::Changed { time } => changed_document(alloc, *time),
         Answer::Refused(refusal) => refusal_document(alloc, *refusal),
     }
 }

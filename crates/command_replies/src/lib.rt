@@ -1,6 +1,7 @@
 //! Answers as values, and their documents.
 #![tactic(auto)]
 
+mod admin;
 mod answer;
 mod batches;
 mod counts;

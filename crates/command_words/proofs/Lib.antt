@@ -1,5 +1,6 @@
 mod Alike
 mod Asked
+mod Middles
 mod MoreRules
 mod Ordered
 mod Sequences

@@ -9,6 +9,7 @@ use Rattle.command_model.specs.Reading as readings
 use Rattle.command_model.specs.Find as finds
 use Rattle.command_model.specs.GetMore as mores
 use Rattle.command_model.specs.KillCursors as kills
+use Rattle.command_model.specs.Split as splits
 use Rattle.command_model.specs.Command as model
 use Rattle.command_words.specs.declared.is_master.Legacy as program_legacies
 use Rattle.command_words.specs.declared.writes.WriteCommand as program_writes
@@ -16,8 +17,9 @@ use Rattle.command_words.specs.declared.reading.Reading as program_readings
 use Rattle.command_words.specs.declared.find.Find as program_finds
 use Rattle.command_words.specs.declared.get_more.GetMore as program_mores
 use Rattle.command_words.specs.declared.kill_cursors.KillCursors as program_kills
+use Rattle.command_words.specs.declared.split.SplitCommand as program_splits
 use Rattle.command_words.specs.declared.command.Command.{Command}
-use Rattle.command_words.specs.declared.command.Command.TheVariants.{Hello, Legacy, Ping, EndSessions, Write, Find, Count, GetMore, KillCursors}
+use Rattle.command_words.specs.declared.command.Command.TheVariants.{Hello, Legacy, Ping, EndSessions, Write, Find, Count, GetMore, KillCursors, ShardCollection, Split}
 use Rattle.command_words.specs.declared.fault.CommandFault.{CommandFault}
 use Rattle.command_words.specs.declared.fault.CommandFault.TheVariants as faults
 use Rattle.command_fields.specs.Times.{time_view}
@@ -51,6 +53,9 @@ more_view more = record { namespace = more.namespace; cursor = more.cursor; size
 abbrev pub kill_view : program_kills.KillCursors → kills.KillCursors
 kill_view kill = record { namespace = kill.namespace; cursors = kill.cursors.items }
 
+abbrev pub split_view : program_splits.SplitCommand → splits.SplitCommand
+split_view split = record { namespace = split.namespace; middle = split.middle }
+
 abbrev pub command_view : Command → model.Command
 command_view Hello = model.hello_command
 command_view (Legacy legacy) = model.legacy_command (legacy_view legacy)
@@ -61,6 +66,8 @@ command_view (Find find) = model.find_command (find_view find)
 command_view (Count reading) = model.count_command (reading_view reading)
 command_view (GetMore more) = model.more_command (more_view more)
 command_view (KillCursors kill) = model.kill_command (kill_view kill)
+command_view (ShardCollection namespace) = model.shard_collection_command namespace
+command_view (Split split) = model.split_command (split_view split)
 
 -- the program returns the command or the error that the checks return; nothing is said where memory runs out
 abbrev pub Tells : Result Command CheckFault → Result model.Command ErrorCode → Type 0

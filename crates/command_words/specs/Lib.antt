@@ -3,5 +3,6 @@ pub mod Drafts
 pub mod FindWords
 pub mod Held
 pub mod HeldRules
+pub mod Middles
 pub mod Rows
 pub mod WriteNames

@@ -30,9 +30,11 @@ use crate::is_master::{IsMaster, Legacy};
 use crate::kill_cursors::{KillCursors, KillForm};
 use crate::ping::Ping;
 use crate::reading::Reading;
+use crate::shard_collection::ShardForm;
+use crate::split::{SplitCommand, SplitForm};
 use crate::writes::{WriteCommand, WriteForm};
 use bson_values::{BsonFault, Document};
-use cluster_base::Code;
+use cluster_base::{Code, Namespace};
 use command_fields::{CheckFault, documents_moved, documents_or_none};
 use command_replies::{Evidence, Refusal, WriteKind};
 use opmsg_frames::{Body, Form, Request, Sequence, SequenceList};
@@ -53,6 +55,9 @@ pub enum Command {
     Count(Reading),
     GetMore(GetMore),
     KillCursors(KillCursors),
+    /// `shardCollection`, of this collection.
+    ShardCollection(Namespace),
+    Split(SplitCommand),
 }
 
 /// The forms of commands.
@@ -68,6 +73,8 @@ pub(crate) enum AnyForm {
     Count(CountForm),
     GetMore(MoreForm),
     KillCursors(KillForm),
+    ShardCollection(ShardForm),
+    Split(SplitForm),
 }
 
 // Returns the form of the handshake of that name.
@@ -117,7 +124,7 @@ fn write_named(name: &str) -> Option<WriteForm>
 
 // Returns the form of the reading command of that name.
 fn read_named(name: &str) -> Option<AnyForm>
-    ensures found { option_map row_view result ≡ model.find_form_in name.now (drop 8 model.rows) }
+    ensures found { option_or (option_map row_view result) (model.find_form_in name.now (drop 13 model.rows)) ≡ model.find_form_in name.now (drop 8 model.rows) }
     ensures named { IsRowNamed result name.now }
 {
     if "find" == name {
@@ -135,6 +142,20 @@ fn read_named(name: &str) -> Option<AnyForm>
     }
 }
 
+// Returns the form of the command of that name that is sent to `admin`.
+fn admin_named(name: &str) -> Option<AnyForm>
+    ensures found { option_map row_view result ≡ model.find_form_in name.now (drop 13 model.rows) }
+    ensures named { IsRowNamed result name.now }
+{
+    if "shardCollection" == name {
+        Some(AnyForm::ShardCollection(ShardForm))
+    } else if "split" == name {
+        Some(AnyForm::Split(SplitForm))
+    } else {
+        None
+    }
+}
+
 // Returns the form of the command of that name.
 fn form_of(name: &str) -> Option<AnyForm>
     ensures found { option_map row_view result ≡ model.form_of name.now }
@@ -146,7 +167,10 @@ fn form_of(name: &str) -> Option<AnyForm>
     if let Some(form) = write_named(name) {
         return Some(AnyForm::Write(form));
     }
-    read_named(name)
+    if let Some(form) = read_named(name) {
+        return Some(form);
+    }
+    admin_named(name)
 }
 
 // Returns the command of the document of a body and document sequences, by the form of their request; without the statements of a write.
@@ -175,6 +199,10 @@ fn draft_of(
         AnyForm::Count(form) => read_by(&form, alloc, sent, &own.value, document, sequences),
         AnyForm::GetMore(form) => read_by(&form, alloc, sent, &own.value, document, sequences),
         AnyForm::KillCursors(form) => read_by(&form, alloc, sent, &own.value, document, sequences),
+        AnyForm::ShardCollection(form) => {
+            read_by(&form, alloc, sent, &own.value, document, sequences)
+        }
+        AnyForm::Split(form) => read_by(&form, alloc, sent, &own.value, document, sequences),
     }
 }
 

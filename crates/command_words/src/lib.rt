@@ -16,6 +16,8 @@ mod is_master;
 mod kill_cursors;
 mod ping;
 mod reading;
+mod shard_collection;
+mod split;
 mod writes;
 
 pub use command::Command;
@@ -25,4 +27,5 @@ pub use get_more::GetMore;
 pub use is_master::Legacy;
 pub use kill_cursors::KillCursors;
 pub use reading::{Batches, Reading};
+pub use split::SplitCommand;
 pub use writes::WriteCommand;

@@ -1,7 +1,7 @@
 use Rattle.std.proofs.Common.{◌≡◌, arith, Some}
 use Rattle.opmsg_frames.specs.Lists.{pairs_of}
 use Rattle.opmsg_frames.specs.RequestMeanings.{form_view}
-use Rattle.command_model.specs.Command.{form_of, hello_command, legacy_command, ping_command, end_sessions_command, write_command, find_command, count_command, more_command, kill_command}
+use Rattle.command_model.specs.Command.{form_of, hello_command, legacy_command, ping_command, end_sessions_command, write_command, find_command, count_command, more_command, kill_command, shard_collection_command, split_command}
 use Rattle.command_model.specs.Forms.{made_into}
 use Rattle.command_replies.specs.Kinds.{kind_view}
 use Rattle.command_model.specs.Hello.{hello_form}
@@ -14,6 +14,8 @@ use Rattle.command_model.specs.Aggregate.{aggregate_form}
 use Rattle.command_model.specs.Count.{count_form}
 use Rattle.command_model.specs.GetMore.{more_form}
 use Rattle.command_model.specs.KillCursors.{kill_form}
+use Rattle.command_model.specs.ShardCollection.{shard_collection_form}
+use Rattle.command_model.specs.Split.{split_form}
 use Rattle.command_words.specs.Drafts.{Drafts}
 use Rattle.command_words.proofs.Asked.{told_by}
 use Rattle.command_words.proofs.command.draft_of.Goals as goal
@@ -77,3 +79,15 @@ returns-in-KillCursors c =
     let found : Some (made_into kill_command kill_form) ≡ form_of c.own-item.result.name = rw (c.in-KillCursors.is, c.as_str.ensures.text) at c.in-Some.ensures.found in
     told_by (λ told. Drafts c.args.document.now (pairs_of c.args.sequences.now) c.read_by-in-KillCursors.result told) (made_into kill_command kill_form) (form_view c.args.sent) c.args.document.now c.fields.result.now c.own-item.result
     (pairs_of c.args.sequences.now) (omega (arith, c.in-len1-up.len_at_least)) c.own-item.is c.fields.ensures.fields found (λ others is. c.read_by-in-KillCursors.ensures c.own-item.result.name others tt is)
+
+pub returns-in-ShardCollection : goal.returns-in-ShardCollection
+returns-in-ShardCollection c =
+    let found : Some (made_into shard_collection_command shard_collection_form) ≡ form_of c.own-item.result.name = rw (c.in-ShardCollection.is, c.as_str.ensures.text) at c.in-Some.ensures.found in
+    told_by (λ told. Drafts c.args.document.now (pairs_of c.args.sequences.now) c.read_by-in-ShardCollection.result told) (made_into shard_collection_command shard_collection_form) (form_view c.args.sent) c.args.document.now c.fields.result.now c.own-item.result
+    (pairs_of c.args.sequences.now) (omega (arith, c.in-len1-up.len_at_least)) c.own-item.is c.fields.ensures.fields found (λ others is. c.read_by-in-ShardCollection.ensures c.own-item.result.name others tt is)
+
+pub returns-in-Split : goal.returns-in-Split
+returns-in-Split c =
+    let found : Some (made_into split_command split_form) ≡ form_of c.own-item.result.name = rw (c.in-Split.is, c.as_str.ensures.text) at c.in-Some.ensures.found in
+    told_by (λ told. Drafts c.args.document.now (pairs_of c.args.sequences.now) c.read_by-in-Split.result told) (made_into split_command split_form) (form_view c.args.sent) c.args.document.now c.fields.result.now c.own-item.result
+    (pairs_of c.args.sequences.now) (omega (arith, c.in-len1-up.len_at_least)) c.own-item.is c.fields.ensures.fields found (λ others is. c.read_by-in-Split.ensures c.own-item.result.name others (rw (c.in-Split.is, c.as_str.ensures.text) at c.in-Some.ensures.named) is)
