@@ -14,8 +14,8 @@ loop-router-init c = record {
 
 pub loop-router-preserved : goal.loop-router-preserved
 loop-router-preserved c = record {
-  new = new_more state_of c.loop-router.nodes.items c.push_reserved-3.new.self.items _ c.loop-router.router (c.loop-router.router + 1) refl c.push_reserved-3.ensures.items
-      (ap router_state c.open-3.ensures.state) c.loop-router.invariant.new;
-  len = omega (arith, c.loop-router.invariant.len, c.push_reserved-3.ensures.len);
-  room = omega (arith, c.loop-router.invariant.room, c.push_reserved-3.ensures.capacity);
+  new = new_more state_of c.loop-router.nodes.items c.push_reserved-in-loop-router.new.self.items _ c.loop-router.router (c.loop-router.router + 1) refl c.push_reserved-in-loop-router.ensures.items
+      (ap router_state c.open-in-loop-router.ensures.state) c.loop-router.invariant.new;
+  len = omega (arith, c.loop-router.invariant.len, c.push_reserved-in-loop-router.ensures.len);
+  room = omega (arith, c.loop-router.invariant.room, c.push_reserved-in-loop-router.ensures.capacity);
 }

@@ -28,7 +28,7 @@ pub returns-in-None-clause-durable : goal.returns-in-None-clause-durable
 returns-in-None-clause-durable g c = rw (sym c.read_command.ensures.command, c.in-None.is) (λ some. absurd (cc some))
 
 pub run_nodes-ending-requires-clause-disks : goal.run_nodes-ending-requires-clause-disks
-run_nodes-ending-requires-clause-disks g c = rw (sym c.read_command.ensures.command, c.in-Some.is) at c.requires
+run_nodes-ending-requires-clause-disks g c κs within = rw (sym c.read_command.ensures.command, c.in-Some.is) at c.requires
 
 pub returns-clause-words : goal.returns-clause-words
 returns-clause-words g c =
