@@ -1,5 +1,5 @@
 -- A node behind its lock, while it takes steps.
-use Rattle.std.proofs.Common.{◌≡◌, ℕ, ◌+◌, ◌<◌, ◌≤◌, ◌^◌, List, [], ◌∷◌, ◌++◌, map, length, IsTrue, refl, sym, ap, ◌∙◌, subst, arith, append-nil}
+use Rattle.std.proofs.Common.{◌≡◌, ℕ, ◌+◌, ◌<◌, ◌≤◌, ◌^◌, List, [], ◌∷◌, ◌++◌, map, length, Bool, IsTrue, refl, sym, ap, ◌∙◌, subst, arith, append-nil}
 use Rattle.std.specs.Prelude.{⊤, Option, Some, None, MatchOption}
 use Rattle.std.specs.List.{slice_get, AllByRecursion}
 use Rattle.std.proofs.lemmas.List.{map-append}
@@ -13,6 +13,7 @@ use Rattle.node_traits.specs.declared.outputs.ToLink.{ToLink}
 use Rattle.driver_steps.specs.declared.seat.Seat.{Seat}
 use Rattle.driver_steps.specs.Crashes.{Since}
 use Rattle.driver_steps.specs.OneSeat.{BreaksAt, StandsAt, StepsAt}
+use Rattle.driver_steps.specs.Seats.{AreOpen}
 use Rattle.driver_steps.proofs.Stepping.{same_stands}
 use Rattle.node_cell.specs.declared.view.Placed.{Placed}
 use Rattle.node_cell.specs.declared.view.Taken.{Taken}
@@ -126,6 +127,10 @@ taken_now {I} number at kept input before taken same is =
     subst (λ (i : I). Among (step_of number at i) taken) (sym same)
     (length before, ap (λ (l : List (Taken I)). slice_get l (length before)) is ∙ get_seam before (step_of number at input) [])
 
+-- the first of what was seen, and the others
+pub all_first : {A : Type 0} (P : A → Type 0) (all rest : List A) (x : A) → AllByRecursion P all → all ≡ x ∷ rest → P x × AllByRecursion P rest
+all_first {A} P all rest x are is = subst (λ (l : List A). AllByRecursion P l) is are
+
 -- a message that a note has seen is known once its receiver takes in the note
 pub letter_known : {N L M I : Type 0} (f : NodeFacts N L M I) (routers at : ℕ) (v note : View N L M I) (m : Letter) (i : Input) → i ≡ letter_input m
     → m.receiver ≡ at → Among m (map f.letter note.seen) → IsKnown routers (map f.letter (both_views v note).seen) at i
@@ -135,8 +140,18 @@ letter_known {N} {L} {M} f routers at v note m i is to among =
 
 -- MANY NODES
 
+pub open_next : {N L : Type 0} (is_open : L → Bool) (s : Seat N L) (all rest : List (Seat N L)) → all ≡ s ∷ rest → AreOpen is_open all
+    → IsTrue (is_open s.log) × AreOpen is_open rest
+open_next {N} {L} is_open s all rest first are = subst (λ (l : List (Seat N L)). AreOpen is_open l) first are
+
 module _ {N L M I : Type 0} (at : ℕ) (s : Seat N L) (all rest : List (Seat N L)) (old : Me ⊤ (View N L M I))
     (was : old ≡ (view_of (numbered at all) [] [] [], [])) (first : all ≡ s ∷ rest) where
+  abbrev only : List (ℕ × Seat N L) → Me ⊤ (View N L M I)
+  only held = (view_of held [] [] [], [])
+
+  abbrev off : Me ⊤ (View N L M I) → Me ⊤ (View N L M I)
+  off m = (view_of (first_off m.0.held) m.0.seen m.0.told m.0.taken, m.1)
+
   -- the pass of the first node
   pub own_first : (own : Me ⊤ (View N L M I)) → own ≡ (view_of (first_alone old.0.held) [] [] [], []) → own.0.held ≡ (at, s) ∷ []
   own_first own is =
@@ -145,9 +160,7 @@ module _ {N L M I : Type 0} (at : ℕ) (s : Seat N L) (all rest : List (Seat N L
   -- and of the others
   pub pass_next : (new : Me ⊤ (View N L M I)) → new ≡ (view_of (first_off old.0.held) old.0.seen old.0.told old.0.taken, old.1)
       → new ≡ (view_of (numbered (at + 1) rest) [] [] [], [])
-  pass_next new is =
-      is ∙ (ap (λ (m : Me ⊤ (View N L M I)). (view_of (first_off m.0.held) m.0.seen m.0.told m.0.taken, m.1)) was
-      ∙ ap (λ (l : List (ℕ × Seat N L)). (view_of l [] [] [], [])) (rest_numbered at s all rest first))
+  pass_next new is = is ∙ (ap off was ∙ ap only (rest_numbered at s all rest first))
 
 -- one more node is taken out of its lock
 pub sit_next : {N L M I : Type 0} (f : NodeFacts N L M I) (routers at : ℕ) (v own w : View N L M I) (ended : List (Placed N L)) (p : Placed N L)
@@ -170,3 +183,16 @@ pub sit_learnt : {N L M I : Type 0} (f : NodeFacts N L M I) (routers : ℕ) (v w
 sit_learnt {N} {L} {M} {I} f routers v w ended all same part =
     subst (λ (l : List (ℕ × Seat N L)). AllSit f routers (map f.letter w.seen) 0 l ended) (sym same)
     (sit_on f routers (map f.letter v.seen) (map f.letter w.seen) 0 v.held ended (are_among_map f.letter v.seen w.seen part.seen) all)
+
+-- a note was joined
+pub held_same : {N L M I : Type 0} (v note w : View N L M I) → w ≡ both_views v note → note.held ≡ [] → w.held ≡ v.held
+held_same {N} {L} {M} {I} v note w is none =
+    ap (λ (u : View N L M I). u.held) is ∙ (ap (λ (l : List (ℕ × Seat N L)). v.held ++ l) none ∙ append-nil v.held)
+
+pub part_next : {N L M I : Type 0} (first v note w : View N L M I) → w ≡ both_views v note → IsPart first v → IsPart first w
+part_next {N} {L} {M} {I} first v note w is part = subst (λ (u : View N L M I). IsPart first u) (sym is) (part_front first v note part)
+
+-- routers are from the same number on
+pub may_at : {N L M I : Type 0} (f : NodeFacts N L M I) (key routers : ℕ) → key ≡ routers → (v : View N L M I) (g : Given N L M I) → MayTake f routers v g
+    → MayTake f key v g
+may_at {N} {L} {M} {I} f key routers same v g may = subst (λ (r : ℕ). MayTake f r v g) (sym same) may

@@ -77,8 +77,8 @@ puts_in now before (r ∷ replies) =
 -- an event stays a step on its input while more messages are sent
 still_on : (w v : World) (mail : List Letter) → v.sent ≡ w.sent ++ mail → (e : Event) (at : ℕ) (i : Input) → IsStepOn w e at i → IsStepOn v e at i
 still_on w v mail more (client_event to link number request) at i on = on
-still_on w v mail more (deliver_event to which) at i (there, m, got, is) =
-    (there, m, ap (λ (l : List Letter). slice_get l which) more ∙ get_front w.sent mail which m got, is)
+still_on w v mail more (deliver_event to which) at i (there, (m, got, is)) =
+    (there, (m, ap (λ (l : List Letter). slice_get l which) more ∙ get_front w.sent mail which m got, is))
 still_on w v mail more (moment_event to moment) at i on = on
 still_on w v mail more (opened_event to) at i on = on
 
@@ -100,7 +100,7 @@ event_of routers w at seen all router (letter_input m) known =
     record {
       event = deliver_event at sent.0;
       is = λ v moves. delivers w v at sent.0 m sent.1 known.0 moves;
-      on = (refl, m, sent.1, refl);
+      on = (refl, (m, sent.1, refl));
     }
 event_of routers w at seen all router (moment_input moment) known = record {
   event = moment_event at moment;

@@ -44,7 +44,8 @@ pub fn cells<N: Node, L: Log, K: Numbering>(
     let mut at = 0;
     'nodes: while let Some(seat) = waiting.pop_front() {
         let own = book.first(&mut pass);
-        all.push_reserved(Cell::new(Guarded::new(at, seat, own)));
+        let guarded = Guarded::new(at, seat, own);
+        all.push_reserved(Cell::new(guarded));
         at += 1;
     }
     waiting.destroy_empty();
@@ -72,7 +73,8 @@ fn gather<N: Node, L: Log, K: Numbering, R: Wait>(
     let mut waiting = VecDeque::from_vec(cells);
     let mut at = 0;
     'nodes: while let Some(cell) = waiting.pop_front() {
-        let (placed, own) = cell.into_guarded(rt, at).into_parts();
+        let guarded = cell.into_guarded(rt, at);
+        let (placed, own) = guarded.into_parts();
         book.join(pass, own);
         ended.push_reserved(placed);
         at += 1;

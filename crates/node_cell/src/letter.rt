@@ -5,11 +5,11 @@ ghost use Rattle.node_cell.specs.Standing.{Among, AreSeen, AreTold, handed, step
 ghost use Rattle.node_cell.specs.Views.{noted};
 
 use crate::numbers::Book;
+use crate::queue::Queue;
 use crate::view::{Numbering, Pass};
 use cluster_base::NodeId;
 use node_traits::{Mail, Node, Outputs, ToLink};
 use outside::log::Log;
-use std::collections::VecDeque;
 use std::marker::{Model, PhantomData};
 use std::snapshot::Snapshot;
 
@@ -117,31 +117,28 @@ impl<N: Node, L: Log, K: Numbering> Reply<N, L, K> {
     }
 }
 
-/// A step that was taken: its number, the place of its node, its input, its messages and replies that were not taken out yet, and a note that has seen all this.
+/// A step that was taken: its number, the place of its node, its input, its messages and replies that were not taken out yet, and a note that has
+/// seen all this.
 #[derive(Drop)]
 pub struct Stepped<N: Node, L: Log, K: Numbering> {
     number: u64,
     at: u64,
     input: Snapshot<N::Input>,
-    mail: VecDeque<N::Mail>,
-    last_mail: Option<N::Mail>,
-    replies: VecDeque<ToLink>,
-    last_reply: Option<ToLink>,
+    mail: Queue<N::Mail>,
+    replies: Queue<ToLink>,
     note: Note<N, L, K>,
 }
 
 impl<N: Node, L: Log, K: Numbering> Model for Stepped<N, L, K> {
-    ghost use Rattle.std.specs.Prelude.{◌++◌};
-    ghost use Rattle.node_traits.specs.Lists.{listed};
     ghost use Rattle.node_cell.specs.Standing.{Among, AreSeen, AreTold, Handed, handed, step_of};
 
     ghost Value = { Handed N.Mail N.Input };
 
-    ghost view = { λ s. handed (step_of s.number s.at s.input.value) (s.mail.items ++ listed s.last_mail) (s.replies.items ++ listed s.last_reply) };
+    ghost view = { λ s. handed (step_of s.number s.at s.input.value) s.mail s.replies };
 
     ghost invariant = { λ s. Among (step_of s.number s.at s.input.value) s.note.taken
-        × AreSeen (λ m. N.Mail.letter m) s.note.seen (s.mail.items ++ listed s.last_mail)
-        × AreTold s.note.told s.number (s.replies.items ++ listed s.last_reply) };
+        × AreSeen (λ m. N.Mail.letter m) s.note.seen s.mail
+        × AreTold s.note.told s.number s.replies };
 }
 
 impl<N: Node, L: Log, K: Numbering> Stepped<N, L, K> {
@@ -159,16 +156,12 @@ impl<N: Node, L: Log, K: Numbering> Stepped<N, L, K> {
         ensures { result ≡ handed (step_of number at input.value) outputs.mail outputs.replies }
     {
         let Outputs { mail, replies } = outputs;
-        let (mail, last_mail) = mail.into_parts();
-        let (replies, last_reply) = replies.into_parts();
         Stepped {
             number,
             at,
             input,
-            mail: VecDeque::from_vec(mail),
-            last_mail,
-            replies: VecDeque::from_vec(replies),
-            last_reply,
+            mail: Queue::of(mail),
+            replies: Queue::of(replies),
             note,
         }
     }
@@ -187,15 +180,13 @@ impl<N: Node, L: Log, K: Numbering> Stepped<N, L, K> {
         ensures none { IfNone result (self.old.mail ≡ []) }
         ensures replies { self.new.replies ≡ self.old.replies }
     {
-        let message = match self.mail.pop_front() {
-            Some(message) => message,
-            None => match self.last_mail.take() {
-                Some(message) => message,
-                None => return None,
-            },
-        };
-        let note = self.note.split(book);
-        Some(Letter { message, note })
+        match self.mail.next() {
+            Some(message) => {
+                let note = self.note.split(book);
+                Some(Letter { message, note })
+            }
+            None => None,
+        }
     }
 
     /// Takes the first reply out, with a note that has seen it returned.
@@ -206,20 +197,18 @@ impl<N: Node, L: Log, K: Numbering> Stepped<N, L, K> {
         ensures none { IfNone result (self.old.replies ≡ []) }
         ensures mail { self.new.mail ≡ self.old.mail }
     {
-        let reply = match self.replies.pop_front() {
-            Some(reply) => reply,
-            None => match self.last_reply.take() {
-                Some(reply) => reply,
-                None => return None,
-            },
-        };
         let number = self.number;
-        let note = self.note.split(book);
-        Some(Reply {
-            number,
-            reply,
-            note,
-        })
+        match self.replies.next() {
+            Some(reply) => {
+                let note = self.note.split(book);
+                Some(Reply {
+                    number,
+                    reply,
+                    note,
+                })
+            }
+            None => None,
+        }
     }
 
     /// Returns the note, which has seen the step with its input.

@@ -6,6 +6,7 @@ mod close;
 mod guarded;
 mod letter;
 mod numbers;
+mod queue;
 mod view;
 
 pub use cell::Cell;
