@@ -169,3 +169,10 @@ module _ {N L M I : Type 0} (f : NodeFacts N L M I) (routers : ℕ) where
               taken = all_of_part (λ t. WasTaken f.meaning c.events c.world t) n.taken v.taken part.taken mine.saw.taken;
             }) notes parts;
       }
+
+-- the table ends with this number of the first router
+pub final_at : {N L M I : Type 0} (f : NodeFacts N L M I) (key routers : ℕ) → key ≡ routers → (start : List (Seat N L)) (id : ℕ) (v : View N L M I)
+    (words : List ℕ) (slots : List ⊤) → Final (Seen (Holds f key start) id v) words slots
+    → (ends : List ℕ) × (empty : List ⊤) × Final (Seen (Holds f routers start) id v) ends empty
+final_at f key routers same start id v words slots final =
+    (words, slots, subst (λ (r : ℕ). Final (Seen (Holds f r start) id v) words slots) same final)

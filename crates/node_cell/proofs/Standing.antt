@@ -1,10 +1,11 @@
 -- A node behind its lock, while it takes steps.
-use Rattle.std.proofs.Common.{◌≡◌, ℕ, ◌+◌, ◌<◌, ◌≤◌, ◌^◌, List, [], ◌∷◌, ◌++◌, map, length, Bool, IsTrue, refl, sym, ap, ◌∙◌, subst, arith, append-nil}
+use Rattle.std.proofs.Common.{◌≡◌, ℕ, ℤ, ◌+◌, ◌<◌, ◌≤◌, ◌^◌, List, [], ◌∷◌, ◌++◌, map, length, Bool, IsTrue, refl, sym, ap, ◌∙◌, subst, arith, append-nil}
 use Rattle.std.specs.Prelude.{⊤, Option, Some, None, MatchOption}
 use Rattle.std.specs.List.{slice_get, AllByRecursion}
 use Rattle.std.proofs.lemmas.List.{map-append}
 use Rattle.atomic_table.specs.Table.{Me}
-use Rattle.node_model.specs.Letters.{Letter, Input, letter_input}
+use Rattle.node_model.specs.Letters.{Letter, Input, client_input, letter_input, moment_input, opened_input}
+use Rattle.node_model.specs.Requests.{Request}
 use Rattle.node_model.specs.World.{World}
 use Rattle.node_traits.specs.Effects.{ByStepFault, steps_after}
 use Rattle.node_traits.specs.declared.outputs.StepFault.{StepFault}
@@ -196,3 +197,38 @@ part_next {N} {L} {M} {I} first v note w is part = subst (λ (u : View N L M I).
 pub may_at : {N L M I : Type 0} (f : NodeFacts N L M I) (key routers : ℕ) → key ≡ routers → (v : View N L M I) (g : Given N L M I) → MayTake f routers v g
     → MayTake f key v g
 may_at {N} {L} {M} {I} f key routers same v g may = subst (λ (r : ℕ). MayTake f r v g) (sym same) may
+
+pub seen_as : {M : Type 0} (letter : M → Letter) (seen mail taken : List M) → taken ≡ mail → AreSeen letter seen mail → AreSeen letter seen taken
+seen_as {M} letter seen mail taken same are = subst (λ (l : List M). AreSeen letter seen l) (sym same) are
+
+pub told_as : (told : List (ℕ × ToLink)) (number : ℕ) (replies taken : List ToLink) → taken ≡ replies → AreTold told number replies → AreTold told number taken
+told_as told number replies taken same are = subst (λ (l : List ToLink). AreTold told number l) (sym same) are
+
+pub known_at : (routers : ℕ) (seen : List Letter) (at place : ℕ) (i : Input) → at ≡ place → IsKnown routers seen at i → IsKnown routers seen place i
+known_at routers seen at place i same known = subst (λ (k : ℕ). IsKnown routers seen k i) same known
+
+pub client_known : (routers : ℕ) (seen : List Letter) (at link : ℕ) (number : ℤ) (request : Request) (i : Input) → i ≡ client_input link number request
+    → routers ≤ at → IsKnown routers seen at i
+client_known routers seen at link number request i is far = subst (λ (x : Input). IsKnown routers seen at x) (sym is) far
+
+pub moment_known : (routers : ℕ) (seen : List Letter) (at moment : ℕ) (i : Input) → i ≡ moment_input moment → IsKnown routers seen at i
+moment_known routers seen at moment i is = subst (λ (x : Input). IsKnown routers seen at x) (sym is) tt
+
+pub opened_known : (routers : ℕ) (seen : List Letter) (at : ℕ) (i : Input) → i ≡ opened_input → IsKnown routers seen at i
+opened_known routers seen at i is = subst (λ (x : Input). IsKnown routers seen at x) (sym is) tt
+
+module _ {N L M I : Type 0} (f : NodeFacts N L M I) (routers : ℕ) where
+  pub sits_still : (p : Placed N L) (v w : View N L M I) → w ≡ v → Sits f routers p v → Sits f routers p w
+  sits_still p v w same here = subst (λ (u : View N L M I). Sits f routers p u) (sym same) here
+
+  -- a message is delivered to the node that took in its note
+  pub delivered_known : (at : ℕ) (v note given w : View N L M I) (m : Letter) (i : Input) → w ≡ both_views v note → note ≡ given → i ≡ letter_input m
+      → m.receiver ≡ at → Among m (map f.letter given.seen) → IsKnown routers (map f.letter w.seen) at i
+  delivered_known at v note given w m i is view kind to among =
+      subst (λ (u : View N L M I). IsKnown routers (map f.letter u.seen) at i) (sym is) (known kind)
+    where
+      among_note : Among m (map f.letter note.seen)
+      among_note = subst (λ (u : View N L M I). Among m (map f.letter u.seen)) (sym view) among
+
+      known : i ≡ letter_input m → IsKnown routers (map f.letter (both_views v note).seen) at i
+      known what = letter_known f routers at v note m i what to among_note

@@ -14,3 +14,6 @@ invariant-nodes g l = record {
   place : l.at + deque_len l.waiting ≡ vec_len l.fn.seats;
   room : vec_len l.fn.seats ≤ vec_capacity l.all;
 }
+
+abbrev pub decreases-nodes : goal.decreases-nodes
+decreases-nodes g l = deque_len l.waiting

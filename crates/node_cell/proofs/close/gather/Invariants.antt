@@ -15,3 +15,6 @@ invariant-nodes g l = record {
   sit : AllSit (node_facts g.N.Node.state g.N.Node.steps (λ m. g.N.Mail.Mail.letter m) g.N.Node.meaning g.L.Log.facts)
       g.K.Numbering.routers (map (λ m. g.N.Mail.Mail.letter m) l.pass.me.0.seen) 0 l.pass.me.0.held l.ended.items;
 }
+
+abbrev pub decreases-nodes : goal.decreases-nodes
+decreases-nodes g l = deque_len l.waiting

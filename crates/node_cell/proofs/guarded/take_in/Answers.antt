@@ -1,7 +1,6 @@
 use Rattle.std.proofs.Common.{rules, ◌≡◌, ◌∙◌, sym, ap, subst, arith}
 use Rattle.node_cell.specs.Courses.{node_facts}
-use Rattle.node_cell.specs.Standing.{Sits}
-use Rattle.node_cell.proofs.Standing.{seen_now, taken_now, told_now}
+use Rattle.node_cell.proofs.Standing.{seen_now, sits_still, taken_now, told_now}
 use Rattle.node_cell.proofs.guarded.take_in.Goals as goal
 
 pub new-requires-clause-taken : goal.new-requires-clause-taken
@@ -16,3 +15,8 @@ new-requires-clause-mail g c =
 pub new-requires-clause-replies : goal.new-requires-clause-replies
 new-requires-clause-replies g c =
     told_now c.in-Ok.number c.args.pass.now.me.0.told c.in-Ok.outputs.replies _ (ap (λ m. m.0.told) c.note-seen.ensures.note.1 ∙ c.in-Ok.ensures.told)
+
+pub returns-in-Ok-clause-sits : goal.returns-in-Ok-clause-sits
+returns-in-Ok-clause-sits g c =
+    sits_still (node_facts g.N.Node.state g.N.Node.steps (λ m. g.N.Mail.Mail.letter m) g.N.Node.meaning g.L.Log.facts) g.K.Numbering.routers
+    c.take_step.new.placed c.take_step.new.pass.me.0 c.note-seen.new.pass.me.0 (ap (λ m. m.0) c.note-seen.ensures.pass.1) c.take_step.ensures.sits

@@ -24,8 +24,8 @@ returns-in-Ok-clause-taken g c =
     ap (λ m. m.0.taken) c.place-number.ensures.pass
     ∙ ap (λ i. c.args.pass.now.me.0.taken ++ step_of c.place-number.result c.args.placed.now.at i ∷ []) c.of-taken.ensures
 
-pub returns-in-Err-clause-sits : goal.returns-in-Err-clause-sits
-returns-in-Err-clause-sits g c =
+pub returns-clause-sits : goal.returns-clause-sits
+returns-clause-sits g c =
     subst (λ o. Sits (node_facts g.N.Node.state g.N.Node.steps (λ m. g.N.Mail.Mail.letter m) g.N.Node.meaning g.L.Log.facts) g.K.Numbering.routers (record { at = c.args.placed.now.at; failed = o; seat = c.step_seat.new.seat }) c.args.pass.now.me.0)
     (sym c.disk_faults.ensures)
     (sits_failed (node_facts g.N.Node.state g.N.Node.steps (λ m. g.N.Mail.Mail.letter m) g.N.Node.meaning g.L.Log.facts) g.K.Numbering.routers
