@@ -232,3 +232,11 @@ module _ {N L M I : Type 0} (f : NodeFacts N L M I) (routers : ℕ) where
 
       known : i ≡ letter_input m → IsKnown routers (map f.letter (both_views v note).seen) at i
       known what = letter_known f routers at v note m i what to among_note
+
+pub sit_as : {N L M I : Type 0} (f : NodeFacts N L M I) (key routers : ℕ) → key ≡ routers → (seen : List Letter) (held : List (ℕ × Seat N L))
+    (ended : List (Placed N L)) → AllSit f routers seen 0 held ended → AllSit f key seen 0 held ended
+sit_as f key routers same seen held ended all = subst (λ (r : ℕ). AllSit f r seen 0 held ended) (sym same) all
+
+pub sit_list : {N L M I : Type 0} (f : NodeFacts N L M I) (routers : ℕ) (seen : List Letter) (held : List (ℕ × Seat N L)) (ended all : List (Placed N L))
+    → all ≡ ended → AllSit f routers seen 0 held ended → AllSit f routers seen 0 held all
+sit_list {N} {L} f routers seen held ended all same sit = subst (λ (l : List (Placed N L)). AllSit f routers seen 0 held l) (sym same) sit

@@ -27,7 +27,7 @@ returns-in-Ok-clause-taken g c =
 pub returns-clause-sits : goal.returns-clause-sits
 returns-clause-sits g c =
     subst (λ o. Sits (node_facts g.N.Node.state g.N.Node.steps (λ m. g.N.Mail.Mail.letter m) g.N.Node.meaning g.L.Log.facts) g.K.Numbering.routers (record { at = c.args.placed.now.at; failed = o; seat = c.step_seat.new.seat }) c.args.pass.now.me.0)
-    (sym c.disk_faults.ensures)
+    (sym c.disk_faults-placed.ensures)
     (sits_failed (node_facts g.N.Node.state g.N.Node.steps (λ m. g.N.Mail.Mail.letter m) g.N.Node.meaning g.L.Log.facts) g.K.Numbering.routers
     c.args.placed.now c.step_seat.new.seat c.args.pass.now.me.0 (g.N.Node.meaning c.args.input) c.in-Err.e c.requires.works c.requires.sits c.requires.known
     (λ since w k. c.in-Err.ensures.failed since w k) c.in-Err.ensures.unchanged c.in-Err.ensures.counted_err c.in-Err.ensures.«open»)
