@@ -1,8 +1,8 @@
 -- What all nodes are, once their passes are one.
-use Rattle.std.proofs.Common.{◌≡◌, ◌≢◌, ℕ, zero, suc, ◌+◌, ◌<◌, ◌≤◌, ◌==◌, List, [], ◌∷◌, ◌++◌, map, length, Bool, true, false, refl, sym, ap, ◌∙◌, subst}
+use Rattle.std.proofs.Common.{◌≡◌, ℕ, ◌+◌, ◌<◌, ◌≤◌, ◌==◌, List, [], ◌∷◌, ◌++◌, map, length, Bool, true, false, sym, ap, ◌∙◌, subst}
 use Rattle.std.proofs.Common.{arith, append_assoc, append-nil}
 use Rattle.std.specs.Prelude.{⊤, Option, Some, None, MatchOption, if◌then◌else◌}
-use Rattle.std.specs.List.{slice_get, AllByRecursion}
+use Rattle.std.specs.List.{AllByRecursion}
 use Rattle.std.proofs.lemmas.Bool.Decides.{nat_tests}
 use Rattle.atomic_table.specs.Table.{Final, Seen}
 use Rattle.node_model.specs.Letters.{Letter, Input, client_input, letter_input, moment_input, opened_input}
@@ -15,9 +15,9 @@ use Rattle.driver_steps.proofs.Stepping.{same_stands}
 use Rattle.node_cell.specs.declared.view.Placed.{Placed}
 use Rattle.node_cell.specs.declared.view.View.{View}
 use Rattle.node_cell.specs.Courses.{NodeFacts, Goes, Holds, Saw, WasSent, WasTaken, WasTold, view_by}
-use Rattle.node_cell.specs.Standing.{AllSit, Among, AreAmong, AreFrom, AreRun, Ends, IsAsKnown, IsHalted, IsKept, IsKnown, IsPart, Ran, Sits, StoppedAt}
+use Rattle.node_cell.specs.Standing.{AllSit, Among, AreAmong, AreFrom, AreRun, Ends, IsAsKnown, IsHalted, IsKept, IsKnown, IsPart, Sits, StoppedAt}
 use Rattle.node_cell.specs.Views.{both_views, holder}
-use Rattle.node_cell.proofs.Lists.{all_at, all_map, all_of_part, all_so, among_behind, are_among_front, are_among_map, are_among_on, are_among_self, sits}
+use Rattle.node_cell.proofs.Lists.{all_at, all_map, all_of_part, all_so, are_among_front, are_among_map, are_among_self, sits}
 use Rattle.node_cell.proofs.Routers.{run_stays}
 use Rattle.node_cell.proofs.Steps.{event_of}
 

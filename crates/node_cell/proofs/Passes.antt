@@ -1,8 +1,8 @@
 -- Passes are made, split, joined and closed.
-use Rattle.std.proofs.Common.{◌≡◌, ◌≢◌, ◌⊎◌, inl, inr, ℕ, zero, suc, ◌+◌, ◌*◌, ◌<◌, ◌≤◌, ◌^◌, ◌==◌, List, [], ◌∷◌, ◌++◌, map, length, set, Bool}
-use Rattle.std.proofs.Common.{true, false, refl, sym, ap, ◌∙◌, subst, ⊎_elim, arith, append_assoc, append-nil, length-append, length-set}
-use Rattle.std.specs.Prelude.{⊤, Option, Some, None, if◌then◌else◌}
-use Rattle.std.specs.List.{slice_get, slice_set, AllByRecursion}
+use Rattle.std.proofs.Common.{◌≡◌, ◌≢◌, ℕ, zero, suc, ◌<◌, ◌≤◌, ◌^◌, ◌==◌, List, [], ◌∷◌, ◌++◌, map, length, set, Bool}
+use Rattle.std.proofs.Common.{true, false, refl, sym, ap, ◌∙◌, subst, ⊎_elim, arith, length-set}
+use Rattle.std.specs.Prelude.{⊤, Some, if◌then◌else◌}
+use Rattle.std.specs.List.{slice_get, AllByRecursion}
 use Rattle.std.proofs.lemmas.Bool.Decides.{nat_tests}
 use Rattle.std.proofs.lemmas.List.{length-map}
 use Rattle.std.proofs.lemmas.Option.{none-some, same_Some}
@@ -18,7 +18,7 @@ use Rattle.driver_steps.proofs.Stepping.{stands_at}
 use Rattle.node_traits.specs.declared.outputs.ToLink.{ToLink}
 use Rattle.node_cell.specs.declared.view.Taken.{Taken}
 use Rattle.node_cell.specs.declared.view.View.{View}
-use Rattle.node_cell.specs.Courses.{NodeFacts, Course, Fits, Goes, Has, Holds, IsCourse, OpenedAs, Saw, WasSent, WasTaken, WasTold, view_by}
+use Rattle.node_cell.specs.Courses.{NodeFacts, Course, Fits, Goes, Has, Holds, OpenedAs, Saw, WasSent, WasTaken, WasTold, view_by}
 use Rattle.node_cell.specs.Views.{both_views, first_alone, first_off, holder, noted, nothing_seen, numbered, view_of, without}
 use Rattle.node_cell.proofs.Lists.{all_then, each_more, each_set, holder_both, holder_numbered, holder_one, holder_without}
 

@@ -3,7 +3,7 @@ use Rattle.std.proofs.Common.{◌≡◌, ℕ, zero, suc, List, [], ◌∷◌, �
 use Rattle.std.specs.Prelude.{Some}
 use Rattle.std.specs.List.{slice_get, slice_set}
 use Rattle.node_model.specs.Letters.{Input, Effect}
-use Rattle.node_model.specs.States.{Router, NodeState, catalogue_state, shard_state, router_state}
+use Rattle.node_model.specs.States.{Router, NodeState, router_state}
 use Rattle.node_model.specs.Steps.{Step, catalogue_step, shard_step, router_step, begin_step, other_step}
 use Rattle.node_model.specs.World.{Held, World, IsRouter, Moves, Event, Happens, comes, delivers, passes, begins as was_opened, Run, stands, goes}
 

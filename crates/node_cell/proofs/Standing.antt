@@ -1,6 +1,6 @@
 -- A node behind its lock, while it takes steps.
 use Rattle.std.proofs.Common.{◌≡◌, ℕ, ℤ, ◌+◌, ◌<◌, ◌≤◌, ◌^◌, List, [], ◌∷◌, ◌++◌, map, length, Bool, IsTrue, refl, sym, ap, ◌∙◌, subst, arith, append-nil}
-use Rattle.std.specs.Prelude.{⊤, Option, Some, None, MatchOption}
+use Rattle.std.specs.Prelude.{⊤, Option, None, MatchOption}
 use Rattle.std.specs.List.{slice_get, AllByRecursion}
 use Rattle.std.proofs.lemmas.List.{map-append}
 use Rattle.atomic_table.specs.Table.{Me}
@@ -20,7 +20,7 @@ use Rattle.node_cell.specs.declared.view.Placed.{Placed}
 use Rattle.node_cell.specs.declared.view.Taken.{Taken}
 use Rattle.node_cell.specs.declared.view.View.{View}
 use Rattle.node_cell.specs.Courses.{NodeFacts, view_by}
-use Rattle.node_cell.specs.Standing.{AllSit, Among, AreAmong, AreSeen, AreTold, IsAsKnown, IsHalted, IsKept, IsKnown, IsPart, MayTake, Sits, faults_in, step_of}
+use Rattle.node_cell.specs.Standing.{AllSit, Among, AreSeen, AreTold, IsAsKnown, IsHalted, IsKept, IsKnown, IsPart, MayTake, Sits, faults_in, step_of}
 use Rattle.node_cell.specs.Views.{Given, after_step, both_views, first_alone, first_off, given_by, nothing_seen, numbered, renewed, view_of}
 use Rattle.node_cell.proofs.Lists.{all_unmap, among_behind, are_among_map, first_numbered, get_seam, rest_numbered, sits}
 use Rattle.node_cell.proofs.Closing.{kept_on, part_front, part_self, sit_joined, sit_on}

@@ -1,7 +1,7 @@
 -- A step keeps the rule.
-use Rattle.std.proofs.Common.{◌≡◌, ◌≢◌, ◌⊎◌, inl, inr, ℕ, zero, suc, ◌+◌, ◌*◌, ◌%◌, ◌<◌, ◌≤◌, ◌^◌, ◌==◌, List, [], ◌∷◌, ◌++◌, map, length, set}
-use Rattle.std.proofs.Common.{Bool, true, false, refl, sym, ap, ◌∙◌, subst, arith, append_assoc, append-nil, length-append, length-set}
-use Rattle.std.specs.Prelude.{⊤, Option, Some, None, slice_index, if◌then◌else◌}
+use Rattle.std.proofs.Common.{◌≡◌, ◌≢◌, ℕ, ◌+◌, ◌%◌, ◌<◌, ◌≤◌, ◌^◌, List, [], ◌∷◌, ◌++◌, map, length, set}
+use Rattle.std.proofs.Common.{Bool, true, false, refl, sym, ap, ◌∙◌, subst, arith, append_assoc, length-append, length-set}
+use Rattle.std.specs.Prelude.{⊤, Option, Some, slice_index, if◌then◌else◌}
 use Rattle.std.specs.List.{slice_get, slice_set, AllByRecursion}
 use Rattle.std.proofs.Math.Nat.{mod-eq_of_lt}
 use Rattle.std.proofs.lemmas.Bool.Decides.{nat_tests}
@@ -9,26 +9,25 @@ use Rattle.std.proofs.lemmas.Option.{slice_get_within}
 use mathlib.Core.Option.{some}
 use lib.ListN.{get_elem?}
 use Rattle.atomic_table.specs.Table.{State, Me, Step as TableStep, Allows, keeps}
-use Rattle.node_model.specs.Exchanges.{Answered, reply_put}
+use Rattle.node_model.specs.Exchanges.{Answered}
 use Rattle.node_model.specs.Letters.{Letter, Input, client_input, letter_input, moment_input, opened_input, Reply}
-use Rattle.node_model.specs.States.{Router, NodeState, router_state}
-use Rattle.node_model.specs.World.{Held, World, IsRouter, Moves, Event, client_event, deliver_event, moment_event, opened_event, Happens, comes, delivers, passes}
-use Rattle.node_model.specs.World.{begins as was_opened, Run, stands, goes, answered_by}
+use Rattle.node_model.specs.World.{World, IsRouter, Moves, Event, client_event, deliver_event, moment_event, opened_event, Happens, comes, delivers, passes}
+use Rattle.node_model.specs.World.{begins as was_opened, stands, goes, answered_by}
 use Rattle.node_model.proofs.Schedules.{run_then}
 use Rattle.node_traits.specs.Effects.{puts_of, put_by}
 use Rattle.node_traits.specs.declared.outputs.ToLink.{ToLink}
 use Rattle.driver_steps.specs.declared.seat.Seat.{Seat}
 use Rattle.driver_steps.specs.Crashes.{Since}
 use Rattle.driver_steps.specs.Moves.{IsEvent}
-use Rattle.driver_steps.specs.OneSeat.{StandsAt, StepsAt}
+use Rattle.driver_steps.specs.OneSeat.{StepsAt}
 use Rattle.driver_steps.specs.Worlds.{puts_given}
 use Rattle.driver_steps.proofs.Crashes.{leads_by, leaves_on}
 use Rattle.driver_steps.proofs.Seats.{held_len}
 use Rattle.node_cell.specs.declared.view.Taken.{Taken}
 use Rattle.node_cell.specs.declared.view.View.{View}
-use Rattle.node_cell.specs.Courses.{NodeFacts, Course, Fits, Goes, Has, Holds, IsCourse, IsStepOn, RoutersFrom, Saw, WasSent, WasTaken, WasTold, total, view_by}
-use Rattle.node_cell.specs.Standing.{Among, AreAmong, IsKnown, MayTake}
-use Rattle.node_cell.specs.Views.{Given, after_step, holder, renewed, takes, view_of}
+use Rattle.node_cell.specs.Courses.{NodeFacts, Course, Fits, Goes, Has, Holds, IsStepOn, Saw, WasSent, WasTaken, WasTold, view_by}
+use Rattle.node_cell.specs.Standing.{AreAmong, IsKnown, MayTake}
+use Rattle.node_cell.specs.Views.{Given, after_step, holder, renewed, takes}
 use Rattle.node_cell.proofs.Lists.{all_at, all_map, all_set, all_so, all_then, all_unmap, each_set, get_front, get_seam, get_set_other, get_set_same, holder_one}
 use Rattle.node_cell.proofs.Lists.{sits, sum_more, sum_small}
 use Rattle.node_cell.proofs.Routers.{run_stays}

@@ -180,7 +180,11 @@ impl<N: Node, L: Log, K: Numbering> Guarded<N, L, K> {
     }
 
     /// Takes a step on an input that delivers no message.
-    pub(crate) fn take(&mut self, book: &Book<N, L, K>, input: N::Input) -> Result<Stepped<N, L, K>, StepFault>
+    pub(crate) fn take(
+        &mut self,
+        book: &Book<N, L, K>,
+        input: N::Input,
+    ) -> Result<Stepped<N, L, K>, StepFault>
         requires { (seen : List Message) → IsKnown K.routers seen self.old.at (N.meaning input) }
         ensures place { self.new.at ≡ self.old.at }
         ensures taken { IfOk result (λ s. (s.taken.at ≡ self.old.at) × (s.taken.input ≡ input)) }

@@ -132,8 +132,12 @@ impl<N, L, M, I> Join<View<N, L, M, I>> for Both {
 }
 
 /// The table of the numbers, as threads see it.
-pub type Places<N, L> =
-    Shared<(), View<N, L, <N as Node>::Mail, <N as Node>::Input>, Opening<N, L>, Law<N, L>>;
+pub type Places<N, L> = Shared<
+    (),
+    View<N, L, <N as Node>::Mail, <N as Node>::Input>,
+    Opening<N, L>,
+    Law<N, L>,
+>;
 
 /// What somebody knows of the run.
 pub type Pass<N, L> = Token<(), View<N, L, <N as Node>::Mail, <N as Node>::Input>>;

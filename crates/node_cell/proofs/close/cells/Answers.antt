@@ -1,4 +1,4 @@
-use Rattle.std.proofs.Common.{rules, ◌≡◌, ◌∙◌, refl, sym, ap, subst, arith}
+use Rattle.std.proofs.Common.{arith}
 use Rattle.node_cell.proofs.Standing.{open_next, own_first, pass_next}
 use Rattle.node_cell.proofs.close.cells.Goals as goal
 

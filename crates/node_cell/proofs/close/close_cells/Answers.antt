@@ -1,4 +1,4 @@
-use Rattle.std.proofs.Common.{rules, ◌≡◌, ◌∙◌, refl, sym, ap, subst, arith}
+use Rattle.std.proofs.Common.{rules}
 use Rattle.node_cell.specs.Courses.{node_facts}
 use Rattle.node_cell.proofs.Closing.{run_ends, sit_from}
 use Rattle.node_cell.proofs.Standing.{sit_as, sit_learnt}

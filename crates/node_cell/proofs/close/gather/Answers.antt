@@ -1,4 +1,4 @@
-use Rattle.std.proofs.Common.{rules, ◌≡◌, ◌∙◌, refl, sym, ap, subst, arith}
+use Rattle.std.proofs.Common.{rules, ◌∙◌, ap, arith}
 use Rattle.node_cell.specs.Courses.{node_facts}
 use Rattle.node_cell.proofs.Standing.{sit_list, sit_next}
 use Rattle.node_cell.proofs.close.gather.Goals as goal

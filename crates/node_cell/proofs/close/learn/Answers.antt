@@ -1,4 +1,4 @@
-use Rattle.std.proofs.Common.{rules, ◌≡◌, ◌∙◌, ◌++◌, ◌∷◌, [], refl, sym, ap, subst, arith}
+use Rattle.std.proofs.Common.{rules, ◌∙◌, ◌++◌, ◌∷◌, [], refl, sym, ap}
 use Rattle.node_cell.proofs.Closing.{joined_all, joined_more, joined_none, part_self}
 use Rattle.node_cell.proofs.Standing.{held_same, part_next}
 use Rattle.node_cell.proofs.close.learn.Goals as goal

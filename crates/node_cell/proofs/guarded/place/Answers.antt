@@ -1,4 +1,4 @@
-use Rattle.std.proofs.Common.{rules, ◌≡◌, ◌∙◌, sym, arith}
+use Rattle.std.proofs.Common.{◌∙◌, sym, arith}
 use Rattle.node_cell.specs.Courses.{node_facts}
 use Rattle.node_cell.specs.Views.{given_by}
 use Rattle.node_cell.proofs.Standing.{may_at}

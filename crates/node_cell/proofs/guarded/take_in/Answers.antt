@@ -1,4 +1,4 @@
-use Rattle.std.proofs.Common.{rules, ◌≡◌, ◌∙◌, sym, ap, subst, arith}
+use Rattle.std.proofs.Common.{◌∙◌, ap}
 use Rattle.node_cell.specs.Courses.{node_facts}
 use Rattle.node_cell.proofs.Standing.{seen_now, sits_still, taken_now, told_now}
 use Rattle.node_cell.proofs.guarded.take_in.Goals as goal

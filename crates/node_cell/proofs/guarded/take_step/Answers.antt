@@ -1,4 +1,4 @@
-use Rattle.std.proofs.Common.{rules, ◌≡◌, ◌∙◌, ◌++◌, ◌∷◌, [], sym, ap, subst, refl, arith}
+use Rattle.std.proofs.Common.{◌∙◌, ◌++◌, ◌∷◌, [], sym, ap, subst, refl}
 use Rattle.node_cell.specs.Courses.{node_facts}
 use Rattle.node_cell.specs.Standing.{Sits, step_of}
 use Rattle.node_cell.specs.Views.{given_by}

@@ -1,4 +1,4 @@
-use Rattle.std.proofs.Common.{rules, ◌≡◌, ◌∙◌, sym, ap, subst, arith}
+use Rattle.std.proofs.Common.{rules, ◌∙◌, ap}
 use Rattle.node_cell.specs.Courses.{node_facts}
 use Rattle.node_cell.specs.Views.{both_views}
 use Rattle.node_cell.proofs.Standing.{delivered_known, sits_noted, sits_still}

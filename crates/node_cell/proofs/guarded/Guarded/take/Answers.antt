@@ -1,4 +1,4 @@
-use Rattle.std.proofs.Common.{◌≡◌, sym, ap}
+use Rattle.std.proofs.Common.{sym, ap}
 use Rattle.node_cell.proofs.Standing.{known_at}
 use Rattle.node_cell.proofs.guarded.Guarded.take.Goals as goal
 

@@ -1,4 +1,4 @@
-use Rattle.std.proofs.Common.{rules, ◌≡◌, ◌∙◌, sym, ap, subst, arith}
+use Rattle.std.proofs.Common.{◌∙◌, sym, arith}
 use Rattle.node_cell.specs.Courses.{node_facts}
 use Rattle.node_cell.proofs.Passes.{joins}
 use Rattle.node_cell.proofs.numbers.Book.join.Goals as goal

@@ -1,4 +1,4 @@
-use Rattle.std.proofs.Common.{rules, ◌≡◌, ◌∙◌, sym, ap, subst, arith}
+use Rattle.std.proofs.Common.{rules}
 use Rattle.node_cell.specs.Courses.{node_facts}
 use Rattle.node_cell.proofs.Passes.{begins_with}
 use Rattle.node_cell.proofs.numbers.Numbers.new.Goals as goal
