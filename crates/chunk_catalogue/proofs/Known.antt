@@ -1,7 +1,7 @@
 -- The tables after one more change.
-use Rattle.std.proofs.Common.{◌≡◌, refl, ap, sym, subst, ◌∙◌, ℕ, ◌<◌, List, [], ◌∷◌, ◌++◌, Bool, true, false, if◌then◌else◌, arith, length, map, get_or, suc, zero, vec_capacity, vec_len}
-use Rattle.std.specs.Prelude.{Option, Some, None}
-use Rattle.std.specs.List.{slice_get, slice_set}
+use Rattle.std.proofs.Common.{◌≡◌, refl, ap, sym, subst, ◌∙◌, ℕ, ◌<◌, List, [], ◌∷◌, ◌++◌, Bool, true, false, if◌then◌else◌, arith, length, map, suc}
+use Rattle.std.specs.Prelude.{Option, Some}
+use Rattle.std.specs.List.{slice_set}
 use Rattle.std.specs.Str.{bytes_eq}
 use Rattle.std.proofs.lemmas.List.{map-append, map-set, length-map}
 use Rattle.chunk_model.specs.Tables.{Table, table_of}

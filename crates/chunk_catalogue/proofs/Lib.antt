@@ -4,4 +4,4 @@ pub mod Lists
 pub mod Placed
 pub mod Answered
 pub mod Rooms
-pub mod Ids
+pub mod Next

@@ -1,5 +1,5 @@
 -- The list of changes with one more.
-use Rattle.std.proofs.Common.{◌≡◌, refl, ap, ◌∙◌, List, [], ◌∷◌, ◌++◌, Bool, false, ◌||◌}
+use Rattle.std.proofs.Common.{◌≡◌, refl, ap, List, [], ◌∷◌, ◌++◌, ◌||◌}
 use Rattle.chunk_model.specs.Tables.{Table}
 use Rattle.cluster_base.specs.declared.identity.RequestId.{RequestId}
 use Rattle.chunk_model.specs.Changes.{Change, is_committed}

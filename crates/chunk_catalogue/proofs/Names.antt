@@ -1,12 +1,12 @@
 -- A table that changes make has the name of its collection, and a collection that no table has was never created.
-use Rattle.std.proofs.Common.{◌≡◌, refl, ap, sym, subst, ◌∙◌, ℕ, ◌+◌, List, [], ◌∷◌, Bool, true, false, if◌then◌else◌}
+use Rattle.std.proofs.Common.{◌≡◌, refl, subst, ℕ, ◌+◌, List, [], ◌∷◌, Bool, true, false, if◌then◌else◌}
 use Rattle.std.proofs.lemmas.Slice.Eq.{bytes_eq-Decides}
 use Rattle.std.specs.Prelude.{Option, Some, None}
 use Rattle.std.specs.Option.{option_map}
 use Rattle.std.specs.Str.{bytes_eq}
 use Rattle.bson_model.specs.Tree.{Datum}
 use Rattle.chunk_model.specs.Tables.{Table}
-use Rattle.chunk_model.specs.Catalogue.{Creation, Split, Commit}
+use Rattle.chunk_model.specs.Catalogue.{Creation}
 use Rattle.chunk_model.specs.Changes.{Change, create_change, split_change, commit_change, namespace_of, can_split, split_table, commit_table, table_after, known_table, creations}
 
 pub same_name : (a b : List ℕ) → bytes_eq a b ≡ true → a ≡ b
@@ -56,11 +56,11 @@ mapped_none f (Some t) e = absurd cc
 
 before_none : (n : List ℕ) (x : Change) (before : Option Table) (b : Bool) → ((c : Creation) → x ≡ create_change c → ⊥)
     → (if b then table_after x before else before) ≡ None → before ≡ None
-before_none n (create_change c) before b no e = absurd (no c refl)
-before_none n (split_change s) before true no e = mapped_none (split_table s.middle) before e
-before_none n (split_change s) before false no e = e
-before_none n (commit_change c) before true no e = mapped_none (commit_table c) before e
-before_none n (commit_change c) before false no e = e
+before_none n (create_change c) before b other e = absurd (other c refl)
+before_none n (split_change s) before true other e = mapped_none (split_table s.middle) before e
+before_none n (split_change s) before false other e = e
+before_none n (commit_change c) before true other e = mapped_none (commit_table c) before e
+before_none n (commit_change c) before false other e = e
 
 created_by : (c : Creation) (before : Option Table) (count : ℕ) (b : Bool) → (before ≡ None → count ≡ 0)
     → (if b then table_after (create_change c) before else before) ≡ None → (if b then count + 1 else count) ≡ 0

@@ -1,5 +1,5 @@
 -- A change whose collection has no table is a creation, for which there is room.
-use Rattle.std.proofs.Common.{◌≡◌, ℕ, ◌<◌, List, subst, vec_capacity, vec_len}
+use Rattle.std.proofs.Common.{◌≡◌, ◌<◌, vec_capacity, vec_len}
 use Rattle.std.specs.Prelude.{Option, Some, None}
 use Rattle.chunk_model.specs.Tables.{Table}
 use Rattle.chunk_model.specs.Changes.{table_after}

@@ -26,7 +26,7 @@ HasRoomFor c (Commit id namespace range from to at) = 1 ≤ spare c.committed
 pub record IsNext (c : Catalogue) (change : Change) : Type 0 where
   pub follows : Follows (change_view change.fields) (changes_of c)
   pub table :
-    table_after (change_view change.fields) (known_table (namespace_of (change_view change.fields)) (changes_of c)) ≡ Some (arc_value change.table)
+      table_after (change_view change.fields) (known_table (namespace_of (change_view change.fields)) (changes_of c)) ≡ Some (arc_value change.table)
   pub room : HasRoomFor c change.fields
 
 -- a request's answer, by the change that was made for it, if one was

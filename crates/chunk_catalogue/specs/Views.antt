@@ -1,5 +1,4 @@
 -- What the program's requests and changes are as plain data.
-use Rattle.bson_model.specs.Tree.{Datum}
 use Rattle.base_model.specs.Identities as identities
 use Rattle.cluster_base.specs.declared.identity.RequestId.{RequestId}
 use Rattle.chunk_table.specs.Meanings.{version_view}
