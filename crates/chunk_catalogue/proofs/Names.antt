@@ -12,9 +12,6 @@ use Rattle.chunk_model.specs.Changes.{Change, create_change, split_change, commi
 pub same_name : (a b : List ℕ) → bytes_eq a b ≡ true → a ≡ b
 same_name a b e = (bytes_eq-Decides a b).0 e
 
-pub itself : (n : List ℕ) → bytes_eq n n ≡ true
-itself n = (bytes_eq-Decides n n).1 refl
-
 -- the table, if there is one, has the name
 abbrev pub IsNamed : List ℕ → Option Table → Type 0
 IsNamed n None = Unit {0}

@@ -4,7 +4,6 @@ use Rattle.std.specs.Prelude.{Option, Some, None}
 use Rattle.chunk_model.specs.Tables.{Table}
 use Rattle.chunk_model.specs.Changes.{table_after}
 use Rattle.chunk_catalogue.specs.Views.{change_view}
-use Rattle.chunk_catalogue.specs.Admitted.{HasPlaceFor}
 use Rattle.chunk_catalogue.specs.Catalogues.{HasRoomFor}
 use Rattle.chunk_catalogue.specs.declared.change.ChangeFields.{ChangeFields}
 use Rattle.chunk_catalogue.specs.declared.change.ChangeFields.TheVariants.{Create, Split, Commit}
@@ -17,8 +16,3 @@ table_room c (Split namespace middle at) None t room e none = absurd cc
 table_room c (Split namespace middle at) (Some u) t room e none = absurd cc
 table_room c (Commit id namespace range from to at) None t room e none = absurd cc
 table_room c (Commit id namespace range from to at) (Some u) t room e none = absurd cc
-
-pub id_room : (c : Catalogue) (fields : ChangeFields) → HasRoomFor c fields → HasPlaceFor c.committed fields
-id_room c (Create namespace epoch at) room = tt
-id_room c (Split namespace middle at) room = tt
-id_room c (Commit id namespace range from to at) room = room

@@ -106,7 +106,8 @@ impl Catalogue {
     pub fn table(&self, namespace: &Namespace) -> Option<&Table>
         ensures table { option_map (λ table. table.now) result ≡ known_table namespace.now (changes_of self.now) }
         ensures cover { IfSome result (λ table. Covers table.now.chunks) }
-        ensures owners { IfSome result (λ table. (key : Datum) (time : ℕ) → is_key key ≡ true → owner_at table.now key time ≡ owner namespace.now key time (changes_of self.now)) }
+        ensures owners { IfSome result (λ table. (key : Datum) (time : ℕ) → is_key key ≡ true
+            → owner_at table.now key time ≡ owner namespace.now key time (changes_of self.now)) }
     {
         match self.shared_table(namespace) {
             Some(table) => Some(table),
@@ -118,7 +119,8 @@ impl Catalogue {
     pub fn shared_table(&self, namespace: &Namespace) -> Option<&Arc<Table, Global>>
         ensures table { option_map (λ table. arc_value table.now) result ≡ known_table namespace.now (changes_of self.now) }
         ensures cover { IfSome result (λ table. Covers (arc_value table.now).chunks) }
-        ensures owners { IfSome result (λ table. (key : Datum) (time : ℕ) → is_key key ≡ true → owner_at (arc_value table.now) key time ≡ owner namespace.now key time (changes_of self.now)) }
+        ensures owners { IfSome result (λ table. (key : Datum) (time : ℕ) → is_key key ≡ true
+            → owner_at (arc_value table.now) key time ≡ owner namespace.now key time (changes_of self.now)) }
     {
         find(&self.tables, namespace)
     }
@@ -220,7 +222,8 @@ impl Catalogue {
     // Returns the table after the requested move.
     fn moved(&self, words: &CommitWords, at: Time) -> Result<Table, CatFault>
         ensures answer { IfOk result (λ _. commit_answer (words_view words.now) at.0 (changes_of self.now) ≡ moved_answer (words_view words.now) at.0) }
-        ensures table { IfOk result (λ table. table_after (committed_by (words_view words.now) at.0) (known_table words.now.namespace (changes_of self.now)) ≡ Some table) }
+        ensures table { IfOk result (λ table. table_after (committed_by (words_view words.now) at.0)
+            (known_table words.now.namespace (changes_of self.now)) ≡ Some table) }
         ensures fault { IfErr result (λ fault. IsFault fault (commit_answer (words_view words.now) at.0 (changes_of self.now))) }
     {
         if self.committed.contains(&words.id) {

@@ -45,7 +45,8 @@ pub(crate) fn find<'a>(
 /// Stores a table: in place of the one of its collection, or after the others, where there is room for it.
 pub(crate) fn put(tables: &mut Vec<Arc<Table, Global>>, table: Arc<Table, Global>)
     requires room { table_of (arc_value table).namespace (map arc_value tables.old.items) ≡ None → vec_len tables.old < vec_capacity tables.old }
-    ensures { (n : List ℕ) → table_of n (map arc_value tables.new.items) ≡ (if bytes_eq (arc_value table).namespace n then Some (arc_value table) else table_of n (map arc_value tables.old.items)) }
+    ensures { (n : List ℕ) → table_of n (map arc_value tables.new.items) ≡
+        (if bytes_eq (arc_value table).namespace n then Some (arc_value table) else table_of n (map arc_value tables.old.items)) }
 {
     let place = place(tables, table.namespace());
     if place == tables.len() {
