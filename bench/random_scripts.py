@@ -28,7 +28,7 @@ from cluster import write_error  # noqa: E402
 from commands import stages_of  # noqa: E402
 from inserts import records  # noqa: E402
 from order import order_of  # noqa: E402
-from pipelines import answer  # noqa: E402
+from pipelines import Ambiguous, answer  # noqa: E402
 from wire import Request, message  # noqa: E402
 
 KINDS = ["TableAsk", "TableTold", "WriteAsk", "ReadAsk", "TimeAsk", "HalfAsk", "WriteDone", "ReadRows", "TimeTold", "Refused", "Batch", "SplitAsk"]
@@ -247,10 +247,19 @@ def check_write(history, asked, command, fields):
 def check_read(history, command, fields):
     inner = fields if command["name"] == "count" else field(fields, "cursor")[1]
     at = field(inner, "atClusterTime")[1]
-    wanted = answer(stages_of(command), history.documents_at(command["own"], at))
+    is_fixed = True
+    try:
+        wanted = answer(stages_of(command), history.documents_at(command["own"], at))
+    except Ambiguous as open_order:
+        # without a sort, or with ties: any order of these documents is right; of equal numbers of two types either may be shown
+        if not open_order.args:
+            return
+        wanted, is_fixed = open_order.args[0], False
     if command["name"] == "count":
         return want(field(fields, "n")[1] == (wanted[0][0][1][1] if wanted else 0), "another count")
     found = [value[1] for value in field(inner, "firstBatch")[1]]
+    if not is_fixed:
+        found, wanted = sorted(found, key=repr), sorted(wanted, key=repr)
     want(found == wanted, f"at {at} {shown((0x04, [(DOCUMENT, one) for one in wanted]))} is right")
 
 

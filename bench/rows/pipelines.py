@@ -229,7 +229,7 @@ def answer(stages, documents):
     for name, value in stages:
         listed = staged(listed, name, value)
     if not listed.is_fixed:
-        raise Ambiguous()
+        raise Ambiguous(listed.documents)
     sizes = [size(fields) for fields in listed.documents]
     if sum(sizes) > MOST:
         raise TooMuch(sum(sizes))

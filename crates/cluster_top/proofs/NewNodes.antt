@@ -21,11 +21,12 @@ start_more n = ap (λ (l : List NodeState). catalogue_state (new_catalogue 0) �
 pub new_more : {N : Type 0} (state : N → NodeState) (nodes new : List N) (node : N) (n m : ℕ) → m ≡ n + 1 → new ≡ nodes ++ node ∷ []
     → state node ≡ router_state (new_router (2 + n)) → map state nodes ≡ states_of (start n).nodes → map state new ≡ states_of (start m).nodes
 new_more {N} state nodes new node n m count more is are =
+    let same : suc n ≡ m = omega (arith, count) in
     ap (λ (l : List N). map state l) more
     ∙ (map-append state nodes (node ∷ [])
     ∙ (ap (λ (l : List NodeState). l ++ state node ∷ []) are
     ∙ (ap (λ (s : NodeState). states_of (start n).nodes ++ s ∷ []) is
-    ∙ (sym (start_more n) ∙ ap (λ (k : ℕ). states_of (start k).nodes) (sym count)))))
+    ∙ (sym (start_more n) ∙ ap (λ (k : ℕ). states_of (start k).nodes) same))))
 
 -- the first two nodes are those of the start without routers
 pub new_start : {N : Type 0} (state : N → NodeState) (none one two : List N) (catalogue shard : N) → none ≡ [] → one ≡ none ++ catalogue ∷ []

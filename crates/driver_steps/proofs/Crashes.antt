@@ -7,14 +7,14 @@ use Rattle.outside.specs.Logs.{IsDurable, LogFacts, WithOrWithout}
 use Rattle.node_model.specs.Journal.{Kept, record_kept}
 use Rattle.node_model.specs.RecordFormat.{spelled}
 use Rattle.node_model.specs.States.{NodeState}
-use Rattle.node_model.specs.World.{Held, World, Event, Run, stands, Happens, goes, journal_at}
+use Rattle.node_model.specs.World.{Held, World, Event, stands, Happens, goes, journal_at}
 use Rattle.node_model.proofs.Journals.{journal_got}
 use Rattle.node_model.proofs.Schedules.{run_then}
 use Rattle.node_traits.specs.Calls.{LeavesAlso}
 use Rattle.node_traits.specs.Effects.{spellings}
 use Rattle.driver_steps.specs.declared.seat.Seat.{Seat}
 use Rattle.driver_steps.specs.Crashes.{Noted, Since, LeadsTo, Passes, LeavesKept, LeavesNoLess, LeavesSinceNotes, leaves_kept, with_notes}
-use Rattle.driver_steps.specs.Seats.{AreHeld, AreKept, LeaveKept, seat_since, seat_view, since_then}
+use Rattle.driver_steps.specs.Seats.{SeatView, AreHeld, AreKept, LeaveKept, seat_since, seat_view, since_then}
 use Rattle.driver_steps.proofs.Seats.{HeldAt, held_at}
 
 -- THE WAY
@@ -117,38 +117,36 @@ module _ {L : Type 0} (facts : LogFacts L) (at : ℕ) where
       left = λ file left. no_less_then given m n file (whole.each m file n.later left);
     }
 
+module _ {L : Type 0} (facts : LogFacts L) (since : Since L) where
+  -- events lead on, and the log is left alone, as where another node takes a step
+  pub leaves_on : (log : L) (at : ℕ) (v w : World) → leaves_kept facts since log at v → LeadsTo v w → leaves_kept facts since log at w
+  leaves_on log at v w all on tells = (
+    λ old began. kept_on facts at since.world old log v w ((all tells).0 old began) on,
+    λ j n m had of. no_less_on facts at n.world m log v w ((all tells).1 j n m had of) on,
+  )
+
+  -- its own node takes a step, or is to
+  pub leaves_step : (old new : L) (at : ℕ) (v w : World) (kept more : List Kept) → leaves_kept facts since old at v
+      → (IsTrue facts.tells → LeavesAlso facts.moment facts.left_since old new
+      (λ file. WithOrWithout (facts.finds file) (facts.records old) (spellings more)))
+      → LeadsTo v w → (IsTrue facts.tells → facts.records old ≡ spellings kept) → journal_at v.nodes at ≡ kept → journal_at w.nodes at ≡ kept ++ more
+      → leaves_kept facts since new at w
+  leaves_step old new at v w kept more all whole on written was is tells =
+      let also : LeavesAlso facts.moment facts.left_since old new (λ file. WithOrWithout (facts.finds file) (spellings kept) (spellings more)) =
+      subst (λ (l : List (List ℕ)). LeavesAlso facts.moment facts.left_since old new (λ file. WithOrWithout (facts.finds file) l (spellings more)))
+      (written tells) (whole tells) in (
+        λ first began. kept_step facts at old new v w kept more also was is on since.world first ((all tells).0 first began),
+        λ j n m had of. no_less_step facts at old new v w kept more also was is on n.world m ((all tells).1 j n m had of),
+      )
+
 -- ALL LOGS
 
-module _ {N L : Type 0} (state : N → NodeState) (facts : LogFacts L) (since : Since L) where
-  -- the node at a place took a step, or was to
-  pub step_leaves : (seats : List (Seat N L)) (w : World) (at : ℕ) (s t : Seat N L) (more : List Kept)
-      → LeaveKept (seat_since state facts since) seats w → slice_get seats at ≡ Some s
-      → (IsTrue facts.tells → LeavesAlso facts.moment facts.left_since s.log t.log
-      (λ file. WithOrWithout (facts.finds file) (facts.records s.log) (spellings more)))
-      → (x : World) (kept : List Kept) → LeadsTo w x → (IsTrue facts.tells → facts.records s.log ≡ spellings kept) → journal_at w.nodes at ≡ kept
-      → journal_at x.nodes at ≡ kept ++ more
-      → LeaveKept (seat_since state facts since) (slice_set seats at t) x
-  step_leaves seats w at s t more all got whole x kept on written was is =
-      each_set (λ k (z : Seat N L). leaves_kept facts since z.log k x) seats at t
-      (λ k z there tells. (
-        λ old began. kept_on facts k since.world old z.log w x ((all k z there tells).0 old began) on,
-        λ j n m had of. no_less_on facts k n.world m z.log w x ((all k z there tells).1 j n m had of) on,
-      ))
-      (λ tells.
-      let also : LeavesAlso facts.moment facts.left_since s.log t.log (λ file. WithOrWithout (facts.finds file) (spellings kept) (spellings more)) =
-      subst (λ (l : List (List ℕ)). LeavesAlso facts.moment facts.left_since s.log t.log (λ file. WithOrWithout (facts.finds file) l (spellings more)))
-      (written tells) (whole tells) in (
-        λ old began. kept_step facts at s.log t.log w x kept more also was is on since.world old ((all at s got tells).0 old began),
-        λ j n m had of. no_less_step facts at s.log t.log w x kept more also was is on n.world m ((all at s got tells).1 j n m had of),
-      ))
-
-  -- it took none
-  pub same_leaves : (seats : List (Seat N L)) (w : World) (at : ℕ) (s t : Seat N L)
-      → LeaveKept (seat_since state facts since) seats w → slice_get seats at ≡ Some s → t.log ≡ s.log
-      → LeaveKept (seat_since state facts since) (slice_set seats at t) w
-  same_leaves seats w at s t all got same =
-      each_set (λ k (z : Seat N L). leaves_kept facts since z.log k w) seats at t all
-      (subst (λ (l : L). leaves_kept facts since l at w) (sym same) (all at s got))
+-- events lead on, and what is said of crashes of one node is said of another there
+pub all_leave : {S : Type 0} (view : S → SeatView) (on : (s : S) (at : ℕ) (v w : World) → (view s).leaves at v → LeadsTo v w → (view s).leaves at w)
+    (seats : List S) (v w : World) (at : ℕ) (t : S) → LeaveKept view seats v → LeadsTo v w → (view t).leaves at w
+    → LeaveKept view (slice_set seats at t) w
+all_leave {S} view on seats v w at t all way here =
+    each_set (λ k (s : S). (view s).leaves k w) seats at t (λ k s there. on s k v w (all k s there) way) here
 
 -- THE START
 

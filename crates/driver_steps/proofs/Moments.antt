@@ -1,5 +1,5 @@
 -- A moment of one node.
-use Rattle.std.proofs.Common.{◌≡◌, ℕ, List, [], ◌∷◌, refl, sym, subst}
+use Rattle.std.proofs.Common.{◌≡◌, ℕ, List, [], ◌∷◌, refl, subst}
 use Rattle.node_model.specs.Letters.{Input, moment_input}
 use Rattle.node_model.specs.World.{World, Moves, moment_event, passes, stands}
 use Rattle.node_traits.specs.declared.outputs.StepFault.{StepFault}

@@ -2,7 +2,7 @@
 use Rattle.std.proofs.Common.{◌≡◌, ◌⊎◌, inl, inr, ℕ, List, [], ◌++◌, map, refl, sym, ap, subst, ◌∙◌, append_assoc, append-nil}
 use Rattle.std.proofs.lemmas.List.{map-append}
 use Rattle.node_model.specs.Letters.{Letter, Input}
-use Rattle.node_model.specs.World.{World, Event, Moves}
+use Rattle.node_model.specs.World.{World, Moves}
 use Rattle.node_traits.specs.Effects.{ByStepFault}
 use Rattle.node_traits.specs.declared.outputs.StepFault.{StepFault}
 use Rattle.node_traits.specs.declared.outputs.StepFault.TheVariants.{Disk, Steps, Memory}

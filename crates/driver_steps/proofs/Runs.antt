@@ -16,7 +16,6 @@ use Rattle.node_traits.specs.declared.outputs.ToLink.{ToLink}
 use Rattle.driver_steps.specs.declared.network.Network.{Network}
 use Rattle.driver_steps.specs.Seats.{SeatView}
 use Rattle.driver_steps.specs.Worlds.{NetworkView, StandsFor, network_view}
-use Rattle.std.specs.List.{AllByRecursion}
 use Rattle.driver_steps.specs.Moves.{IsEvent, IsUpTo, BeginWith, IsDelivery, AreDeliveries, HasDelivered, HasHappened, HasMoved, HasRun, HasSettled, HasStopped}
 use Rattle.driver_steps.specs.Moves.{IsCutShort, MovesOrNot, DeliversOrLoses, Settles, settles_none, settles_next, loses_next}
 

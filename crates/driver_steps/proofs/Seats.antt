@@ -10,6 +10,12 @@ use Rattle.node_model.specs.World.{Held}
 use Rattle.driver_steps.specs.declared.seat.Seat.{Seat}
 use Rattle.driver_steps.specs.Seats.{SeatView, Keeps, IsHeld, AreHeld, AreKept, AreOpen, faults_of, left_of, places_of}
 
+-- what is put at a place that there is, is there
+pub get_set : {X : Type 0} (items : List X) (at : ℕ) (old new : X) → slice_get items at ≡ Some old → slice_get (slice_set items at new) at ≡ Some new
+get_set [] at old new here = absurd (cc)
+get_set (x ∷ items) zero old new here = refl
+get_set (x ∷ items) (suc at) old new here = get_set items at old new here
+
 -- what is held at a place
 pub record HeldAt (seat : SeatView) (held : List Held) (at : ℕ) : Type 0 where
   pub old : Held

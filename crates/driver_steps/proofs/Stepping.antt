@@ -1,5 +1,5 @@
 -- A step of a node is a step of the world.
-use Rattle.std.proofs.Common.{◌≡◌, inl, inr, ℕ, ◌≤◌, List, [], ◌∷◌, ◌++◌, Bool, true, false, IsTrue, refl, sym, ap, subst, ◌∙◌}
+use Rattle.std.proofs.Common.{◌≡◌, ◌⊎◌, inl, inr, ℕ, ◌≤◌, List, [], ◌∷◌, ◌++◌, Bool, true, false, IsTrue, refl, sym, ap, subst, ◌∙◌}
 use Rattle.std.specs.Prelude.{Some, if◌then◌else◌}
 use Rattle.std.specs.List.{slice_get, slice_set}
 use Rattle.outside.specs.Causes.{Rose}
@@ -11,18 +11,19 @@ use Rattle.node_model.specs.States.{NodeState}
 use Rattle.node_model.specs.Steps.{Step}
 use Rattle.node_model.specs.World.{Held, World, Event, Moves, after, answered_by, is_given, tick, journal_at}
 use Rattle.node_model.proofs.Journals.{journal_got, journal_here}
-use Rattle.node_traits.specs.Calls.{log_call}
+use Rattle.node_traits.specs.Calls.{LeavesAlso, log_call}
 use Rattle.node_traits.specs.Effects.{AreSound, ByStepFault, StepBroken, StepDone, put_by, puts_of, spellings}
 use Rattle.node_traits.specs.declared.outputs.StepFault.{StepFault}
 use Rattle.node_traits.specs.declared.outputs.StepFault.TheVariants.{Disk, Steps, Memory}
 use Rattle.node_traits.specs.declared.outputs.ToLink.{ToLink}
 use Rattle.driver_steps.specs.declared.seat.Seat.{Seat}
-use Rattle.driver_steps.specs.Crashes.{Since, LeadsTo}
-use Rattle.driver_steps.specs.Seats.{SeatView, HaveRisen, IsHeld, AreHeld, LeaveKept, faults_of, seat_since}
+use Rattle.driver_steps.specs.Crashes.{Since, LeadsTo, leaves_kept}
+use Rattle.driver_steps.specs.Seats.{SeatView, HaveRisen, Keeps, AreHeld, AreKept, LeaveKept, faults_of, seat_since}
 use Rattle.driver_steps.specs.Worlds.{puts_given}
 use Rattle.driver_steps.specs.Moves.{HasStepped, IsBroken, IsEvent}
-use Rattle.driver_steps.proofs.Crashes.{leads_by, same_leaves, spellings_append, step_leaves}
-use Rattle.driver_steps.proofs.Seats.{HeldAt, fault_rose, faults_same, held_at, held_set, held_still, held_kept, kept_set, kept_still, none_fell_at}
+use Rattle.driver_steps.specs.OneSeat.{BreaksAt, NamesFault, StandsAt, StepsAt}
+use Rattle.driver_steps.proofs.Crashes.{all_leave, leads_by, leads_nowhere, leaves_on, leaves_step, spellings_append}
+use Rattle.driver_steps.proofs.Seats.{HeldAt, fault_rose, faults_same, get_set, held_at, held_set, held_still, held_kept, kept_set, kept_still, none_fell_at}
 
 if_append : (b : Bool) (x : ToLink) (p q r : List ToLink) → p ≡ q ++ r → (if b then p else x ∷ p) ≡ (if b then q else x ∷ q) ++ r
 if_append true x p q r e = e
@@ -53,121 +54,112 @@ puts_moved w at i v m = (
       ∙ ap (λ (l : List ToLink). puts_given w.answered ++ l) (puts_answered w.now m.f.replies)),
 )
 
-module _ {S : Type 0} (view : S → SeatView) (seats : List S) (w : World) (at : ℕ) (s t : S) (i : Input) (f : Effect)
-    (are : AreHeld view seats w.nodes) (got : slice_get seats at ≡ Some s) (sound : AreSound f.written)
-    (same : IsTrue (view t).tells → IsTrue (view s).tells) (leaves : (x : World) (kept : List Kept) → LeadsTo w x
-    → (IsTrue (view s).tells → (view s).records ≡ spellings kept) → journal_at w.nodes at ≡ kept → journal_at x.nodes at ≡ kept ++ f.written
-    → LeaveKept view (slice_set seats at t) x) where
-  place : HeldAt (view s) w.nodes at
-  place = held_at view seats w.nodes at s are got
+-- ONE NODE
 
-  moves_to : (new : NodeState) → Step (view s).state i f new → Moves w at i (tick (after (is_given w at i) at place.old f new))
+module _ (s t : SeatView) (w : World) (at : ℕ) (i : Input) (f : Effect) (stands : StandsAt s w at) (sound : AreSound f.written)
+    (same : IsTrue t.tells → IsTrue s.tells) (leaves : (x : World) → LeadsTo w x → journal_at w.nodes at ≡ stands.held.kept
+    → journal_at x.nodes at ≡ stands.held.kept ++ f.written → t.leaves at x) where
+  abbrev held_by : NodeState → Held
+  held_by new = record { state = new; kept = stands.held.kept ++ f.written }
+
+  abbrev after_by : NodeState → World
+  after_by new = tick (after (is_given w at i) at stands.held f new)
+
+  abbrev moves_to : (new : NodeState) → Step s.state i f new → Moves w at i (after_by new)
   moves_to new step = record {
-    old = place.old;
+    old = stands.held;
     f = f;
     new = new;
-    here = place.here;
-    step = subst (λ (x : NodeState). Step x i f new) (sym place.is.same) step;
+    here = stands.here;
+    step = subst (λ (x : NodeState). Step x i f new) (sym stands.is.same) step;
     then = refl;
   }
 
-  leaves_to : (new : NodeState) → Step (view s).state i f new → (e : Event) → IsEvent w at i e
-      → LeaveKept view (slice_set seats at t) (tick (after (is_given w at i) at place.old f new))
+  leaves_to : (new : NodeState) → Step s.state i f new → (e : Event) → IsEvent w at i e → t.leaves at (after_by new)
   leaves_to new step e event =
-      leaves (tick (after (is_given w at i) at place.old f new)) place.old.kept
-      (leads_by e w (tick (after (is_given w at i) at place.old f new)) (event (tick (after (is_given w at i) at place.old f new)) (moves_to new step)))
-      place.is.written (journal_got w.nodes at place.old place.here)
-      (journal_here w.nodes at place.old (record { state = new; kept = place.old.kept ++ f.written }) place.here)
+      leaves (after_by new) (leads_by e w (after_by new) (event (after_by new) (moves_to new step))) (journal_got w.nodes at stands.held stands.here)
+      (journal_here w.nodes at stands.held (held_by new) stands.here)
 
-  grown_with : (records : List (List ℕ)) → (IsTrue (view t).tells → records ≡ (view s).records ++ spellings f.written) → IsTrue (view t).tells
-      → records ≡ spellings (place.old.kept ++ f.written)
+  grown_with : (records : List (List ℕ)) → (IsTrue t.tells → records ≡ s.records ++ spellings f.written) → IsTrue t.tells
+      → records ≡ spellings (stands.held.kept ++ f.written)
   grown_with records grown told =
-      grown told ∙ (ap (λ (l : List (List ℕ)). l ++ spellings f.written) (place.is.written (same told)) ∙ sym (spellings_append place.old.kept f.written))
+      grown told ∙ (ap (λ (l : List (List ℕ)). l ++ spellings f.written) (stands.is.written (same told))
+      ∙ sym (spellings_append stands.held.kept f.written))
 
-  pub stepped : (mail : List Letter) (replies : List ToLink) → Step (view s).state i f (view t).state → f.mail ≡ mail → replies ≡ puts_of f.replies
-      → (IsTrue (view t).tells → (view t).records ≡ (view s).records ++ spellings f.written)
-      → ((view s).holds (view s).records → (view t).holds (view t).records)
-      → HasStepped view (slice_set seats at t) w at i mail replies
+  pub stepped : (mail : List Letter) (replies : List ToLink) → Step s.state i f t.state → f.mail ≡ mail → replies ≡ puts_of f.replies
+      → (IsTrue t.tells → t.records ≡ s.records ++ spellings f.written) → (s.holds s.records → t.holds t.records) → StepsAt t w at i mail replies
   stepped mail replies step sent told grown kept =
-      let written : (IsTrue (view t).tells → (view t).records ≡ spellings (place.old.kept ++ f.written)) = grown_with (view t).records grown in
+      let written : (IsTrue t.tells → t.records ≡ spellings (stands.held.kept ++ f.written)) = grown_with t.records grown in
       record {
-        end = tick (after (is_given w at i) at place.old f (view t).state);
-        moves = moves_to (view t).state step;
-        nodes = held_set view seats w.nodes at t (record { state = (view t).state; kept = place.old.kept ++ f.written }) are
-            (record {
-              same = refl;
-              written = written;
-              keeps = record {
-                sound = sound_append place.old.kept f.written place.is.keeps.sound sound;
-                found = λ tells. subst (λ (l : List (List ℕ)). (view t).holds l) (written tells)
-                    (kept (subst (λ (l : List (List ℕ)). (view s).holds l) (sym (place.is.written (same tells))) (place.is.keeps.found (same tells))));
-              };
-            });
-        crashes = leaves_to (view t).state step;
-        sent = ap (λ (l : List Letter). w.sent ++ l) sent;
-        given = puts_append w.answered (answered_by w.now f.replies)
-            ∙ ap (λ (l : List ToLink). puts_given w.answered ++ l) (puts_answered w.now f.replies ∙ sym told);
+        end = after_by t.state;
+        moves = moves_to t.state step;
+        held = held_by t.state;
+        here = get_set w.nodes at stands.held (held_by t.state) stands.here;
+        is = record {
+          same = refl;
+          written = written;
+          keeps = record {
+            sound = sound_append stands.held.kept f.written stands.is.keeps.sound sound;
+            found = λ tells. subst (λ (l : List (List ℕ)). t.holds l) (written tells)
+                (kept (subst (λ (l : List (List ℕ)). s.holds l) (sym (stands.is.written (same tells))) (stands.is.keeps.found (same tells))));
+          };
+        };
+        crashes = leaves_to t.state step;
+        sent = sent;
+        told = told;
       }
 
-  pub broken : (new : NodeState) → Step (view s).state i f new → WithOrWithout (view t).holds (view s).records (spellings f.written)
-      → IsBroken view (slice_set seats at t) w at i
+  pub broken : (new : NodeState) → Step s.state i f new → WithOrWithout t.holds s.records (spellings f.written) → BreaksAt t w at i
   broken new step (inl before) = record {
     end = w;
-    last = tick (after (is_given w at i) at place.old f new);
+    last = after_by new;
     which = inl refl;
     moves = moves_to new step;
+    held = stands.held;
+    here = stands.here;
+    keeps = record {
+      sound = stands.is.keeps.sound;
+      found = λ tells. subst (λ (l : List (List ℕ)). t.holds l) (stands.is.written (same tells)) before;
+    };
     crashes = leaves_to new step;
-    kept = kept_still view seats w.nodes at t place.old (held_kept view seats w.nodes are) place.here
-        (record { sound = place.is.keeps.sound; found = λ tells. subst (λ (l : List (List ℕ)). (view t).holds l) (place.is.written (same tells)) before });
   }
   broken new step (inr behind) = record {
-    end = tick (after (is_given w at i) at place.old f new);
-    last = tick (after (is_given w at i) at place.old f new);
+    end = after_by new;
+    last = after_by new;
     which = inr refl;
     moves = moves_to new step;
+    held = held_by new;
+    here = get_set w.nodes at stands.held (held_by new) stands.here;
+    keeps = record {
+      sound = sound_append stands.held.kept f.written stands.is.keeps.sound sound;
+      found = λ tells. subst (λ (l : List (List ℕ)). t.holds l) (grown_with (s.records ++ spellings f.written) (λ told. refl) tells) behind;
+    };
     crashes = leaves_to new step;
-    kept = kept_set view seats w.nodes at t (record { state = new; kept = place.old.kept ++ f.written }) (held_kept view seats w.nodes are)
-        (record {
-          sound = sound_append place.old.kept f.written place.is.keeps.sound sound;
-          found = λ tells. subst (λ (l : List (List ℕ)). (view t).holds l) (grown_with ((view s).records ++ spellings f.written) (λ told. refl) tells)
-              behind;
-        });
   }
-
--- ONE NODE OF ALL
 
 module _ {N L : Type 0} (state : N → NodeState) (facts : LogFacts L) where
   abbrev pub view_since : Since L → Seat N L → SeatView
   view_since since seat = seat_since state facts since seat
 
-  pub done : (since : Since L) (seats : List (Seat N L)) (w : World) (at : ℕ) (s t : Seat N L) (i : Input) (mail : List Letter) (replies : List ToLink)
-      → AreHeld (view_since since) seats w.nodes → LeaveKept (view_since since) seats w → slice_get seats at ≡ Some s
-      → StepDone (state s.node) i mail replies (log_call facts s.log t.log) (state t.node)
-      → (facts.holds s.log (facts.records s.log) → facts.holds t.log (facts.records t.log))
-      → HasStepped (view_since since) (slice_set seats at t) w at i mail replies
-  done since seats w at s t i mail replies are leave got d kept =
-      stepped (view_since since) seats w at s t i d.effect are got d.sound (λ tells. tells)
-      (step_leaves state facts since seats w at s t d.effect.written leave got d.kept.whole)
-      mail replies d.step d.sent d.told d.kept.grown kept
+  pub since_on : (since : Since L) (s : Seat N L) (at : ℕ) (v w : World) → (view_since since s).leaves at v → LeadsTo v w → (view_since since s).leaves at w
+  since_on since s at v w all on = leaves_on facts since s.log at v w all on
 
-  still_held : (since : Since L) (s t : Seat N L) (h : Held) → IsHeld (view_since since s) h → (state t.node ≡ state s.node) × (t.log ≡ s.log)
-      → IsHeld (view_since since t) h
-  still_held since s t h is (same, unchanged) = record {
-    same = is.same ∙ sym same;
-    written = λ tells. ap facts.records unchanged ∙ is.written tells;
-    keeps = record { sound = is.keeps.sound; found = λ tells. subst (λ (l : L). facts.holds l (spellings h.kept)) (sym unchanged) (is.keeps.found tells) };
+  -- a node in the same state with the same log is there too
+  pub same_stands : (since : Since L) (w : World) (at : ℕ) (s t : Seat N L) → (state t.node ≡ state s.node) × (t.log ≡ s.log)
+      → StandsAt (view_since since s) w at → StandsAt (view_since since t) w at
+  same_stands since w at s t (same, unchanged) stands = record {
+    held = stands.held;
+    here = stands.here;
+    is = record {
+      same = stands.is.same ∙ sym same;
+      written = λ tells. ap facts.records unchanged ∙ stands.is.written tells;
+      keeps = record {
+        sound = stands.is.keeps.sound;
+        found = λ tells. subst (λ (l : L). facts.holds l (spellings stands.held.kept)) (sym unchanged) (stands.is.keeps.found tells);
+      };
+    };
+    leaves = subst (λ (l : L). leaves_kept facts since l at w) (sym unchanged) stands.leaves;
   }
-
-  still : (since : Since L) (seats : List (Seat N L)) (w : World) (at : ℕ) (s t : Seat N L) → AreHeld (view_since since) seats w.nodes
-      → LeaveKept (view_since since) seats w → slice_get seats at ≡ Some s → (state t.node ≡ state s.node) × (t.log ≡ s.log)
-      → AreHeld (view_since since) (slice_set seats at t) w.nodes × LeaveKept (view_since since) (slice_set seats at t) w
-  still since seats w at s t are leave got unchanged =
-      let here : HeldAt (view_since since s) w.nodes at = held_at (view_since since) seats w.nodes at s are got in (
-        held_still (view_since since) seats w.nodes at t here.old are here.here (still_held since s t here.old here.is unchanged),
-        same_leaves state facts since seats w at s t leave got unchanged.1,
-      )
-
-  -- FAULTS
 
   -- what the fault of a step says of its node and log
   abbrev pub Fails : StepFault → Input → (s t : Seat N L) → Type 0
@@ -175,22 +167,113 @@ module _ {N L : Type 0} (state : N → NodeState) (facts : LogFacts L) where
       ByStepFault fault (λ faults. StepBroken (state s.node) i (log_call facts s.log t.log))
       ((state t.node ≡ state s.node) × (t.log ≡ s.log))
 
-  pub failed : (since : Since L) (seats : List (Seat N L)) (w : World) (at : ℕ) (s t : Seat N L) (i : Input) (fault : StepFault)
-      → AreHeld (view_since since) seats w.nodes → LeaveKept (view_since since) seats w → slice_get seats at ≡ Some s → Fails fault i s t
-      → ByStepFault fault (λ faults. IsBroken (view_since since) (slice_set seats at t) w at i)
-      (AreHeld (view_since since) (slice_set seats at t) w.nodes × LeaveKept (view_since since) (slice_set seats at t) w)
-  failed since seats w at s t i (Disk faults) are leave got b =
-      broken (view_since since) seats w at s t i b.effect are got b.sound (λ tells. tells)
-      (step_leaves state facts since seats w at s t b.effect.written leave got b.left.whole) b.new b.step b.left.left
-  failed since seats w at s t i Steps are leave got unchanged = still since seats w at s t are leave got unchanged
-  failed since seats w at s t i Memory are leave got unchanged = still since seats w at s t are leave got unchanged
+  module _ (since : Since L) (w : World) (at : ℕ) (s t : Seat N L) (i : Input) (stands : StandsAt (view_since since s) w at) where
+    leaves_by : (more : List Kept) → (IsTrue facts.tells → LeavesAlso facts.moment facts.left_since s.log t.log
+        (λ file. WithOrWithout (facts.finds file) (facts.records s.log) (spellings more)))
+        → (x : World) → LeadsTo w x → journal_at w.nodes at ≡ stands.held.kept → journal_at x.nodes at ≡ stands.held.kept ++ more
+        → leaves_kept facts since t.log at x
+    leaves_by more whole x on was is =
+        leaves_step facts since s.log t.log at w x stands.held.kept more stands.leaves whole on stands.is.written was is
 
-  pub faults_told : (count : L → ℕ) (seats : List (Seat N L)) (at : ℕ) (s t : Seat N L) (i : Input) (fault : StepFault) → slice_get seats at ≡ Some s
-      → ByStepFault fault (λ faults. (faults ≡ count t.log) × Rose (count s.log) (count t.log)) (Unit {0}) → Fails fault i s t
-      → count s.log ≤ count t.log
+    pub seat_stepped : (mail : List Letter) (replies : List ToLink)
+        → StepDone (state s.node) i mail replies (log_call facts s.log t.log) (state t.node)
+        → (facts.holds s.log (facts.records s.log) → facts.holds t.log (facts.records t.log)) → StepsAt (view_since since t) w at i mail replies
+    seat_stepped mail replies d kept =
+        stepped (view_since since s) (view_since since t) w at i d.effect stands d.sound (λ tells. tells) (leaves_by d.effect.written d.kept.whole)
+        mail replies d.step d.sent d.told d.kept.grown kept
+
+    pub seat_failed : (fault : StepFault) → Fails fault i s t
+        → ByStepFault fault (λ faults. BreaksAt (view_since since t) w at i) (StandsAt (view_since since t) w at)
+    seat_failed (Disk faults) b =
+        broken (view_since since s) (view_since since t) w at i b.effect stands b.sound (λ tells. tells) (leaves_by b.effect.written b.left.whole)
+        b.new b.step b.left.left
+    seat_failed Steps unchanged = same_stands since w at s t unchanged stands
+    seat_failed Memory unchanged = same_stands since w at s t unchanged stands
+
+  pub unchanged_by : (fault : StepFault) (i : Input) (s t : Seat N L) → Fails fault i s t
+      → ByStepFault fault (λ faults. Unit {0}) ((state t.node ≡ state s.node) × (t.log ≡ s.log))
+  unchanged_by (Disk faults) i s t b = tt
+  unchanged_by Steps i s t unchanged = unchanged
+  unchanged_by Memory i s t unchanged = unchanged
+
+  pub fault_told : (count : L → ℕ) (i : Input) (fault : StepFault) (s t : Seat N L) → Fails fault i s t
+      → ByStepFault fault (λ faults. (faults ≡ count t.log) × Rose (count s.log) (count t.log)) (Unit {0}) → count s.log ≤ count t.log
+      → ByStepFault fault (λ faults. NamesFault faults (count s.log) (count t.log)) (count t.log ≡ count s.log)
+  fault_told count i (Disk faults) s t b rose later = record { named = rose.0; rose = rose.1; no_fall = later }
+  fault_told count i Steps s t unchanged rose later = ap count unchanged.1
+  fault_told count i Memory s t unchanged rose later = ap count unchanged.1
+
+-- ONE NODE OF ALL
+
+pub stands_at : {S : Type 0} (view : S → SeatView) (seats : List S) (w : World) (at : ℕ) (s : S) → AreHeld view seats w.nodes → LeaveKept view seats w
+    → slice_get seats at ≡ Some s → StandsAt (view s) w at
+stands_at view seats w at s are leave got =
+    let place : HeldAt (view s) w.nodes at = held_at view seats w.nodes at s are got in
+    record { held = place.old; here = place.here; is = place.is; leaves = leave at s got }
+
+module _ {S : Type 0} (view : S → SeatView) (on : (s : S) (at : ℕ) (v w : World) → (view s).leaves at v → LeadsTo v w → (view s).leaves at w)
+    (seats : List S) (w : World) (at : ℕ) (t : S) (i : Input) (are : AreHeld view seats w.nodes) (leave : LeaveKept view seats w) where
+  -- the node at the place of a step
+  new_held : (end : World) (m : Moves w at i end) (h : Held) → slice_get end.nodes at ≡ Some h
+      → end.nodes ≡ slice_set w.nodes at h
+  new_held end m h here =
+      let all : end.nodes ≡ slice_set w.nodes at (record { state = m.new; kept = m.old.kept ++ m.f.written }) = ap (λ (x : World). x.nodes) m.then in
+      let new : Some (record { state = m.new; kept = m.old.kept ++ m.f.written }) ≡ Some h =
+      sym (get_set w.nodes at m.old (record { state = m.new; kept = m.old.kept ++ m.f.written }) m.here)
+      ∙ (sym (ap (λ (l : List Held). slice_get l at) all) ∙ here) in
+      all ∙ ap (λ (x : Held). slice_set w.nodes at x) (cc new)
+
+  leave_all : (end : World) → Moves w at i end → ((e : Event) → IsEvent w at i e → (view t).leaves at end) → (e : Event) → IsEvent w at i e
+      → LeaveKept view (slice_set seats at t) end
+  leave_all end moves crashes e event = all_leave view on seats w end at t leave (leads_by e w end (event end moves)) (crashes e event)
+
+  pub all_stepped : (mail : List Letter) (replies : List ToLink) → StepsAt (view t) w at i mail replies
+      → HasStepped view (slice_set seats at t) w at i mail replies
+  all_stepped mail replies h =
+      let same = h.moves.then in
+      record {
+        end = h.end;
+        moves = h.moves;
+        nodes = subst (λ (l : List Held). AreHeld view (slice_set seats at t) l) (sym (new_held h.end h.moves h.held h.here))
+            (held_set view seats w.nodes at t h.held are h.is);
+        crashes = leave_all h.end h.moves h.crashes;
+        sent = ap (λ (x : World). x.sent) same ∙ ap (λ (l : List Letter). w.sent ++ l) h.sent;
+        given = ap (λ (x : World). puts_given x.answered) same ∙ (puts_append w.answered (answered_by w.now h.moves.f.replies)
+            ∙ ap (λ (l : List ToLink). puts_given w.answered ++ l) (puts_answered w.now h.moves.f.replies ∙ sym h.told));
+      }
+
+  all_kept : (end last : World) (h : Held) → (end ≡ w) ⊎ (end ≡ last) → Moves w at i last → slice_get end.nodes at ≡ Some h → Keeps (view t) h.kept
+      → AreKept view (slice_set seats at t) end.nodes
+  all_kept end last h (inl before) moves here keeps =
+      subst (λ (x : World). AreKept view (slice_set seats at t) x.nodes) (sym before)
+      (kept_still view seats w.nodes at t h (held_kept view seats w.nodes are) (sym (ap (λ (x : World). slice_get x.nodes at) before) ∙ here) keeps)
+  all_kept end last h (inr behind) moves here keeps =
+      subst (λ (l : List Held). AreKept view (slice_set seats at t) l)
+      (sym (new_held end (subst (λ (x : World). Moves w at i x) (sym behind) moves) h here))
+      (kept_set view seats w.nodes at t h (held_kept view seats w.nodes are) keeps)
+
+  pub all_failed : (fault : StepFault) → ByStepFault fault (λ faults. BreaksAt (view t) w at i) (StandsAt (view t) w at)
+      → ByStepFault fault (λ faults. IsBroken view (slice_set seats at t) w at i)
+      (AreHeld view (slice_set seats at t) w.nodes × LeaveKept view (slice_set seats at t) w)
+  all_failed (Disk faults) b = record {
+    end = b.end;
+    last = b.last;
+    which = b.which;
+    moves = b.moves;
+    kept = all_kept b.end b.last b.held b.which b.moves b.here b.keeps;
+    crashes = leave_all b.last b.moves b.crashes;
+  }
+  all_failed Steps stands =
+      (held_still view seats w.nodes at t stands.held are stands.here stands.is, all_leave view on seats w w at t leave (leads_nowhere w) stands.leaves)
+  all_failed Memory stands =
+      (held_still view seats w.nodes at t stands.held are stands.here stands.is, all_leave view on seats w w at t leave (leads_nowhere w) stands.leaves)
+
+module _ {N L : Type 0} where
+  pub faults_told : (count : L → ℕ) (seats : List (Seat N L)) (at : ℕ) (s t : Seat N L) (fault : StepFault) → slice_get seats at ≡ Some s
+      → ByStepFault fault (λ faults. NamesFault faults (count s.log) (count t.log)) (count t.log ≡ count s.log)
       → ByStepFault fault (λ faults. HaveRisen (faults_of count seats) (faults_of count (slice_set seats at t)))
       (faults_of count (slice_set seats at t) ≡ faults_of count seats)
-  faults_told count seats at s t i (Disk faults) got rose b later =
-      record { one = fault_rose count seats at s t got rose.1; none_fell = none_fell_at count seats at s t got later }
-  faults_told count seats at s t i Steps got rose unchanged later = faults_same count seats at s t got (ap count unchanged.1)
-  faults_told count seats at s t i Memory got rose unchanged later = faults_same count seats at s t got (ap count unchanged.1)
+  faults_told count seats at s t (Disk faults) got told =
+      record { one = fault_rose count seats at s t got told.rose; none_fell = none_fell_at count seats at s t got told.no_fall }
+  faults_told count seats at s t Steps got same = faults_same count seats at s t got same
+  faults_told count seats at s t Memory got same = faults_same count seats at s t got same

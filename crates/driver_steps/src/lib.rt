@@ -13,4 +13,4 @@ pub use network::Network;
 pub use notes::note_disks;
 pub use rounds::{ask, give_moment, give_moments, open_all};
 pub use seat::Seat;
-pub use steps::{happen, step_node};
+pub use steps::{happen, step_node, step_seat};

@@ -1,18 +1,57 @@
 //! One step of one node.
 
-ghost use Rattle.std.specs.Prelude.{◌≡◌, ℕ, ◌+◌, ◌<◌, List, map, vec_len, IfErr, IfOk, OnOk};
+ghost use Rattle.std.specs.Prelude.{◌≡◌, ℕ, ◌+◌, ◌<◌, ◌^◌, List, map, vec_len, IfErr, IfOk, IsTrue, OnOk};
 ghost use Rattle.node_model.specs.World.{World};
-ghost use Rattle.node_traits.specs.Effects.{ByStepFault};
+ghost use Rattle.node_traits.specs.Effects.{ByStepFault, steps_after};
 ghost use Rattle.node_traits.specs.declared.outputs.ToLink.{ToLink};
 ghost use Rattle.driver_steps.specs.Crashes.{Since};
 ghost use Rattle.driver_steps.specs.Seats.{AreHeld, AreOpen, LeaveKept, TellsFaults, UnlessDiskFailed, faults_of, left_of, places_of, seat_since};
 ghost use Rattle.driver_steps.specs.Moves.{HasMoved, HasStepped, IsBroken, IsCutShort};
+ghost use Rattle.driver_steps.specs.OneSeat.{BreaksAt, StandsAt, StepsAt, TellsFault};
 ghost use Rattle.driver_steps.specs.Worlds.{StandsFor, network_view};
 
 use crate::network::Network;
 use crate::seat::Seat;
 use node_traits::{Node, Outputs, StepFault};
 use outside::log::Log;
+
+/// A node with its log takes a step on the input, at whatever place in a world it stands; what it sends and returns is the result.
+///
+/// # Errors
+/// The fault of the step: `StepFault::Disk` only if the disk of the log met one. With each other fault node and log are unchanged.
+pub fn step_seat<N: Node, L: Log>(
+    seat: &mut Seat<N, L>,
+    input: N::Input,
+) -> Result<Outputs<N::Mail>, StepFault>
+    requires open { IsTrue (L.facts.is_open seat.old.log) }
+    ensures stepped { (since : Since L) (w : World) (at : ℕ) →
+        StandsAt (seat_since N.state L.facts since seat.old) w at →
+        IfOk result (λ outputs. StepsAt (seat_since N.state L.facts since seat.new) w at
+        (N.meaning input) (map (λ message. N.Mail.letter message) outputs.mail) outputs.replies) }
+    ensures failed { (since : Since L) (w : World) (at : ℕ) →
+        StandsAt (seat_since N.state L.facts since seat.old) w at →
+        IfErr result (λ e. ByStepFault e
+        (λ faults. BreaksAt (seat_since N.state L.facts since seat.new) w at (N.meaning input))
+        (StandsAt (seat_since N.state L.facts since seat.new) w at)) }
+    ensures unchanged { IfErr result (λ e. ByStepFault e
+        (λ faults. Unit {0})
+        ((N.state seat.new.node ≡ N.state seat.old.node) × (seat.new.log ≡ seat.old.log))) }
+    ensures open { UnlessDiskFailed result (IsTrue (L.facts.is_open seat.new.log)) }
+
+    // Each step is counted, except the last, which is refused.
+    ensures counted { OnOk result (N.steps seat.new.node ≡ N.steps seat.old.node + 1) }
+    ensures counted_err { IfErr result (λ e. N.steps seat.new.node ≡ steps_after e (N.steps seat.old.node)) }
+    ensures below { N.steps seat.new.node < 2 ^ 56 }
+
+    // Of the log's disk.
+    ensures faults { TellsFault result (L.facts.fault_count seat.old.log) (L.facts.fault_count seat.new.log) }
+    ensures place { L.facts.place seat.new.log ≡ L.facts.place seat.old.log }
+{
+    match seat.node.step(&mut seat.log, input) {
+        Ok(outputs) => Ok(outputs),
+        Err(e) => Err(e),
+    }
+}
 
 /// The node at a place takes a step on the input; what it sends and returns is the result.
 ///
@@ -46,7 +85,7 @@ pub fn step_node<N: Node, L: Log>(
     ensures places { places_of L.facts.place seats.new.items ≡ places_of L.facts.place seats.old.items }
 {
     let seat = &mut seats[at];
-    match seat.node.step(&mut seat.log, input) {
+    match step_seat(seat, input) {
         Ok(outputs) => Ok(outputs),
         Err(e) => Err(e),
     }

@@ -28,50 +28,60 @@ impl Rows for Others {
     }
 }
 
-// Returns the record that the bytes encode, if they encode one.
-fn record_in(alloc: Global, bytes: &[u8]) -> Result<Option<Record>, RowFault> {
-    match read_record(alloc, bytes) {
-        Ok(found) => Ok(Some(found)),
+/// A value of one of several kinds, each with a name.
+trait Kind {
+    /// Returns the name of its kind.
+    fn kind(&self) -> &'static str;
+}
+
+impl Kind for Record {
+    fn kind(&self) -> &'static str {
+        match self {
+            Record::Table(_) => "table",
+            Record::Entry { .. } => "entry",
+            Record::Ceiling(_) => "ceiling",
+            Record::Floor(_) => "floor",
+            Record::MoveStart(_) => "move-start",
+            Record::Section(_) => "section",
+            Record::MoveEnd(_) => "move-end",
+            Record::Released(_) => "released",
+            Record::ReceiveStart(_) => "receive-start",
+            Record::Batch(_) => "batch",
+            Record::ReceiveDone(_) => "receive-done",
+            Record::ReceiveEnd(_) => "receive-end",
+            Record::Deleted(_) => "deleted",
+            Record::Create { .. } => "create",
+            Record::Split(_) => "split",
+            Record::Commit(_) => "commit",
+            Record::Resolve(_) => "resolve",
+            Record::Purge(_) => "purge",
+            Record::CatalogueCeiling(_) => "catalogue-ceiling",
+            Record::Life(_) => "life",
+            Record::Block(_) => "block",
+        }
+    }
+}
+
+// Returns the name of the kind of what was read, if something was. It is let go here, in a function of any type: the drop of a record is long to prove.
+fn kind_in<T: Kind + Drop>(
+    found: Result<T, RecordFault>,
+) -> Result<Option<&'static str>, RowFault> {
+    match found {
+        Ok(found) => Ok(Some(found.kind())),
         Err(RecordFault::NoRecord) => Ok(None),
         Err(RecordFault::Memory) => Err(RowFault::Memory),
     }
 }
 
 fn is_none(alloc: Global, bytes: &[u8]) -> Result<bool, RowFault> {
-    let found = record_in(alloc, bytes)?;
-    Ok(found.is_none())
-}
-
-fn kind_of(found: &Record) -> &'static str {
-    match found {
-        Record::Table(_) => "table",
-        Record::Entry { .. } => "entry",
-        Record::Ceiling(_) => "ceiling",
-        Record::Floor(_) => "floor",
-        Record::MoveStart(_) => "move-start",
-        Record::Section(_) => "section",
-        Record::MoveEnd(_) => "move-end",
-        Record::Released(_) => "released",
-        Record::ReceiveStart(_) => "receive-start",
-        Record::Batch(_) => "batch",
-        Record::ReceiveDone(_) => "receive-done",
-        Record::ReceiveEnd(_) => "receive-end",
-        Record::Deleted(_) => "deleted",
-        Record::Create { .. } => "create",
-        Record::Split(_) => "split",
-        Record::Commit(_) => "commit",
-        Record::Resolve(_) => "resolve",
-        Record::Purge(_) => "purge",
-        Record::CatalogueCeiling(_) => "catalogue-ceiling",
-        Record::Life(_) => "life",
-        Record::Block(_) => "block",
-    }
+    let kind = kind_in(read_record(alloc, bytes))?;
+    Ok(kind.is_none())
 }
 
 // Returns whether the bytes are a record of that kind.
 fn is_read(alloc: Global, kind: &str, bytes: &[u8]) -> Result<bool, RowFault> {
-    match record_in(alloc, bytes)? {
-        Some(found) => Ok(kind_of(&found) == kind),
+    match kind_in(read_record(alloc, bytes))? {
+        Some(found) => Ok(found == kind),
         None => Ok(false),
     }
 }

@@ -2,13 +2,13 @@
 
 ghost use Rattle.std.specs.Prelude.{IfOk};
 ghost use Rattle.statement_views.specs.Views.{operation_view};
-ghost use Rattle.shard_records.specs.Meanings.{outcome_view, record_view};
-ghost use Rattle.shard_records.specs.Sizes.{FitsRecord, IsWritableOperation, IsWritableKey, IsWritableRecord};
+ghost use Rattle.shard_records.specs.Meanings.{outcome_view};
+ghost use Rattle.shard_records.specs.Sizes.{FitsRecord, IsWritableOperation, IsWritableKey};
 
 use bson_values::{Aligned, Document, Name, Value};
 use cluster_base::{NameFault, Namespace, NodeId, Session, Stmt, Time};
 use fixtures::{RowFault, Rows, bytes_of, field, number};
-use shard_records::{Record, write_record};
+use shard_records::{WordsRef, write_creation, write_entry};
 use std::alloc::Global;
 use value_compare::{Key, OpWords, Reply};
 
@@ -45,8 +45,7 @@ fn outcome_holds(alloc: Global, time: Time, statement: Stmt, row: &str) -> Resul
         code: number(code)?,
     };
     let op = operation_of(alloc, operation)?;
-    let entry = entry_of(alloc, time, statement, op, reply)?;
-    is_spelled(alloc, &entry, wanted)
+    is_entry(alloc, time, &statement, &op, &reply, wanted)
 }
 
 // Returns a client's session; or that of router 2 in its first life for its first request.
@@ -136,35 +135,35 @@ fn namespace(alloc: Global) -> Result<Namespace, RowFault> {
     }
 }
 
-fn entry_of(
+// Returns whether the record of the entry is written as these bytes.
+fn is_entry(
     alloc: Global,
     time: Time,
-    statement: Stmt,
-    op: OpWords,
-    reply: Reply,
-) -> Result<Record, RowFault>
-    requires op { IsWritableOperation (operation_view op) }
-    requires reply { IsWritableKey (outcome_view reply).upserted }
-    ensures { IfOk result (λ r. IsWritableRecord (record_view r)) }
+    statement: &Stmt,
+    op: &OpWords,
+    reply: &Reply,
+    wanted: &str,
+) -> Result<bool, RowFault>
+    requires op { IsWritableOperation (operation_view op.now) }
+    requires reply { IsWritableKey (outcome_view reply.now).upserted }
 {
     let namespace = namespace(alloc)?;
-    Ok(Record::Entry {
+    let mut out = Vec::from_slice(alloc, &[0xaa])?;
+    write_entry(
         time,
-        namespace,
+        &namespace,
         statement,
-        op,
+        &WordsRef::of(op),
         reply,
-    })
+        &mut out,
+    )?;
+    is_spelled(alloc, &out, wanted)
 }
 
-// Returns whether the record's bytes are written after those that were there.
-fn is_spelled(alloc: Global, kept: &Record, wanted: &str) -> Result<bool, RowFault>
-    requires { IsWritableRecord (record_view kept.now) }
-{
+// Returns whether these bytes come after the one that was there.
+fn is_spelled(alloc: Global, out: &[u8], wanted: &str) -> Result<bool, RowFault> {
     let wanted = bytes_of(alloc, wanted)?;
-    let mut out = Vec::from_slice(alloc, &[0xaa])?;
-    write_record(kept, &mut out)?;
-    match out.as_slice() {
+    match out {
         [0xaa, spelled @ ..] => Ok(spelled == wanted.as_slice()),
         _ => Ok(false),
     }
@@ -181,11 +180,8 @@ impl Rows for Creations {
         let epoch = number(epoch)?;
         let at = Time(number(time)?);
         let namespace = namespace(alloc)?;
-        let creation = Record::Create {
-            namespace,
-            epoch,
-            at,
-        };
-        is_spelled(alloc, &creation, wanted)
+        let mut out = Vec::from_slice(alloc, &[0xaa])?;
+        write_creation(&namespace, epoch, at, &mut out)?;
+        is_spelled(alloc, &out, wanted)
     }
 }

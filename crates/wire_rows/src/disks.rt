@@ -70,13 +70,18 @@ fn split_record(file: &[u8]) -> Option<(&[u8], &[u8])> {
     Some(behind.split_at(length as usize))
 }
 
-/// Returns whether all of the bytes are read as one record.
-fn is_record(alloc: Global, bytes: &[u8]) -> Result<bool, RowFault> {
-    match read_record(alloc, bytes) {
-        Ok(_record) => Ok(true),
+/// Returns whether something was read. It is let go here, in a function of any type: the drop of a record is long to prove.
+fn was_read<T: Drop>(found: Result<T, RecordFault>) -> Result<bool, RowFault> {
+    match found {
+        Ok(_found) => Ok(true),
         Err(RecordFault::NoRecord) => Ok(false),
         Err(RecordFault::Memory) => Err(RowFault::Memory),
     }
+}
+
+/// Returns whether all of the bytes are read as one record.
+fn is_record(alloc: Global, bytes: &[u8]) -> Result<bool, RowFault> {
+    was_read(read_record(alloc, bytes))
 }
 
 /// Returns whether these are just the records in the bytes, by their gates and lengths, and each is read.

@@ -1,5 +1,8 @@
 use Rattle.std.proofs.Common.{List, map, refl, sym, subst, append-nil, rules}
+use Rattle.std.specs.Prelude.{IfOk}
 use Rattle.outside.proofs.Relations.{none_fell_self}
+use Rattle.any_node.specs.Kinds.{state_of}
+use Rattle.cluster_top.specs.Nodes.{AreNew}
 use Rattle.cluster_top.specs.declared.status.Status.TheVariants as statuses
 use Rattle.cluster_top.proofs.Asked.{asked_as_read}
 use Rattle.cluster_top.proofs.Counts.{one_rose_numbered, rose_numbered}
@@ -24,8 +27,8 @@ returns-in-None-clause-headline g c = rw (sym c.read_command.ensures.command, c.
 pub returns-in-None-clause-durable : goal.returns-in-None-clause-durable
 returns-in-None-clause-durable g c = rw (sym c.read_command.ensures.command, c.in-None.is) (λ some. absurd (cc some))
 
-pub run_nodes-ending-requires-disks : goal.run_nodes-ending-requires-disks
-run_nodes-ending-requires-disks g c = rw (sym c.read_command.ensures.command, c.in-Some.is) at c.requires
+pub run_nodes-ending-requires-clause-disks : goal.run_nodes-ending-requires-clause-disks
+run_nodes-ending-requires-clause-disks g c κs within = rw (sym c.read_command.ensures.command, c.in-Some.is) at c.requires
 
 pub returns-clause-words : goal.returns-clause-words
 returns-clause-words g c =
@@ -65,7 +68,8 @@ returns-clause-headline g c =
     (λ empty other. (
       c.run_nodes-ending.result.status,
       c.number-2.ensures,
-      c.run_nodes-ending.ensures.headline asked_as_read c.new_nodes.ensures.new empty
+      c.run_nodes-ending.ensures.headline asked_as_read
+          (subst (λ n. IfOk c.new_nodes.result (λ nodes. AreNew state_of n nodes.items)) c.routers.ensures c.new_nodes.ensures.new) empty
           (λ is. other (has_number statuses.DamagedJournal c.run_nodes-ending.result.status c.number-2.result c.number-2.ensures is)),
     ))
 

@@ -1,45 +1,47 @@
 use Rattle.std.proofs.Common.{rules, map}
 use Rattle.std.proofs.lemmas.Option.{slice_get_read}
+use Rattle.driver_steps.specs.Seats.{seat_since}
 use Rattle.driver_steps.proofs.Seats.{faults_same, left_falls, places_same}
-use Rattle.driver_steps.proofs.Stepping.{done, failed, faults_told}
+use Rattle.driver_steps.proofs.Stepping.{all_failed, all_stepped, faults_told, since_on, stands_at}
 use Rattle.driver_steps.proofs.steps.step_node.Goals as goal
 
 pub returns-in-Ok-clause-stepped : goal.returns-in-Ok-clause-stepped
 returns-in-Ok-clause-stepped g c since w are leave =
-    done g.N.Node.state g.L.Log.facts since c.args.seats.now.items w
-    c.args.at c.index_mut-seat.result.now (record { node = c.step.new.self; log = c.step.new.log }) (g.N.Node.meaning c.args.input)
-    (map (λ message. g.N.Mail.Mail.letter message) c.in-Ok.outputs.mail) c.in-Ok.outputs.replies are leave
-    (slice_get_read _ _ _ _ (search rules) c.requires.at c.index_mut-seat.ensures.value) c.in-Ok.ensures.done (λ held. c.in-Ok.ensures.kept held)
+    let got = slice_get_read _ _ _ _ (search rules) c.requires.at c.index_mut-seat.ensures.value in
+    all_stepped (seat_since g.N.Node.state g.L.Log.facts since) (since_on g.N.Node.state g.L.Log.facts since) c.args.seats.now.items w c.args.at c.step_seat.new.seat
+    (g.N.Node.meaning c.args.input) are leave (map (λ message. g.N.Mail.Mail.letter message) c.in-Ok.outputs.mail) c.in-Ok.outputs.replies
+    (c.in-Ok.ensures.stepped since w c.args.at
+    (stands_at (seat_since g.N.Node.state g.L.Log.facts since) c.args.seats.now.items w c.args.at c.index_mut-seat.result.now are leave got))
 
 pub returns-in-Ok-clause-falls : goal.returns-in-Ok-clause-falls
 returns-in-Ok-clause-falls g c =
-    left_falls g.N.Node.steps c.args.seats.now.items c.args.at c.index_mut-seat.result.now (record { node = c.step.new.self; log = c.step.new.log })
-    (slice_get_read _ _ _ _ (search rules) c.requires.at c.index_mut-seat.ensures.value) c.in-Ok.ensures.counted c.step.ensures.below
+    left_falls g.N.Node.steps c.args.seats.now.items c.args.at c.index_mut-seat.result.now c.step_seat.new.seat
+    (slice_get_read _ _ _ _ (search rules) c.requires.at c.index_mut-seat.ensures.value) c.in-Ok.ensures.counted c.step_seat.ensures.below
 
 pub returns-in-Ok-clause-faults : goal.returns-in-Ok-clause-faults
 returns-in-Ok-clause-faults g c =
-    faults_same g.L.Log.facts.fault_count c.args.seats.now.items c.args.at c.index_mut-seat.result.now (record { node = c.step.new.self; log = c.step.new.log })
-    (slice_get_read _ _ _ _ (search rules) c.requires.at c.index_mut-seat.ensures.value) c.in-Ok.ensures.calm
+    faults_same g.L.Log.facts.fault_count c.args.seats.now.items c.args.at c.index_mut-seat.result.now c.step_seat.new.seat
+    (slice_get_read _ _ _ _ (search rules) c.requires.at c.index_mut-seat.ensures.value) c.in-Ok.ensures.faults
 
 pub returns-in-Ok-clause-places : goal.returns-in-Ok-clause-places
 returns-in-Ok-clause-places g c =
-    places_same g.L.Log.facts.place c.args.seats.now.items c.args.at c.index_mut-seat.result.now (record { node = c.step.new.self; log = c.step.new.log })
-    (slice_get_read _ _ _ _ (search rules) c.requires.at c.index_mut-seat.ensures.value) c.step.ensures.place
+    places_same g.L.Log.facts.place c.args.seats.now.items c.args.at c.index_mut-seat.result.now c.step_seat.new.seat
+    (slice_get_read _ _ _ _ (search rules) c.requires.at c.index_mut-seat.ensures.value) c.step_seat.ensures.place
 
 pub returns-in-Err-clause-failed : goal.returns-in-Err-clause-failed
 returns-in-Err-clause-failed g c since w are leave =
-    failed g.N.Node.state g.L.Log.facts since c.args.seats.now.items w
-    c.args.at c.index_mut-seat.result.now (record { node = c.step.new.self; log = c.step.new.log }) (g.N.Node.meaning c.args.input) c.in-Err.e are leave
-    (slice_get_read _ _ _ _ (search rules) c.requires.at c.index_mut-seat.ensures.value) c.in-Err.ensures.failed
+    let got = slice_get_read _ _ _ _ (search rules) c.requires.at c.index_mut-seat.ensures.value in
+    all_failed (seat_since g.N.Node.state g.L.Log.facts since) (since_on g.N.Node.state g.L.Log.facts since) c.args.seats.now.items w c.args.at c.step_seat.new.seat
+    (g.N.Node.meaning c.args.input) are leave c.in-Err.e
+    (c.in-Err.ensures.failed since w c.args.at
+    (stands_at (seat_since g.N.Node.state g.L.Log.facts since) c.args.seats.now.items w c.args.at c.index_mut-seat.result.now are leave got))
 
 pub returns-in-Err-clause-faults : goal.returns-in-Err-clause-faults
 returns-in-Err-clause-faults g c =
-    faults_told g.N.Node.state g.L.Log.facts g.L.Log.facts.fault_count
-    c.args.seats.now.items c.args.at c.index_mut-seat.result.now (record { node = c.step.new.self; log = c.step.new.log }) (g.N.Node.meaning c.args.input)
-    c.in-Err.e (slice_get_read _ _ _ _ (search rules) c.requires.at c.index_mut-seat.ensures.value) c.in-Err.ensures.cause
-    c.in-Err.ensures.failed c.step.ensures.later
+    faults_told g.L.Log.facts.fault_count c.args.seats.now.items c.args.at c.index_mut-seat.result.now c.step_seat.new.seat c.in-Err.e
+    (slice_get_read _ _ _ _ (search rules) c.requires.at c.index_mut-seat.ensures.value) c.in-Err.ensures.faults
 
 pub returns-in-Err-clause-places : goal.returns-in-Err-clause-places
 returns-in-Err-clause-places g c =
-    places_same g.L.Log.facts.place c.args.seats.now.items c.args.at c.index_mut-seat.result.now (record { node = c.step.new.self; log = c.step.new.log })
-    (slice_get_read _ _ _ _ (search rules) c.requires.at c.index_mut-seat.ensures.value) c.step.ensures.place
+    places_same g.L.Log.facts.place c.args.seats.now.items c.args.at c.index_mut-seat.result.now c.step_seat.new.seat
+    (slice_get_read _ _ _ _ (search rules) c.requires.at c.index_mut-seat.ensures.value) c.step_seat.ensures.place

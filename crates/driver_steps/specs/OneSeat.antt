@@ -1,0 +1,51 @@
+-- One node with its log, at its place in a world, and a step of it (own).
+use Rattle.std.specs.Prelude.{◌≡◌, ◌⊎◌, ℕ, ◌≤◌, Some, List, Result, Ok, Err}
+use Rattle.std.specs.List.{slice_get}
+use Rattle.outside.specs.Causes.{Rose}
+use Rattle.node_model.specs.Letters.{Letter, Input}
+use Rattle.node_model.specs.World.{Held, World, Moves, Event}
+use Rattle.node_traits.specs.Effects.{ByStepFault, puts_of}
+use Rattle.node_traits.specs.declared.outputs.StepFault.{StepFault}
+use Rattle.node_traits.specs.declared.outputs.ToLink.{ToLink}
+use Rattle.driver_steps.specs.Seats.{SeatView, Keeps, IsHeld}
+use Rattle.driver_steps.specs.Moves.{IsEvent}
+
+-- the node with its log is the one at a place of a world, also as for crashes
+pub record StandsAt (seat : SeatView) (w : World) (at : ℕ) : Type 0 where
+  pub held : Held
+  pub here : slice_get w.nodes at ≡ Some held
+  pub is : IsHeld seat held
+  pub leaves : seat.leaves at w
+
+-- The node at a place took a step on the input, whichever event that is, and gave out these messages and replies.
+pub record StepsAt (seat : SeatView) (before : World) (at : ℕ) (i : Input) (mail : List Letter) (replies : List ToLink) : Type 0 where
+  pub end : World
+  pub moves : Moves before at i end
+  pub held : Held
+  pub here : slice_get end.nodes at ≡ Some held
+  pub is : IsHeld seat held
+  pub crashes : (e : Event) → IsEvent before at i e → seat.leaves at end
+  pub sent : moves.f.mail ≡ mail
+  pub told : replies ≡ puts_of moves.f.replies
+
+-- A disk failed in the step: the log stores what it stores after it (`last`), or before it. A crash meanwhile may have left either.
+pub record BreaksAt (seat : SeatView) (before : World) (at : ℕ) (i : Input) : Type 0 where
+  pub end : World
+  pub last : World
+  pub which : (end ≡ before) ⊎ (end ≡ last)
+  pub moves : Moves before at i last
+  pub held : Held
+  pub here : slice_get end.nodes at ≡ Some held
+  pub keeps : Keeps seat held.kept
+  pub crashes : (e : Event) → IsEvent before at i e → seat.leaves at last
+
+-- a disk's count of faults rose, and a fault names it
+pub record NamesFault (faults before after : ℕ) : Type 0 where
+  pub named : faults ≡ after
+  pub rose : Rose before after
+  pub no_fall : before ≤ after
+
+-- where a disk failed its count of faults rose; elsewhere it is as before
+abbrev pub TellsFault : {X : Type 0} → Result X StepFault → (before after : ℕ) → Type 0
+TellsFault (Ok x) before after = after ≡ before
+TellsFault (Err fault) before after = ByStepFault fault (λ faults. NamesFault faults before after) (after ≡ before)

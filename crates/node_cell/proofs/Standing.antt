@@ -1,0 +1,242 @@
+-- A node behind its lock, while it takes steps.
+use Rattle.std.proofs.Common.{◌≡◌, ℕ, ℤ, ◌+◌, ◌<◌, ◌≤◌, ◌^◌, List, [], ◌∷◌, ◌++◌, map, length, Bool, IsTrue, refl, sym, ap, ◌∙◌, subst, arith, append-nil}
+use Rattle.std.specs.Prelude.{⊤, Option, None, MatchOption}
+use Rattle.std.specs.List.{slice_get, AllByRecursion}
+use Rattle.std.proofs.lemmas.List.{map-append}
+use Rattle.atomic_table.specs.Table.{Me}
+use Rattle.node_model.specs.Letters.{Letter, Input, client_input, letter_input, moment_input, opened_input}
+use Rattle.node_model.specs.Requests.{Request}
+use Rattle.node_model.specs.World.{World}
+use Rattle.node_traits.specs.Effects.{ByStepFault, steps_after}
+use Rattle.node_traits.specs.declared.outputs.StepFault.{StepFault}
+use Rattle.node_traits.specs.declared.outputs.StepFault.TheVariants.{Disk, Steps, Memory}
+use Rattle.node_traits.specs.declared.outputs.ToLink.{ToLink}
+use Rattle.driver_steps.specs.declared.seat.Seat.{Seat}
+use Rattle.driver_steps.specs.Crashes.{Since}
+use Rattle.driver_steps.specs.OneSeat.{BreaksAt, StandsAt, StepsAt}
+use Rattle.driver_steps.specs.Seats.{AreOpen}
+use Rattle.driver_steps.proofs.Stepping.{same_stands}
+use Rattle.node_cell.specs.declared.view.Placed.{Placed}
+use Rattle.node_cell.specs.declared.view.Taken.{Taken}
+use Rattle.node_cell.specs.declared.view.View.{View}
+use Rattle.node_cell.specs.Courses.{NodeFacts, view_by}
+use Rattle.node_cell.specs.Standing.{AllSit, Among, AreSeen, AreTold, IsAsKnown, IsHalted, IsKept, IsKnown, IsPart, MayTake, Sits, faults_in, step_of}
+use Rattle.node_cell.specs.Views.{Given, after_step, both_views, first_alone, first_off, given_by, nothing_seen, numbered, renewed, view_of}
+use Rattle.node_cell.proofs.Lists.{all_unmap, among_behind, are_among_map, first_numbered, get_seam, rest_numbered, sits}
+use Rattle.node_cell.proofs.Closing.{kept_on, part_front, part_self, sit_joined, sit_on}
+
+module _ {N L M I : Type 0} (f : NodeFacts N L M I) (routers : ℕ) where
+  -- a node whose disk did not fail
+  as_known : (seen : List Letter) (old : Seat N L) (p : Placed N L) → p.failed ≡ None → IsKept f routers seen old p → IsAsKnown f old p.seat
+  as_known seen old p none is =
+      subst (λ (o : Option ℕ). MatchOption o (IsAsKnown f old p.seat) (λ faults. IsHalted f routers p.at seen old p.seat)) none is
+
+  is_kept : (seen : List Letter) (old t : Seat N L) (p : Placed N L) → p.failed ≡ None → IsAsKnown f old t
+      → IsKept f routers seen old (record { at = p.at; failed = p.failed; seat = t })
+  is_kept seen old t p none known =
+      subst (λ (o : Option ℕ). MatchOption o (IsAsKnown f old t) (λ faults. IsHalted f routers p.at seen old t)) (sym none) known
+
+  -- its pass may take the step that it took
+  pub seat_may : (p : Placed N L) (t : Seat N L) (v : View N L M I) (input taken : I) (mail : List M) (replies : List ToLink) → taken ≡ input
+      → p.failed ≡ None → Sits f routers p v
+      → ((since : Since L) (w : World) (k : ℕ) → StandsAt (view_by f since p.seat) w k
+      → StepsAt (view_by f since t) w k (f.meaning input) (map f.letter mail) replies)
+      → f.steps t.node ≡ f.steps p.seat.node + 1 → f.steps t.node < 2 ^ 56 → IsKnown routers (map f.letter v.seen) p.at (f.meaning input)
+      → MayTake f routers v (given_by p.at taken t mail replies)
+  seat_may p t v input taken mail replies same none here step counted below known =
+      let is : IsAsKnown f here.old p.seat = as_known (map f.letter v.seen) here.old p none here.is in
+      subst (λ (i : I). MayTake f routers v (given_by p.at i t mail replies)) (sym same)
+      (record {
+        old = here.old;
+        held = here.held;
+        steps = λ since w stands. step since w p.at (same_stands f.state f.facts since w p.at here.old p.seat (sym is.state, sym is.log) stands);
+        more = omega (arith, is.steps, counted);
+        below = below;
+        known = known;
+      })
+
+  -- after it the pass has the node as it is
+  pub sits_after : (p : Placed N L) (t : Seat N L) (v w : View N L M I) (g : Given N L M I) (number : ℕ) → p.failed ≡ None → Sits f routers p v → g.new ≡ t
+      → IsTrue (f.facts.is_open t.log) → w ≡ after_step g number v → Sits f routers (record { at = p.at; failed = p.failed; seat = t }) w
+  sits_after p t v w g number none here new is_open is =
+      subst (λ (u : View N L M I). Sits f routers (record { at = p.at; failed = p.failed; seat = t }) u) (sym is)
+      (record {
+        old = t;
+        held = ap (λ (l : List (ℕ × Seat N L)). renewed l g.new) here.held ∙ ap (λ (x : Seat N L). (p.at, x) ∷ []) new;
+        is = is_kept (map f.letter (after_step g number v).seen) t t p none (record { state = refl; log = refl; steps = omega arith; is_open = is_open });
+      })
+
+  -- and after a fault
+  pub sits_failed : (p : Placed N L) (t : Seat N L) (v : View N L M I) (i : Input) (fault : StepFault) → p.failed ≡ None → Sits f routers p v
+      → IsKnown routers (map f.letter v.seen) p.at i
+      → ((since : Since L) (w : World) (k : ℕ) → StandsAt (view_by f since p.seat) w k
+      → ByStepFault fault (λ faults. BreaksAt (view_by f since t) w k i) (StandsAt (view_by f since t) w k))
+      → ByStepFault fault (λ faults. Unit {0}) ((f.state t.node ≡ f.state p.seat.node) × (t.log ≡ p.seat.log))
+      → f.steps t.node ≡ steps_after fault (f.steps p.seat.node) → ByStepFault fault (λ faults. Unit {0}) (IsTrue (f.facts.is_open t.log))
+      → Sits f routers (record { at = p.at; failed = faults_in fault; seat = t }) v
+  sits_failed p t v i (Disk faults) none here known failed same count is_open =
+      let is : IsAsKnown f here.old p.seat = as_known (map f.letter v.seen) here.old p none here.is in
+      record {
+        old = here.old;
+        held = here.held;
+        is = record {
+          input = i;
+          known = known;
+          breaks = λ since w stands. failed since w p.at (same_stands f.state f.facts since w p.at here.old p.seat (sym is.state, sym is.log) stands);
+        };
+      }
+  sits_failed p t v i Steps none here known failed same count is_open =
+      let is : IsAsKnown f here.old p.seat = as_known (map f.letter v.seen) here.old p none here.is in
+      record {
+        old = here.old;
+        held = here.held;
+        is = record { state = is.state ∙ sym same.0; log = is.log ∙ sym same.1; steps = omega (arith, is.steps, count); is_open = is_open };
+      }
+  sits_failed p t v i Memory none here known failed same count is_open =
+      let is : IsAsKnown f here.old p.seat = as_known (map f.letter v.seen) here.old p none here.is in
+      record {
+        old = here.old;
+        held = here.held;
+        is = record { state = is.state ∙ sym same.0; log = is.log ∙ sym same.1; steps = omega (arith, is.steps, count); is_open = is_open };
+      }
+
+  -- its pass takes in a note
+  pub sits_noted : (p : Placed N L) (v note : View N L M I) → Sits f routers p v → note.held ≡ [] → Sits f routers p (both_views v note)
+  sits_noted p v note here none = record {
+    old = here.old;
+    held = ap (λ (l : List (ℕ × Seat N L)). v.held ++ l) none ∙ (append-nil v.held ∙ here.held);
+    is = kept_on f routers (map f.letter v.seen) (map f.letter (both_views v note).seen) here.old p
+        (are_among_map f.letter v.seen (both_views v note).seen (part_front v v note (part_self v)).seen) here.is;
+  }
+
+-- WHAT A NOTE HAS SEEN
+
+pub seen_now : {M : Type 0} (letter : M → Letter) (before mail seen : List M) → seen ≡ before ++ mail → AreSeen letter seen mail
+seen_now {M} letter before mail seen is =
+    subst (λ (l : List Letter). AllByRecursion (λ (m : M). Among (letter m) l) mail) (sym (ap (λ (l : List M). map letter l) is ∙ map-append letter before mail))
+    (all_unmap letter (λ (x : Letter). Among x (map letter before ++ map letter mail)) mail (sits (map letter before) (map letter mail)))
+
+pub told_now : (number : ℕ) (before : List (ℕ × ToLink)) (replies : List ToLink) (told : List (ℕ × ToLink)) → told ≡ before ++ map (λ x. (number, x)) replies
+    → AreTold told number replies
+told_now number before replies told is =
+    subst (λ (l : List (ℕ × ToLink)). AllByRecursion (λ (r : ToLink). Among (number, r) l) replies) (sym is)
+    (all_unmap (λ x. (number, x)) (λ (x : ℕ × ToLink). Among x (before ++ map (λ x. (number, x)) replies)) replies (sits before (map (λ x. (number, x)) replies)))
+
+pub taken_now : {I : Type 0} (number at : ℕ) (kept input : I) (before taken : List (Taken I)) → kept ≡ input
+    → taken ≡ before ++ step_of number at input ∷ [] → Among (step_of number at kept) taken
+taken_now {I} number at kept input before taken same is =
+    subst (λ (i : I). Among (step_of number at i) taken) (sym same)
+    (length before, ap (λ (l : List (Taken I)). slice_get l (length before)) is ∙ get_seam before (step_of number at input) [])
+
+-- the first of what was seen, and the others
+pub all_first : {A : Type 0} (P : A → Type 0) (all rest : List A) (x : A) → AllByRecursion P all → all ≡ x ∷ rest → P x × AllByRecursion P rest
+all_first {A} P all rest x are is = subst (λ (l : List A). AllByRecursion P l) is are
+
+-- a message that a note has seen is known once its receiver takes in the note
+pub letter_known : {N L M I : Type 0} (f : NodeFacts N L M I) (routers at : ℕ) (v note : View N L M I) (m : Letter) (i : Input) → i ≡ letter_input m
+    → m.receiver ≡ at → Among m (map f.letter note.seen) → IsKnown routers (map f.letter (both_views v note).seen) at i
+letter_known {N} {L} {M} f routers at v note m i is to among =
+    subst (λ (x : Input). IsKnown routers (map f.letter (both_views v note).seen) at x) (sym is)
+    (to, subst (λ (l : List Letter). Among m l) (sym (map-append f.letter v.seen note.seen)) (among_behind m (map f.letter v.seen) (map f.letter note.seen) among))
+
+-- MANY NODES
+
+pub open_next : {N L : Type 0} (is_open : L → Bool) (s : Seat N L) (all rest : List (Seat N L)) → all ≡ s ∷ rest → AreOpen is_open all
+    → IsTrue (is_open s.log) × AreOpen is_open rest
+open_next {N} {L} is_open s all rest first are = subst (λ (l : List (Seat N L)). AreOpen is_open l) first are
+
+module _ {N L M I : Type 0} (at : ℕ) (s : Seat N L) (all rest : List (Seat N L)) (old : Me ⊤ (View N L M I))
+    (was : old ≡ (view_of (numbered at all) [] [] [], [])) (first : all ≡ s ∷ rest) where
+  abbrev only : List (ℕ × Seat N L) → Me ⊤ (View N L M I)
+  only held = (view_of held [] [] [], [])
+
+  abbrev off : Me ⊤ (View N L M I) → Me ⊤ (View N L M I)
+  off m = (view_of (first_off m.0.held) m.0.seen m.0.told m.0.taken, m.1)
+
+  -- the pass of the first node
+  pub own_first : (own : Me ⊤ (View N L M I)) → own ≡ (view_of (first_alone old.0.held) [] [] [], []) → own.0.held ≡ (at, s) ∷ []
+  own_first own is =
+      ap (λ (m : Me ⊤ (View N L M I)). m.0.held) is ∙ (ap (λ (m : Me ⊤ (View N L M I)). first_alone m.0.held) was ∙ first_numbered at s all rest first)
+
+  -- and of the others
+  pub pass_next : (new : Me ⊤ (View N L M I)) → new ≡ (view_of (first_off old.0.held) old.0.seen old.0.told old.0.taken, old.1)
+      → new ≡ (view_of (numbered (at + 1) rest) [] [] [], [])
+  pass_next new is = is ∙ (ap off was ∙ ap only (rest_numbered at s all rest first))
+
+-- one more node is taken out of its lock
+pub sit_next : {N L M I : Type 0} (f : NodeFacts N L M I) (routers at : ℕ) (v own w : View N L M I) (ended : List (Placed N L)) (p : Placed N L)
+    → AllSit f routers (map f.letter v.seen) 0 v.held ended → Sits f routers p own → p.at ≡ at → at ≡ length ended → w ≡ both_views v own
+    → AllSit f routers (map f.letter w.seen) 0 w.held (ended ++ p ∷ [])
+sit_next {N} {L} {M} {I} f routers at v own w ended p all here place number is =
+    subst (λ (u : View N L M I). AllSit f routers (map f.letter u.seen) 0 u.held (ended ++ p ∷ [])) (sym is)
+    (sit_joined f routers v own ended p all here (place ∙ number))
+
+-- no node yet
+pub sit_none : {N L M I : Type 0} (f : NodeFacts N L M I) (routers : ℕ) (v : View N L M I) (ended : List (Placed N L)) → v ≡ nothing_seen → ended ≡ []
+    → AllSit f routers (map f.letter v.seen) 0 v.held ended
+sit_none {N} {L} {M} {I} f routers v ended none empty =
+    subst (λ (l : List (Placed N L)). AllSit f routers (map f.letter v.seen) 0 v.held l) (sym empty)
+    (subst (λ (u : View N L M I). AllSit f routers (map f.letter u.seen) 0 u.held []) (sym none) tt)
+
+-- notes were joined to the pass of all nodes
+pub sit_learnt : {N L M I : Type 0} (f : NodeFacts N L M I) (routers : ℕ) (v w : View N L M I) (ended : List (Placed N L))
+    → AllSit f routers (map f.letter v.seen) 0 v.held ended → w.held ≡ v.held → IsPart v w → AllSit f routers (map f.letter w.seen) 0 w.held ended
+sit_learnt {N} {L} {M} {I} f routers v w ended all same part =
+    subst (λ (l : List (ℕ × Seat N L)). AllSit f routers (map f.letter w.seen) 0 l ended) (sym same)
+    (sit_on f routers (map f.letter v.seen) (map f.letter w.seen) 0 v.held ended (are_among_map f.letter v.seen w.seen part.seen) all)
+
+-- a note was joined
+pub held_same : {N L M I : Type 0} (v note w : View N L M I) → w ≡ both_views v note → note.held ≡ [] → w.held ≡ v.held
+held_same {N} {L} {M} {I} v note w is none =
+    ap (λ (u : View N L M I). u.held) is ∙ (ap (λ (l : List (ℕ × Seat N L)). v.held ++ l) none ∙ append-nil v.held)
+
+pub part_next : {N L M I : Type 0} (first v note w : View N L M I) → w ≡ both_views v note → IsPart first v → IsPart first w
+part_next {N} {L} {M} {I} first v note w is part = subst (λ (u : View N L M I). IsPart first u) (sym is) (part_front first v note part)
+
+-- routers are from the same number on
+pub may_at : {N L M I : Type 0} (f : NodeFacts N L M I) (key routers : ℕ) → key ≡ routers → (v : View N L M I) (g : Given N L M I) → MayTake f routers v g
+    → MayTake f key v g
+may_at {N} {L} {M} {I} f key routers same v g may = subst (λ (r : ℕ). MayTake f r v g) (sym same) may
+
+pub seen_as : {M : Type 0} (letter : M → Letter) (seen mail taken : List M) → taken ≡ mail → AreSeen letter seen mail → AreSeen letter seen taken
+seen_as {M} letter seen mail taken same are = subst (λ (l : List M). AreSeen letter seen l) (sym same) are
+
+pub told_as : (told : List (ℕ × ToLink)) (number : ℕ) (replies taken : List ToLink) → taken ≡ replies → AreTold told number replies → AreTold told number taken
+told_as told number replies taken same are = subst (λ (l : List ToLink). AreTold told number l) (sym same) are
+
+pub known_at : (routers : ℕ) (seen : List Letter) (at place : ℕ) (i : Input) → at ≡ place → IsKnown routers seen at i → IsKnown routers seen place i
+known_at routers seen at place i same known = subst (λ (k : ℕ). IsKnown routers seen k i) same known
+
+pub client_known : (routers : ℕ) (seen : List Letter) (at link : ℕ) (number : ℤ) (request : Request) (i : Input) → i ≡ client_input link number request
+    → routers ≤ at → IsKnown routers seen at i
+client_known routers seen at link number request i is far = subst (λ (x : Input). IsKnown routers seen at x) (sym is) far
+
+pub moment_known : (routers : ℕ) (seen : List Letter) (at moment : ℕ) (i : Input) → i ≡ moment_input moment → IsKnown routers seen at i
+moment_known routers seen at moment i is = subst (λ (x : Input). IsKnown routers seen at x) (sym is) tt
+
+pub opened_known : (routers : ℕ) (seen : List Letter) (at : ℕ) (i : Input) → i ≡ opened_input → IsKnown routers seen at i
+opened_known routers seen at i is = subst (λ (x : Input). IsKnown routers seen at x) (sym is) tt
+
+module _ {N L M I : Type 0} (f : NodeFacts N L M I) (routers : ℕ) where
+  pub sits_still : (p : Placed N L) (v w : View N L M I) → w ≡ v → Sits f routers p v → Sits f routers p w
+  sits_still p v w same here = subst (λ (u : View N L M I). Sits f routers p u) (sym same) here
+
+  -- a message is delivered to the node that took in its note
+  pub delivered_known : (at : ℕ) (v note given w : View N L M I) (m : Letter) (i : Input) → w ≡ both_views v note → note ≡ given → i ≡ letter_input m
+      → m.receiver ≡ at → Among m (map f.letter given.seen) → IsKnown routers (map f.letter w.seen) at i
+  delivered_known at v note given w m i is view kind to among =
+      subst (λ (u : View N L M I). IsKnown routers (map f.letter u.seen) at i) (sym is) (known kind)
+    where
+      among_note : Among m (map f.letter note.seen)
+      among_note = subst (λ (u : View N L M I). Among m (map f.letter u.seen)) (sym view) among
+
+      known : i ≡ letter_input m → IsKnown routers (map f.letter (both_views v note).seen) at i
+      known what = letter_known f routers at v note m i what to among_note
+
+pub sit_as : {N L M I : Type 0} (f : NodeFacts N L M I) (key routers : ℕ) → key ≡ routers → (seen : List Letter) (held : List (ℕ × Seat N L))
+    (ended : List (Placed N L)) → AllSit f routers seen 0 held ended → AllSit f key seen 0 held ended
+sit_as f key routers same seen held ended all = subst (λ (r : ℕ). AllSit f r seen 0 held ended) (sym same) all
+
+pub sit_list : {N L M I : Type 0} (f : NodeFacts N L M I) (routers : ℕ) (seen : List Letter) (held : List (ℕ × Seat N L)) (ended all : List (Placed N L))
+    → all ≡ ended → AllSit f routers seen 0 held ended → AllSit f routers seen 0 held all
+sit_list {N} {L} f routers seen held ended all same sit = subst (λ (l : List (Placed N L)). AllSit f routers seen 0 held l) (sym same) sit

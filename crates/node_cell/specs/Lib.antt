@@ -1,0 +1,5 @@
+pub mod Views
+pub mod Courses
+pub mod Standing
+pub use Rattle.driver_steps.specs.OneSeat
+pub use Rattle.driver_steps.specs.Seats

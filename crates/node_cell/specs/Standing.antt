@@ -1,0 +1,139 @@
+-- A node under its lock, with the pass that knows it; and what is known of all once their locks are gone (own).
+use Rattle.std.specs.Prelude.{◌≡◌, ℕ, ◌+◌, ◌<◌, ◌≤◌, ◌^◌, IsTrue, List, [], ◌∷◌, map, MatchOption, Option, Some, None}
+use Rattle.std.specs.List.{slice_get, AllByRecursion}
+use Rattle.atomic_table.specs.Seated.{TableId}
+use Rattle.node_model.specs.Letters.{Letter, Input, client_input, letter_input, moment_input, opened_input}
+use Rattle.node_model.specs.World.{World, Event, Run}
+use Rattle.node_traits.specs.declared.outputs.StepFault.{StepFault}
+use Rattle.node_traits.specs.declared.outputs.StepFault.TheVariants.{Disk, Steps, Memory}
+use Rattle.node_traits.specs.declared.outputs.ToLink.{ToLink}
+use Rattle.driver_steps.specs.declared.seat.Seat.{Seat}
+use Rattle.driver_steps.specs.Crashes.{Since}
+use Rattle.driver_steps.specs.Moves.{IsEvent}
+use Rattle.driver_steps.specs.OneSeat.{BreaksAt, StandsAt, StepsAt}
+use Rattle.node_cell.specs.declared.view.Placed.{Placed}
+use Rattle.node_cell.specs.declared.view.Taken.{Taken}
+use Rattle.node_cell.specs.declared.view.View.{View}
+use Rattle.node_cell.specs.Views.{Given}
+use Rattle.node_cell.specs.Courses.{NodeFacts, OpenedAs, Saw, view_by}
+
+abbrev pub Among : {A : Type 0} → A → List A → Type 0
+Among x all = (which : ℕ) × (slice_get all which ≡ Some x)
+
+-- a request comes to a router, and a message to its receiver, after it was seen sent
+abbrev pub IsKnown : (routers : ℕ) → (seen : List Letter) → (at : ℕ) → Input → Type 0
+IsKnown routers seen at (client_input link number request) = routers ≤ at
+IsKnown routers seen at (letter_input m) = (m.receiver ≡ at) × Among m seen
+IsKnown routers seen at (moment_input moment) = Unit {0}
+IsKnown routers seen at opened_input = Unit {0}
+
+-- a pass with this view may take the step that is given
+pub record MayTake {N L M I : Type 0} (f : NodeFacts N L M I) (routers : ℕ) (v : View N L M I) (g : Given N L M I) : Type 0 where
+  pub old : Seat N L
+  pub held : v.held ≡ (g.at, old) ∷ []
+  pub steps : (since : Since L) (w : World) → StandsAt (view_by f since old) w g.at
+      → StepsAt (view_by f since g.new) w g.at (f.meaning g.input) (map f.letter g.mail) g.replies
+  pub more : f.steps old.node + 1 ≤ f.steps g.new.node
+  pub below : f.steps g.new.node < 2 ^ 56
+  pub known : IsKnown routers (map f.letter v.seen) g.at (f.meaning g.input)
+
+-- the node is in this state, and has this log, to which records can be appended; a step that met a fault may have been counted
+pub record IsAsKnown {N L M I : Type 0} (f : NodeFacts N L M I) (old seat : Seat N L) : Type 0 where
+  pub state : f.state old.node ≡ f.state seat.node
+  pub log : old.log ≡ seat.log
+  pub steps : f.steps old.node ≤ f.steps seat.node
+  pub is_open : IsTrue (f.facts.is_open seat.log)
+
+-- The disk failed in a step of the node at a place, which has no number.
+pub record IsHalted {N L M I : Type 0} (f : NodeFacts N L M I) (routers at : ℕ) (seen : List Letter) (old seat : Seat N L) : Type 0 where
+  pub input : Input
+  pub known : IsKnown routers seen at input
+  pub breaks : (since : Since L) (w : World) → StandsAt (view_by f since old) w at → BreaksAt (view_by f since seat) w at input
+
+-- the node is as it was known, or its disk failed since
+abbrev pub IsKept : {N L M I : Type 0} → NodeFacts N L M I → (routers : ℕ) → (seen : List Letter) → Seat N L → Placed N L → Type 0
+IsKept f routers seen old p = MatchOption p.failed (IsAsKnown f old p.seat) (λ faults. IsHalted f routers p.at seen old p.seat)
+
+-- the pass has this node alone
+pub record Sits {N L M I : Type 0} (f : NodeFacts N L M I) (routers : ℕ) (p : Placed N L) (v : View N L M I) : Type 0 where
+  pub old : Seat N L
+  pub held : v.held ≡ (p.at, old) ∷ []
+  pub is : IsKept f routers (map f.letter v.seen) old p
+
+-- the count of faults of a disk, where the fault is that of a disk
+abbrev pub faults_in : StepFault → Option ℕ
+faults_in (Disk faults) = Some faults
+faults_in Steps = None
+faults_in Memory = None
+
+-- these messages are among those that were seen
+abbrev pub AreSeen : {M : Type 0} → (M → Letter) → (seen mail : List M) → Type 0
+AreSeen letter seen mail = AllByRecursion (λ m. Among (letter m) (map letter seen)) mail
+
+-- these replies were seen returned by the step with this number
+abbrev pub AreTold : (told : List (ℕ × ToLink)) → (number : ℕ) → List ToLink → Type 0
+AreTold told number replies = AllByRecursion (λ r. Among (number, r) told) replies
+
+-- A disk failed in a step of the node at a place that is one more event of the run; its records are stored or they are not.
+pub record StoppedAt {N L M I : Type 0} (f : NodeFacts N L M I) (since : Since L) (w : World) (at : ℕ) (seat : Seat N L) : Type 0 where
+  pub input : Input
+  pub event : Event
+  pub is : IsEvent w at input event
+  pub breaks : BreaksAt (view_by f since seat) w at input
+
+-- the node is at its place with its log, or its disk failed in one step more
+abbrev pub Ends : {N L M I : Type 0} → NodeFacts N L M I → Since L → World → Placed N L → Type 0
+Ends f since w p = MatchOption p.failed (StandsAt (view_by f since p.seat) w p.at) (λ faults. StoppedAt f since w p.at p.seat)
+
+-- these are at the places from one on
+abbrev pub AreFrom : {N L : Type 0} → ℕ → List (Placed N L) → Type 0
+AreFrom k [] = Unit {0}
+AreFrom k (p ∷ all) = (p.at ≡ k) × AreFrom (k + 1) all
+
+-- From each world that the nodes were those of at the start there is one run to a world in which these are the nodes, with their logs, in order of
+-- their places; and all that was noted is so.
+pub record Ran {N L M I : Type 0} (f : NodeFacts N L M I) (since : Since L) (first : World) (ended : List (Placed N L)) (notes : List (View N L M I)) : Type 0 where
+  pub events : List Event
+  pub world : World
+  pub run : Run first events world
+  pub nodes : AllByRecursion (λ p. Ends f since world p) ended
+  pub noted : AllByRecursion (λ v. Saw f first.now events world v) notes
+
+abbrev pub AreRun : {N L M I : Type 0} → NodeFacts N L M I → (routers : ℕ) → List (Seat N L) → List (Placed N L) → List (View N L M I) → Type 0
+AreRun {N} {L} f routers seats ended notes = (since : Since L) (first : World) → OpenedAs f since routers seats first → Ran f since first ended notes
+
+abbrev pub AreAmong : {A : Type 0} → (part all : List A) → Type 0
+AreAmong part all = AllByRecursion (λ x. Among x all) part
+
+-- whatever one has seen, the other has seen
+pub record IsPart {N L M I : Type 0} (part whole : View N L M I) : Type 0 where
+  pub seen : AreAmong part.seen whole.seen
+  pub told : AreAmong part.told whole.told
+  pub taken : AreAmong part.taken whole.taken
+
+-- the node that is held with a number is this one, at the place of that number
+pub record IsHeldAs {N L M I : Type 0} (f : NodeFacts N L M I) (routers : ℕ) (seen : List Letter) (number : ℕ) (h : ℕ × Seat N L) (p : Placed N L) : Type 0 where
+  pub number_is : h.0 ≡ number
+  pub place : p.at ≡ number
+  pub is : IsKept f routers seen h.1 p
+
+-- these nodes, in order of their places from one on, are those that are held
+abbrev pub AllSit : {N L M I : Type 0} → NodeFacts N L M I → (routers : ℕ) → (seen : List Letter) → ℕ → (held : List (ℕ × Seat N L)) → List (Placed N L) → Type 0
+AllSit f routers seen k [] [] = Unit {0}
+AllSit f routers seen k (h ∷ held) (p ∷ ended) = IsHeldAs f routers seen k h p × AllSit f routers seen (k + 1) held ended
+AllSit f routers seen k held ended = ⊥
+
+abbrev pub step_of : {I : Type 0} → (number at : ℕ) → I → Taken I
+step_of number at input = record { number = number; at = at; input = input }
+
+-- what of a step was not taken out yet
+pub record Handed (M I : Type 0) : Type 0 where
+  pub taken : Taken I
+  pub mail : List M
+  pub replies : List ToLink
+
+abbrev pub handed : {M I : Type 0} → Taken I → List M → List ToLink → Handed M I
+handed taken mail replies = record { taken = taken; mail = mail; replies = replies }
+
+abbrev pub no_table : TableId
+no_table = record { words = 0; slots = 0; views_name = 0; atom = 0; block = 0; offset = 0; slot_names = [] }

@@ -1,0 +1,16 @@
+//! Nodes with their logs under locks, whose steps have numbers in one order.
+#![tactic(auto)]
+
+mod cell;
+mod close;
+mod guarded;
+mod letter;
+mod numbers;
+mod queue;
+mod view;
+
+pub use cell::Cell;
+pub use close::{cells, close_cells};
+pub use letter::{Letter, Note, Reply, Stepped};
+pub use numbers::{Book, Numbers};
+pub use view::{Law, Numbering, Opening, Pass, Placed, Places, Taken, View};

@@ -1,0 +1,143 @@
+//! What is known of a run, and the rule that ties it to the numbers of the steps.
+
+use atomic_table::{Join, Play, Seat as Token, Shared, Split, TableRule};
+use driver_steps::Seat;
+use node_traits::{Node, ToLink};
+use outside::log::Log;
+use std::collections::LinkedList;
+use std::marker::{Brand, PhantomData};
+use std::snapshot::Snapshot;
+
+/// A step that was taken: its number, the place of its node, and its input.
+pub struct Taken<I> {
+    pub number: u64,
+    pub at: u64,
+    pub input: I,
+}
+
+/// What is known of a run: the nodes that a pass has, by their places, and what it saw: messages that were sent, replies with the numbers of the steps that
+/// returned them, and steps that were taken. No value of it is made.
+pub struct View<N, L, M, I> {
+    pub held: LinkedList<(u64, Seat<N, L>)>,
+    pub seen: LinkedList<M>,
+    pub told: LinkedList<(u64, ToLink)>,
+    pub taken: LinkedList<Taken<I>>,
+}
+
+/// A node with its log, its place among the nodes, and the count of faults of its disk where that failed: then it takes no more steps.
+#[derive(Drop)]
+pub struct Placed<N, L> {
+    pub at: u64,
+    pub failed: Option<u64>,
+    pub seat: Seat<N, L>,
+}
+
+/// The nodes with their logs as they were at the start, and the number from which on they are routers.
+#[derive(Drop)]
+pub struct Opening<N, L> {
+    pub seats: Snapshot<Vec<Seat<N, L>>>,
+    pub routers: u64,
+}
+
+/// The rule: the steps in the order of their numbers are one run.
+pub struct Law<N, L> {
+    of: PhantomData<(N, L)>,
+}
+
+impl<N: Node, L: Log> TableRule<(), View<N, L, N::Mail, N::Input>, Opening<N, L>> for Law<N, L> {
+    ghost use Rattle.std.specs.Prelude.{[]};
+    ghost use Rattle.node_cell.specs.Courses.{Holds, node_facts};
+    ghost use Rattle.node_cell.specs.Views.{numbered, view_of};
+
+    ghost holds = { λ start s. Holds (node_facts N.state N.steps N.Mail.letter N.meaning L.facts) start.routers start.seats.value.items s };
+
+    ghost first = { λ start. view_of (numbered 0 start.seats.value.items) [] [] [] };
+}
+
+/// Which table it is, and the number from which on its nodes are routers.
+pub trait Numbering {
+    ghost use Rattle.std.specs.Prelude.{ℕ};
+    ghost use Rattle.atomic_table.specs.Seated.{TableId};
+
+    ghost table: { TableId };
+
+    ghost routers: { ℕ };
+}
+
+impl Numbering for Brand {
+    ghost use Rattle.node_cell.specs.Standing.{no_table};
+
+    ghost table = { no_table };
+
+    ghost routers = { 0 };
+}
+
+/// What a step leaves and gives out, for proofs alone: a call at `Brand` picks it.
+pub(crate) trait Said<N, L, M, I> {
+    ghost use Rattle.std.specs.Prelude.{Option};
+    ghost use Rattle.node_cell.specs.Views.{Given};
+
+    ghost step: { Option (Given N L M I) };
+}
+
+impl<N, L, M, I> Said<N, L, M, I> for Brand {
+    ghost use Rattle.std.specs.Prelude.{None};
+
+    ghost step = { None };
+}
+
+/// A step of a node.
+pub(crate) struct Takes<W> {
+    of: PhantomData<W>,
+}
+
+impl<N, L, M, I, W: Said<N, L, M, I>> Play<(), View<N, L, M, I>> for Takes<W> {
+    ghost use Rattle.node_cell.specs.Views.{takes};
+
+    ghost then = { takes W.step };
+}
+
+/// The first node gets a pass of its own.
+pub(crate) struct First;
+
+impl<N, L, M, I> Split<View<N, L, M, I>> for First {
+    ghost use Rattle.std.specs.Prelude.{[]};
+    ghost use Rattle.node_cell.specs.Views.{first_alone, first_off, view_of};
+
+    ghost left = { λ v. view_of (first_off v.held) v.seen v.told v.taken };
+
+    ghost right = { λ v. view_of (first_alone v.held) [] [] [] };
+}
+
+/// A note of what was seen.
+pub(crate) struct Off;
+
+impl<N, L, M, I> Split<View<N, L, M, I>> for Off {
+    ghost use Rattle.node_cell.specs.Views.{noted};
+
+    ghost left = { λ v. v };
+
+    ghost right = { noted };
+}
+
+/// All that two passes know.
+pub(crate) struct Both;
+
+impl<N, L, M, I> Join<View<N, L, M, I>> for Both {
+    ghost use Rattle.node_cell.specs.Views.{both_views, nothing_seen};
+
+    ghost both = { both_views };
+
+    ghost spent = { nothing_seen };
+}
+
+/// The table of the numbers, as threads see it.
+pub type Places<N, L> = Shared<
+    (),
+    View<N, L, <N as Node>::Mail, <N as Node>::Input>,
+    Opening<N, L>,
+    Law<N, L>,
+>;
+
+/// What somebody knows of the run.
+pub type Pass<N, L> = Token<(), View<N, L, <N as Node>::Mail, <N as Node>::Input>>;
