@@ -1,8 +1,8 @@
 -- What one call says of the bytes that it took and put, and of the disks that it hands back.
 use Rattle.std.specs.Prelude.{◌≡◌, ℕ, Bool, IsTrue, List}
 use Rattle.outside.specs.Devices.{SourceCall, SinkCall}
-use Rattle.node_model.specs.Journal.{creations_kept, entries_kept}
-use Rattle.node_model.specs.OneHistory.{OneHistory}
+use Rattle.node_model.specs.Journal.{changes_kept, entries_kept}
+use Rattle.node_model.specs.OneHistory.{OneHistory, changes_in}
 use Rattle.node_model.specs.Tables.{first_shard}
 use Rattle.node_model.specs.World.{World, journal_at}
 use Rattle.pipe_driver.specs.Endings.{IsPiped, most_taken}
@@ -15,7 +15,9 @@ use Rattle.cluster_top.specs.declared.arguments.Command.TheVariants.{Pipe, Sim}
 
 -- what the catalogue and the shard of a world store, and the requests and replies, are one history
 abbrev pub MakesOneHistory : World → Type 0
-MakesOneHistory end = OneHistory end.given (creations_kept (journal_at end.nodes 0)) (entries_kept (journal_at end.nodes first_shard)) end.asked end.answered
+MakesOneHistory end =
+    (changes_in end.changed ≡ changes_kept (journal_at end.nodes 0))
+    × OneHistory end.given end.changed (entries_kept (journal_at end.nodes first_shard)) end.asked end.answered
 
 -- The bytes taken are requests and a rest, and the bytes put are the replies of a run of the nodes with one router, by the schedule, whose journals
 -- the disks store. For all inputs, what the catalogue and the shard store then is one legal history of an unsharded collection with each

@@ -3,7 +3,7 @@ use Rattle.std.specs.Prelude.{ℕ, List, [], ◌∷◌}
 use Rattle.std.specs.List.{AllByRecursion}
 use Rattle.journal_frames.specs.Files.{Stands}
 use Rattle.node_model.specs.History.{Legal}
-use Rattle.node_model.specs.Journal.{Kept, creations_kept, entries_kept}
+use Rattle.node_model.specs.Journal.{Kept, changes_kept, entries_kept}
 use Rattle.node_model.specs.OneHistory.{IsPlaced}
 use Rattle.node_model.specs.Tables.{first_shard}
 use Rattle.node_model.specs.World.{Held, journal_at}
@@ -23,4 +23,4 @@ AreJournals files nodes = ⊥
 -- what the shard stores is a legal history, of collections that the catalogue stores
 pub record IsHistory (nodes : List Held) : Type 0 where
   pub legal : Legal (entries_kept (journal_at nodes first_shard))
-  pub placed : AllByRecursion (IsPlaced (creations_kept (journal_at nodes 0))) (entries_kept (journal_at nodes first_shard))
+  pub placed : AllByRecursion (IsPlaced (changes_kept (journal_at nodes 0))) (entries_kept (journal_at nodes first_shard))

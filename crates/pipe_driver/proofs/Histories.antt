@@ -3,7 +3,7 @@ use Rattle.std.proofs.Common.{◌≡◌, ℕ, ◌+◌, List, [], ◌∷◌, ◌+
 use Rattle.std.specs.Prelude.{Option}
 use Rattle.outside.specs.Devices.{SourceCall, SinkCall}
 use Rattle.opmsg_frames.specs.Outline.{FrameFault}
-use Rattle.node_model.specs.Journal.{creations_kept, entries_kept}
+use Rattle.node_model.specs.Journal.{entries_kept}
 use Rattle.node_model.specs.OneHistory.{OneHistory}
 use Rattle.node_model.specs.Requests.{Request}
 use Rattle.node_model.specs.Schedule.{Round, serves}
@@ -57,6 +57,6 @@ module _ (source : SourceCall) (sink : SinkCall) (gives : ℕ → Type 0) (route
   piped_run piped = cause_run routers limit gives router piped.put piped.requests piped.rounds piped.end _ piped.taken piped.fault status piped.cause
 
   pub piped_history : (piped : IsPiped source sink gives router kept leaves owed routers limit status rest)
-      → OneHistory piped.end.given (creations_kept (journal_at piped.end.nodes 0)) (entries_kept (journal_at piped.end.nodes first_shard))
+      → OneHistory piped.end.given piped.end.changed (entries_kept (journal_at piped.end.nodes first_shard))
       piped.end.asked piped.end.answered
   piped_history piped = let run = piped_run piped in run_makes_one_history routers run.0 piped.end run.1

@@ -1,7 +1,7 @@
 -- However a script ends, its nodes took part in one run, which makes one history.
 use Rattle.std.proofs.Common.{ℕ, List, ◌++◌}
 use Rattle.outside.specs.Devices.{SourceCall, SinkCall}
-use Rattle.node_model.specs.Journal.{creations_kept, entries_kept}
+use Rattle.node_model.specs.Journal.{entries_kept}
 use Rattle.node_model.specs.OneHistory.{OneHistory}
 use Rattle.node_model.specs.Tables.{first_shard}
 use Rattle.node_model.specs.World.{Held, World, Event, Run, journal_at, start}
@@ -51,5 +51,5 @@ module _ (source : SourceCall) (sink : SinkCall) (kept : List Held → Type 0) (
       cause_run routers limit _ s.taken s.lines s.left s.put s.end status s.cause
 
   pub simulated_history : (s : IsSimulated source sink kept leaves owed routers limit status)
-      → OneHistory s.end.given (creations_kept (journal_at s.end.nodes 0)) (entries_kept (journal_at s.end.nodes first_shard)) s.end.asked s.end.answered
+      → OneHistory s.end.given s.end.changed (entries_kept (journal_at s.end.nodes first_shard)) s.end.asked s.end.answered
   simulated_history s = let run = simulated_run s in run_makes_one_history routers run.0 s.end run.1
