@@ -7,7 +7,7 @@ use Rattle.command_words.proofs.split.SplitFormCommandForm.finish.Goals as goal
 
 pub returns-in-Some : goal.returns-in-Some
 returns-in-Some c = λ database read given needed.
-    ap Ok (split_told c.args.own (datum_of c.args.value.now) (key_given (get (codes "middle") c.args.document.now)) c.in-Some.middle read (sym c.in-Some.is ∙ c.in_ok-middle.ensures))
+    ap Ok (split_told c.args.own (datum_of c.args._value.now) (key_given (get (codes "middle") c.args.document.now)) c.in-Some.middle read (sym c.in-Some.is ∙ c.in_ok-middle.ensures))
 
 pub returns-in-None : goal.returns-in-None
 returns-in-None c = λ database read given needed.
