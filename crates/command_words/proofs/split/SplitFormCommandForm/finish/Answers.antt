@@ -1,5 +1,5 @@
 use Rattle.std.proofs.Common.{◌≡◌, sym, ◌∙◌, ap, Some, None, Ok, codes}
-use Rattle.bson_model.specs.Tree.{Datum, get}
+use Rattle.bson_model.specs.Tree.{get}
 use Rattle.bson_values.specs.View.{datum_of}
 use Rattle.command_model.specs.AdminCommands.{key_given}
 use Rattle.command_words.proofs.Middles.{middle_there, split_told}
