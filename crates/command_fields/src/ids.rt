@@ -43,13 +43,7 @@ fn only_key(document: &Document) -> Option<&Value>
     ensures { option_map (λ v. datum_of v.now) result ≡ admin.only_key document.now }
 {
     match only_id(document) {
-        Some(value) => {
-            if is_key(value) {
-                Some(value)
-            } else {
-                None
-            }
-        }
+        Some(value) => { if is_key(value) { Some(value) } else { None } }
         None => None,
     }
 }
