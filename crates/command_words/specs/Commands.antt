@@ -1,5 +1,5 @@
 -- The program's commands, by the definitions.
-use Rattle.std.specs.Prelude.{◌≡◌, ℕ, map, Option, Result, Ok, Err}
+use Rattle.std.specs.Prelude.{◌≡◌, map, Result, Ok, Err}
 use Rattle.base_model.specs.Errors.{ErrorCode}
 use Rattle.base_model.specs.Refusals as history
 use Rattle.cluster_base.specs.Codes.{meaning_of}

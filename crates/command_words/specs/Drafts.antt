@@ -1,5 +1,5 @@
 -- Commands whose statements are still in their request.
-use Rattle.std.specs.Prelude.{◌≡◌, ℕ, List, [], ◌∷◌, map, Bool, Option, Some, None, Result, Ok, Err}
+use Rattle.std.specs.Prelude.{◌≡◌, ℕ, List, map, Bool, Option, Result, Ok, Err}
 use Rattle.bson_model.specs.Tree.{Fields}
 use Rattle.base_model.specs.Errors.{ErrorCode}
 use Rattle.cluster_base.specs.Codes.{meaning_of}
