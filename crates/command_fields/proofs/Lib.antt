@@ -1,7 +1,7 @@
 mod Copied
 mod FullNames
-mod Ids
 mod Judged
 mod Named
+mod OnlyIds
 pub mod Rulings
 mod Sessions

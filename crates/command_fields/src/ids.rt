@@ -7,6 +7,7 @@ ghost use Rattle.bson_model.specs.Tree.{get};
 ghost use Rattle.bson_values.specs.View.{datum_of};
 ghost use Rattle.command_model.specs.AdminCommands as admin;
 ghost use Rattle.command_model.specs.ShardCollection as model;
+ghost use Rattle.value_model.specs.Keys.{is_key};
 ghost use Rattle.command_fields.specs.Verdicts.{verdict_view};
 
 use crate::checks::{unless_passes, whole_number};
@@ -87,16 +88,23 @@ pub fn key_needed(value: &Value) -> Option<Code>
     }
 }
 
-// Returns the key in the first field of that name, if the field is such a document.
-fn key_given<'a>(document: &'a Document, name: &str) -> Option<&'a Value>
-    ensures { option_map (λ v. datum_of v.now) result ≡ admin.key_given (get name.now document.now) }
+// Returns a copy of a value as a key; none where it is no key, or `Memory` if memory runs out.
+fn as_key(value: &Value) -> Result<Option<Key>, Memory>
+    ensures { IfOk result (λ key. key ≡ (if is_key (datum_of value.now) then Some (datum_of value.now) else None)) }
 {
-    match document.get(name) {
-        Some(value) => match value {
-            Value::Doc(given) => only_key(given),
-            _ => None,
-        },
-        None => None,
+    match Key::of(value.copy()?) {
+        Ok(key) => Ok(Some(key)),
+        Err(_) => Ok(None),
+    }
+}
+
+// Returns a copy of the key in a document `{_id: key}`; none for another document, or `Memory` if memory runs out.
+fn key_copied(document: &Document) -> Result<Option<Key>, Memory>
+    ensures { IfOk result (λ key. key ≡ admin.only_key document.now) }
+{
+    match only_id(document) {
+        Some(value) => as_key(value),
+        None => Ok(None),
     }
 }
 
@@ -104,14 +112,11 @@ fn key_given<'a>(document: &'a Document, name: &str) -> Option<&'a Value>
 pub fn key_in(document: &Document, name: &str) -> Result<Option<Key>, Memory>
     ensures { IfOk result (λ key. key ≡ admin.key_given (get name.now document.now)) }
 {
-    match key_given(document, name) {
-        Some(value) => {
-            let value = value.copy()?;
-            match Key::of(value) {
-                Ok(key) => Ok(Some(key)),
-                Err(_) => Ok(None),
-            }
-        }
+    match document.get(name) {
+        Some(value) => match value {
+            Value::Doc(given) => key_copied(given),
+            _ => Ok(None),
+        },
         None => Ok(None),
     }
 }

@@ -103,6 +103,7 @@ impl CommandForm for SplitForm {
                 namespace: own,
                 middle,
             }))),
+            // A middle that is there and passes has a key.
             None => Err(CheckFault::Refused(Code::FailedToParse)),
         }
     }

@@ -1,7 +1,7 @@
 use Rattle.std.proofs.Common.{◌≡◌, None, subst, arith}
 use Rattle.bson_model.specs.Tree.{Fields}
 use Rattle.command_model.specs.AdminCommands.{only_id}
-use Rattle.command_fields.proofs.Ids.{some_fields}
+use Rattle.command_fields.proofs.OnlyIds.{some_fields}
 use Rattle.command_fields.proofs.ids.only_id.Goals as goal
 
 pub returns-in-len2-up : goal.returns-in-len2-up
