@@ -185,7 +185,11 @@ impl OpenList {
                 self.requests[place].wait = Wait::ForShards;
                 place + 1
             }
-            Next::IsTold(..) | Next::IsSharded => {
+            Next::IsTold(..) => {
+                let _ = self.requests.remove(place);
+                place
+            }
+            Next::IsSharded => {
                 let _ = self.requests.remove(place);
                 place
             }
