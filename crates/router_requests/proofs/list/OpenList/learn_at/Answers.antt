@@ -35,14 +35,6 @@ returns-in-IsTold-clause-opens c = λ r time after is.
     (settled_out (λ (q : OpenRequest). open_view r.me r.life q) (λ q. rows.stay_in (rows.next_of r time after c.args.namespace.now c.args.made (at_view c.args.told) q)) items c.args.place
     c.index.result.now c.requires c.index.ensures (ap (λ (n : rows.Next). rows.stay_in n) next))
 
-pub returns-clause-opens : goal.returns-clause-opens
-returns-clause-opens c = λ r time after is.
-    let items = c.args.self.now.requests.items in
-    let next = c.in-IsSharded.ensures r time after is in
-    rw c.remove-in-IsSharded.ensures.items
-    (settled_out (λ (q : OpenRequest). open_view r.me r.life q) (λ q. rows.stay_in (rows.next_of r time after c.args.namespace.now c.args.made (at_view c.args.told) q)) items c.args.place
-    c.index.result.now c.requires c.index.ensures (ap (λ (n : rows.Next). rows.stay_in n) next))
-
 pub returns-in-GoesOn-clause-opens : goal.returns-in-GoesOn-clause-opens
 returns-in-GoesOn-clause-opens c = λ r time after is.
     let items = c.args.self.now.requests.items in
