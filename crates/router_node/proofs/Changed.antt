@@ -6,7 +6,7 @@ use Rattle.reply_model.specs.Cursors.{Cursor}
 use Rattle.node_model.specs.Letters.{Statement}
 use Rattle.reply_model.specs.Outcomes.{Done}
 use Rattle.node_model.specs.RouterRows.{reached, with_work}
-use Rattle.node_model.specs.States.{Open, Router, Work, writing, reading, open_with, replaced}
+use Rattle.node_model.specs.States.{Open, Router, Work, writing, reading, sharding, splitting, open_with, replaced}
 use Rattle.chunk_model.specs.Tables.{Table}
 use Rattle.command_model.specs.Writes.{WriteKind}
 use Rattle.router_requests.specs.Works.{wait_view}
@@ -37,10 +37,14 @@ module _ (r : Router) (time count : ℕ) (q : Open) (found : open_with count r.r
         | Some x ↦ elim x.work as (λ _. List Open) [
           | writing k a s b ↦ replaced (with_work x (wait_view wait) (writing k a s (map done_view answers.items))) r.requests
           | reading named at stages telling ↦ r.requests
+          | sharding ↦ r.requests
+          | splitting middle ↦ r.requests
         ]
       ]) (sym found)
       (subst (λ (w : Work). replaced (with_work q (wait_view wait) (writing kind ordered statements (map done_view answers.items))) r.requests
       ≡ elim w as (λ _. List Open) [
         | writing k a s b ↦ replaced (with_work q (wait_view wait) (writing k a s (map done_view answers.items))) r.requests
         | reading named at stages telling ↦ r.requests
+        | sharding ↦ r.requests
+        | splitting middle ↦ r.requests
       ]) (sym work) refl)

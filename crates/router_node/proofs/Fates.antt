@@ -1,14 +1,16 @@
 -- The transitions for messages that answer an open request.
-use Rattle.std.proofs.Common.{◌≡◌, ◌≢◌, refl, sym, subst, ℕ, ◌<◌, ◌≤◌, List, [], ◌∷◌, Bool, true, false}
+use Rattle.std.proofs.Common.{◌≡◌, ◌≢◌, refl, sym, subst, ℕ, ◌<◌, ◌≤◌, List, [], ◌∷◌, Bool, true, false, if◌then◌else◌}
 use Rattle.std.specs.Prelude.{Some, None, Result}
-use Rattle.command_model.specs.Answers.{refusal_answer}
+use Rattle.bson_model.specs.Tree.{Datum}
+use Rattle.command_model.specs.Answers.{changed_answer, refusal_answer}
+use Rattle.base_model.specs.Errors.{namespace_not_sharded}
 use Rattle.base_model.specs.Identities.{RequestId}
 use Rattle.node_model.specs.Letters as letters
-use Rattle.node_model.specs.Letters.{Letter, HalfFault, letter_input, write_done, read_rows, time_told, sends}
+use Rattle.node_model.specs.Letters.{Letter, HalfFault, letter_input, split_done, write_done, read_rows, time_told, sends}
 use Rattle.reply_model.specs.Outcomes.{Done, answer_of}
-use Rattle.base_model.specs.Refusals.{time_ahead}
-use Rattle.node_model.specs.RouterRows.{router_reach, router_ahead, router_note, router_wrote, heard, knows, open_of, reply_to, noted, is_answered, reached, asks_for, going_on, answers_now, IsLate, IsNoRead, IsNotAwaited, AreNoNews}
-use Rattle.node_model.specs.States.{Telling, Open, Router, for_time, reading, writing, without, replaced}
+use Rattle.base_model.specs.Refusals.{time_ahead, without_evidence}
+use Rattle.node_model.specs.RouterRows.{router_split, router_not_sharded, router_reach, router_ahead, router_note, router_wrote, heard, knows, open_of, reply_to, noted, is_answered, reached, asks_for, going_on, answers_now, with_work, IsLate, IsNoRead, IsNotAwaited, IsNoSplit, AreNoNews}
+use Rattle.node_model.specs.States.{Telling, Open, Router, Work, for_time, reading, writing, splitting, without, replaced}
 use Rattle.pipeline_model.specs.Halves.{Rows}
 use Rattle.pipeline_model.specs.Stages.{Stage}
 use Rattle.command_model.specs.Writes.{WriteKind}
@@ -26,27 +28,61 @@ time_of_none r m id is none = subst (λ b. IsLate r b) (sym is) (subst (λ o. Is
 pub dones_of_none : (r : Router) (m : Letter) (id : RequestId) (dones : List Done) → m.body ≡ write_done id dones → open_of r id ≡ None → IsLate r m.body
 dones_of_none r m id dones is none = subst (λ b. IsLate r b) (sym is) (subst (λ o. AreNoNews o dones) (sym none) tt)
 
+pub split_of_none : (r : Router) (m : Letter) (id : RequestId) (found : Bool) → m.body ≡ split_done id found → open_of r id ≡ None → IsLate r m.body
+split_of_none r m id found is none = subst (λ b. IsLate r b) (sym is) (subst (λ o. IsNoSplit o) (sym none) tt)
+
 module _ (r : Router) (m : Letter) (id : RequestId) (q : Open) (opened : open_of r id ≡ Some q) where
+  -- the open request has work of another kind
+  pub rows_late : (turn : ℕ) (rows : Result Rows HalfFault) (work : Work) → m.body ≡ read_rows id turn rows → q.work ≡ work → IsNoRead (Some (with_work q q.wait work)) turn → IsLate r m.body
+  rows_late turn rows work is has other =
+      subst (λ b. IsLate r b) (sym is) (subst (λ o. IsNoRead o turn) (sym opened) (subst (λ (w : Work). IsNoRead (Some (with_work q q.wait w)) turn) (sym has) other))
+
+  pub dones_late : (dones : List Done) (work : Work) → m.body ≡ write_done id dones → q.work ≡ work → AreNoNews (Some (with_work q q.wait work)) dones → IsLate r m.body
+  dones_late dones work is has other =
+      subst (λ b. IsLate r b) (sym is) (subst (λ o. AreNoNews o dones) (sym opened) (subst (λ (w : Work). AreNoNews (Some (with_work q q.wait w)) dones) (sym has) other))
+
+  pub time_late : (work : Work) → m.body ≡ time_told id → q.work ≡ work → IsNotAwaited (Some (with_work q q.wait work)) → IsLate r m.body
+  time_late work is has other =
+      subst (λ b. IsLate r b) (sym is) (subst (λ o. IsNotAwaited o) (sym opened) (subst (λ (w : Work). IsNotAwaited (Some (with_work q q.wait w))) (sym has) other))
+
+  pub split_late : (found : Bool) (work : Work) → m.body ≡ split_done id found → q.work ≡ work → IsNoSplit (Some (with_work q q.wait work)) → IsLate r m.body
+  split_late found work is has other =
+      subst (λ b. IsLate r b) (sym is) (subst (λ o. IsNoSplit o) (sym opened) (subst (λ (w : Work). IsNoSplit (Some (with_work q q.wait w))) (sym has) other))
+
+  -- a chunk was split, or there is no such collection
+  pub split_told : (found : Bool) (middle : Datum) (replies : List ToLink) → m.body ≡ split_done id found → q.work ≡ splitting middle
+      → replies ≡ puts_of (reply_to r (heard r m) q (if found then changed_answer (heard r m) else refusal_answer (without_evidence namespace_not_sharded)) ∷ [])
+      → TookRow r (letter_input m) [] replies (knows r (heard r m) r.tables (without q.count r.requests))
+  split_told true middle replies is work told = record {
+    effect = answers_now (reply_to r (heard r m) q (changed_answer (heard r m)));
+    row = router_split r m id q middle is opened work;
+    written = refl;
+    sent = refl;
+    told = told;
+  }
+  split_told false middle replies is work told = record {
+    effect = answers_now (reply_to r (heard r m) q (refusal_answer (without_evidence namespace_not_sharded)));
+    row = router_not_sharded r m id q middle is opened work;
+    written = refl;
+    sent = refl;
+    told = told;
+  }
+
   pub rows_of_write : (turn : ℕ) (rows : Result Rows HalfFault) (kind : WriteKind) (ordered : Bool) (statements : List letters.Statement) (answers : List Done) → m.body ≡ read_rows id turn rows
       → q.work ≡ writing kind ordered statements answers → IsLate r m.body
-  rows_of_write turn rows kind ordered statements answers is work =
-      subst (λ b. IsLate r b) (sym is) (subst (λ o. IsNoRead o turn) (sym opened) (subst (λ w. elim w as (λ _. Type 0) [ writing k o s a ↦ Unit {0} | reading named at stages telling ↦ turn ≢ 1 ]) (sym work) tt))
+  rows_of_write turn rows kind ordered statements answers is work = rows_late turn rows (writing kind ordered statements answers) is work tt
 
   pub rows_of_turn : (turn : ℕ) (rows : Result Rows HalfFault) (named : Bool) (at : ℕ) (stages : List Stage) (telling : Telling) → m.body ≡ read_rows id turn rows → q.work ≡ reading named at stages telling → turn ≢ 1 → IsLate r m.body
-  rows_of_turn turn rows named at stages telling is work other =
-      subst (λ b. IsLate r b) (sym is) (subst (λ o. IsNoRead o turn) (sym opened) (subst (λ w. elim w as (λ _. Type 0) [ writing k o s a ↦ Unit {0} | reading named at stages telling ↦ turn ≢ 1 ]) (sym work) other))
+  rows_of_turn turn rows named at stages telling is work other = rows_late turn rows (reading named at stages telling) is work other
 
   pub dones_of_read : (dones : List Done) (named : Bool) (at : ℕ) (stages : List Stage) (telling : Telling) → m.body ≡ write_done id dones → q.work ≡ reading named at stages telling → IsLate r m.body
-  dones_of_read dones named at stages telling is work =
-      subst (λ b. IsLate r b) (sym is) (subst (λ o. AreNoNews o dones) (sym opened) (subst (λ w. elim w as (λ _. Type 0) [ writing k o s a ↦ noted a dones ≡ a | reading named at stages telling ↦ Unit {0} ]) (sym work) tt))
+  dones_of_read dones named at stages telling is work = dones_late dones (reading named at stages telling) is work tt
 
   pub time_of_write : (kind : WriteKind) (ordered : Bool) (statements : List letters.Statement) (answers : List Done) → m.body ≡ time_told id → q.work ≡ writing kind ordered statements answers → IsLate r m.body
-  time_of_write kind ordered statements answers is work =
-      subst (λ b. IsLate r b) (sym is) (subst (λ o. IsNotAwaited o) (sym opened) (subst (λ w. elim w as (λ _. Type 0) [ writing k o s a ↦ Unit {0} | reading named at stages telling ↦ q.wait ≢ for_time ]) (sym work) tt))
+  time_of_write kind ordered statements answers is work = time_late (writing kind ordered statements answers) is work tt
 
   pub time_not_awaited : (named : Bool) (at : ℕ) (stages : List Stage) (telling : Telling) → m.body ≡ time_told id → q.work ≡ reading named at stages telling → q.wait ≢ for_time → IsLate r m.body
-  time_not_awaited named at stages telling is work other =
-      subst (λ b. IsLate r b) (sym is) (subst (λ o. IsNotAwaited o) (sym opened) (subst (λ w. elim w as (λ _. Type 0) [ writing k o s a ↦ Unit {0} | reading named at stages telling ↦ q.wait ≢ for_time ]) (sym work) other))
+  time_not_awaited named at stages telling is work other = time_late (reading named at stages telling) is work other
 
   pub time_ahead_told : (named : Bool) (at : ℕ) (stages : List Stage) (telling : Telling) (replies : List ToLink) → m.body ≡ time_told id → q.work ≡ reading named at stages telling → q.wait ≡ for_time → heard r m < at
       → replies ≡ puts_of (reply_to r (heard r m) q (refusal_answer (time_ahead (heard r m))) ∷ [])
@@ -73,8 +109,7 @@ module _ (r : Router) (m : Letter) (id : RequestId) (q : Open) (opened : open_of
 
   module _ (dones : List Done) (kind : WriteKind) (ordered : Bool) (statements : List letters.Statement) (answers : List Done) (is : m.body ≡ write_done id dones) (work : q.work ≡ writing kind ordered statements answers) where
     pub dones_no_news : noted answers dones ≡ answers → IsLate r m.body
-    dones_no_news same =
-        subst (λ b. IsLate r b) (sym is) (subst (λ o. AreNoNews o dones) (sym opened) (subst (λ w. elim w as (λ _. Type 0) [ writing k o s a ↦ noted a dones ≡ a | reading named at stages telling ↦ Unit {0} ]) (sym work) same))
+    dones_no_news same = dones_late dones (writing kind ordered statements answers) is work same
 
     pub dones_wrote : (replies : List ToLink) → noted answers dones ≢ answers → is_answered ordered statements (noted answers dones) ≡ true
         → replies ≡ puts_of (reply_to r (heard r m) q (answer_of kind (heard r m) (noted answers dones)) ∷ [])

@@ -6,7 +6,7 @@ use Rattle.node_model.specs.Letters as letters
 use Rattle.node_model.specs.Letters.{Letter, Input, letter_input, nothing, Effect}
 use Rattle.reply_model.specs.Outcomes.{Done}
 use Rattle.node_model.specs.RouterRows.{heard, knows, open_of, id_of, reached, with_work, router_late, IsLate, RouterRow}
-use Rattle.node_model.specs.States.{Open, Router, Work, writing, reading, open_with, replaced}
+use Rattle.node_model.specs.States.{Open, Router, Work, writing, reading, sharding, splitting, open_with, replaced}
 use Rattle.command_model.specs.Writes.{WriteKind}
 use Rattle.node_traits.specs.Effects.{AreSound, puts_of, spellings}
 use Rattle.node_traits.specs.declared.outputs.ToLink.{ToLink}
@@ -101,6 +101,8 @@ module _ (r : Router) (id : RequestId) (q : Open) (opened : open_of r id ≡ Som
           | Some x ↦ elim x.work as (λ _. List Open) [
             | writing k a s b ↦ replaced (with_work x (wait_view wait) (writing k a s (map done_view answers.items))) r.requests
             | reading named at stages telling ↦ r.requests
+            | sharding ↦ r.requests
+            | splitting middle ↦ r.requests
           ]
         ];
         cursors = r.cursors;
@@ -117,6 +119,8 @@ module _ (r : Router) (id : RequestId) (q : Open) (opened : open_of r id ≡ Som
         requests = elim w as (λ _. List Open) [
           | writing k a s b ↦ replaced (with_work q (wait_view wait) (writing k a s (map done_view answers.items))) r.requests
           | reading named at stages telling ↦ r.requests
+          | sharding ↦ r.requests
+          | splitting middle ↦ r.requests
         ];
         cursors = r.cursors;
         blocks = r.blocks;

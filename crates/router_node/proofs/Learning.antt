@@ -1,5 +1,5 @@
 -- The transition for a table that arrives.
-use Rattle.std.proofs.Common.{◌≡◌, refl, sym, subst, ℕ, List, []}
+use Rattle.std.proofs.Common.{◌≡◌, refl, sym, subst, ℕ, List, [], Bool}
 use Rattle.std.specs.Arc.{arc_value}
 use Rattle.std.specs.List.{flat_map}
 use Rattle.std.specs.Option.{option_map}
@@ -10,24 +10,25 @@ use Rattle.node_traits.specs.Effects.{puts_of}
 use Rattle.node_traits.specs.declared.outputs.ToLink.{ToLink}
 use Rattle.protocol_model.specs.Bodies.{at_view, table_told_view}
 use Rattle.protocol_model.specs.declared.tables.TableTold.{TableTold}
-use Rattle.router_node.specs.Nexts.{next_at}
+use Rattle.router_node.specs.Nexts.{made_by, next_at}
 use Rattle.router_node.specs.Rows.{TookRow}
 use Rattle.router_node.specs.StepPlans.{changed}
 use Rattle.router_node.specs.declared.step_plan.Change.TheVariants.{Learns}
 
-pub took_learn : (r : Router) (m : Letter) (told : TableTold) (time : ℕ) (letters : List Letter) (replies : List ToLink) → m.body ≡ table_told_view told → time ≡ heard r m
+pub took_learn : (r : Router) (m : Letter) (told : TableTold) (made : Bool) (time : ℕ) (letters : List Letter) (replies : List ToLink) → made ≡ made_by told → m.body ≡ table_told_view told → time ≡ heard r m
     → letters ≡ flat_map (λ q. letters_in (next_at r time told q)) r.requests
     → replies ≡ puts_of (flat_map (λ q. replies_in (next_at r time told q)) r.requests)
-    → TookRow r (letter_input m) letters replies (changed r (heard r m) r.begun r.moment (Learns told.namespace told.at told.table))
-took_learn r m told time letters replies is late asked said = record {
-  effect = record {
-    written = [];
-    mail = flat_map (λ q. letters_in (next_at r (heard r m) told q)) r.requests;
-    taken = [];
-    replies = flat_map (λ q. replies_in (next_at r (heard r m) told q)) r.requests;
-  };
-  row = router_learn r m told.namespace told.create (at_view told.at) (option_map (λ t. arc_value t) told.table) is;
-  written = refl;
-  sent = sym (subst (λ (t : ℕ). letters ≡ flat_map (λ q. letters_in (next_at r t told q)) r.requests) late asked);
-  told = subst (λ (t : ℕ). replies ≡ puts_of (flat_map (λ q. replies_in (next_at r t told q)) r.requests)) late said;
-}
+    → TookRow r (letter_input m) letters replies (changed r (heard r m) r.begun r.moment (Learns told.namespace made told.at told.table))
+took_learn r m told made time letters replies same is late asked said =
+    subst (λ (b : Bool). TookRow r (letter_input m) letters replies (changed r (heard r m) r.begun r.moment (Learns told.namespace b told.at told.table))) (sym same) (record {
+      effect = record {
+        written = [];
+        mail = flat_map (λ q. letters_in (next_at r (heard r m) told q)) r.requests;
+        taken = [];
+        replies = flat_map (λ q. replies_in (next_at r (heard r m) told q)) r.requests;
+      };
+      row = router_learn r m told.namespace told.create (at_view told.at) (option_map (λ t. arc_value t) told.table) is;
+      written = refl;
+      sent = sym (subst (λ (t : ℕ). letters ≡ flat_map (λ q. letters_in (next_at r t told q)) r.requests) late asked);
+      told = subst (λ (t : ℕ). replies ≡ puts_of (flat_map (λ q. replies_in (next_at r t told q)) r.requests)) late said;
+    })

@@ -10,3 +10,4 @@ mod Shown
 mod Reached
 mod Told
 mod Again
+mod Without

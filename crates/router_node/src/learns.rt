@@ -10,7 +10,7 @@ use chunk_table::Table;
 use cluster_base::Time;
 use node_traits::{MailList, ReplyList, ToLink};
 use protocol_model::{Message, TableTold};
-use router_replies::{empty_answer, reply_to, sharded_answer};
+use router_replies::{empty_answer, sharded_answer};
 use router_requests::{Next, OpenRequest, next_of, was_created};
 
 /// Returns the first of two tables where it is longer, else the other.

@@ -123,6 +123,7 @@ impl RouterNode {
     }
 
     // Returns the table that work can proceed with.
+    #[tactic(auto, using(crate::proofs::Without::no_table_creates, crate::proofs::Without::no_table_splits))]
     pub(crate) fn table_for(&self, namespace: &Namespace, work: &Work) -> Option<&Table>
         ensures { (id : identities.RequestId) → option_map (λ t. t.now) result ≡ rows.table_for self.now.tables.tables namespace.now (work_view id work.now) }
     {

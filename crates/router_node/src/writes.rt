@@ -187,6 +187,8 @@ impl RouterNode {
             None => Ok(self.late(time)),
             Some(request) => match &request.work {
                 Work::Reading { .. } => Ok(self.late(time)),
+                Work::Sharding => Ok(self.late(time)),
+                Work::Splitting(_) => Ok(self.late(time)),
                 Work::Writing {
                     kind,
                     number,

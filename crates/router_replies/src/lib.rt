@@ -15,9 +15,7 @@ mod tables;
 pub use batches::{DocumentList, batch_answer, empty_answer, is_only, next_answer};
 pub use bodies::is_taken;
 pub use numbers::count_told;
-pub use plans::{
-    RequestPlan, needs_collection, needs_read, plan_split, plan_write, telling_of,
-};
+pub use plans::{RequestPlan, needs_collection, needs_read, plan_split, plan_write, telling_of};
 pub use records::{block_records, life_record};
 pub use refusals::{excess_answer, not_open, overflow_answer, time_ahead};
 pub use replies::reply_to;

@@ -185,7 +185,11 @@ impl OpenList {
                 self.requests[place].wait = Wait::ForShards;
                 place + 1
             }
-            Next::IsTold(..) | Next::IsSharded => {
+            Next::IsTold(..) => {
+                let _ = self.requests.remove(place);
+                place
+            }
+            Next::IsSharded => {
                 let _ = self.requests.remove(place);
                 place
             }
@@ -194,13 +198,7 @@ impl OpenList {
 
     /// A table of this collection arrived for a time, and this is the one that is known then, if one is: requests that can proceed with it
     /// wait for the shards, and those that are answered are removed; `made` where the collection was to be created, and there it is.
-    pub fn learn(
-        &mut self,
-        namespace: &Namespace,
-        made: bool,
-        told: At,
-        known: Option<&Table>,
-    )
+    pub fn learn(&mut self, namespace: &Namespace, made: bool, told: At, known: Option<&Table>)
         ensures taken { taken_of self.new ≡ taken_of self.old }
         ensures opens { (r : states.Router) (time : ℕ) (after : List tables.Table) → tables.table_of namespace.now after ≡ option_map (λ t. t.now) known.entry →
             opens_of r.me r.life self.new

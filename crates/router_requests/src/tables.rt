@@ -90,13 +90,7 @@ fn next_without(made: bool, told: At, work: &Work) -> Next
                 Next::Stays
             }
         }
-        Work::Sharding => {
-            if made {
-                Next::IsSharded
-            } else {
-                Next::Stays
-            }
-        }
+        Work::Sharding => { if made { Next::IsSharded } else { Next::Stays } }
         Work::Splitting(_) => Next::Stays,
     }
 }

@@ -23,6 +23,11 @@ returns-in-IsTold c =
     let r = router_of c.args.self.now in
     sym (ap (λ (x : rows.Next). rows.letters_in x) (c.in-IsTold.ensures r c.args.time.0 (tables_told c.args.told.now r.tables) c.requires))
 
+pub returns-in-IsSharded : goal.returns-in-IsSharded
+returns-in-IsSharded c =
+    let r = router_of c.args.self.now in
+    sym (ap (λ (x : rows.Next). rows.letters_in x) (c.in-IsSharded.ensures r c.args.time.0 (tables_told c.args.told.now r.tables) c.requires))
+
 pub returns-in-Some : goal.returns-in-Some
 returns-in-Some c =
     let n = c.args.self.now in

@@ -16,6 +16,10 @@ pub returns-in-TableAsk : goal.returns-in-TableAsk
 returns-in-TableAsk c = λ m is late.
     skipped (router_of c.args.self.now) c.late-in-TableAsk.result m (subst (λ (b : Body). rows.TellsNothing b) (sym (is ∙ ap body_view c.in-TableAsk.is)) tt) c.late-in-TableAsk.ensures
 
+pub returns-in-SplitAsk : goal.returns-in-SplitAsk
+returns-in-SplitAsk c = λ m is late.
+    skipped (router_of c.args.self.now) c.late-in-SplitAsk.result m (subst (λ (b : Body). rows.TellsNothing b) (sym (is ∙ ap body_view c.in-SplitAsk.is)) tt) c.late-in-SplitAsk.ensures
+
 pub returns-in-WriteAsk : goal.returns-in-WriteAsk
 returns-in-WriteAsk c = λ m is late.
     skipped (router_of c.args.self.now) c.late-in-WriteAsk.result m (subst (λ (b : Body). rows.TellsNothing b) (sym (is ∙ ap body_view c.in-WriteAsk.is)) tt) c.late-in-WriteAsk.ensures

@@ -7,7 +7,7 @@ use Rattle.protocol_model.specs.Statements.{done_view}
 use Rattle.router_node.specs.RouterStates.{router_of}
 use Rattle.router_node.proofs.Heard.{heard_late}
 use Rattle.router_writes.proofs.Noted.{no_news, some_news}
-use Rattle.router_node.proofs.Fates.{dones_of_none, dones_of_read, dones_no_news}
+use Rattle.router_node.proofs.Fates.{dones_of_none, dones_late, dones_of_read, dones_no_news}
 use Rattle.router_node.proofs.Rest.{as_many, not_as_many}
 use Rattle.router_node.proofs.node.RouterNode.plan_dones.Goals as goal
 
@@ -49,3 +49,17 @@ returns-else-are_as_many c = λ m is late.
       are = sym c.in_ok-noted-in-Writing.ensures;
       news = some_news before dones (not_as_many done_view c.in-Writing.answers.items c.in_ok-noted-in-Writing.noted.items (rows.noted before dones) c.in_ok-noted-in-Writing.ensures (c.are_as_many.ensures.other c.if-are_as_many.false));
     })
+
+pub returns-in-Sharding : goal.returns-in-Sharding
+returns-in-Sharding c = λ m is late.
+    let n = c.args.self.now in
+    let q = open_view n.me.0 n.life c.in-Some.request.now in
+    heard_late (router_of n) m c.late-in-Sharding.result c.args.time.0 late c.late-in-Sharding.ensures
+    (dones_late (router_of n) m (id_view c.args.told.now.id) q (sym c.in-Some.ensures) _ _ is (ap (λ (w : Work). work_view (rows.id_of (router_of n) c.in-Some.request.now.count) w) c.in-Sharding.is) tt)
+
+pub returns-in-Splitting : goal.returns-in-Splitting
+returns-in-Splitting c = λ m is late.
+    let n = c.args.self.now in
+    let q = open_view n.me.0 n.life c.in-Some.request.now in
+    heard_late (router_of n) m c.late-in-Splitting.result c.args.time.0 late c.late-in-Splitting.ensures
+    (dones_late (router_of n) m (id_view c.args.told.now.id) q (sym c.in-Some.ensures) _ _ is (ap (λ (w : Work). work_view (rows.id_of (router_of n) c.in-Some.request.now.count) w) c.in-Splitting.is) tt)

@@ -7,7 +7,7 @@ use Rattle.router_requests.specs.Works.{open_view, work_view}
 use Rattle.router_requests.specs.declared.work.Work.{Work}
 use Rattle.router_node.specs.RouterStates.{router_of}
 use Rattle.router_node.proofs.Heard.{heard_late}
-use Rattle.router_node.proofs.Fates.{rows_of_none, rows_of_write, rows_of_turn}
+use Rattle.router_node.proofs.Fates.{rows_of_none, rows_late, rows_of_write, rows_of_turn}
 use Rattle.router_node.proofs.node.RouterNode.plan_rows.Goals as goal
 
 pub returns-in-None : goal.returns-in-None
@@ -35,3 +35,17 @@ returns-then-is_first c = λ m is late.
     let n = c.args.self.now in
     c.plan_told.ensures m (id_view c.args.told.id) (is ∙ ap (λ (turn : ℕ). read_rows (id_view c.args.told.id) turn (rows_view c.args.told.rows)) (c.is_first.ensures.first c.if-is_first.true)) late (sym c.in-Some.ensures)
     (ap (λ (w : Work). work_view (rows.id_of (router_of n) c.in-Some.request.now.count) w) c.in-Reading.is)
+
+pub returns-in-Sharding : goal.returns-in-Sharding
+returns-in-Sharding c = λ m is late.
+    let n = c.args.self.now in
+    let q = open_view n.me.0 n.life c.in-Some.request.now in
+    heard_late (router_of n) m c.late-in-Sharding.result c.args.time.0 late c.late-in-Sharding.ensures
+    (rows_late (router_of n) m (id_view c.args.told.id) q (sym c.in-Some.ensures) _ _ _ is (ap (λ (w : Work). work_view (rows.id_of (router_of n) c.in-Some.request.now.count) w) c.in-Sharding.is) tt)
+
+pub returns-in-Splitting : goal.returns-in-Splitting
+returns-in-Splitting c = λ m is late.
+    let n = c.args.self.now in
+    let q = open_view n.me.0 n.life c.in-Some.request.now in
+    heard_late (router_of n) m c.late-in-Splitting.result c.args.time.0 late c.late-in-Splitting.ensures
+    (rows_late (router_of n) m (id_view c.args.told.id) q (sym c.in-Some.ensures) _ _ _ is (ap (λ (w : Work). work_view (rows.id_of (router_of n) c.in-Some.request.now.count) w) c.in-Splitting.is) tt)

@@ -6,7 +6,7 @@ use Rattle.router_requests.specs.declared.work.Work.{Work}
 use Rattle.router_requests.specs.declared.work.Wait.{Wait}
 use Rattle.router_node.specs.RouterStates.{router_of}
 use Rattle.router_node.proofs.Heard.{heard_late}
-use Rattle.router_node.proofs.Fates.{time_of_none, time_of_write, time_not_awaited}
+use Rattle.router_node.proofs.Fates.{time_of_none, time_late, time_of_write, time_not_awaited}
 use Rattle.router_node.proofs.node.RouterNode.plan_time.Goals as goal
 
 pub returns-in-None : goal.returns-in-None
@@ -36,3 +36,17 @@ returns-in-ForShards c = λ m is late.
     heard_late (router_of n) m c.late-in-ForShards.result c.args.time.0 late c.late-in-ForShards.ensures
     (time_not_awaited (router_of n) m (id_view c.args.told.now.id) q (sym c.in-Some.ensures) _ _ _ _ is (ap (λ (w : Work). work_view (rows.id_of (router_of n) c.in-Some.request.now.count) w) c.in-Reading.is)
     (λ e. cc (sym (ap (λ (w : Wait). wait_view w) c.in-ForShards.is) ∙ e)))
+
+pub returns-in-Sharding : goal.returns-in-Sharding
+returns-in-Sharding c = λ m is late.
+    let n = c.args.self.now in
+    let q = open_view n.me.0 n.life c.in-Some.request.now in
+    heard_late (router_of n) m c.late-in-Sharding.result c.args.time.0 late c.late-in-Sharding.ensures
+    (time_late (router_of n) m (id_view c.args.told.now.id) q (sym c.in-Some.ensures) _ is (ap (λ (w : Work). work_view (rows.id_of (router_of n) c.in-Some.request.now.count) w) c.in-Sharding.is) tt)
+
+pub returns-in-Splitting : goal.returns-in-Splitting
+returns-in-Splitting c = λ m is late.
+    let n = c.args.self.now in
+    let q = open_view n.me.0 n.life c.in-Some.request.now in
+    heard_late (router_of n) m c.late-in-Splitting.result c.args.time.0 late c.late-in-Splitting.ensures
+    (time_late (router_of n) m (id_view c.args.told.now.id) q (sym c.in-Some.ensures) _ is (ap (λ (w : Work). work_view (rows.id_of (router_of n) c.in-Some.request.now.count) w) c.in-Splitting.is) tt)

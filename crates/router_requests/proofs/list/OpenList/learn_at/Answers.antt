@@ -8,7 +8,7 @@ use Rattle.router_requests.specs.Turns.{settled}
 use Rattle.router_requests.specs.Works.{open_view}
 use Rattle.router_requests.specs.declared.work.OpenRequest.{OpenRequest}
 use Rattle.router_requests.proofs.Places.{rises_removed}
-use Rattle.router_requests.proofs.Turns.{settled_put, same_item}
+use Rattle.router_requests.proofs.Turns.{settled_out, settled_put, same_item}
 use Rattle.router_requests.proofs.Waits.{rises_at}
 use Rattle.router_requests.proofs.list.OpenList.learn_at.Goals as goal
 
@@ -21,6 +21,19 @@ pub invariant_of-self-in-IsTold : goal.invariant_of-self-in-IsTold
 invariant_of-self-in-IsTold c = record {
   rising = rw c.remove.ensures.items (rises_removed 0 c.args.self.now.taken c.args.place c.args.self.now.requests.items c.args.self.now.rising);
 }
+
+pub invariant_of-self-in-IsSharded : goal.invariant_of-self-in-IsSharded
+invariant_of-self-in-IsSharded c = record {
+  rising = rw c.remove-in-IsSharded.ensures.items (rises_removed 0 c.args.self.now.taken c.args.place c.args.self.now.requests.items c.args.self.now.rising);
+}
+
+pub returns-in-IsTold-clause-opens : goal.returns-in-IsTold-clause-opens
+returns-in-IsTold-clause-opens c = λ r time after is.
+    let items = c.args.self.now.requests.items in
+    let next = c.in-IsTold.ensures r time after is in
+    rw c.remove.ensures.items
+    (settled_out (λ (q : OpenRequest). open_view r.me r.life q) (λ q. rows.stay_in (rows.next_of r time after c.args.namespace.now c.args.made (at_view c.args.told) q)) items c.args.place
+    c.index.result.now c.requires c.index.ensures (ap (λ (n : rows.Next). rows.stay_in n) next))
 
 pub returns-in-GoesOn-clause-opens : goal.returns-in-GoesOn-clause-opens
 returns-in-GoesOn-clause-opens c = λ r time after is.
