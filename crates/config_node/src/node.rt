@@ -23,7 +23,7 @@ ghost use Rattle.config_node.specs.StepPlans.{IsPlanned, IsReady};
 ghost use Rattle.config_node.specs.State.{state_of};
 
 use crate::plan::{StepPlan, split_answer, table_answer};
-use bson_values::Memory;
+use bson_values::{Document, Memory, Name};
 use chunk_catalogue::{CatFault, Catalogue};
 use chunk_table::Table;
 use cluster_base::{Namespace, NodeId, Time, moment_time};
@@ -39,6 +39,7 @@ use value_compare::Key;
 
 /// The greatest depth of a key at which chunks are divided, and its most bytes: no message holds more.
 const MOST_LEVELS: usize = 100;
+
 const MOST_BYTES: usize = 240_000_000;
 
 /// The catalogue.
@@ -80,11 +81,14 @@ fn ask_in(body: Body) -> Option<Ask>
     }
 }
 
-// Returns whether a chunk may begin at a key: the document of the key can be written. A key of a client's message always is such.
-fn is_writable(key: &Key) -> bool
-    ensures { result ≡ true → IsWritableBound (key_bound key.now) }
+// Returns whether a chunk may begin at a key: the document of the key can be written. A key of a client's message always is such. Returns `Memory` if
+// memory runs out.
+fn is_writable(alloc: Global, key: &Key) -> Result<bool, Memory>
+    ensures { IfOk result (λ b. b ≡ true → IsWritableBound (key_bound key.now)) }
 {
-    key.value().levels() < MOST_LEVELS && key.value().size() < MOST_BYTES
+    let mut document = Document::new(alloc);
+    document.push(Name::of(alloc, "_id")?, key.value().copy()?)?;
+    Ok(document.levels() <= MOST_LEVELS && document.size() <= MOST_BYTES)
 }
 
 impl ConfigNode {
@@ -152,12 +156,7 @@ impl ConfigNode {
 
     // Returns the plan for a request of a table, at the time that the message carries: the collection is created where that is requested and there is none of
     // its name; else the present table, or none, is returned.
-    fn plan_table(
-        &mut self,
-        heard: Time,
-        sender: NodeId,
-        ask: TableAsk,
-    ) -> Result<StepPlan, Memory>
+    fn plan_table(&mut self, heard: Time, sender: NodeId, ask: TableAsk) -> Result<StepPlan, Memory>
         requires early { heard.0 < last_time }
         ensures planned { (m : Letter) → heard.0 ≡ max self.old.time.0 m.time → sender.0 ≡ m.sender → m.body ≡ table_ask_view ask → m.receiver ≡ self.old.me.0 →
             IfOk result (λ p. IsPlanned self.old (letter_input m) p) }
@@ -179,12 +178,7 @@ impl ConfigNode {
     }
 
     // Returns the plan for a request for a split, at the time that the message carries: a chunk is split, or one begins there, or there is no such collection.
-    fn plan_split(
-        &mut self,
-        heard: Time,
-        sender: NodeId,
-        ask: SplitAsk,
-    ) -> Result<StepPlan, Memory>
+    fn plan_split(&mut self, heard: Time, sender: NodeId, ask: SplitAsk) -> Result<StepPlan, Memory>
         requires early { heard.0 < last_time }
         ensures planned { (m : Letter) → heard.0 ≡ max self.old.time.0 m.time → sender.0 ≡ m.sender → m.body ≡ split_ask_view ask → m.receiver ≡ self.old.me.0 →
             IfOk result (λ p. IsPlanned self.old (letter_input m) p) }
@@ -192,7 +186,7 @@ impl ConfigNode {
         ensures same { state_of self.new ≡ state_of self.old }
         ensures steps { self.new.steps ≡ self.old.steps }
     {
-        if !is_writable(&ask.middle) {
+        if !is_writable(self.alloc, &ask.middle)? {
             // No message of a router has such a key.
             return Err(Memory);
         }
