@@ -1,7 +1,7 @@
 #!/usr/bin/env -S python3 -B
 """Measures, in one run, by ratios, what reads of ten keys cost among many documents, beside ten finds by `_id`.
 
-The ten keys are named by `$in`, or are a range. Wanted of each: at most 5 times as long as ten finds. Told besides: a find of ten with `limit` and no
+The ten keys are named by `$in`, or are a range. Wanted of each: at most 5 times as long as ten finds. Printed too, without a bound: a find of ten with `limit` and no
 filter, and the first batch of all, which go through all documents.
 
 The program is $CLUSTER, or the one that `cluster` builds, run with `pipe` in a new folder (in $SPEED_FOLDER, where that is given). Every reply is looked at,
@@ -32,7 +32,7 @@ def insert(numbers):
 
 
 def reading(fields, numbers):
-    """A find with these fields beside its collection, and what it is to be told."""
+    """A find with these fields beside its collection, and the documents that it returns."""
     return message(1, f'{{find: "c", {fields}, $db: "d"}}'), [(DOCUMENT, fields_of(small(number))) for number in numbers]
 
 

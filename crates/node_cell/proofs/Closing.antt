@@ -12,12 +12,13 @@ use Rattle.driver_steps.specs.Crashes.{Since}
 use Rattle.driver_steps.specs.OneSeat.{StandsAt}
 use Rattle.driver_steps.proofs.Seats.{held_len}
 use Rattle.driver_steps.proofs.Stepping.{same_stands}
+use Rattle.history_model.proofs.Lists.{all_weaken}
 use Rattle.node_cell.specs.declared.view.Placed.{Placed}
 use Rattle.node_cell.specs.declared.view.View.{View}
 use Rattle.node_cell.specs.Courses.{NodeFacts, Goes, Holds, Saw, WasSent, WasTaken, WasTold, view_by}
 use Rattle.node_cell.specs.Standing.{AllSit, Among, AreAmong, AreFrom, AreRun, Ends, IsAsKnown, IsHalted, IsKept, IsKnown, IsPart, Sits, StoppedAt}
 use Rattle.node_cell.specs.Views.{both_views, holder}
-use Rattle.node_cell.proofs.Lists.{all_at, all_map, all_of_part, all_so, are_among_front, are_among_map, are_among_self, sits}
+use Rattle.node_cell.proofs.Lists.{all_at, all_map, all_of_part, are_among_front, are_among_map, are_among_self, sits}
 use Rattle.node_cell.proofs.Routers.{run_stays}
 use Rattle.node_cell.proofs.Steps.{event_of}
 
@@ -52,7 +53,7 @@ joined_more {N} {L} {M} {I} all left rest v note w j last is =
     (record {
       joined = note ∷ j.joined;
       which = j.which ∙ (ap (λ (l : List (View N L M I)). l ++ j.joined) last ∙ append_assoc rest (note ∷ []) j.joined);
-      parts = (part_behind v note, all_so (λ n. IsPart n v) (λ n. IsPart n (both_views v note)) (λ n p. part_front n v note p) j.joined j.parts);
+      parts = (part_behind v note, all_weaken (λ n. IsPart n v) (λ n. IsPart n (both_views v note)) j.joined (λ n p. part_front n v note p) j.parts);
     })
 
 pub joined_all : {N L M I : Type 0} (all left : List (View N L M I)) (v : View N L M I) → Joined all left v → left ≡ []
@@ -162,12 +163,12 @@ module _ {N L M I : Type 0} (f : NodeFacts N L M I) (routers : ℕ) where
         nodes = all_end since c.world (map f.letter v.seen) (all_map f.letter (λ m. WasSent c.world m) v.seen mine.saw.seen) 0 v.held ended
             (λ at s far got. (mine.held at s got).stands)
             (λ at below far. run_stays first c.events c.world at h.is.run (opened.are_routers at far (omega (arith, below, many, long)))) all;
-        noted = all_so (λ n. IsPart n v) (λ n. Saw f first.now c.events c.world n)
-            (λ n part. record {
+        noted = all_weaken (λ n. IsPart n v) (λ n. Saw f first.now c.events c.world n)
+            notes (λ n part. record {
               seen = all_of_part (λ m. WasSent c.world (f.letter m)) n.seen v.seen part.seen mine.saw.seen;
               told = all_of_part (λ r. WasTold first.now c.world r) n.told v.told part.told mine.saw.told;
               taken = all_of_part (λ t. WasTaken f.meaning c.events c.world t) n.taken v.taken part.taken mine.saw.taken;
-            }) notes parts;
+            }) parts;
       }
 
 -- the table ends with this number of the first router

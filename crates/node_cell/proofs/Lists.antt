@@ -8,6 +8,7 @@ use Rattle.std.proofs.lemmas.Option.{none-some, same_Some}
 use mathlib.Core.Option.{some, some-injective, some-ne-none}
 use lib.ListN.{get_elem?}
 use Rattle.atomic_table.proofs.Lists.{at_set}
+use Rattle.history_model.proofs.Lists.{all_weaken}
 use Rattle.node_cell.specs.Courses.{total}
 use Rattle.node_cell.specs.Standing.{Among, AreAmong}
 use Rattle.node_cell.specs.Views.{first_alone, first_off, holder, numbered, without}
@@ -42,14 +43,6 @@ module _ {A : Type 0} where
     subst (λ (all : List A). AreAmong ys all) (append_assoc pre (y ∷ []) ys) (sits (pre ++ y ∷ []) ys),
   )
 
-  pub all_then : (P : A → Type 0) (xs ys : List A) → AllByRecursion P xs → AllByRecursion P ys → AllByRecursion P (xs ++ ys)
-  all_then P [] ys a b = b
-  all_then P (x ∷ xs) ys a b = (a.0, all_then P xs ys a.1 b)
-
-  pub all_so : (P Q : A → Type 0) → ((x : A) → P x → Q x) → (xs : List A) → AllByRecursion P xs → AllByRecursion Q xs
-  all_so P Q f [] a = tt
-  all_so P Q f (x ∷ xs) a = (f x a.0, all_so P Q f xs a.1)
-
   pub all_at : (P : A → Type 0) (xs : List A) (j : ℕ) (x : A) → slice_get xs j ≡ Some x → AllByRecursion P xs → P x
   all_at P [] j x e a = absurd (none-some x e)
   all_at P (y ∷ ys) zero x e a = subst P (same_Some y x e) a.0
@@ -68,17 +61,17 @@ module _ {A : Type 0} where
   among_behind x (y ∷ xs) ys a = let rest = among_behind x xs ys a in (suc rest.0, rest.1)
 
   pub are_among_front : (part xs ys : List A) → AreAmong part xs → AreAmong part (xs ++ ys)
-  are_among_front part xs ys a = all_so (λ x. Among x xs) (λ x. Among x (xs ++ ys)) (λ x there. among_front x xs ys there) part a
+  are_among_front part xs ys a = all_weaken (λ x. Among x xs) (λ x. Among x (xs ++ ys)) part (λ x there. among_front x xs ys there) a
 
   pub are_among_self : (xs : List A) → AreAmong xs xs
   are_among_self xs = sits [] xs
 
   pub are_among_on : (xs ys zs : List A) → AreAmong xs ys → AreAmong ys zs → AreAmong xs zs
-  are_among_on xs ys zs a b = all_so (λ x. Among x ys) (λ x. Among x zs) (λ x there. all_at (λ y. Among y zs) ys there.0 x there.1 b) xs a
+  are_among_on xs ys zs a b = all_weaken (λ x. Among x ys) (λ x. Among x zs) xs (λ x there. all_at (λ y. Among y zs) ys there.0 x there.1 b) a
 
   -- what holds of all holds of a part
   pub all_of_part : (P : A → Type 0) (part whole : List A) → AreAmong part whole → AllByRecursion P whole → AllByRecursion P part
-  all_of_part P part whole a all = all_so (λ x. Among x whole) P (λ x there. all_at P whole there.0 x there.1 all) part a
+  all_of_part P part whole a all = all_weaken (λ x. Among x whole) P part (λ x there. all_at P whole there.0 x there.1 all) a
 
   -- the last of a list, and the rest
   pub last_of_all : (P : A → Type 0) (rest : List A) (x : A) → AllByRecursion P (rest ++ x ∷ []) → P x
@@ -105,7 +98,7 @@ among_map {A} f x (y ∷ xs) (zero, e) = (0, ap (λ (z : A). Some (f z)) (same_S
 among_map f x (y ∷ xs) (suc k, e) = let rest = among_map f x xs (k, e) in (suc rest.0, rest.1)
 
 pub are_among_map : {A B : Type 0} (f : A → B) (part whole : List A) → AreAmong part whole → AreAmong (map f part) (map f whole)
-are_among_map f part whole a = all_map f (λ y. Among y (map f whole)) part (all_so (λ x. Among x whole) (λ x. Among (f x) (map f whole)) (λ x there. among_map f x whole there) part a)
+are_among_map f part whole a = all_map f (λ y. Among y (map f whole)) part (all_weaken (λ x. Among x whole) (λ x. Among (f x) (map f whole)) part (λ x there. among_map f x whole there) a)
 
 -- SUMS
 

@@ -16,11 +16,12 @@ use Rattle.driver_steps.specs.Crashes.{Since}
 use Rattle.driver_steps.proofs.Seats.{held_len}
 use Rattle.driver_steps.proofs.Stepping.{stands_at}
 use Rattle.node_traits.specs.declared.outputs.ToLink.{ToLink}
+use Rattle.history_model.proofs.Lists.{all_append}
 use Rattle.node_cell.specs.declared.view.Taken.{Taken}
 use Rattle.node_cell.specs.declared.view.View.{View}
 use Rattle.node_cell.specs.Courses.{NodeFacts, Course, Fits, Goes, Has, Holds, OpenedAs, Saw, WasSent, WasTaken, WasTold, view_by}
 use Rattle.node_cell.specs.Views.{both_views, first_alone, first_off, holder, noted, nothing_seen, numbered, view_of, without}
-use Rattle.node_cell.proofs.Lists.{all_then, each_more, each_set, holder_both, holder_numbered, holder_one, holder_without}
+use Rattle.node_cell.proofs.Lists.{each_more, each_set, holder_both, holder_numbered, holder_one, holder_without}
 
 slice_get_map : {A B : Type 0} (g : A → B) (xs : List A) (k : ℕ) (x : A) → slice_get xs k ≡ Some x → slice_get (map g xs) k ≡ Some (g x)
 slice_get_map g [] k x e = absurd (none-some x e)
@@ -49,9 +50,9 @@ module _ {N L M I : Type 0} (f : NodeFacts N L M I) (since : Since L) (first : �
 
   pub saw_both : (c : Course) (v w : View N L M I) → Saw f first c.events c.world v → Saw f first c.events c.world w → Saw f first c.events c.world (both_views v w)
   saw_both c v w a b = record {
-    seen = all_then (λ m. WasSent c.world (f.letter m)) v.seen w.seen a.seen b.seen;
-    told = all_then (λ r. WasTold first c.world r) v.told w.told a.told b.told;
-    taken = all_then (λ t. WasTaken f.meaning c.events c.world t) v.taken w.taken a.taken b.taken;
+    seen = all_append (λ m. WasSent c.world (f.letter m)) v.seen w.seen a.seen b.seen;
+    told = all_append (λ r. WasTold first c.world r) v.told w.told a.told b.told;
+    taken = all_append (λ t. WasTaken f.meaning c.events c.world t) v.taken w.taken a.taken b.taken;
   }
 
 module _ {N L M I : Type 0} (f : NodeFacts N L M I) (routers : ℕ) (start : List (Seat N L)) where

@@ -23,12 +23,13 @@ use Rattle.driver_steps.specs.OneSeat.{StepsAt}
 use Rattle.driver_steps.specs.Worlds.{puts_given}
 use Rattle.driver_steps.proofs.Crashes.{leads_by, leaves_on}
 use Rattle.driver_steps.proofs.Seats.{held_len}
+use Rattle.history_model.proofs.Lists.{all_append, all_weaken}
 use Rattle.node_cell.specs.declared.view.Taken.{Taken}
 use Rattle.node_cell.specs.declared.view.View.{View}
 use Rattle.node_cell.specs.Courses.{NodeFacts, Course, Fits, Goes, Has, Holds, IsStepOn, Saw, WasSent, WasTaken, WasTold, view_by}
 use Rattle.node_cell.specs.Standing.{AreAmong, IsKnown, MayTake}
 use Rattle.node_cell.specs.Views.{Given, after_step, holder, renewed, takes}
-use Rattle.node_cell.proofs.Lists.{all_at, all_map, all_set, all_so, all_then, all_unmap, each_set, get_front, get_seam, get_set_other, get_set_same, holder_one}
+use Rattle.node_cell.proofs.Lists.{all_at, all_map, all_set, all_unmap, each_set, get_front, get_seam, get_set_other, get_set_same, holder_one}
 use Rattle.node_cell.proofs.Lists.{sits, sum_more, sum_small}
 use Rattle.node_cell.proofs.Routers.{run_stays}
 
@@ -140,9 +141,9 @@ module _ {N L M I : Type 0} (f : NodeFacts N L M I) (first : ℕ) (events : List
 
   pub still_saw : (u : View N L M I) → Saw f first events w u → Saw f first (events ++ e ∷ []) v u
   still_saw u s = record {
-    seen = all_so (λ m. WasSent w (f.letter m)) (λ m. WasSent v (f.letter m)) (λ m x. still_sent (f.letter m) x) u.seen s.seen;
-    told = all_so (λ r. WasTold first w r) (λ r. WasTold first v r) still_told u.told s.told;
-    taken = all_so (λ t. WasTaken f.meaning events w t) (λ t. WasTaken f.meaning (events ++ e ∷ []) v t) still_taken u.taken s.taken;
+    seen = all_weaken (λ m. WasSent w (f.letter m)) (λ m. WasSent v (f.letter m)) u.seen (λ m x. still_sent (f.letter m) x) s.seen;
+    told = all_weaken (λ r. WasTold first w r) (λ r. WasTold first v r) u.told still_told s.told;
+    taken = all_weaken (λ t. WasTaken f.meaning events w t) (λ t. WasTaken f.meaning (events ++ e ∷ []) v t) u.taken still_taken s.taken;
   }
 
   -- what the step itself gave out
@@ -156,20 +157,20 @@ module _ {N L M I : Type 0} (f : NodeFacts N L M I) (first : ℕ) (events : List
       let puts : AllByRecursion (λ r. IsPutIn (w.answered ++ answered_by w.now replies) w.now r) g.replies =
       subst (λ (l : List ToLink). AllByRecursion (λ r. IsPutIn (w.answered ++ answered_by w.now replies) w.now r) l) (sym told) (puts_in w.now w.answered replies) in
       record {
-        seen = all_then (λ m. WasSent v (f.letter m)) u.seen g.mail were.seen
+        seen = all_append (λ m. WasSent v (f.letter m)) u.seen g.mail were.seen
             (all_unmap f.letter (λ m. WasSent v m) g.mail
             (subst (λ (l : List Letter). AreAmong (map f.letter g.mail) l) (sym all_sent) (sits w.sent (map f.letter g.mail))));
-        told = all_then (λ r. WasTold first v r) u.told (map (λ r. (length events, r)) g.replies) were.told
+        told = all_append (λ r. WasTold first v r) u.told (map (λ r. (length events, r)) g.replies) were.told
             (all_map (λ r. (length events, r)) (λ r. WasTold first v r) g.replies
-            (all_so (λ r. IsPutIn (w.answered ++ answered_by w.now replies) w.now r) (λ r. WasTold first v (length events, r))
-            (λ r p. record {
+            (all_weaken (λ r. IsPutIn (w.answered ++ answered_by w.now replies) w.now r) (λ r. WasTold first v (length events, r))
+            g.replies (λ r p. record {
               which = p.which;
               answer = p.answer;
               here = ap (λ (l : List Answered). slice_get l p.which) all_answered ∙ p.here;
               step = p.step ∙ now;
               put = p.put;
-            }) g.replies puts));
-        taken = all_then (λ t. WasTaken f.meaning (events ++ e ∷ []) v t) u.taken (record { number = length events; at = g.at; input = g.input } ∷ []) were.taken
+            }) puts));
+        taken = all_append (λ t. WasTaken f.meaning (events ++ e ∷ []) v t) u.taken (record { number = length events; at = g.at; input = g.input } ∷ []) were.taken
             (record { event = e; here = get_seam events e []; is = still_on w v mail sent e g.at (f.meaning g.input) on }, tt);
       }
 

@@ -41,7 +41,7 @@ abbrev pub first_alone : {S : Type 0} → List (ℕ × S) → List (ℕ × S)
 first_alone [] = []
 first_alone (x ∷ held) = x ∷ []
 
--- What a step of the node at a place leaves and gives out.
+-- The result of a step of the node at a place.
 pub record Given (N L M I : Type 0) : Type 0 where
   pub at : ℕ
   pub input : I

@@ -102,7 +102,7 @@ fn learn<N: Node, L: Log, K: Numbering>(
     }
 }
 
-/// Closes the numbering, and returns the nodes in order of their places. From each world that they stood for at the start there is one run, in which each step
+/// Closes the numbering, and returns the nodes in order of their places. From each world whose nodes they were at the start there is one run, in which each step
 /// that a note has seen was taken, to a world in which they are the nodes, with their logs.
 ///
 /// # Errors

@@ -83,7 +83,7 @@ fn take_step<N: Node, L: Log, K: Numbering>(
     }
 }
 
-/// Takes a step of a node, unless its disk failed before. What it gives out comes with a note that has seen the step.
+/// Takes a step of a node, unless its disk failed before. Its messages and replies come with a note that has seen the step.
 ///
 /// # Errors
 /// The fault of the step, or that of its disk.

@@ -1,4 +1,4 @@
-//! Messages and replies, with notes of the steps that gave them out.
+//! Messages and replies, with notes of their steps.
 
 ghost use Rattle.std.specs.Prelude.{◌≡◌, ◌++◌, [], IfNone, IfSome, option_to_list, option_map};
 ghost use Rattle.node_cell.specs.Standing.{Among, AreSeen, AreTold, handed, step_of};
@@ -142,7 +142,7 @@ impl<N: Node, L: Log, K: Numbering> Model for Stepped<N, L, K> {
 }
 
 impl<N: Node, L: Log, K: Numbering> Stepped<N, L, K> {
-    /// Returns what a step gave out, with a note that has seen it.
+    /// Returns the messages and replies of a step, with a note that has seen it.
     pub(crate) fn new(
         number: u64,
         at: u64,

@@ -13,4 +13,4 @@ pub use cell::Cell;
 pub use close::{cells, close_cells};
 pub use letter::{Letter, Note, Reply, Stepped};
 pub use numbers::{Book, Numbers};
-pub use view::{Law, Numbering, Opening, Pass, Placed, Places, Taken, View};
+pub use view::{Law, Numbering, Opening, Pass, Placed, Taken, View};

@@ -1,4 +1,4 @@
-//! What a step gave out and was not taken out yet.
+//! Messages or replies of a step that were not taken out yet.
 
 ghost use Rattle.std.specs.Prelude.{◌≡◌, ◌++◌, [], IfNone, option_to_list};
 

@@ -1,6 +1,6 @@
 //! What is known of a run, and the rule that ties it to the numbers of the steps.
 
-use atomic_table::{Join, Play, Seat as Token, Shared, Split, TableRule};
+use atomic_table::{Join, Play, Seat as Token, Split, TableRule};
 use driver_steps::Seat;
 use node_traits::{Node, ToLink};
 use outside::log::Log;
@@ -72,7 +72,7 @@ impl Numbering for Brand {
     ghost routers = { 0 };
 }
 
-/// What a step leaves and gives out, for proofs alone: a call at `Brand` picks it.
+/// The result of a step, for proofs alone: a call at `Brand` picks it.
 pub(crate) trait Said<N, L, M, I> {
     ghost use Rattle.std.specs.Prelude.{Option};
     ghost use Rattle.node_cell.specs.Views.{Given};
@@ -130,14 +130,6 @@ impl<N, L, M, I> Join<View<N, L, M, I>> for Both {
 
     ghost spent = { nothing_seen };
 }
-
-/// The table of the numbers, as threads see it.
-pub type Places<N, L> = Shared<
-    (),
-    View<N, L, <N as Node>::Mail, <N as Node>::Input>,
-    Opening<N, L>,
-    Law<N, L>,
->;
 
 /// What somebody knows of the run.
 pub type Pass<N, L> = Token<(), View<N, L, <N as Node>::Mail, <N as Node>::Input>>;
