@@ -5,10 +5,8 @@ use Rattle.std.specs.List.{AllByRecursion, flat_map}
 use Rattle.std.specs.Str.{bytes_eq}
 use Rattle.history_model.proofs.Lists.{all_weaken, all_append, all_at}
 use Rattle.history_model.specs.History.{Entry}
-use Rattle.base_model.specs.Errors.{namespace_not_sharded}
 use Rattle.base_model.specs.Identities.{RequestId}
-use Rattle.base_model.specs.Refusals.{Refusal, without_evidence}
-use Rattle.base_model.specs.ReplyParts.{operation_time}
+use Rattle.base_model.specs.Refusals.{Refusal}
 use Rattle.bson_model.specs.Tree.{Fields}
 use Rattle.command_model.specs.Split.{SplitCommand}
 use Rattle.command_model.specs.Command.{Command, write_command, find_command, count_command, shard_collection_command, split_command, command_of}
@@ -16,8 +14,7 @@ use Rattle.command_model.specs.Reading.{Reading}
 use Rattle.command_model.specs.GetMore.{GetMore}
 use Rattle.command_model.specs.KillCursors.{KillCursors}
 use Rattle.pipeline_model.specs.Runs.{Outcome}
-use Rattle.command_model.specs.Answers.{Answer, changed_answer, sharded_answer, answer_document}
-use Rattle.command_model.proofs.AnswerTimes.{time_of_changed, time_refused}
+use Rattle.command_model.specs.Answers.{Answer, sharded_answer}
 use Rattle.chunk_model.specs.Tables.{Table}
 use Rattle.chunk_model.specs.Changes.{known_table}
 use Rattle.opmsg_model.specs.Requests.{Request}

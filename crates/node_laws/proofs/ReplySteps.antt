@@ -1,5 +1,5 @@
 -- What a reply says of the catalogue was so by its step.
-use Rattle.std.proofs.Common.{◌≡◌, ◌⊎◌, inl, inr, ℕ, ◌+◌, ◌<◌, ◌≤◌, List, [], ◌∷◌, ◌++◌, refl, sym, ap, subst, ◌∙◌, arith, Bool}
+use Rattle.std.proofs.Common.{◌≡◌, ◌⊎◌, inl, inr, ℕ, ◌+◌, ◌<◌, List, [], ◌∷◌, ◌++◌, refl, sym, ap, subst, ◌∙◌, arith, Bool}
 use Rattle.std.specs.Prelude.{Some, None, Result, Ok, true, false, nat_lt, if◌then◌else◌}
 use Rattle.std.specs.List.{AllByRecursion}
 use Rattle.std.proofs.lemmas.Bool.Decides.{nat_tests}
@@ -12,7 +12,7 @@ use Rattle.base_model.specs.ReplyParts.{operation_time}
 use Rattle.command_model.specs.Writes.{WriteCommand}
 use Rattle.command_model.specs.Split.{SplitCommand}
 use Rattle.command_model.specs.Reading.{Reading}
-use Rattle.command_model.specs.Command.{Command, hello_command, legacy_command, ping_command, end_sessions_command, write_command, find_command, count_command, more_command, kill_command, shard_collection_command, split_command, command_of}
+use Rattle.command_model.specs.Command.{Command, write_command, shard_collection_command, split_command, command_of}
 use Rattle.command_model.specs.Answers.{changed_answer, answer_document}
 use Rattle.command_model.proofs.AnswerTimes.{time_of_changed, time_refused}
 use Rattle.chunk_model.specs.Changes.{Change}
@@ -22,9 +22,9 @@ use Rattle.reply_model.specs.Cursors.{Cursor}
 use Rattle.reply_model.specs.Right.{Reads, find_reads, count_reads, WasCreated, WasSplit, not_sharded, IsRight, right_write, right_find, right_count, right_refused_read, right_more, right_no_cursor, right_kill, right_shard, right_split, right_not_sharded, right_hello, right_legacy, right_ping, right_end_sessions, right_refusal}
 use Rattle.reply_model.specs.OneHistory.{Dated, changes_before, changes_by, changes_in as changes_of}
 use Rattle.reply_facts.proofs.RightAnswers.{TellsSplit, right_of}
-use Rattle.node_model.specs.Journal.{Kept, kept_table, kept_entry, kept_change, kept_life, kept_block, changes_kept}
+use Rattle.node_model.specs.Journal.{Kept, kept_table, kept_entry, kept_change, kept_life, kept_block}
 use Rattle.node_model.specs.Letters.{Input, Reply}
-use Rattle.node_model.specs.World.{World, answered_by, dated_onto, after, is_given, tick, Moves, journal_at}
+use Rattle.node_model.specs.World.{World, answered_by, dated_onto, after, is_given, tick, Moves}
 use Rattle.node_laws.proofs.Views.{Book, View, view_of, entries_in, changes_in}
 use Rattle.node_laws.proofs.Facts.{AnswersFit, no_answer, one_answer, Good}
 use Rattle.node_laws.proofs.Dates.{before_stays}

@@ -1,9 +1,9 @@
 -- Replies of which what they say was so by their step, by the command of each request.
-use Rattle.std.proofs.Common.{◌≡◌, ℕ, ◌≤◌, List, [], ◌∷◌, refl, sym, subst, codes}
+use Rattle.std.proofs.Common.{◌≡◌, ℕ, ◌≤◌, List, [], refl, sym, subst, codes}
 use Rattle.std.specs.Prelude.{Result, Ok}
 use Rattle.std.specs.List.{AllByRecursion}
 use Rattle.base_model.specs.Refusals.{Refusal}
-use Rattle.command_model.specs.Answers.{sharded_answer, changed_answer, answer_document}
+use Rattle.command_model.specs.Answers.{changed_answer, answer_document}
 use Rattle.command_model.specs.Command.{Command, write_command, find_command, shard_collection_command, split_command, command_of}
 use Rattle.command_model.specs.Find.{Find}
 use Rattle.command_model.specs.Split.{SplitCommand}

@@ -1,5 +1,5 @@
 -- By the changes that were made by the step of the reply.
-use Rattle.std.proofs.Common.{◌≡◌, ℕ, [], ◌∷◌, refl, sym, arith, codes}
+use Rattle.std.proofs.Common.{ℕ, [], ◌∷◌, refl, arith, codes}
 use Rattle.std.specs.Prelude.{true, None}
 use Rattle.base_model.specs.Times.{timestamp}
 use Rattle.command_laws.specs.SampleRequests.{five, with_id}

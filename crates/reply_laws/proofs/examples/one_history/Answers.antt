@@ -189,8 +189,7 @@ third_known = record { moment = refl; time = inr (inr (inr (first_entry, in_firs
 -- the collection was created before all replies
 all_caused : (t : Answered) → changes_by created_dated t ≡ created → creation.at ≤ t.time → IsCaused created_dated all_asked t
 all_caused t same past =
-    caused_by created_dated all_asked t
-    (
+    caused_by created_dated all_asked t (
       by_write created_dated 2 t inserts_five (made_by created_dated t same past),
       (by_write created_dated 4 t inserts_long_five (made_by created_dated t same past), (by_find created_dated 6 t (find_of long_five None), tt)),
     )

@@ -112,8 +112,7 @@ again_known = record {
 -- the collection was created before both replies
 both_caused : (t : Answered) → changes_by created_dated t ≡ created → creation.at ≤ t.time → IsCaused created_dated both_sent t
 both_caused t same past =
-    caused_by created_dated both_sent t
-    (
+    caused_by created_dated both_sent t (
       by_write created_dated sent_first.came t inserts (made_by created_dated t same past),
       (by_write created_dated sent_again.came t inserts (made_by created_dated t same past), tt),
     )
