@@ -115,6 +115,19 @@ def first_answer():
     return play.rows([[created(), split_record("d.c", int32(5), at(1, 1))], []] + lives(2))
 
 
+def split_though():
+    play = Play("a split is requested twice, before its collection was created and since; the first answer comes first: 118, though the chunk is split", 2)
+    asked = play.client(0, split(5, MISSING))
+    play.play("deliver 0 0")
+    other = play.client(1, shard(sharded(1, seconds=0)))
+    play.play("deliver 0 1", "deliver 3 0")
+    play.gets(other)
+    play.play("moment 2 1000", "deliver 0 2", "settle")
+    play.gets(asked)
+    play.settled(play.client(0, split(5, changed(1, 1)), 2))
+    return play.rows([[created(), split_record("d.c", int32(5), at(1, 1))], []] + lives(2))
+
+
 def other_table():
     play = Play("a find and a shardCollection of one router: the find's table does not answer the other, though it is there")
     reads = play.client(0, find("", first("", 0, seconds=0)))
@@ -150,4 +163,4 @@ def link_closed():
 
 def rows():
     lines = old_table() + held_answer() + moment_creates_once() + both_routers() + twice() + two_tables(False) + two_tables(True)
-    return lines + created_since() + first_answer() + other_table() + one_answer() + link_closed()
+    return lines + created_since() + first_answer() + split_though() + other_table() + one_answer() + link_closed()

@@ -154,7 +154,10 @@ fn put_kill_cursors(alloc: Global, line: &mut String, kill: &KillCursors) -> Res
 /// Appends a key, if it is a whole number, a text or null.
 fn put_key(alloc: Global, line: &mut String, key: &Key) -> Result<(), RowFault> {
     match key.value() {
-        Value::Int32(number) => put(line, format!(in alloc; "{number}")?.as_str()),
+        Value::Int32(number) => {
+            let number = number.content;
+            put(line, format!(in alloc; "{number}")?.as_str())
+        }
         Value::Int64(number) => put(line, format!(in alloc; "{number}L")?.as_str()),
         Value::Text(text) => {
             let text = text.as_str();
