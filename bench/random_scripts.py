@@ -1,9 +1,9 @@
 #!/usr/bin/env -S python3 -B
 """Plays random scripts on the built program, and looks whether its journals tell one history that explains every reply.
 
-Scripts have clients of one to four routers, moments, messages held back by kind, delivered late or again, links that are closed by bytes that are no
-request, retries of numbered writes by other routers, and collections that are created and split. Of what the program printed and of what its journals hold, read by the account of the formats
-in rows/, it checks:
+Scripts have clients of one to four routers, moments, messages held back by kind, delivered late or again, links that are closed by bytes that are no request,
+retries of numbered writes by other routers, and collections that are created and split. Of what the program printed and of what its journals hold, read by
+the account of the formats in rows/, it checks:
 
 - the shard's entries rise in time, no two have one number, and each has the outcome of its operation on what the entries before it left;
 - each write's reply shows the entry of each statement, or 225 where its session has a greater transaction; after the first error of an ordered write
@@ -34,8 +34,8 @@ from order import order_of  # noqa: E402
 from pipelines import Ambiguous, answer  # noqa: E402
 from wire import Request, message  # noqa: E402
 
-KINDS = ["TableAsk", "TableTold", "WriteAsk", "ReadAsk", "TimeAsk", "HalfAsk", "WriteDone", "ReadRows", "TimeTold", "Refused", "Batch", "SplitAsk",
-    "SplitDone"]
+KINDS = ["TableAsk", "TableTold", "WriteAsk", "ReadAsk", "TimeAsk", "HalfAsk", "WriteDone", "ReadRows", "TimeTold", "Refused", "Batch",
+    "SplitAsk", "SplitDone"]
 FIRST_ROUTER = 2
 
 
