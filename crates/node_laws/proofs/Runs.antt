@@ -171,3 +171,10 @@ makes_one_history w (known, moments, told) =
 pub run_makes_one_history : (routers : ℕ) (events : List Event) (w : World) → Run (start routers) events w
     → OneHistory w.given w.changed (entries_kept (journal_at w.nodes first_shard)) w.asked w.answered
 run_makes_one_history routers events w run = makes_one_history w (run_keeps (start routers) w events (start_good routers, start_moments routers, tt) run)
+
+-- THE CHANGES OF THE CATALOGUE
+
+-- those that were made, newest first, are those that the catalogue's journal stores
+pub run_keeps_changes : (routers : ℕ) (events : List Event) (w : World) → Run (start routers) events w
+    → changes_of w.changed ≡ changes_kept (journal_at w.nodes 0)
+run_keeps_changes routers events w run = (run_keeps (start routers) w events (start_good routers, start_moments routers, tt) run).0.good.dated
