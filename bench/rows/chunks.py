@@ -117,10 +117,6 @@ def clocked():
     ], clock=[1000000, 2000999, 1500000, 2001000, 2**64 - 1, 2**64 - 1, 0], keeps=(0, 1))
 
 
-def cut():
-    return connection_row("in every cutting", [shard(sharded(1)), split(10, changed(2)), Ask(inserted(ONE), done(1, 3))], keeps=(0, 1, 2), is_cut=True)
-
-
 def many():
     """Keys in an order that is none, and then each again."""
     keys = [number * 17 % MANY * 10 for number in range(MANY)]
@@ -211,5 +207,5 @@ def refused_splits():
 
 
 def rows():
-    lines = examples() + served() + beside_writes() + missing() + unanswered() + clocked() + cut() + many() + failing()
+    lines = examples() + served() + beside_writes() + missing() + unanswered() + clocked() + many() + failing()
     return lines + refused_shards() + refused_splits()
