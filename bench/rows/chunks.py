@@ -1,8 +1,9 @@
 """Rows of `shardCollection` and `split`: connections with the journals that they leave, and refusals. `chunk_scripts` has scripts."""
 from cursors import more, next_
-from form import Ask, connection_row, refused_rows, silent
+from form import Ask, ask_lines, connection_row, refused_rows, silent
 from reads import aggregate, count, counted, find, first, inserted, refused
 from retries import SESSION, done, errors, insert, sequence
+from wire import Connection
 
 ADMIN = '$db: "admin"}'
 KEY = "key: {_id: 1}"
@@ -116,16 +117,26 @@ def clocked():
     ], clock=[1000000, 2000999, 1500000, 2001000, 2**64 - 1, 2**64 - 1, 0], keeps=(0, 1))
 
 
-def cut():
-    return connection_row("in every cutting", [shard(sharded(1)), split(10, changed(2)), Ask(inserted(ONE), done(1, 3))], keeps=(0, 1, 2), is_cut=True)
-
-
 def many():
     """Keys in an order that is none, and then each again."""
     keys = [number * 17 % MANY * 10 for number in range(MANY)]
     asks = [shard(sharded(1))] + [split(key, changed(2 + number)) for number, key in enumerate(keys)]
     asks += [split(f"{key}L", changed(1 + MANY)) for key in keys[::7]]
     return connection_row(f"{MANY} splits", asks + [Ask(inserted("{_id: 205}"), done(1, 2 + MANY))], keeps=(0, 1))
+
+
+def failing():
+    """A call of the catalogue's disk fails: each of those that store the creation, and each of those that store the split."""
+    lines = []
+    for call in range(5, 13):
+        connection, is_created = Connection(), call >= 9
+        lines += [f"# call {call} of disk 0 fails, with a collection that is created and split", f"fail 0 {call}"]
+        for number, ask in enumerate([shard(sharded(1)), split(10, changed(2))]):
+            told = ask_lines("", connection, ask, number + 1)
+            lines += told if is_created and number == 0 else [line for line in told if not line.startswith(("gets", "note gets"))]
+        lines += [f"record {node} {record.hex()}" for node in (0, 2) for record in connection.cluster.journals[node]]
+        lines += ["finds 0 1 2" if is_created else "finds 0 0 1", "finds 1 0 0", "finds 2 1 1", "ends 5 0"]
+    return lines
 
 
 def refused_shards():
@@ -196,5 +207,5 @@ def refused_splits():
 
 
 def rows():
-    lines = examples() + served() + beside_writes() + missing() + unanswered() + clocked() + cut() + many()
+    lines = examples() + served() + beside_writes() + missing() + unanswered() + clocked() + many() + failing()
     return lines + refused_shards() + refused_splits()
