@@ -1,1 +1,3 @@
 mod Plans
+mod Ready
+mod Rows
