@@ -1,3 +1,4 @@
+mod Planned
 mod Plans
 mod Ready
 mod Rows

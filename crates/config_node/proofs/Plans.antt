@@ -4,7 +4,7 @@ use Rattle.std.specs.Prelude.{Option, Some, None, IsSome, max, Result, Ok, Err, 
 use Rattle.std.specs.Option.{option_map}
 use Rattle.base_model.specs.Times.{time_of_moment}
 use Rattle.chunk_catalogue.specs.Views.{change_view}
-use Rattle.chunk_catalogue.specs.declared.change.Change as program
+use Rattle.chunk_catalogue.specs.declared.change.Change.{Change as Made}
 use Rattle.chunk_model.specs.Changes.{Change}
 use Rattle.node_model.specs.CatalogueRows.{CatalogueRow, catalogue_moment, at_later, with_change}
 use Rattle.node_model.specs.Journal.{change_record, kept_change}
@@ -86,7 +86,7 @@ module _ (c : Catalogue) (m : Letter) (answer : Message) (time : Time) (now : an
       (subst (λ t. CatalogueRow c (letter_input m) (sends (letter_of answer ∷ [])) (at_later c t.0)) (sym (late ∙ now)) row)
       (ap (λ o. option_map (λ x. change_view x.fields) o) none) sent unwritten
 
-  module _ {E : Type 0} (change : program.Change) where
+  module _ {E : Type 0} (change : Made) where
     pub made_planned : (r : Result StepPlan E)
         → CatalogueRow c (letter_input m) (writes (kept_change (change_view change.fields) ∷ []) (letter_of answer ∷ []))
         (with_change c time.0 (change_view change.fields))

@@ -6,9 +6,11 @@ use Rattle.std.proofs.lemmas.Slice.Eq.{bytes_eq-Decides}
 use Rattle.base_model.specs.Identities.{RequestId}
 use Rattle.bson_model.specs.Limits.{IsWritable}
 use Rattle.bson_model.specs.Tree.{Datum}
-use Rattle.chunk_catalogue.specs.Catalogues.{answer_of}
+use Rattle.std.specs.Arc.{arc_value}
+use Rattle.chunk_catalogue.specs.Catalogues.{IsNext, answer_of, changes_of}
 use Rattle.chunk_catalogue.specs.Views.{change_view}
-use Rattle.chunk_catalogue.specs.declared.change.Change as program
+use Rattle.chunk_catalogue.specs.declared.change.Change.{Change as Made}
+use Rattle.chunk_catalogue.specs.declared.catalogue.Catalogue.{Catalogue as Store}
 use Rattle.chunk_model.specs.Changes.{Change, create_change, split_change, namespace_of, table_after, known_table, creations, can_split}
 use Rattle.chunk_model.specs.Requests.{CatalogueAnswer, changed, unchanged, no_collection, create_answer, split_answer}
 use Rattle.chunk_model.specs.Tables.{Table}
@@ -46,17 +48,17 @@ not_created namespace at changes e = by_table (known_table namespace changes) e
 
     by_table : (o : Option Table) → unchanged ≡ elim o as (λ (p : Option Table). CatalogueAnswer) [ None ↦ changed made | Some t ↦ unchanged ] → IsSome o
     by_table None h = absurd cc
-    by_table (Some t) h = tt
+    by_table (Some t) h = refl
 
 -- a request's answer, where a change was made for it
-pub answered : {E : Type 0} (answer : CatalogueAnswer) (r : Result (Option program.Change) E) → IfOk r (λ o. answer_of o ≡ answer)
+pub answered : {E : Type 0} (answer : CatalogueAnswer) (r : Result (Option Made) E) → IfOk r (λ o. answer_of o ≡ answer)
     → IfOk r (λ o. IfSome o (λ x. answer ≡ changed (change_view x.fields)))
 answered answer (Err e) is = tt
 answered answer (Ok None) is = tt
 answered answer (Ok (Some x)) is = sym is
 
 -- and where none was
-pub answered_none : {E : Type 0} (namespace : List ℕ) (create : Bool) (at : ℕ) (changes : List Change) (r : Result (Option program.Change) E)
+pub answered_none : {E : Type 0} (namespace : List ℕ) (create : Bool) (at : ℕ) (changes : List Change) (r : Result (Option Made) E)
     → IfOk r (λ o. answer_of o ≡ create_answer namespace at changes)
     → IfOk r (λ o. o ≡ None → (create ≡ false) ⊎ IsSome (known_table namespace changes))
 answered_none namespace create at changes (Err e) is = tt
@@ -64,7 +66,7 @@ answered_none namespace create at changes (Ok None) is = λ _. inr (not_created 
 answered_none namespace create at changes (Ok (Some x)) is = λ none. absurd cc
 
 -- what is known whatever the change is
-pub whatever : {E P : Type 0} (r : Result (Option program.Change) E) → P → IfOk r (λ o. IfSome o (λ _. P))
+pub whatever : {E P : Type 0} (r : Result (Option Made) E) → P → IfOk r (λ o. IfSome o (λ _. P))
 whatever (Err e) p = tt
 whatever (Ok None) p = tt
 whatever (Ok (Some x)) p = p
@@ -78,6 +80,22 @@ created_table namespace at changes x table e after =
     let same : bytes_eq (namespace_of x) namespace ≡ true = (bytes_eq-Decides (namespace_of x) namespace).1 named in
     let next : table_after x (known_table namespace changes) ≡ Some table = subst (λ n. table_after x (known_table n changes) ≡ Some table) named after in
     rw same next
+
+-- of a change that was made for a request: its record can be written, and its table is the collection's then
+pub made_writable : {E : Type 0} (namespace : List ℕ) (at : ℕ) (changes : List Change) (r : Result (Option Made) E)
+    → IfOk r (λ o. answer_of o ≡ create_answer namespace at changes) → IfOk r (λ o. IfSome o (λ x. IsWritableChange (change_view x.fields)))
+made_writable namespace at changes (Err e) is = tt
+made_writable namespace at changes (Ok None) is = tt
+made_writable namespace at changes (Ok (Some x)) is = creation_writable namespace at changes (change_view x.fields) (sym is)
+
+pub made_table : {E : Type 0} (c : Store) (namespace : List ℕ) (at : ℕ) (changes : List Change) (r : Result (Option Made) E)
+    → changes_of c ≡ changes → IfOk r (λ o. answer_of o ≡ create_answer namespace at changes) → IfOk r (λ o. IfSome o (λ x. IsNext c x))
+    → IfOk r (λ o. IfSome o (λ x. known_table namespace (change_view x.fields ∷ changes) ≡ Some (arc_value x.table)))
+made_table c namespace at changes (Err e) same is next = tt
+made_table c namespace at changes (Ok None) same is next = tt
+made_table c namespace at changes (Ok (Some x)) same is next =
+    created_table namespace at changes (change_view x.fields) (arc_value x.table) (sym is)
+    (subst (λ xs. table_after (change_view x.fields) (known_table (namespace_of (change_view x.fields)) xs) ≡ Some (arc_value x.table)) same next.table)
 
 -- the change that splits a chunk
 pub split_is : (namespace : List ℕ) (middle : Datum) (at : ℕ) (changes : List Change) (x : Change) → split_answer namespace middle at changes ≡ changed x

@@ -1,6 +1,6 @@
 //! The node, and its steps.
 
-ghost use Rattle.std.specs.Prelude.{◌≡◌, ◌⊎◌, ◌<◌, ◌≤◌, [], IfOk, IfSome, IsSome, None, false, max, true};
+ghost use Rattle.std.specs.Prelude.{◌≡◌, ◌⊎◌, ◌<◌, ◌≤◌, ◌∷◌, [], IfOk, IfSome, IsSome, None, Some, false, max, true};
 ghost use Rattle.std.specs.List.{AllByRecursion};
 ghost use Rattle.std.specs.Arc.{arc_value};
 ghost use Rattle.std.specs.Option.{option_map};
@@ -16,7 +16,7 @@ ghost use Rattle.protocol_model.specs.Bodies.{body_view, split_ask_view, table_a
 ghost use Rattle.protocol_model.specs.Inputs.{input_of};
 ghost use Rattle.protocol_model.specs.Requests.{request_of};
 ghost use Rattle.protocol_model.specs.Messages.{letter_of};
-ghost use Rattle.config_node.specs.Plans.{at_then};
+ghost use Rattle.config_node.specs.Plans.{IsWritableChange, at_then};
 ghost use Rattle.config_node.specs.Asks.{ask_view};
 ghost use Rattle.config_node.specs.StepPlans.{IsPlanned, IsReady};
 ghost use Rattle.config_node.specs.State.{state_of};
@@ -171,6 +171,8 @@ impl ConfigNode {
         ensures requested { IfOk result (λ change. IfSome change (λ _. ask.now.create ≡ true)) }
         ensures answer { IfOk result (λ change. IfSome change (λ x. create_answer ask.now.namespace at.0 (changes_of self.old.catalogue) ≡ changed (change_view x.fields))) }
         ensures none { IfOk result (λ change. change ≡ None → (ask.now.create ≡ false) ⊎ IsSome (known_table ask.now.namespace (changes_of self.old.catalogue))) }
+        ensures writable { IfOk result (λ change. IfSome change (λ x. IsWritableChange (change_view x.fields))) }
+        ensures table { IfOk result (λ change. IfSome change (λ x. known_table ask.now.namespace (change_view x.fields ∷ changes_of self.old.catalogue) ≡ Some (arc_value x.table))) }
         ensures next { IfOk result (λ change. IfSome change (λ x. IsNext self.new.catalogue x)) }
         ensures time { IfOk result (λ change. IfSome change (λ x. time_of (change_view x.fields) ≡ at.0)) }
         ensures same { state_of self.new ≡ state_of self.old }
