@@ -193,7 +193,8 @@ impl ConfigNode {
             IfOk result (λ p. IsPlanned self.now (letter_input m) p) }
         ensures ready { IfOk result (λ p. IsReady self.now p) }
     {
-        if !is_writable(self.alloc, &ask.middle)? {
+        let writable = is_writable(self.alloc, &ask.middle)?;
+        if !writable {
             // No message of a router has such a key.
             return Err(Memory);
         }
