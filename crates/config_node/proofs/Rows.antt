@@ -17,9 +17,21 @@ use Rattle.chunk_model.specs.Tables.{Table}
 use Rattle.node_model.specs.CatalogueRows.{CatalogueRow, catalogue_create, catalogue_tell, catalogue_split, catalogue_bound, catalogue_none, heard, told, split_told, at_later, with_change}
 use Rattle.node_model.specs.Journal.{kept_change}
 use Rattle.node_model.specs.Letters.{At, Letter, Body, table_ask, table_told, split_ask, split_done, letter_input, sends, writes}
-use Rattle.node_model.specs.States.{Catalogue}
+use Rattle.node_model.specs.States.{Catalogue, NodeState, catalogue_state, shard_state, router_state, time_of_node}
 use Rattle.record_model.specs.RecordFormat.{key_document}
 use Rattle.config_node.specs.Plans.{IsWritableChange}
+
+-- the changes of a catalogue
+changes_in : NodeState → List Change
+changes_in (catalogue_state c) = c.changes
+changes_in (shard_state s) = []
+changes_in (router_state r) = []
+
+pub same_changes : (a b : Catalogue) → catalogue_state a ≡ catalogue_state b → a.changes ≡ b.changes
+same_changes a b e = ap changes_in e
+
+pub same_time : (a b : Catalogue) → catalogue_state a ≡ catalogue_state b → a.time ≡ b.time
+same_time a b e = ap time_of_node e
 
 changed_is : (x y : Change) → changed x ≡ changed y → x ≡ y
 changed_is x y e = cc

@@ -149,16 +149,17 @@ impl ConfigNode {
         ensures same { state_of self.new ≡ state_of self.old }
         ensures steps { self.new.steps ≡ self.old.steps }
     {
+        let me = self.me;
         let next = Time(heard.0 + 1);
         match self.creation(&ask, next)? {
             Some(change) => {
                 let table = Arc::try_clone(&change.table)?;
-                let answer = table_answer(self.me, next, sender, ask, Some(table));
+                let answer = table_answer(me, next, sender, ask, Some(table));
                 StepPlan::make(self.alloc, change, answer)
             }
             None => {
                 let table = self.known(&ask.namespace)?;
-                let answer = table_answer(self.me, heard, sender, ask, table);
+                let answer = table_answer(me, heard, sender, ask, table);
                 Ok(StepPlan::tell(self.alloc, answer))
             }
         }
