@@ -32,9 +32,9 @@ module _ (n : Catalogue) (m : Letter) (sender : NodeId) (heard : Time) (answer :
         → IfOk r (λ p. p.time ≡ answer.time) → IfOk r (λ p. p.change ≡ Some x) → IfOk r (λ p. map letter_of p.mail ≡ letter_of answer ∷ [])
         → IfOk r (λ p. p.records.items ≡ spelled 1 (change_record (change_view x.fields)) ∷ [])
         → IfOk r (λ p. IsSound (change_record (change_view x.fields))) → IfOk r (λ p. Planned n (letter_input m) p)
-    create_planned x next r after yes answered known now said timed one sent written sound =
+    create_planned x next r after create_true answered known now said timed one sent written sound =
         made_planned n m answer next now here x r
-        (creates n m (letter_of answer) sender.0 next.0 from ask.namespace ask.create (at_view ask.at) found is said (change_view x.fields) yes
+        (creates n m (letter_of answer) sender.0 next.0 from ask.namespace ask.create (at_view ask.at) found is said (change_view x.fields) create_true
         (after ∙ ap (λ t. t + 1) late) answered (sym known))
         timed one sent written sound
 

@@ -22,7 +22,7 @@ use Rattle.record_model.specs.RecordFormat.{key_document}
 use Rattle.config_node.specs.Plans.{IsWritableChange}
 
 -- the changes of a catalogue
-changes_in : NodeState → List Change
+abbrev changes_in : NodeState → List Change
 changes_in (catalogue_state c) = c.changes
 changes_in (shard_state s) = []
 changes_in (router_state r) = []
@@ -143,10 +143,10 @@ module _ (c : Catalogue) (m l : Letter) (sender time : ℕ) (from : sender ≡ m
     pub creates : (x : Change) → create ≡ true → time ≡ heard c m + 1 → create_answer namespace time c.changes ≡ changed x
         → table ≡ known_table namespace (x ∷ c.changes)
         → CatalogueRow c (letter_input m) (writes (kept_change x ∷ []) (l ∷ [])) (with_change c time x)
-    creates x yes late answer known =
+    creates x create_true late answer known =
         let answered = subst (λ t. create_answer namespace t c.changes ≡ changed x) late answer in
-        let asked = is ∙ ap (λ b. table_ask namespace b at) yes in
-        rw (said, late, from, yes, known) (catalogue_create c m namespace at x asked answered)
+        let asked = is ∙ ap (λ b. table_ask namespace b at) create_true in
+        rw (said, late, from, create_true, known) (catalogue_create c m namespace at x asked answered)
 
     pub tells : (create ≡ false) ⊎ IsSome (known_table namespace c.changes) → time ≡ heard c m → table ≡ known_table namespace c.changes
         → CatalogueRow c (letter_input m) (sends (l ∷ [])) (at_later c time)
@@ -156,14 +156,14 @@ module _ (c : Catalogue) (m l : Letter) (sender time : ℕ) (from : sender ≡ m
       (said : l ≡ says c sender time (split_done id found)) where
     pub splits : (x : Change) → found ≡ true → time ≡ heard c m + 1 → split_answer namespace middle time c.changes ≡ changed x
         → CatalogueRow c (letter_input m) (writes (kept_change x ∷ []) (l ∷ [])) (with_change c time x)
-    splits x yes late answer =
+    splits x found_true late answer =
         let answered = subst (λ t. split_answer namespace middle t c.changes ≡ changed x) late answer in
-        rw (said, late, from, yes) (catalogue_split c m id namespace middle x is answered)
+        rw (said, late, from, found_true) (catalogue_split c m id namespace middle x is answered)
 
     pub has_bound : found ≡ true → time ≡ heard c m → split_answer namespace middle (heard c m + 1) c.changes ≡ unchanged
         → CatalogueRow c (letter_input m) (sends (l ∷ [])) (at_later c time)
-    has_bound yes late answer = rw (said, late, from, yes) (catalogue_bound c m id namespace middle is answer)
+    has_bound found_true late answer = rw (said, late, from, found_true) (catalogue_bound c m id namespace middle is answer)
 
     pub has_none : found ≡ false → time ≡ heard c m → split_answer namespace middle (heard c m + 1) c.changes ≡ no_collection
         → CatalogueRow c (letter_input m) (sends (l ∷ [])) (at_later c time)
-    has_none no late answer = rw (said, late, from, no) (catalogue_none c m id namespace middle is answer)
+    has_none found_false late answer = rw (said, late, from, found_false) (catalogue_none c m id namespace middle is answer)
