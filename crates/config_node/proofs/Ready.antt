@@ -9,7 +9,7 @@ use Rattle.chunk_model.specs.Changes as changes
 use Rattle.chunk_model.specs.Changes.{time_of}
 use Rattle.cluster_base.specs.declared.time.Time.{Time}
 use Rattle.config_node.specs.StepPlans.{IsReady}
-use Rattle.config_node.specs.declared.node.ConfigNode.{ConfigNode}
+use Rattle.config_node.specs.declared.state.ConfigNode.{ConfigNode}
 use Rattle.config_node.specs.declared.plan.StepPlan.{StepPlan}
 
 -- the changes are not later than a later time

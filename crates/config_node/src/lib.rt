@@ -4,5 +4,6 @@
 mod keys;
 mod node;
 mod plan;
+mod state;
 
-pub use node::ConfigNode;
+pub use state::ConfigNode;

@@ -1,7 +1,6 @@
 //! The node, and its steps.
 
 ghost use Rattle.std.specs.Prelude.{◌≡◌, ◌⊎◌, ◌<◌, ◌≤◌, ◌∷◌, [], IfOk, IfSome, IsSome, None, Some, false, max, true};
-ghost use Rattle.std.specs.List.{AllByRecursion};
 ghost use Rattle.std.specs.Arc.{arc_value};
 ghost use Rattle.std.specs.Option.{option_map};
 ghost use Rattle.chunk_catalogue.specs.Catalogues.{IsNext, changes_of};
@@ -23,6 +22,7 @@ ghost use Rattle.config_node.specs.State.{state_of};
 
 use crate::keys::is_writable;
 use crate::plan::{StepPlan, split_answer, table_answer};
+use crate::state::ConfigNode;
 use bson_values::Memory;
 use chunk_catalogue::{CatFault, Catalogue, Change};
 use chunk_table::Table;
@@ -35,17 +35,6 @@ use std::alloc::Global;
 use std::marker::Sync;
 use std::sync::Arc;
 use std::thread::Threads;
-
-/// The catalogue.
-#[derive(Drop)]
-pub struct ConfigNode {
-    alloc: Global,
-    me: NodeId,
-    steps: StepCount,
-    time: Time,
-    catalogue: Catalogue,
-    ghost past: { AllByRecursion (λ x. time_of x ≤ time.0) (changes_of catalogue) },
-}
 
 /// What is requested of the catalogue.
 #[derive(Drop)]
