@@ -5,7 +5,7 @@ use Rattle.protocol_model.specs.Inputs.{input_of}
 use Rattle.protocol_model.specs.Requests.{request_of}
 use Rattle.config_node.specs.State.{catalogue_of}
 use Rattle.config_node.proofs.Plans.{at_moment, stays}
-use Rattle.config_node.proofs.node.ConfigNode.plan.Goals as goal
+use Rattle.config_node.proofs.state.ConfigNode.plan.Goals as goal
 
 pub returns-in-Moment-clause-planned : goal.returns-in-Moment-clause-planned
 returns-in-Moment-clause-planned c =

@@ -2,7 +2,7 @@ use Rattle.std.proofs.Common.{ap, rules}
 use Rattle.chunk_catalogue.specs.Catalogues.{changes_of}
 use Rattle.config_node.proofs.Ready.{past_before}
 use Rattle.config_node.proofs.Rows.{answered, answered_none, made_table, made_writable, whatever}
-use Rattle.config_node.proofs.node.ConfigNode.creation.Goals as goal
+use Rattle.config_node.proofs.state.ConfigNode.creation.Goals as goal
 
 pub create-requires : goal.create-requires
 create-requires c = past_before c.args.self.now.time.0 c.args.at.0 _ c.requires.late c.args.self.now.past

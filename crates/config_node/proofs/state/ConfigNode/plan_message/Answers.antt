@@ -4,7 +4,7 @@ use Rattle.node_model.specs.Letters.{letter_input}
 use Rattle.protocol_model.specs.Messages.{letter_of}
 use Rattle.config_node.specs.State.{catalogue_of}
 use Rattle.config_node.proofs.Plans.{stays, stays_other}
-use Rattle.config_node.proofs.node.ConfigNode.plan_message.Goals as goal
+use Rattle.config_node.proofs.state.ConfigNode.plan_message.Goals as goal
 
 pub returns-then-ne-clause-planned : goal.returns-then-ne-clause-planned
 returns-then-ne-clause-planned c =

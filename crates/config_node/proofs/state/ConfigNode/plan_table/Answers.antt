@@ -7,7 +7,7 @@ use Rattle.config_node.proofs.Planned.{create_planned, tell_planned}
 use Rattle.config_node.proofs.Ready.{ready_made, ready_told}
 use Rattle.config_node.proofs.Rows.{same_changes, same_time}
 use Rattle.config_node.specs.State.{catalogue_of}
-use Rattle.config_node.proofs.node.ConfigNode.plan_table.Goals as goal
+use Rattle.config_node.proofs.state.ConfigNode.plan_table.Goals as goal
 
 pub returns-in-Some-clause-planned : goal.returns-in-Some-clause-planned
 returns-in-Some-clause-planned c = λ m late from is here.

@@ -3,7 +3,7 @@ use Rattle.config_node.proofs.Planned.{bound_planned, none_planned, split_planne
 use Rattle.config_node.proofs.Ready.{past_before, ready_made, ready_told}
 use Rattle.config_node.proofs.Rows.{split_writable}
 use Rattle.config_node.specs.State.{catalogue_of}
-use Rattle.config_node.proofs.node.ConfigNode.plan_split.Goals as goal
+use Rattle.config_node.proofs.state.ConfigNode.plan_split.Goals as goal
 
 pub split-requires : goal.split-requires
 split-requires c = record {
