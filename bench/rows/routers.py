@@ -49,6 +49,10 @@ class Play:
         self.printed.append(f"reply {router} {reply_bytes(Request(bytes_), self.replies[router], fields_of(ask.says)).hex()}")
         self.notes.append(f"note gets {ask.says}")
 
+    def settled(self, asked):
+        self.play("settle")
+        self.gets(asked)
+
     def closed(self, router):
         self.printed.append(f"closed {router}")
         self.replies[router] = 0
