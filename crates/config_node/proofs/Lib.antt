@@ -1,3 +1,4 @@
+mod Copies
 mod Planned
 mod Plans
 mod Ready

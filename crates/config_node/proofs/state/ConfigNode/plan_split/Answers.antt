@@ -13,27 +13,32 @@ split-requires c = record {
 
 pub make-requires : goal.make-requires
 make-requires c =
-    split_writable c.args.ask.namespace c.args.ask.middle (c.args.heard.0 + 1) _ _ (sym c.in-Ok-Some.ensures.answer) (c.in_ok-writable.ensures (search rules))
+    let answered = rw c.in-Ok-Some.field-0-is at c.in-Ok-Some.ensures.answer in
+    split_writable c.args.ask.namespace c.args.ask.middle (c.args.heard.0 + 1) _ _ (sym answered) (c.in_ok-writable.ensures (search rules))
 
 pub returns-in-Ok-Some-clause-planned : goal.returns-in-Ok-Some-clause-planned
 returns-in-Ok-Some-clause-planned c = λ m late from is here.
     let answer = c.split_answer-answer in
     let made = c.make.ensures in
+    let answered = rw c.in-Ok-Some.field-0-is at c.in-Ok-Some.ensures.answer in
     split_planned (catalogue_of c.args.self.now) m c.args.sender c.args.heard answer.result late from here c.args.ask is _ refl c.in-Ok-Some.change c.make.result
-    (sym c.in-Ok-Some.ensures.answer) answer.ensures.time answer.ensures.letter made.time made.change made.mail made.records made.sound
+    (sym answered) answer.ensures.time answer.ensures.letter made.time made.change made.mail made.records made.sound
 
 pub returns-in-Ok-Some-clause-ready : goal.returns-in-Ok-Some-clause-ready
 returns-in-Ok-Some-clause-ready c =
     let answer = c.split_answer-answer in
+    let next = rw c.in-Ok-Some.field-0-is at c.in-Ok-Some.ensures.next in
+    let timed = rw c.in-Ok-Some.field-0-is at c.in-Ok-Some.ensures.time in
     ready_made c.args.self.now c.in-Ok-Some.change answer.result.time _ c.make.result answer.ensures.time (omega (arith, c.requires.late))
-    c.in-Ok-Some.ensures.next c.in-Ok-Some.ensures.time c.make.ensures.time c.make.ensures.change
+    next timed c.make.ensures.time c.make.ensures.change
 
 pub returns-in-Ok-None-clause-planned : goal.returns-in-Ok-None-clause-planned
 returns-in-Ok-None-clause-planned c = λ m late from is here.
     let answer = c.split_answer-answer-in-Ok-None in
     let told = c.tell.ensures in
+    let answered = rw c.in-Ok-None.field-0-is at c.in-Ok-None.ensures.answer in
     bound_planned (catalogue_of c.args.self.now) m c.args.sender c.args.heard answer.result late from here c.args.ask is _ refl c.tell.result
-    (sym c.in-Ok-None.ensures.answer) answer.ensures.time answer.ensures.letter told.time told.change told.mail told.records
+    (sym answered) answer.ensures.time answer.ensures.letter told.time told.change told.mail told.records
 
 pub returns-in-Ok-None-clause-ready : goal.returns-in-Ok-None-clause-ready
 returns-in-Ok-None-clause-ready c =
@@ -44,8 +49,9 @@ pub returns-in-Err-NoCollection-clause-planned : goal.returns-in-Err-NoCollectio
 returns-in-Err-NoCollection-clause-planned c = λ m late from is here.
     let answer = c.split_answer-answer-in-Err-NoCollection in
     let told = c.tell-in-Err-NoCollection.ensures in
+    let fault = rw c.in-Err-NoCollection.field-0-is at c.in-Err-NoCollection.ensures.fault in
     none_planned (catalogue_of c.args.self.now) m c.args.sender c.args.heard answer.result late from here c.args.ask is _ refl c.tell-in-Err-NoCollection.result
-    c.in-Err-NoCollection.ensures.fault answer.ensures.time answer.ensures.letter told.time told.change told.mail told.records
+    fault answer.ensures.time answer.ensures.letter told.time told.change told.mail told.records
 
 pub returns-in-Err-NoCollection-clause-ready : goal.returns-in-Err-NoCollection-clause-ready
 returns-in-Err-NoCollection-clause-ready c =
