@@ -1,5 +1,5 @@
 -- The plans to answer requests of the catalogue.
-use Rattle.std.proofs.Common.{◌≡◌, ◌⊎◌, ℕ, ◌+◌, List, [], ◌∷◌, refl, sym, ap, subst, Bool, true, false, ◌∙◌, map}
+use Rattle.std.proofs.Common.{◌≡◌, ◌⊎◌, ◌+◌, [], ◌∷◌, refl, sym, ap, subst, true, false, ◌∙◌, map}
 use Rattle.std.specs.Prelude.{Option, Some, None, IsSome, max, Result, IfOk}
 use Rattle.chunk_catalogue.specs.Views.{change_view}
 use Rattle.chunk_catalogue.specs.declared.change.Change.{Change as Made}

@@ -1,6 +1,6 @@
 -- A transition of the catalogue is a step that is planned.
-use Rattle.std.proofs.Common.{◌≡◌, ◌⊎◌, ℕ, ◌+◌, List, [], ◌∷◌, refl, sym, ap, subst, Bool, true, false, ◌∙◌, map}
-use Rattle.std.specs.Prelude.{Option, Some, None, IsSome, max, Result, Ok, Err, IfOk}
+use Rattle.std.proofs.Common.{◌≡◌, ℕ, List, [], ◌∷◌, refl, sym, ap, subst, ◌∙◌, map}
+use Rattle.std.specs.Prelude.{Option, Some, None, max, Result, Ok, Err, IfOk}
 use Rattle.std.specs.Option.{option_map}
 use Rattle.base_model.specs.Times.{time_of_moment}
 use Rattle.chunk_catalogue.specs.Views.{change_view}

@@ -1,6 +1,6 @@
 -- The transitions of the catalogue, by what it answers.
-use Rattle.std.proofs.Common.{◌≡◌, ◌⊎◌, ℕ, ◌+◌, List, [], ◌∷◌, refl, sym, ap, subst, Bool, true, false, ◌∙◌, inl, inr}
-use Rattle.std.specs.Prelude.{Option, Some, None, IsSome, IfSome, Result, Ok, Err, IfOk, max, if◌then◌else◌}
+use Rattle.std.proofs.Common.{◌≡◌, ◌⊎◌, ℕ, ◌+◌, List, [], ◌∷◌, refl, sym, ap, subst, Bool, true, false, ◌∙◌, inr}
+use Rattle.std.specs.Prelude.{Option, Some, None, IsSome, IfSome, Result, Ok, Err, IfOk, if◌then◌else◌}
 use Rattle.std.specs.Str.{bytes_eq}
 use Rattle.std.proofs.lemmas.Slice.Eq.{bytes_eq-Decides}
 use Rattle.base_model.specs.Identities.{RequestId}
@@ -14,7 +14,7 @@ use Rattle.chunk_catalogue.specs.declared.catalogue.Catalogue.{Catalogue as Stor
 use Rattle.chunk_model.specs.Changes.{Change, create_change, split_change, namespace_of, table_after, known_table, creations, can_split}
 use Rattle.chunk_model.specs.Requests.{CatalogueAnswer, changed, unchanged, no_collection, create_answer, split_answer}
 use Rattle.chunk_model.specs.Tables.{Table}
-use Rattle.node_model.specs.CatalogueRows.{CatalogueRow, catalogue_create, catalogue_tell, catalogue_split, catalogue_bound, catalogue_none, heard, told, split_told, at_later, with_change}
+use Rattle.node_model.specs.CatalogueRows.{CatalogueRow, catalogue_create, catalogue_tell, catalogue_split, catalogue_bound, catalogue_none, heard, at_later, with_change}
 use Rattle.node_model.specs.Journal.{kept_change}
 use Rattle.node_model.specs.Letters.{At, Letter, Body, table_ask, table_told, split_ask, split_done, letter_input, sends, writes}
 use Rattle.node_model.specs.States.{Catalogue, NodeState, catalogue_state, shard_state, router_state, time_of_node}

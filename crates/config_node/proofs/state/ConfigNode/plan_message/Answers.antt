@@ -1,4 +1,4 @@
-use Rattle.std.proofs.Common.{◌≡◌, ap, rules, refl}
+use Rattle.std.proofs.Common.{ap, rules, refl}
 use Rattle.node_model.specs.CatalogueRows.{catalogue_skip}
 use Rattle.node_model.specs.Letters.{letter_input}
 use Rattle.protocol_model.specs.Messages.{letter_of}

@@ -1,4 +1,4 @@
-use Rattle.std.proofs.Common.{◌≡◌, ◌+◌, ap, rules, arith, sym, ◌∙◌, refl}
+use Rattle.std.proofs.Common.{◌+◌, rules, arith, sym, refl}
 use Rattle.config_node.proofs.Planned.{bound_planned, none_planned, split_planned}
 use Rattle.config_node.proofs.Ready.{past_before, ready_made, ready_told}
 use Rattle.config_node.proofs.Rows.{split_writable}

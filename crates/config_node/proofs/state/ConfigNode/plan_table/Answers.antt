@@ -1,4 +1,4 @@
-use Rattle.std.proofs.Common.{◌≡◌, ap, rules, sym, ◌∙◌, refl}
+use Rattle.std.proofs.Common.{◌≡◌, ap, rules, ◌∙◌, refl}
 use Rattle.std.specs.Prelude.{Some}
 use Rattle.std.specs.Arc.{arc_value}
 use Rattle.std.specs.Option.{option_map}
