@@ -4,7 +4,7 @@ use Rattle.std.specs.Prelude.{Some}
 use Rattle.std.specs.List.{AllByRecursion, slice_get}
 use Rattle.std.proofs.lemmas.Option.{slice_get_within}
 use Rattle.history_model.specs.History.{IsIn}
-use Rattle.history_model.proofs.Lists.{all_weaken, in_push, in_none}
+use Rattle.history_model.proofs.Lists.{all_at, all_weaken, in_push, in_none}
 use Rattle.node_model.specs.Journal.{Kept, kept_life}
 use Rattle.node_model.specs.Letters.{Letter, Input, client_input, letter_input, moment_input, opened_input, Effect, writes, both}
 use Rattle.node_model.specs.States.{Router, NodeState, catalogue_state, shard_state, router_state, new_router}
@@ -18,7 +18,8 @@ use Rattle.node_laws.proofs.StepsKeep.{StaysTrue, fits_here, got_is_in, happens_
 use Rattle.node_laws.proofs.Runs.{start_true}
 use Rattle.node_progress.specs.UnderWay.{IsLeft}
 use Rattle.node_progress.proofs.RouterGoesOn.{IsReady}
-use Rattle.node_progress.proofs.Bags.{OpenGoes, NodeGoes, Bag, Clears, same_place}
+use Rattle.node_progress.proofs.Versions.{IsWell}
+use Rattle.node_progress.proofs.Bags.{changes_made, OpenGoes, NodeGoes, Bag, Clears, same_place}
 use Rattle.node_progress.proofs.BagFacts.{IsHere, now, ready_here, tables_here}
 use Rattle.node_progress.proofs.BagKinds.{catalogue_keeps, shard_keeps, router_keeps}
 
@@ -112,6 +113,46 @@ start_bag left routers all = record {
   nodes = (tt, (tt, routers_go left (start routers) 2 routers));
   asked = tt;
 }
+
+-- A WORLD WITH ITS BAG
+
+pub record BagIn (left : ℕ → Type 0) (w : World) : Type 0 where
+  pub true_there : StaysTrue w
+  pub bag : Bag left w
+
+-- each message goes to a node
+pub goes_to_node : (left : ℕ → Type 0) (w : World) (n : ℕ) (m : Letter) → BagIn left w → slice_get w.sent n ≡ Some m → m.receiver < length w.nodes
+goes_to_node left w n m b got = (all_at (IsWell (changes_made w) (length w.nodes)) m w.sent b.bag.well (got_is_in w.sent n m got)).to
+
+pub delivery_bag : (left later : ℕ → Type 0) (w v : World) (at which : ℕ) → BagIn left w → Leaves left later (deliver_event at which)
+    → ((n : ℕ) → length w.sent ≤ n → later n) → Happens w (deliver_event at which) v → BagIn later v
+delivery_bag left later w v at which b leaves fresh h = record {
+  true_there = happens_keeps w v (deliver_event at which) b.true_there h;
+  bag = event_bag left later w v b.true_there.0.book (deliver_event at which) b.true_there.0.good b.bag leaves fresh h;
+}
+
+-- an event that delivers nothing
+abbrev pub IsNoDelivery : Event → Type 0
+IsNoDelivery (client_event at link number request) = Unit {0}
+IsNoDelivery (deliver_event at which) = ⊥
+IsNoDelivery (moment_event at moment) = Unit {0}
+IsNoDelivery (opened_event at) = Unit {0}
+
+all_left : (left : ℕ → Type 0) (e : Event) → IsNoDelivery e → Leaves left left e
+all_left left (client_event at link number request) is = λ n l. l
+all_left left (deliver_event at which) is = absurd is
+all_left left (moment_event at moment) is = λ n l. l
+all_left left (opened_event at) is = λ n l. l
+
+pub event_keeps : (left : ℕ → Type 0) (w v : World) (e : Event) → IsNoDelivery e → BagIn left w → Happens w e v → BagIn left v
+event_keeps left w v e is b h = record {
+  true_there = happens_keeps w v e b.true_there h;
+  bag = event_bag left left w v b.true_there.0.book e b.true_there.0.good b.bag (all_left left e is) b.bag.fresh h;
+}
+
+pub events_keep : (left : ℕ → Type 0) (u : World) (es : List Event) (w : World) → AllByRecursion IsNoDelivery es → BagIn left u → Run u es w → BagIn left w
+events_keep left _ _ _ all b (stands w) = b
+events_keep left _ _ _ all b (goes u v w e es h run) = events_keep left v es w all.1 (event_keeps left u v e all.0 b h) run
 
 -- A RUN
 

@@ -1,9 +1,7 @@
 -- After each round of the schedule of `pipe` every request is answered.
 use Rattle.std.proofs.Common.{◌≡◌, ◌≢◌, ◌⊎◌, inl, inr, ℕ, zero, suc, ◌+◌, ◌<◌, ◌≤◌, List, [], ◌∷◌, ◌++◌, length, refl, sym, ap, subst, ◌∙◌, arith, append-nil}
-use Rattle.std.specs.Prelude.{Some}
-use Rattle.std.specs.List.{AllByRecursion, slice_get}
+use Rattle.std.specs.List.{AllByRecursion}
 use Rattle.std.proofs.lemmas.Option.{slice_get_within}
-use Rattle.history_model.proofs.Lists.{all_at}
 use Rattle.chunk_model.specs.Tables.{first_shard}
 use Rattle.node_model.specs.Journal.{entries_kept}
 use Rattle.node_model.specs.Letters.{Letter, Input, opened_input, Effect}
@@ -12,74 +10,40 @@ use Rattle.node_model.specs.CatalogueRows.{catalogue_opened}
 use Rattle.node_model.specs.ShardRows.{shard_opened}
 use Rattle.node_model.specs.RouterRows.{router_begin, router_opened}
 use Rattle.node_model.specs.Steps.{Step, catalogue_step, shard_step, router_step, begin_step}
-use Rattle.node_model.specs.World.{World, Moves, Event, client_event, deliver_event, moment_event, opened_event, Happens, comes, delivers, passes, begins as was_opened, Run, stands, goes, start, journal_at}
+use Rattle.node_model.specs.World.{World, Moves, Event, client_event, deliver_event, moment_event, opened_event, Happens, delivers, begins as was_opened, Run, stands, goes, start, journal_at}
 use Rattle.node_model.specs.Schedule.{openings, moments_given, Delivers, delivers_none, delivers_next, Round, IsRound, Pipes, opens, serves}
-use Rattle.node_laws.proofs.StepsKeep.{StaysTrue, happens_keeps, run_keeps, got_is_in}
+use Rattle.node_laws.proofs.StepsKeep.{run_keeps}
 use Rattle.node_laws.proofs.Runs.{start_true}
 use Rattle.node_progress.specs.Completion.{IsAnswered, IsServed, AreAnswered}
-use Rattle.node_progress.proofs.Versions.{IsWell}
-use Rattle.node_progress.proofs.Bags.{changes_made, Bag, same_place}
-use Rattle.node_progress.proofs.BagRuns.{event_bag, start_bag}
+use Rattle.node_progress.proofs.Bags.{same_place}
+use Rattle.node_progress.proofs.BagRuns.{BagIn, IsNoDelivery, start_bag, event_keeps, events_keep, delivery_bag}
 use Rattle.node_progress.proofs.Answered.{are_answered, stay_answered}
 
 -- MESSAGES IN ORDER OF SENDING
 
 -- the messages from a place on are left
-pub record BagAt (w : World) (next : ℕ) : Type 0 where
-  pub true_there : StaysTrue w
-  pub bag : Bag (λ n. next ≤ n) w
+abbrev pub BagAt : World → (next : ℕ) → Type 0
+BagAt w next = BagIn (λ n. next ≤ n) w
 
--- each message goes to a node
-pub goes_to_node : (w : World) (next n : ℕ) (m : Letter) → BagAt w next → slice_get w.sent n ≡ Some m → m.receiver < length w.nodes
-goes_to_node w next n m b got = (all_at (IsWell (changes_made w) (length w.nodes)) m w.sent b.bag.well (got_is_in w.sent n m got)).to
+pub sent_before : (u x : World) (to which : ℕ) → Happens u (deliver_event to which) x → which < length u.sent
+sent_before _ _ _ _ (delivers u x to which letter got place m) = slice_get_within u.sent which letter got
 
 -- the next one is delivered
 pub delivery_keeps : (w v : World) (next at : ℕ) → BagAt w next → Happens w (deliver_event at next) v → BagAt v (next + 1)
-delivery_keeps w v next at b h = record {
-  true_there = happens_keeps w v (deliver_event at next) b.true_there h;
-  bag = event_bag (λ n. next ≤ n) (λ n. next + 1 ≤ n) w v b.true_there.0.book (deliver_event at next) b.true_there.0.good b.bag
-      (λ n le. by_place n le (same_place n next)) (λ n le. let l = sent_before h in omega (arith, le, l)) h;
-}
+delivery_keeps w v next at b h =
+    delivery_bag (λ n. next ≤ n) (λ n. next + 1 ≤ n) w v at next b (λ n le. by_place n le (same_place n next))
+    (λ n le. let l = sent_before w v at next h in omega (arith, le, l)) h
   where
     by_place : (n : ℕ) → next ≤ n → (n ≡ next) ⊎ (n ≢ next) → (next + 1 ≤ n) ⊎ (n ≡ next)
     by_place n le (inl same) = inr same
     by_place n le (inr other) = inl (omega (arith, le, other))
 
-    sent_before : {u x : World} {to which : ℕ} → Happens u (deliver_event to which) x → which < length u.sent
-    sent_before (delivers u x to which letter got place m) = slice_get_within u.sent which letter got
-
--- an event that delivers nothing
-abbrev pub IsNoDelivery : Event → Type 0
-IsNoDelivery (client_event at link number request) = Unit {0}
-IsNoDelivery (deliver_event at which) = ⊥
-IsNoDelivery (moment_event at moment) = Unit {0}
-IsNoDelivery (opened_event at) = Unit {0}
-
-pub event_keeps : (w v : World) (next : ℕ) (e : Event) → IsNoDelivery e → BagAt w next → Happens w e v → BagAt v next
-event_keeps w v next (client_event at link number request) is b h = record {
-  true_there = happens_keeps w v (client_event at link number request) b.true_there h;
-  bag = event_bag (λ n. next ≤ n) (λ n. next ≤ n) w v b.true_there.0.book (client_event at link number request) b.true_there.0.good b.bag (λ n le. le) b.bag.fresh h;
-}
-event_keeps w v next (deliver_event at which) is b h = absurd is
-event_keeps w v next (moment_event at moment) is b h = record {
-  true_there = happens_keeps w v (moment_event at moment) b.true_there h;
-  bag = event_bag (λ n. next ≤ n) (λ n. next ≤ n) w v b.true_there.0.book (moment_event at moment) b.true_there.0.good b.bag (λ n le. le) b.bag.fresh h;
-}
-event_keeps w v next (opened_event at) is b h = record {
-  true_there = happens_keeps w v (opened_event at) b.true_there h;
-  bag = event_bag (λ n. next ≤ n) (λ n. next ≤ n) w v b.true_there.0.book (opened_event at) b.true_there.0.good b.bag (λ n le. le) b.bag.fresh h;
-}
-
-pub events_keep : (u : World) (es : List Event) (w : World) (next : ℕ) → AllByRecursion IsNoDelivery es → BagAt u next → Run u es w → BagAt w next
-events_keep _ _ _ next all b (stands w) = b
-events_keep _ _ _ next all b (goes u v w e es h run) = events_keep v es w next all.1 (event_keeps u v next e all.0 b h) run
-
-pub start_at : (routers : ℕ) → BagAt (start routers) 0
+start_at : (routers : ℕ) → BagAt (start routers) 0
 start_at routers = record { true_there = start_true routers; bag = start_bag (λ n. 0 ≤ n) routers (λ n. omega arith) }
 
 -- A ROUND
 
-openings_deliver_none : (first count : ℕ) → AllByRecursion IsNoDelivery (openings first count)
+pub openings_deliver_none : (first count : ℕ) → AllByRecursion IsNoDelivery (openings first count)
 openings_deliver_none first zero = tt
 openings_deliver_none first (suc count) = (tt, openings_deliver_none (first + 1) count)
 
@@ -96,12 +60,12 @@ deliveries_keep _ _ _ _ _ b (delivers_next u v w next later at events h more) =
 pub round_asked : (u given asked : World) (next : ℕ) (r : Round) → BagAt u next → Run u (moments_given 0 (length u.nodes) r.moment) given
     → Happens given (client_event r.at r.link r.number r.request) asked → BagAt asked next
 round_asked u given asked next r b run came =
-    event_keeps given asked next (client_event r.at r.link r.number r.request) tt
-    (events_keep u (moments_given 0 (length u.nodes) r.moment) given next (moments_deliver_none 0 (length u.nodes) r.moment) b run) came
+    event_keeps (λ n. next ≤ n) given asked (client_event r.at r.link r.number r.request) tt
+    (events_keep (λ n. next ≤ n) u (moments_given 0 (length u.nodes) r.moment) given (moments_deliver_none 0 (length u.nodes) r.moment) b run) came
 
 pub pipes_bag : (routers : ℕ) (rounds : List Round) (events : List Event) (w : World) (next : ℕ) → Pipes routers rounds events w next → BagAt w next
 pipes_bag routers _ _ _ _ (opens w run) =
-    events_keep (start routers) (openings 0 (length (start routers).nodes)) w 0 (openings_deliver_none 0 (length (start routers).nodes)) (start_at routers) run
+    events_keep (λ n. 0 ≤ n) (start routers) (openings 0 (length (start routers).nodes)) w (openings_deliver_none 0 (length (start routers).nodes)) (start_at routers) run
 pipes_bag routers _ _ _ _ (serves rounds r before events u w next pipes round) =
     deliveries_keep round.asked next round.deliveries w (length w.sent)
     (round_asked u round.given round.asked next r (pipes_bag routers rounds before u next pipes) round.moments round.comes) round.settles
