@@ -20,3 +20,4 @@ pub mod BagRuns
 pub mod Progress
 pub mod Answered
 pub mod Rounds
+pub mod Arrivals

@@ -1,14 +1,21 @@
 //! What is under way in each world of a run, and that requests are answered.
 
-ghost use Rattle.std.specs.Prelude.{ℕ, List, length, ◌<◌};
+ghost use Rattle.std.specs.Prelude.{ℕ, List, length, map, ◌<◌, ◌≡◌};
 ghost use Rattle.std.specs.List.{AllByRecursion};
 ghost use Rattle.chunk_model.specs.Tables.{first_shard};
 ghost use Rattle.node_model.specs.Journal.{entries_kept};
 ghost use Rattle.node_model.specs.Letters.{Letter};
 ghost use Rattle.node_model.specs.World.{Event, Run, World, journal_at, start};
 ghost use Rattle.node_model.specs.Schedule.{Pipes, Round};
+ghost use Rattle.node_progress.specs.Arrivals.{arrival_of, arrivals};
 ghost use Rattle.node_progress.specs.Completion.{AreAnswered, IsAnswered, IsServed};
 ghost use Rattle.node_progress.specs.UnderWay.{IsDelivered, IsLeft, IsNotStale, IsUnderWay};
+
+/// Each request that comes is taken, once and in order.
+#[tactic(auto, using(crate::proofs::Arrivals::each_request_is_taken))]
+pub fn each_request_is_taken()
+    ensures { (routers : ℕ) (events : List Event) (w : World) → Run (start routers) events w → map arrival_of w.asked ≡ arrivals events }
+{}
 
 /// In each world of each run, for any number of open requests, and however messages were delivered: all that an open request waits for is under
 /// way, in a message that is not delivered yet or parked at a shard, with the table that it wants there under way.
