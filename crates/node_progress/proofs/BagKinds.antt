@@ -1,6 +1,6 @@
 -- A step of the catalogue, of the shard and of a router keeps the bag.
 use Rattle.std.proofs.Common.{◌≡◌, ◌≢◌, ◌⊎◌, inl, inr, ℕ, ◌+◌, ◌<◌, ◌≤◌, List, [], ◌∷◌, ◌++◌, length, refl, sym, ap, subst, ◌∙◌, arith}
-use Rattle.std.specs.Prelude.{Some, None}
+use Rattle.std.specs.Prelude.{Some, None, false}
 use Rattle.std.specs.List.{AllByRecursion, slice_get, slice_set}
 use Rattle.std.proofs.lemmas.Option.{slice_get_within}
 use Rattle.history_model.specs.History.{IsIn}
@@ -179,7 +179,8 @@ router_keeps left later w book p i kept o r u f good bag here clears fresh comes
     (others left later w book p i kept (router_state o) g (router_state u) good bag here clears fresh comes carries
     (λ other s x x_goes was. absurd (away (a_table first_shard x_goes.ask.namespace false no_time) (λ e. omega (arith, e, fits.place)) was)))
     (λ x is. (u, refl, lives.life ∙ (life ∙ ap (λ (y : Router). y.life) (same_router x is))))
-    (subst (λ l. AllByRecursion (λ (a : Asked). IsOfRouter _ a.id) (asked_by w.now l)) (sym taken) of_router)
+    (subst (λ l. AllByRecursion (λ (a : Asked). IsOfRouter (slice_set w.nodes p (record { state = router_state u; kept = kept ++ g.written })) a.id)
+    (asked_by w.now l)) (sym taken) of_router)
   where
     fits : RouterFits (now w book) w.asked w.answered p o
     fits = (fits_here w book p (record { state = router_state o; kept = kept }) good here).state

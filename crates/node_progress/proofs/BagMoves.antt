@@ -1,6 +1,6 @@
 -- Each step of each node keeps the bag.
 use Rattle.std.proofs.Common.{◌≡◌, ◌≢◌, ◌⊎◌, inl, inr, ℕ, ◌+◌, ◌<◌, ◌≤◌, List, [], ◌∷◌, ◌++◌, length, refl, sym, ap, subst, ◌∙◌, arith}
-use Rattle.std.specs.Prelude.{Some, None}
+use Rattle.std.specs.Prelude.{Some, None, false}
 use Rattle.std.specs.List.{AllByRecursion, slice_get, slice_set}
 use Rattle.std.proofs.lemmas.Option.{slice_get_within}
 use Rattle.history_model.specs.History.{IsIn}
@@ -36,7 +36,7 @@ use Rattle.node_progress.proofs.BagSteps.{Carries, still_well, open_moves, parke
 use Rattle.node_progress.proofs.BagFacts.{IsHere, now, told_had, named_request, known_to, fit_here, ready_here, tables_here}
 
 -- no table that a shard wants
-abbrev NoShardTable : Thing → Type 0
+abbrev pub NoShardTable : Thing → Type 0
 NoShardTable t = (node : ℕ) (namespace : List ℕ) → t ≡ a_table node namespace false no_time → ⊥
 
 module _ (left later : ℕ → Type 0) (w : World) (book : Book) (p : ℕ) (i : Input) (kept : List Kept) (old : NodeState) (f : Effect) (new : NodeState)
@@ -48,10 +48,10 @@ module _ (left later : ℕ → Type 0) (w : World) (book : Book) (p : ℕ) (i : 
   abbrev CarriesHere : Thing → Type 0
   CarriesHere t = Carries left later w p i kept old f new bag here clears fresh t
 
-  within : p < length w.nodes
+  pub within : p < length w.nodes
   within = slice_get_within w.nodes p (record { state = old; kept = kept }) here
 
-  from_node : (m : Letter) → i ≡ letter_input m → m.sender < length w.nodes
+  pub from_node : (m : Letter) → i ≡ letter_input m → m.sender < length w.nodes
   from_node m is = (all_at (IsWell (changes_made w) (length w.nodes)) m w.sent bag.well (comes m is).1).from
 
   -- WHAT OTHER NODES HAVE
@@ -67,7 +67,7 @@ module _ (left later : ℕ → Type 0) (w : World) (book : Book) (p : ℕ) (i : 
       (carries (thing_of r q) (omega (arith, own, place, home_is)) (λ e. other (sym own ∙ (sym home_is ∙ e)))
       (λ node namespace e. wants_other _ r.me q.namespace q.work q.wait node namespace e)) o) all
 
-  others : ((t : Thing) → first_shard < home t → home t ≢ p → NoShardTable t → CarriesHere t)
+  pub others : ((t : Thing) → first_shard < home t → home t ≢ p → NoShardTable t → CarriesHere t)
       → (p ≢ first_shard → (s : Shard) (x : Letter) (g : ParkedGoes left w s x) → WasFor i (a_table first_shard g.ask.namespace false no_time)
       → IsAmong f.mail (a_table first_shard g.ask.namespace false no_time))
       → (j : ℕ) (h : Held) → j ≢ p → HeldFits (now w book) w.asked w.answered w.given j h → NodeGoes left w h.state → NodeGoes later v h.state
@@ -81,7 +81,7 @@ module _ (left later : ℕ → Type 0) (w : World) (book : Book) (p : ℕ) (i : 
       by_state (router_state r) own goes = other_open carries j r other own goes
 
   -- where the bag is that of a step that takes nothing
-  nothing_taken : f.taken ≡ [] → AllByRecursion (λ (a : Asked). IsOfRouter v.nodes a.id) (asked_by w.now f.taken)
+  pub nothing_taken : f.taken ≡ [] → AllByRecursion (λ (a : Asked). IsOfRouter v.nodes a.id) (asked_by w.now f.taken)
   nothing_taken none = subst (λ l. AllByRecursion (λ (a : Asked). IsOfRouter v.nodes a.id) (asked_by w.now l)) (sym none) tt
 
   well_there : AllByRecursion (IsWell (changes_made w) (length w.nodes)) f.mail → AllByRecursion (IsWell (changes_made v) (length v.nodes)) f.mail
@@ -91,7 +91,7 @@ module _ (left later : ℕ → Type 0) (w : World) (book : Book) (p : ℕ) (i : 
 
   -- THE PARTS TOGETHER
 
-  together : AllByRecursion (IsWell (changes_made w) (length w.nodes)) f.mail → NodeGoes later v new
+  pub together : AllByRecursion (IsWell (changes_made w) (length w.nodes)) f.mail → NodeGoes later v new
       → ((j : ℕ) (h : Held) → j ≢ p → HeldFits (now w book) w.asked w.answered w.given j h → NodeGoes left w h.state → NodeGoes later v h.state)
       → ((r : Router) → old ≡ router_state r → (u : Router) × (new ≡ router_state u) × (u.life ≡ r.life))
       → AllByRecursion (λ (a : Asked). IsOfRouter v.nodes a.id) (asked_by w.now f.taken) → Bag later v

@@ -1,6 +1,6 @@
 -- A step of a node keeps the bag.
 use Rattle.std.proofs.Common.{◌≡◌, ◌≢◌, ◌⊎◌, inl, inr, ℕ, zero, suc, ◌+◌, ◌<◌, ◌≤◌, List, [], ◌∷◌, ◌++◌, length, refl, sym, ap, subst, ◌∙◌, arith, append-nil, length-append}
-use Rattle.std.specs.Prelude.{Some, None}
+use Rattle.std.specs.Prelude.{Some, None, false}
 use Rattle.std.specs.List.{AllByRecursion, slice_get, slice_set}
 use Rattle.history_model.specs.History.{IsIn}
 use Rattle.history_model.proofs.Lists.{all_at, all_weaken, all_append}
@@ -37,7 +37,7 @@ module _ (left later : ℕ → Type 0) (w : World) (p : ℕ) (i : Input) (kept :
   more_made : MoreMade (changes_made w) (changes_made next_world)
   more_made = changes_more w.nodes p old kept f.written new here
 
-  still_well : (m : Letter) → IsWell (changes_made w) (length w.nodes) m → IsWell (changes_made next_world) (length next_world.nodes) m
+  pub still_well : (m : Letter) → IsWell (changes_made w) (length w.nodes) m → IsWell (changes_made next_world) (length next_world.nodes) m
   still_well m well =
       subst (λ n. IsWell (changes_made next_world) n m) (sym (length_set w.nodes p stepped))
       (well_later more_made.news (changes_made w) (changes_made next_world) (length w.nodes) m more_made.is well)
@@ -60,7 +60,7 @@ module _ (left later : ℕ → Type 0) (w : World) (p : ℕ) (i : Input) (kept :
       let held : record { state = old; kept = kept } ≡ record { state = shard_state h.shard; kept = h.kept } = cc both in
       ap (λ (x : Held). x.state) held
 
-  carried_moves : (t : Thing) → Carries t → IsCarried left w t → IsCarried later next_world t
+  pub carried_moves : (t : Thing) → Carries t → IsCarried left w t → IsCarried later next_world t
   carried_moves t c (inl s) = by_place (sent_moves left later w.sent f.mail i t clears s)
     where
       by_place : IsSent later (w.sent ++ f.mail) t ⊎ WasFor i t → IsCarried later next_world t
@@ -80,11 +80,11 @@ module _ (left later : ℕ → Type 0) (w : World) (p : ℕ) (i : Input) (kept :
         brings = h.brings;
       })
 
-  open_moves : (r : Router) (q : Open) → Carries (thing_of r q) → OpenGoes left w r q → OpenGoes later next_world r q
+  pub open_moves : (r : Router) (q : Open) → Carries (thing_of r q) → OpenGoes left w r q → OpenGoes later next_world r q
   open_moves r q c o = record { waiting = o.waiting; carried = carried_moves (thing_of r q) c o.carried }
 
   -- the table of a parked request
-  parked_moves : (s : Shard) (x : Letter) → (g : ParkedGoes left w s x)
+  pub parked_moves : (s : Shard) (x : Letter) → (g : ParkedGoes left w s x)
       → (WasFor i (a_table first_shard g.ask.namespace false no_time) → IsAmong f.mail (a_table first_shard g.ask.namespace false no_time))
       → ParkedGoes later next_world s x
   parked_moves s x g passes = record {
@@ -103,7 +103,7 @@ module _ (left later : ℕ → Type 0) (w : World) (p : ℕ) (i : Input) (kept :
   -- THE NODE ITSELF
 
   -- a shard's parked requests after its step
-  parked_after : (s u : Shard) → old ≡ shard_state s → s.me ≡ first_shard → AllByRecursion (ParkedGoes left w s) s.parked
+  pub parked_after : (s u : Shard) → old ≡ shard_state s → s.me ≡ first_shard → AllByRecursion (ParkedGoes left w s) s.parked
       → ((x : Letter) → i ≡ letter_input x → IsIn x w.sent)
       → AllByRecursion (IsParkedAfter s u i f.mail) u.parked → AllByRecursion (ParkedGoes later next_world u) u.parked
   parked_after s u is me before came all =
@@ -126,7 +126,7 @@ module _ (left later : ℕ → Type 0) (w : World) (p : ℕ) (i : Input) (kept :
       }
 
   -- a router's open requests after its step
-  open_after : (r u : Router) → ((s : Shard) → old ≡ shard_state s → ⊥) → AllByRecursion (OpenGoes left w r) r.requests
+  pub open_after : (r u : Router) → ((s : Shard) → old ≡ shard_state s → ⊥) → AllByRecursion (OpenGoes left w r) r.requests
       → AllByRecursion (WaitsAfter r u i f.mail) u.requests → AllByRecursion (OpenGoes later next_world u) u.requests
   open_after r u no_shard before all = all_weaken (WaitsAfter r u i f.mail) (OpenGoes later next_world u) u.requests (λ q a. by_case q a) all
     where

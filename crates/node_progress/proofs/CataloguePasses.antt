@@ -28,7 +28,7 @@ only_among m t is = record { letter = m; sent = in_first m []; brings = is }
 -- a table that is to be there is there: a new one, one that was requested to be created, and one that a shard wants, of which it was told
 some_if : (o : Option Table) → (o ≡ None → ⊥) → IsSome o
 some_if None there = absurd (there refl)
-some_if (Some t) there = tt
+some_if (Some t) there = refl
 
 -- what a shard wants is known
 abbrev pub IsKnownTo : List Change → Thing → Type 0
@@ -51,7 +51,7 @@ catalogue_passes _ _ _ _ t place own known is (catalogue_create c m namespace at
     let l = subst (λ b. Brings t m.sender m.receiver b) says is in
     let made = created_known namespace (heard c m + 1) c.changes x new in
     only_among (told c m (heard c m + 1) namespace true at (known_table namespace (x ∷ c.changes))) t
-    (l.0, λ none. subst (λ o. IsSome o) (sym made.1) tt)
+    (l.0, λ none. subst (λ o. IsSome o) (sym made.1) refl)
 catalogue_passes _ _ _ _ t place own known is (catalogue_tell c m namespace create at says there) =
     let l = subst (λ b. Brings t m.sender m.receiver b) says is in
     only_among (told c m (heard c m) namespace create at (known_table namespace c.changes)) t

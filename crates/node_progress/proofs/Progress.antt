@@ -86,7 +86,7 @@ module _ (left : ℕ → Type 0) (w : World) (book : Book) (good : Good w book) 
             kept = o.kept;
             request = q.0;
             here = o.here;
-            open = q.1;
+            there = q.1;
             own = λ i. record { router = sym fits.own i; life = o.life i; count = sym q.2 i };
             coming = open_coming a.id.router o.router o.kept q.0 o.here q.1;
           })
@@ -94,7 +94,7 @@ module _ (left : ℕ → Type 0) (w : World) (book : Book) (good : Good w book) 
   pub bag_under_way : IsUnderWay left w
   bag_under_way = record {
     taken = all_from (λ (a : Asked). IsAnswered w.answered a ⊎ IsServedNext left w a) w.asked (λ a there. served_next a there);
-    open = open_coming;
+    waiting = open_coming;
     parked = fetched;
   }
 
@@ -138,4 +138,4 @@ module _ (left : ℕ → Type 0) (w : World) (none : (n : ℕ) → n < length w.
       by_state k kept (catalogue_state c) here = tt
       by_state k kept (shard_state s) here =
           none_in s.parked (λ p there. let f = u.parked k s kept p here there in none_sent (a_table s.me f.ask.namespace false no_time) f.table)
-      by_state k kept (router_state r) here = none_in r.requests (λ q there. none_comes (thing_of r q) (u.open k r kept q here there).0)
+      by_state k kept (router_state r) here = none_in r.requests (λ q there. none_comes (thing_of r q) (u.waiting k r kept q here there).0)

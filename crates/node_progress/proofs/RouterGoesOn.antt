@@ -1,6 +1,6 @@
 -- In each transition of a router: what its open requests wait for, and what it sends.
 use Rattle.std.proofs.Common.{◌≡◌, ◌≢◌, ◌⊎◌, inl, inr, ℕ, ℤ, ◌+◌, ◌<◌, List, [], ◌∷◌, ◌++◌, length, refl, sym, ap, subst, ◌∙◌, append-nil, Bool}
-use Rattle.std.specs.Prelude.{Some, Result, Ok, Err}
+use Rattle.std.specs.Prelude.{Some, Result, Ok, Err, true, false, Bool}
 use Rattle.std.specs.List.{AllByRecursion, flat_map}
 use Rattle.history_model.specs.History.{Operation, IsIn}
 use Rattle.history_model.proofs.Lists.{all_at, all_append, in_first}

@@ -28,7 +28,7 @@ use Rattle.node_progress.proofs.RouterWaits.{IsWaiting, all_flat, enough_found}
 use Rattle.node_progress.proofs.RouterGoesOn.{IsReady, IsStated, stated_of}
 
 module _ (changes : List Change) (nodes : ℕ) (r : Router) (own : r.me < nodes) (two : first_shard < nodes) where
-  Well : List Letter → Type 0
+  abbrev Well : List Letter → Type 0
   Well mail = AllByRecursion (IsWell changes nodes) mail
 
   -- A MESSAGE

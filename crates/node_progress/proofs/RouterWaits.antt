@@ -142,7 +142,7 @@ shards_fit t (splitting middle) enough = cc enough
 
 some_there : (namespace : List ℕ) (table : Option Table) (tables : List Table) → IsSome table
     → ((t : Table) → table ≡ Some t → t.namespace ≡ namespace) → table_of namespace (adopted table tables) ≡ None → ⊥
-some_there namespace None tables some named none = some
+some_there namespace None tables some named none = cc some
 some_there namespace (Some t) tables some named none =
     let there = table_there namespace t tables (named t refl) in
     let is = there.1 in
@@ -196,7 +196,7 @@ module _ (r u : Router) (m : Letter) (time : ℕ) (namespace : List ℕ) (create
   lacks none sharding same = by_test (was_created create table) refl
     where
       made : (o : Option Table) → create ≡ true → IsSome o → was_created create o ≡ true
-      made None yes some = absurd some
+      made None yes some = absurd (cc some)
       made (Some t) yes some = yes
 
       by_test : (b : Bool) → was_created create table ≡ b

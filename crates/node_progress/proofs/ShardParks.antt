@@ -30,7 +30,7 @@ a_table_told : (node : ℕ) (namespace : List ℕ) (from to : ℕ) (b : Body) �
     → IsToldTable namespace b
 a_table_told node namespace from to (table_ask name create at) place is = absurd (cc (is.1, place))
 a_table_told node namespace from to (table_told name create at (Some t)) place is = record { table = t; is = cc is.0 }
-a_table_told node namespace from to (table_told name create at None) place is = let e : no_time ≡ at = cc is.0 in absurd (is.1 (sym e))
+a_table_told node namespace from to (table_told name create at None) place is = let e : no_time ≡ at = cc is.0 in let some = is.1 (sym e) in absurd (cc some)
 a_table_told node namespace from to (split_ask id name middle) place is = absurd (cc is.0)
 a_table_told node namespace from to (split_done id found) place is = absurd (cc is.0)
 a_table_told node namespace from to (write_ask id turn ordered name [] sent) place is = absurd is

@@ -107,7 +107,7 @@ pub record IsServedNext (left : ℕ → Type 0) (w : World) (a : Asked) : Type 0
   pub kept : List Kept
   pub request : Open
   pub here : slice_get w.nodes a.id.router ≡ Some (record { state = router_state router; kept = kept })
-  pub open : IsIn request router.requests
+  pub there : IsIn request router.requests
   pub own : a.id ≡ id_of router request.count
   pub coming : AllByRecursion (IsComing left w) (things_of router request)
 
@@ -115,7 +115,7 @@ pub record IsServedNext (left : ℕ → Type 0) (w : World) (a : Asked) : Type 0
 -- all that any open request waits for is, and so is the table of each request that is parked.
 pub record IsUnderWay (left : ℕ → Type 0) (w : World) : Type 0 where
   pub taken : AllByRecursion (λ (a : Asked). IsAnswered w.answered a ⊎ IsServedNext left w a) w.asked
-  pub open : (at : ℕ) (r : Router) (kept : List Kept) (q : Open) → slice_get w.nodes at ≡ Some (record { state = router_state r; kept = kept })
+  pub waiting : (at : ℕ) (r : Router) (kept : List Kept) (q : Open) → slice_get w.nodes at ≡ Some (record { state = router_state r; kept = kept })
       → IsIn q r.requests → AllByRecursion (IsComing left w) (things_of r q)
   pub parked : (at : ℕ) (s : Shard) (kept : List Kept) (p : Letter) → slice_get w.nodes at ≡ Some (record { state = shard_state s; kept = kept })
       → IsIn p s.parked → IsFetched left w.sent s p
