@@ -47,20 +47,20 @@ step_bag : (left later : ℕ → Type 0) (w : World) (book : Book) (p : ℕ) (i 
     → Good w book → Bag left w → slice_get w.nodes p ≡ Some (record { state = old; kept = kept }) → Clears left later w.sent i
     → ((n : ℕ) → length w.sent ≤ n → later n) → IsHere w p i → NodeGoes left w old → Step old i f new
     → Bag later (tick (after (is_given w p i) p (record { state = old; kept = kept }) f new))
-step_bag left later w book p _ kept _ _ _ good bag here clears fresh comes node (catalogue_step c d i f own row) =
-    catalogue_keeps left later w book p i kept c d f good bag here clears fresh comes row
-step_bag left later w book p _ kept _ _ _ good bag here clears fresh comes node (shard_step s u i f own row) =
-    shard_keeps left later w book p i kept s u f good bag here clears fresh comes row node
-step_bag left later w book p _ kept _ _ _ good bag here clears fresh comes node (router_step r u i f own row) =
-    router_keeps left later w book p i kept r r u f good bag here clears fresh comes row (ready_here w book left good bag r p kept i here comes node) node
+step_bag left later w book p _ kept _ _ _ good bag here clears fresh arrives node (catalogue_step c d i f own row) =
+    catalogue_keeps left later w book p i kept c d f good bag here clears fresh arrives row
+step_bag left later w book p _ kept _ _ _ good bag here clears fresh arrives node (shard_step s u i f own row) =
+    shard_keeps left later w book p i kept s u f good bag here clears fresh arrives row node
+step_bag left later w book p _ kept _ _ _ good bag here clears fresh arrives node (router_step r u i f own row) =
+    router_keeps left later w book p i kept r r u f good bag here clears fresh arrives row (ready_here w book left good bag r p kept i here arrives node) node
     (tables_here w book left good bag r p kept here) refl refl f refl refl
-step_bag left later w book p _ kept _ _ _ good bag here clears fresh comes node (begin_step r u i f early before row) =
-    router_keeps left later w book p i kept r (begins r) u f good bag here clears fresh comes row
-    (ready_begins r i (ready_here w book left good bag r p kept i here comes node))
+step_bag left later w book p _ kept _ _ _ good bag here clears fresh arrives node (begin_step r u i f early before row) =
+    router_keeps left later w book p i kept r (begins r) u f good bag here clears fresh arrives row
+    (ready_begins r i (ready_here w book left good bag r p kept i here arrives node))
     (all_weaken (OpenGoes left w r) (OpenGoes left w (begins r)) r.requests (λ q o. record { waiting = o.waiting; carried = o.carried }) node)
     (tables_here w book left good bag r p kept here) refl refl (both (writes (kept_life r.life ∷ []) []) f) refl refl
-step_bag left later w book p _ kept _ _ _ good bag here clears fresh comes node (other_step s m other) =
-    absurd (other ((comes m refl).0
+step_bag left later w book p _ kept _ _ _ good bag here clears fresh arrives node (other_step s m other) =
+    absurd (other ((arrives m refl).0
     ∙ sym (state_place w book p kept s (fits_here w book p (record { state = s; kept = kept }) good here).state)))
 
 -- AN EVENT
@@ -74,11 +74,11 @@ Leaves left later (opened_event at) = (n : ℕ) → left n → later n
 
 move_bag : (left later : ℕ → Type 0) (w v : World) (book : Book) (p : ℕ) (i : Input) → Good w book → Bag left w → Clears left later w.sent i
     → ((n : ℕ) → length w.sent ≤ n → later n) → IsHere w p i → Moves w p i v → Bag later v
-move_bag left later w v book p i good bag clears fresh comes m =
+move_bag left later w v book p i good bag clears fresh arrives m =
     let from_zero : 0 + p ≡ p = omega arith in
     let node = each_get (λ j (h : Held). NodeGoes left w h.state) 0 p w.nodes m.old bag.nodes m.here in
     subst (λ x. Bag later x) (sym m.then)
-    (step_bag left later w book p i m.old.kept m.old.state m.f m.new good bag m.here clears fresh comes node m.step)
+    (step_bag left later w book p i m.old.kept m.old.state m.f m.new good bag m.here clears fresh arrives node m.step)
 
 no_letter : (w : World) (p : ℕ) (i : Input) → ((m : Letter) → i ≡ letter_input m → ⊥) → IsHere w p i
 no_letter w p i none m is = absurd (none m is)

@@ -84,21 +84,21 @@ module _ (left later : ℕ → Type 0) (w : World) (p : ℕ) (i : Input) (kept :
   open_moves r q c o = record { waiting = o.waiting; carried = carried_moves (thing_of r q) c o.carried }
 
   -- the table of a parked request
-  pub parked_moves : (s : Shard) (x : Letter) → (g : ParkedGoes left w s x)
+  table_moves : (s : Shard) (x : Letter) → (g : ParkedGoes left w s x)
       → (WasFor i (a_table first_shard g.ask.namespace false no_time) → IsAmong f.mail (a_table first_shard g.ask.namespace false no_time))
-      → ParkedGoes later next_world s x
-  parked_moves s x g passes = record {
-    ask = g.ask;
-    asks = g.asks;
-    none = g.none;
-    well = still_well x g.well;
-    table = by_place (sent_moves left later w.sent f.mail i (a_table first_shard g.ask.namespace false no_time) clears g.table);
-  }
+      → IsSent later (w.sent ++ f.mail) (a_table first_shard g.ask.namespace false no_time)
+  table_moves s x g passes = by_place (sent_moves left later w.sent f.mail i (a_table first_shard g.ask.namespace false no_time) clears g.table)
     where
       by_place : IsSent later (w.sent ++ f.mail) (a_table first_shard g.ask.namespace false no_time) ⊎ WasFor i (a_table first_shard g.ask.namespace false no_time)
           → IsSent later (w.sent ++ f.mail) (a_table first_shard g.ask.namespace false no_time)
       by_place (inl still) = still
       by_place (inr was) = sent_anew left later w.sent f.mail i (a_table first_shard g.ask.namespace false no_time) fresh (passes was)
+
+  pub parked_moves : (s : Shard) (x : Letter) → (g : ParkedGoes left w s x)
+      → (WasFor i (a_table first_shard g.ask.namespace false no_time) → IsAmong f.mail (a_table first_shard g.ask.namespace false no_time))
+      → ParkedGoes later next_world s x
+  parked_moves s x g passes =
+      record { ask = g.ask; asks = g.asks; none = g.none; well = still_well x g.well; table = table_moves s x g passes }
 
   -- THE NODE ITSELF
 
@@ -112,10 +112,14 @@ module _ (left later : ℕ → Type 0) (w : World) (p : ℕ) (i : Input) (kept :
       by_case : (x : Letter) → IsParkedAfter s u i f.mail x → ParkedGoes later next_world u x
       by_case x (inl still) =
           let g = all_at (ParkedGoes left w s) x s.parked before still.there in
-          let thing = a_table first_shard g.ask.namespace false no_time in
-          let moved = parked_moves s x g (λ was. absurd (still.not_come g.ask g.asks g.none was.letter was.is
-          (subst (λ n. IsFor (a_table n g.ask.namespace false no_time) was.letter) (sym me) was.brings))) in
-          record { ask = g.ask; asks = g.asks; none = still.still g.ask g.asks g.none; well = moved.well; table = moved.table }
+          record {
+            ask = g.ask;
+            asks = g.asks;
+            none = still.still g.ask g.asks g.none;
+            well = still_well x g.well;
+            table = table_moves s x g (λ was. absurd (still.not_come g.ask g.asks g.none was.letter was.is
+                (subst (λ n. IsFor (a_table n g.ask.namespace false no_time) was.letter) (sym me) was.brings)));
+          }
       by_case x (inr begins) = record {
         ask = begins.ask;
         asks = begins.asks;

@@ -196,8 +196,8 @@ module _ (r u : Router) (m : Letter) (time : ℕ) (namespace : List ℕ) (create
   lacks none sharding same = by_test (was_created create table) refl
     where
       made : (o : Option Table) → create ≡ true → IsSome o → was_created create o ≡ true
-      made None yes some = absurd (cc some)
-      made (Some t) yes some = yes
+      made None is_made some = absurd (cc some)
+      made (Some t) is_made some = is_made
 
       by_test : (b : Bool) → was_created create table ≡ b
           → NextWaits r u (letter_input m) (if b then is_told (reply_to r time q (sharded_answer q.namespace time)) else stays q [])
