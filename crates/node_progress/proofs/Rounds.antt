@@ -1,146 +1,115 @@
--- After each round every request is answered.
-use Rattle.std.proofs.Common.{◌≡◌, ◌⊎◌, inl, inr, ℕ, zero, suc, ◌+◌, List, [], ◌∷◌, length, refl, sym, ap, subst, ◌∙◌, arith}
-use Rattle.std.specs.Prelude.{Ok}
+-- After each round of the schedule of `pipe` every request is answered.
+use Rattle.std.proofs.Common.{◌≡◌, ◌≢◌, ◌⊎◌, inl, inr, ℕ, zero, suc, ◌+◌, ◌<◌, ◌≤◌, List, [], ◌∷◌, ◌++◌, length, refl, sym, ap, subst, ◌∙◌, arith, append-nil}
 use Rattle.std.specs.List.{AllByRecursion}
 use Rattle.std.proofs.lemmas.Option.{slice_get_within}
-use Rattle.history_model.proofs.Lists.{in_first, in_later, in_cons, in_none, in_prefix}
 use Rattle.chunk_model.specs.Tables.{first_shard}
-use Rattle.command_model.specs.Command.{write_command, command_of}
-use Rattle.reply_model.specs.Right.{IsWhole}
-use Rattle.history_model.specs.History.{Entry, IsIn}
-use Rattle.base_model.specs.Identities.{RequestId}
-use Rattle.reply_model.specs.Exchanges.{Asked, Answered}
-use Rattle.reply_model.specs.OneHistory.{ids_told}
 use Rattle.node_model.specs.Journal.{entries_kept}
-use Rattle.node_model.specs.World.{World, asked_by, answered_by, Moves, Event, client_event, deliver_event, Happens, comes, delivers, passes, begins as was_opened, Run, stands, goes, start, journal_at}
-use Rattle.node_model.specs.Letters.{Input}
+use Rattle.node_model.specs.Letters.{Letter, Input, opened_input, Effect}
+use Rattle.node_model.specs.States.{NodeState}
+use Rattle.node_model.specs.CatalogueRows.{catalogue_opened}
+use Rattle.node_model.specs.ShardRows.{shard_opened}
+use Rattle.node_model.specs.RouterRows.{router_begin, router_opened}
+use Rattle.node_model.specs.Steps.{Step, catalogue_step, shard_step, router_step, begin_step}
+use Rattle.node_model.specs.World.{World, Moves, Event, client_event, deliver_event, moment_event, opened_event, Happens, delivers, begins as was_opened, Run, stands, goes, start, journal_at}
 use Rattle.node_model.specs.Schedule.{openings, moments_given, Delivers, delivers_none, delivers_next, Round, IsRound, Pipes, opens, serves}
-use Rattle.reply_facts.proofs.Requests.{one_asked}
-use Rattle.node_laws.proofs.Lists.{all_within}
-use Rattle.node_laws.proofs.Others.{told_more}
-use Rattle.reply_facts.proofs.Freshness.{told_to, told_write}
-use Rattle.node_laws.proofs.StepsKeep.{StaysTrue, happens_keeps, run_keeps}
-use Rattle.node_laws.proofs.Runs.{start_true, makes_one_history}
+use Rattle.node_laws.proofs.StepsKeep.{run_keeps}
+use Rattle.node_laws.proofs.Runs.{start_true}
 use Rattle.node_progress.specs.Completion.{IsAnswered, IsServed, AreAnswered}
-use Rattle.node_progress.proofs.Idle.{Idle, IsStillEvent, run_idle, start_idle}
-use Rattle.node_progress.proofs.Stages.{Stage, delivery_keeps}
-use Rattle.node_progress.proofs.Takes.{request_stage}
+use Rattle.node_progress.proofs.Bags.{same_place}
+use Rattle.node_progress.proofs.BagRuns.{BagIn, IsNoDelivery, start_bag, event_keeps, events_keep, delivery_bag}
+use Rattle.node_progress.proofs.Answered.{are_answered, stay_answered}
+
+-- MESSAGES IN ORDER OF SENDING
+
+-- the messages from a place on are left
+abbrev pub BagAt : World → (next : ℕ) → Type 0
+BagAt w next = BagIn (λ n. next ≤ n) w
+
+pub sent_before : (u x : World) (to which : ℕ) → Happens u (deliver_event to which) x → which < length u.sent
+sent_before _ _ _ _ (delivers u x to which letter got place m) = slice_get_within u.sent which letter got
+
+-- the next one is delivered
+pub delivery_keeps : (w v : World) (next at : ℕ) → BagAt w next → Happens w (deliver_event at next) v → BagAt v (next + 1)
+delivery_keeps w v next at b h =
+    delivery_bag (λ n. next ≤ n) (λ n. next + 1 ≤ n) w v at next b (λ n le. by_place n le (same_place n next))
+    (λ n le. let l = sent_before w v at next h in omega (arith, le, l)) h
+  where
+    by_place : (n : ℕ) → next ≤ n → (n ≡ next) ⊎ (n ≢ next) → (next + 1 ≤ n) ⊎ (n ≡ next)
+    by_place n le (inl same) = inr same
+    by_place n le (inr other) = inl (omega (arith, le, other))
+
+start_at : (routers : ℕ) → BagAt (start routers) 0
+start_at routers = record { true_there = start_true routers; bag = start_bag (λ n. 0 ≤ n) routers (λ n. omega arith) }
 
 -- A ROUND
 
-openings_still : (first count : ℕ) → AllByRecursion IsStillEvent (openings first count)
-openings_still first zero = tt
-openings_still first (suc count) = (tt, openings_still (first + 1) count)
+pub openings_deliver_none : (first count : ℕ) → AllByRecursion IsNoDelivery (openings first count)
+openings_deliver_none first zero = tt
+openings_deliver_none first (suc count) = (tt, openings_deliver_none (first + 1) count)
 
-pub moments_still : (first count moment : ℕ) → AllByRecursion IsStillEvent (moments_given first count moment)
-moments_still first zero moment = tt
-moments_still first (suc count) moment = (tt, moments_still (first + 1) count moment)
+pub moments_deliver_none : (first count moment : ℕ) → AllByRecursion IsNoDelivery (moments_given first count moment)
+moments_deliver_none first zero moment = tt
+moments_deliver_none first (suc count) moment = (tt, moments_deliver_none (first + 1) count moment)
 
-all_there : (w : World) (next : ℕ) → next ≡ length w.sent → Stage w next → Idle w next
-all_there w next end (inl idle) = idle
-all_there w next end (inr s) =
-    let b = slice_get_within w.sent next s.letter s.got in
-    absurd (omega (arith, b, end))
+deliveries_keep : (u : World) (next : ℕ) (events : List Event) (w : World) (later : ℕ) → BagAt u next → Delivers u next events w later → BagAt w later
+deliveries_keep _ _ _ _ _ b (delivers_none w next) = b
+deliveries_keep _ _ _ _ _ b (delivers_next u v w next later at events h more) =
+    deliveries_keep v (next + 1) events w later (delivery_keeps u v next at b h) more
 
-delivers_stage : (u : World) (next : ℕ) (events : List Event) (w : World) (later : ℕ) → StaysTrue u → Stage u next → Delivers u next events w later
-    → StaysTrue w × Stage w later
-delivers_stage _ _ _ _ _ good stage (delivers_none w next) = (good, stage)
-delivers_stage _ _ _ _ _ good stage (delivers_next u v w next later at events h more) =
-    delivers_stage v (next + 1) events w later (happens_keeps u v (deliver_event at next) good h)
-    (delivery_keeps u v good.0.book next at good.0.good stage h) more
+-- the world of a round where its request has come
+pub round_asked : (u given asked : World) (next : ℕ) (r : Round) → BagAt u next → Run u (moments_given 0 (length u.nodes) r.moment) given
+    → Happens given (client_event r.at r.link r.number r.request) asked → BagAt asked next
+round_asked u given asked next r b run came =
+    event_keeps (λ n. next ≤ n) given asked (client_event r.at r.link r.number r.request) tt
+    (events_keep (λ n. next ≤ n) u (moments_given 0 (length u.nodes) r.moment) given (moments_deliver_none 0 (length u.nodes) r.moment) b run) came
 
-round_idle : (u : World) (next : ℕ) (r : Round) (events : List Event) (w : World) → StaysTrue u → Idle u next → IsRound u next r events w
-    → StaysTrue w × Idle w (length w.sent)
-round_idle u next r events w good idle round =
-    let given = run_keeps u round.given (moments_given 0 (length u.nodes) r.moment) good round.moments in
-    let quiet = run_idle u (moments_given 0 (length u.nodes) r.moment) round.given next (moments_still 0 (length u.nodes) r.moment) idle round.moments in
-    let end =
-    delivers_stage round.asked next round.deliveries w (length w.sent)
-    (happens_keeps round.given round.asked (client_event r.at r.link r.number r.request) given round.comes)
-    (request_stage round.given round.asked given.0.book next r.at r.link r.number r.request given.0.good quiet round.comes) round.settles in
-    (end.0, all_there w (length w.sent) refl end.1)
-
-pub pipes_idle : (routers : ℕ) (rounds : List Round) (events : List Event) (w : World) (next : ℕ) → Pipes routers rounds events w next
-    → StaysTrue w × Idle w next
-pipes_idle routers _ _ _ _ (opens w run) = (
-  run_keeps (start routers) w (openings 0 (length (start routers).nodes)) (start_true routers) run,
-  run_idle (start routers) (openings 0 (length (start routers).nodes)) w 0 (openings_still 0 (length (start routers).nodes)) (start_idle routers) run,
-)
-pipes_idle routers _ _ _ _ (serves rounds r before events u w next pipes round) =
-    let there = pipes_idle routers rounds before u next pipes in
-    round_idle u next r events w there.0 there.1 round
+pub pipes_bag : (routers : ℕ) (rounds : List Round) (events : List Event) (w : World) (next : ℕ) → Pipes routers rounds events w next → BagAt w next
+pipes_bag routers _ _ _ _ (opens w run) =
+    events_keep (λ n. 0 ≤ n) (start routers) (openings 0 (length (start routers).nodes)) w (openings_deliver_none 0 (length (start routers).nodes)) (start_at routers) run
+pipes_bag routers _ _ _ _ (serves rounds r before events u w next pipes round) =
+    deliveries_keep round.asked next round.deliveries w (length w.sent)
+    (round_asked u round.given round.asked next r (pipes_bag routers rounds before u next pipes) round.moments round.comes) round.settles
 
 -- ALL IS ANSWERED
 
-told_in : (id : RequestId) (answered : List Answered) → IsIn id (ids_told answered) → (t : Answered) × IsIn t answered × (t.id ≡ id)
-told_in id [] there = absurd (in_none id there)
-told_in id (t ∷ answered) there = by_place (in_cons id t.id (ids_told answered) there) (λ later. told_in id answered later)
-  where
-    by_place : (id ≡ t.id) ⊎ IsIn id (ids_told answered) → (IsIn id (ids_told answered) → (x : Answered) × IsIn x answered × (x.id ≡ id))
-        → (x : Answered) × IsIn x (t ∷ answered) × (x.id ≡ id)
-    by_place (inl same) later = (t, in_first t answered, sym same)
-    by_place (inr there) later = let x = later there in (x.0, in_later x.0 t answered x.1, x.2)
+opened_sends_none : (s t : NodeState) (f : Effect) → Step s opened_input f t → f.mail ≡ []
+opened_sends_none _ _ _ (catalogue_step _ _ _ _ own (catalogue_opened c)) = refl
+opened_sends_none _ _ _ (shard_step _ _ _ _ own (shard_opened s)) = refl
+opened_sends_none _ _ _ (router_step _ _ _ _ own (router_begin r early)) = refl
+opened_sends_none _ _ _ (router_step _ _ _ _ own (router_opened r begun)) = refl
+opened_sends_none _ _ _ (begin_step r q i f early before row) = absurd before
 
--- a write that was answered was served whole
-answered_served : (w : World) → StaysTrue w → (a : Asked) → IsIn a w.asked → IsAnswered w.answered a
-    → IsServed (entries_kept (journal_at w.nodes first_shard)) w.asked w.answered a
-answered_served w good a taken done = λ write asks.
-    let history : List Entry = entries_kept (journal_at w.nodes first_shard) in
-    let one = makes_one_history w good in
-    let told = told_in a.id w.answered done in
-    let to = told_to w.given w.changed history w.asked w.answered one told.0 told.1 in
-    let same : to.request ≡ a = one_asked to.request a w.asked one.one to.is.taken taken (to.is.own ∙ told.2) in
-    let its : command_of told.0.request ≡ Ok (write_command write) = ap (λ q. command_of q) (sym to.same) ∙ ap (λ (b : Asked). command_of b.request) same
-    ∙ asks in
-    let x = told_write w.given w.changed history w.asked w.answered one told.0 write told.1 its in
-    record {
-      whole = λ none. subst (λ id. IsWhole history id write) told.2 (x.whole none);
-      tells = record { answer = told.0; told = told.1; own = told.2; dones = x.dones; tells = x.tells };
-    }
+opening_sends_none : (w v : World) (at : ℕ) → Happens w (opened_event at) v → v.sent ≡ w.sent
+opening_sends_none _ _ _ (was_opened w v at m) =
+    ap (λ (x : World). x.sent) m.then ∙ (ap (λ l. w.sent ++ l) (opened_sends_none m.old.state m.new m.f m.step) ∙ append-nil w.sent)
+
+openings_send_none : (first count : ℕ) (u w : World) (es : List Event) → es ≡ openings first count → Run u es w → w.sent ≡ u.sent
+openings_send_none first zero _ _ _ is (stands w) = refl
+openings_send_none first zero _ _ _ is (goes u v w e es h run) = absurd (cc is)
+openings_send_none first (suc count) _ _ _ is (stands w) = absurd (cc is)
+openings_send_none first (suc count) _ _ _ is (goes u v w e es h run) =
+    let one : e ≡ opened_event first = cc is in
+    let rest : es ≡ openings (first + 1) count = cc is in
+    openings_send_none (first + 1) count v w es rest run ∙ opening_sends_none u v first (subst (λ x. Happens u x v) one h)
+
+-- after a round no message is left
+none_left : (routers : ℕ) (rounds : List Round) (events : List Event) (w : World) (next : ℕ) → Pipes routers rounds events w next
+    → (n : ℕ) → n < length w.sent → next ≤ n → ⊥
+none_left routers _ _ _ _ (opens w run) n below left =
+    let same : length w.sent ≡ 0 =
+    ap (λ (l : List Letter). length l) (openings_send_none 0 (length (start routers).nodes) (start routers) w (openings 0 (length (start routers).nodes)) refl run) in
+    omega (arith, below, same)
+none_left routers _ _ _ _ (serves rounds r before events u w next pipes round) n below left = omega (arith, below, left)
 
 pub piped_requests_are_answered : (routers : ℕ) (rounds : List Round) (events : List Event) (w : World) (next : ℕ) → Pipes routers rounds events w next
     → AreAnswered w
 piped_requests_are_answered routers rounds events w next pipes =
-    let there = pipes_idle routers rounds events w next pipes in
-    record {
-      answered = there.1.asked;
-      served = all_within (IsAnswered w.answered) (IsServed (entries_kept (journal_at w.nodes first_shard)) w.asked w.answered) w.asked
-          (λ a taken done. answered_served w there.0 a taken done) there.1.asked;
-      quiet = there.1.nodes;
-    }
-
--- WHAT COMES AFTER A ROUND
-
--- a request that was taken and answered
-record WasAnswered (w : World) (a : Asked) : Type 0 where
-  taken : IsIn a w.asked
-  done : IsAnswered w.answered a
-
-move_stays : (u v : World) (at : ℕ) (i : Input) (a : Asked) → WasAnswered u a → Moves u at i v → WasAnswered v a
-move_stays u v at i a was m =
-    subst (λ x. WasAnswered x a) (sym m.then)
-    (record { taken = in_prefix a u.asked (asked_by u.now m.f.taken) was.taken; done = told_more a.id u.answered (answered_by u.now m.f.replies) was.done })
-
-happens_stays : (u v : World) (e : Event) (a : Asked) → WasAnswered u a → Happens u e v → WasAnswered v a
-happens_stays _ _ _ a was (comes u v at link number request is m) = move_stays u v at _ a was m
-happens_stays _ _ _ a was (delivers u v at which letter got to m) = move_stays u v at _ a was m
-happens_stays _ _ _ a was (passes u v at moment m) = move_stays u v at _ a was m
-happens_stays _ _ _ a was (was_opened u v at m) = move_stays u v at _ a was m
-
-run_stays : (u : World) (es : List Event) (w : World) (a : Asked) → WasAnswered u a → Run u es w → WasAnswered w a
-run_stays _ _ _ a was (stands w) = was
-run_stays _ _ _ a was (goes u v w e es h run) = run_stays v es w a (happens_stays u v e a was h) run
+    let b = pipes_bag routers rounds events w next pipes in
+    are_answered (λ n. next ≤ n) w b.true_there b.bag (none_left routers rounds events w next pipes)
 
 pub earlier_requests_stay_answered : (routers : ℕ) (rounds : List Round) (events : List Event) (u : World) (next : ℕ) → Pipes routers rounds events u next
     → (more : List Event) (w : World) → Run u more w
     → AllByRecursion (IsAnswered w.answered) u.asked × AllByRecursion (IsServed (entries_kept (journal_at w.nodes first_shard)) w.asked w.answered) u.asked
 earlier_requests_stay_answered routers rounds events u next pipes more w run =
-    let there = pipes_idle routers rounds events u next pipes in
-    let good = run_keeps u w more there.0 run in (
-      all_within (IsAnswered u.answered) (IsAnswered w.answered) u.asked
-          (λ a taken done. (run_stays u more w a (record { taken = taken; done = done }) run).done) there.1.asked,
-      all_within (IsAnswered u.answered) (IsServed (entries_kept (journal_at w.nodes first_shard)) w.asked w.answered) u.asked
-          (λ a taken done.
-          let now = run_stays u more w a (record { taken = taken; done = done }) run in
-          answered_served w good a now.taken now.done) there.1.asked,
-    )
+    stay_answered u more w (run_keeps u w more (pipes_bag routers rounds events u next pipes).true_there run) run
+    (piped_requests_are_answered routers rounds events u next pipes).answered

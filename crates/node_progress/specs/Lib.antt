@@ -1,1 +1,3 @@
 pub mod Completion
+pub mod UnderWay
+pub mod Arrivals

@@ -1,12 +1,47 @@
-//! The laws of the schedule of `pipe`.
+//! What is under way in each world of a run, and that requests are answered.
 
-ghost use Rattle.std.specs.Prelude.{ℕ, List};
+ghost use Rattle.std.specs.Prelude.{ℕ, List, length, map, ◌<◌, ◌≡◌};
 ghost use Rattle.std.specs.List.{AllByRecursion};
 ghost use Rattle.chunk_model.specs.Tables.{first_shard};
 ghost use Rattle.node_model.specs.Journal.{entries_kept};
+ghost use Rattle.node_model.specs.Letters.{Letter};
 ghost use Rattle.node_model.specs.World.{Event, Run, World, journal_at, start};
 ghost use Rattle.node_model.specs.Schedule.{Pipes, Round};
+ghost use Rattle.node_progress.specs.Arrivals.{arrival_of, arrivals};
 ghost use Rattle.node_progress.specs.Completion.{AreAnswered, IsAnswered, IsServed};
+ghost use Rattle.node_progress.specs.UnderWay.{IsDelivered, IsLeft, IsNotStale, IsUnderWay};
+
+/// Each request that comes is taken, once and in order.
+#[tactic(auto, using(crate::proofs::Arrivals::each_request_is_taken))]
+pub fn each_request_is_taken()
+    ensures { (routers : ℕ) (events : List Event) (w : World) → Run (start routers) events w → map arrival_of w.asked ≡ arrivals events }
+{}
+
+/// In each world of each run, for any number of open requests, and however messages were delivered: all that an open request waits for is under
+/// way, in a message that is not delivered yet or parked at a shard, with the table that it wants there under way.
+#[tactic(auto, using(crate::proofs::Progress::run_under_way))]
+pub fn requests_stay_under_way()
+    ensures { (routers : ℕ) (events : List Event) (w : World) → Run (start routers) events w → IsUnderWay (IsLeft events) w }
+{}
+
+/// So where each message was delivered, in any order, and maybe more than once, every request that was taken is answered, every write is served,
+/// no request is open and no request to a shard is parked.
+#[tactic(auto, using(crate::proofs::Answered::delivered_runs_are_answered))]
+pub fn delivered_runs_are_answered()
+    ensures { (routers : ℕ) (events : List Event) (w : World) → Run (start routers) events w → ((n : ℕ) → n < length w.sent → IsDelivered events n) → AreAnswered w }
+{}
+
+/// No shard sends a request back as one with an older table: currently no chunk moves.
+#[tactic(auto, using(crate::proofs::Answered::none_is_sent_back))]
+pub fn no_request_is_sent_back()
+    ensures { (routers : ℕ) (events : List Event) (w : World) → Run (start routers) events w → AllByRecursion (λ (m : Letter). IsNotStale m.body) w.sent }
+{}
+
+/// Each message goes to one of the nodes.
+#[tactic(auto, using(crate::proofs::Answered::messages_go_to_nodes))]
+pub fn messages_go_to_nodes()
+    ensures { (routers : ℕ) (events : List Event) (w : World) → Run (start routers) events w → AllByRecursion (λ (m : Letter). m.receiver < length w.nodes) w.sent }
+{}
 
 /// Where nodes are opened and requests arrive by the schedule of `pipe`, at any of the routers: after each round every request that was
 /// taken is answered, every write is served, also one that wants no reply, no request is open and no request to a shard is parked.

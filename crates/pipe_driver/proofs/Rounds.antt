@@ -9,10 +9,7 @@ use Rattle.opmsg_frames.specs.Requests.{Request, IsRequest}
 use Rattle.node_model.specs.World.{World, Event, client_event, IsRouter, Happens, Run, goes, start}
 use Rattle.node_model.specs.Schedule.{moments_given, Round, IsRound, Pipes}
 use Rattle.node_model.proofs.Schedules.{run_then}
-use Rattle.node_laws.proofs.StepsKeep.{happens_keeps, run_keeps}
-use Rattle.node_progress.proofs.Idle.{run_idle}
-use Rattle.node_progress.proofs.Rounds.{moments_still, pipes_idle}
-use Rattle.node_progress.proofs.Takes.{request_stage}
+use Rattle.node_progress.proofs.Rounds.{pipes_bag, round_asked}
 use Rattle.node_traits.specs.declared.outputs.StepFault.{StepFault}
 use Rattle.node_traits.specs.declared.outputs.ToLink.{ToLink}
 use Rattle.driver_steps.specs.Seats.{SeatView}
@@ -38,12 +35,9 @@ module _ {S : Type 0} (view : S → SeatView) (handed : List ToLink) (routers : 
       → Happens given (client_event r.at r.link r.number r.request) asked → HasSettled view seats network handed asked next
       → HasServed view seats network handed w next r
   round_served seats network given asked run came s =
-      let idle = pipes_idle routers rounds before w next pipes in
       let same : moments_given 0 count r.moment ≡ moments_given 0 (length w.nodes) r.moment = ap (λ (n : ℕ). moments_given 0 n r.moment) as_many in
       let moments : Run w (moments_given 0 (length w.nodes) r.moment) given = subst (λ (l : List Event). Run w l given) same run in
-      let good = run_keeps w given (moments_given 0 (length w.nodes) r.moment) idle.0 moments in
-      let quiet = run_idle w (moments_given 0 (length w.nodes) r.moment) given next (moments_still 0 (length w.nodes) r.moment) idle.1 moments in
-      let stage = request_stage given asked good.0.book next r.at r.link r.number r.request good.0.good quiet came in
+      let bag = round_asked w given asked next r (pipes_bag routers rounds before w next pipes) moments came in
       record {
         events = moments_given 0 (length w.nodes) r.moment ++ client_event r.at r.link r.number r.request ∷ s.events;
         end = s.end;
@@ -54,8 +48,7 @@ module _ {S : Type 0} (view : S → SeatView) (handed : List ToLink) (routers : 
           all = refl;
           moments = moments;
           comes = came;
-          settles = none_lost asked next s.events s.end (length s.end.sent)
-              (happens_keeps given asked (client_event r.at r.link r.number r.request) good came) stage s.settles;
+          settles = none_lost asked next s.events s.end (length s.end.sent) bag s.settles;
         };
         stands = s.stands;
       }

@@ -1,8 +1,7 @@
 -- A router stays one, and each message that comes next goes to a node.
-use Rattle.std.proofs.Common.{◌≡◌, ◌⊎◌, inl, inr, ℕ, zero, suc, ◌+◌, ◌<◌, List, [], ◌∷◌, ◌++◌, length, refl, sym, ap, subst, ◌∙◌, arith}
+use Rattle.std.proofs.Common.{◌≡◌, ℕ, zero, suc, ◌+◌, ◌<◌, List, [], ◌∷◌, ◌++◌, length, refl, sym, ap, subst, ◌∙◌}
 use Rattle.std.specs.Prelude.{Some}
 use Rattle.std.specs.List.{slice_get, slice_set}
-use Rattle.std.proofs.lemmas.Option.{slice_get_within}
 use Rattle.node_model.specs.Journal.{Kept}
 use Rattle.node_model.specs.Letters.{Letter, Input, Effect}
 use Rattle.node_model.specs.States.{Router, NodeState, catalogue_state, shard_state, router_state, new_router}
@@ -11,10 +10,8 @@ use Rattle.node_model.specs.World.{Held, World, IsRouter, Moves, Event, deliver_
 use Rattle.node_model.specs.World.{goes, start}
 use Rattle.node_model.specs.Schedule.{Round, Pipes, Delivers}
 use Rattle.node_model.proofs.Schedules.{pipes_run}
-use Rattle.node_laws.proofs.StepsKeep.{StaysTrue, fits_here, happens_keeps}
-use Rattle.node_progress.proofs.Leads.{Leads}
-use Rattle.node_progress.proofs.Receivers.{goes_to}
-use Rattle.node_progress.proofs.Stages.{Stage, Waits, delivery_keeps}
+use Rattle.node_progress.proofs.BagRuns.{goes_to_node}
+use Rattle.node_progress.proofs.Rounds.{BagAt, delivery_keeps}
 use Rattle.driver_steps.specs.Moves.{Settles}
 use Rattle.driver_steps.proofs.Runs.{settles_delivers}
 
@@ -64,32 +61,11 @@ router_there routers router rounds events w next there pipes =
 
 -- MESSAGES
 
-goes_within : (n own count : ℕ) (to : ℕ) → (to ≡ 0) ⊎ ((to ≡ 1) ⊎ (to ≡ own)) → 1 < own → own < count → to < count
-goes_within n own count to (inl e) some below = omega arith
-goes_within n own count to (inr (inl e)) some below = omega arith
-goes_within n own count to (inr (inr e)) some below = omega arith
-
-letter_goes : (v : World) (n : ℕ) (m : Letter) → StaysTrue v → Stage v n → slice_get v.sent n ≡ Some m → m.receiver < length v.nodes
-letter_goes v n m good (inl idle) got =
-    let b = slice_get_within v.sent n m got in
-    let l = idle.left in
-    absurd (omega (arith, b, l))
-letter_goes v n m good (inr s) got =
-    let both : Some s.letter ≡ Some m = sym s.got ∙ got in
-    let same : s.letter ≡ m = cc both in
-    let fits = (fits_here v good.0.book s.at (record { state = router_state s.router; kept = s.kept }) good.0.good s.here).state in
-    let below = slice_get_within v.nodes s.at (record { state = router_state s.router; kept = s.kept }) s.here in
-    let own = fits.own in
-    let place = fits.place in
-    subst (λ (l : Letter). l.receiver < length v.nodes) same
-    (goes_within n s.router.me (length v.nodes) s.letter.receiver (goes_to s.router s.request s.parked s.letter s.leads) (omega (arith, own, place))
-    (omega (arith, own, below)))
-
--- so no message of a round is lost
-pub none_lost : (u : World) (next : ℕ) (events : List Event) (w : World) (later : ℕ) → StaysTrue u → Stage u next → Settles u next events w later
+-- each message goes to a node, so none of a round is lost
+pub none_lost : (u : World) (next : ℕ) (events : List Event) (w : World) (later : ℕ) → BagAt u next → Settles u next events w later
     → Delivers u next events w later
-none_lost u next events w later good stage settles =
-    settles_delivers (λ (v : World) (n : ℕ). StaysTrue v × Stage v n)
-    (λ v n m p got. letter_goes v n m p.0 p.1 got)
-    (λ v x n at p h. (happens_keeps v x (deliver_event at n) p.0 h, delivery_keeps v x p.0.0.book n at p.0.0.good p.1 h))
-    u next events w later (good, stage) settles
+none_lost u next events w later bag settles =
+    settles_delivers (λ (v : World) (n : ℕ). BagAt v n)
+    (λ v n m b got. goes_to_node (λ k. n ≤ k) v n m b got)
+    (λ v x n at b h. delivery_keeps v x n at b h)
+    u next events w later bag settles

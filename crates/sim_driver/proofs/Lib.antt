@@ -12,3 +12,4 @@ pub mod PlayedLines
 pub mod Plays
 pub mod Reports
 pub mod Steps
+pub mod Settled

@@ -1,5 +1,6 @@
 pub mod Links
 pub mod Scripts
+pub mod Undelivered
 pub mod Plays
 pub mod Moves
 pub mod LineOutcomes

@@ -5,6 +5,7 @@ mod client;
 mod deliver;
 mod delivered;
 mod events;
+mod laws;
 mod lines;
 mod link;
 mod messages;
@@ -13,4 +14,5 @@ mod report;
 mod script;
 mod simulation;
 
+pub use laws::{scripts_are_under_way, settled_scripts_are_answered};
 pub use simulation::simulate;

@@ -1,0 +1,118 @@
+-- Where no message is left, every request is answered and every write is served.
+use Rattle.std.proofs.Common.{◌≡◌, ◌⊎◌, inl, inr, ℕ, ◌<◌, List, [], ◌∷◌, length, refl, sym, ap, subst, ◌∙◌}
+use Rattle.std.specs.Prelude.{Ok}
+use Rattle.std.specs.List.{AllByRecursion}
+use Rattle.history_model.proofs.Lists.{all_weaken, in_first, in_later, in_cons, in_none, in_prefix}
+use Rattle.chunk_model.specs.Tables.{first_shard}
+use Rattle.command_model.specs.Command.{write_command, command_of}
+use Rattle.reply_model.specs.Right.{IsWhole}
+use Rattle.history_model.specs.History.{Entry, IsIn}
+use Rattle.base_model.specs.Identities.{RequestId}
+use Rattle.reply_model.specs.Exchanges.{Asked, Answered}
+use Rattle.reply_model.specs.OneHistory.{ids_told}
+use Rattle.node_model.specs.Journal.{entries_kept}
+use Rattle.node_model.specs.Letters.{Input, Letter}
+use Rattle.node_model.specs.World.{World, asked_by, answered_by, Moves, Event, Happens, comes, delivers, passes, begins as was_opened, Run, stands, goes, start, journal_at}
+use Rattle.reply_facts.proofs.Requests.{one_asked}
+use Rattle.reply_facts.proofs.Freshness.{told_to, told_write}
+use Rattle.node_laws.proofs.Lists.{all_within}
+use Rattle.node_laws.proofs.Others.{told_more}
+use Rattle.node_laws.proofs.StepsKeep.{StaysTrue}
+use Rattle.node_laws.proofs.Runs.{makes_one_history}
+use Rattle.node_progress.specs.Completion.{IsAnswered, IsServed, AreAnswered}
+use Rattle.node_progress.specs.UnderWay.{IsUnderWay, IsLeft, IsDelivered, IsNotStale}
+use Rattle.node_progress.proofs.Versions.{IsWell}
+use Rattle.node_progress.proofs.Bags.{changes_made, Bag}
+use Rattle.node_progress.proofs.BagRuns.{BagOf, run_bag}
+use Rattle.node_progress.proofs.Progress.{bag_under_way, all_answered, all_quiet}
+
+-- WHAT AN ANSWERED REQUEST HAS
+
+told_in : (id : RequestId) (answered : List Answered) → IsIn id (ids_told answered) → (t : Answered) × IsIn t answered × (t.id ≡ id)
+told_in id [] there = absurd (in_none id there)
+told_in id (t ∷ answered) there = by_place (in_cons id t.id (ids_told answered) there) (λ later. told_in id answered later)
+  where
+    by_place : (id ≡ t.id) ⊎ IsIn id (ids_told answered) → (IsIn id (ids_told answered) → (x : Answered) × IsIn x answered × (x.id ≡ id))
+        → (x : Answered) × IsIn x (t ∷ answered) × (x.id ≡ id)
+    by_place (inl same) later = (t, in_first t answered, sym same)
+    by_place (inr there) later = let x = later there in (x.0, in_later x.0 t answered x.1, x.2)
+
+-- a write that was answered was served whole
+answered_served : (w : World) → StaysTrue w → (a : Asked) → IsIn a w.asked → IsAnswered w.answered a
+    → IsServed (entries_kept (journal_at w.nodes first_shard)) w.asked w.answered a
+answered_served w good a taken done = λ write asks.
+    let history : List Entry = entries_kept (journal_at w.nodes first_shard) in
+    let one = makes_one_history w good in
+    let told = told_in a.id w.answered done in
+    let to = told_to w.given w.changed history w.asked w.answered one told.0 told.1 in
+    let same : to.request ≡ a = one_asked to.request a w.asked one.one to.is.taken taken (to.is.own ∙ told.2) in
+    let its : command_of told.0.request ≡ Ok (write_command write) = ap (λ q. command_of q) (sym to.same) ∙ ap (λ (b : Asked). command_of b.request) same
+    ∙ asks in
+    let x = told_write w.given w.changed history w.asked w.answered one told.0 write told.1 its in
+    record {
+      whole = λ none. subst (λ id. IsWhole history id write) told.2 (x.whole none);
+      tells = record { answer = told.0; told = told.1; own = told.2; dones = x.dones; tells = x.tells };
+    }
+
+-- WHERE NO MESSAGE IS LEFT
+
+pub are_answered : (left : ℕ → Type 0) (w : World) → StaysTrue w → Bag left w → ((n : ℕ) → n < length w.sent → left n → ⊥) → AreAnswered w
+are_answered left w good bag none =
+    let under = bag_under_way left w good.0.book good.0.good bag in
+    let all = all_answered left w none under in
+    record {
+      answered = all;
+      served = all_within (IsAnswered w.answered) (IsServed (entries_kept (journal_at w.nodes first_shard)) w.asked w.answered) w.asked
+          (λ a taken done. answered_served w good a taken done) all;
+      quiet = all_quiet left w none under;
+    }
+
+pub delivered_runs_are_answered : (routers : ℕ) (events : List Event) (w : World) → Run (start routers) events w
+    → ((n : ℕ) → n < length w.sent → IsDelivered events n) → AreAnswered w
+delivered_runs_are_answered routers events w run all =
+    let b = run_bag routers events w run in
+    are_answered (IsLeft events) w b.true_there b.bag (λ n below left. let d = all n below in left d.0 d.1)
+
+-- WHAT IS TRUE OF EVERY MESSAGE
+
+pub none_is_sent_back : (routers : ℕ) (events : List Event) (w : World) → Run (start routers) events w → AllByRecursion (λ (m : Letter). IsNotStale m.body) w.sent
+none_is_sent_back routers events w run =
+    all_weaken (IsWell (changes_made w) (length w.nodes)) (λ (m : Letter). IsNotStale m.body) w.sent (λ m x. x.not_stale) (run_bag routers events w run).bag.well
+
+pub messages_go_to_nodes : (routers : ℕ) (events : List Event) (w : World) → Run (start routers) events w
+    → AllByRecursion (λ (m : Letter). m.receiver < length w.nodes) w.sent
+messages_go_to_nodes routers events w run =
+    all_weaken (IsWell (changes_made w) (length w.nodes)) (λ (m : Letter). m.receiver < length w.nodes) w.sent (λ m x. x.to) (run_bag routers events w run).bag.well
+
+-- WHAT COMES LATER
+
+-- a request that was taken and answered
+record WasAnswered (w : World) (a : Asked) : Type 0 where
+  taken : IsIn a w.asked
+  done : IsAnswered w.answered a
+
+move_stays : (u v : World) (at : ℕ) (i : Input) (a : Asked) → WasAnswered u a → Moves u at i v → WasAnswered v a
+move_stays u v at i a was m =
+    subst (λ x. WasAnswered x a) (sym m.then)
+    (record { taken = in_prefix a u.asked (asked_by u.now m.f.taken) was.taken; done = told_more a.id u.answered (answered_by u.now m.f.replies) was.done })
+
+happens_stays : (u v : World) (e : Event) (a : Asked) → WasAnswered u a → Happens u e v → WasAnswered v a
+happens_stays _ _ _ a was (comes u v at link number request is m) = move_stays u v at _ a was m
+happens_stays _ _ _ a was (delivers u v at which letter got to m) = move_stays u v at _ a was m
+happens_stays _ _ _ a was (passes u v at moment m) = move_stays u v at _ a was m
+happens_stays _ _ _ a was (was_opened u v at m) = move_stays u v at _ a was m
+
+run_stays : (u : World) (es : List Event) (w : World) (a : Asked) → WasAnswered u a → Run u es w → WasAnswered w a
+run_stays _ _ _ a was (stands w) = was
+run_stays _ _ _ a was (goes u v w e es h run) = run_stays v es w a (happens_stays u v e a was h) run
+
+pub stay_answered : (u : World) (es : List Event) (w : World) → StaysTrue w → Run u es w → AllByRecursion (IsAnswered u.answered) u.asked
+    → AllByRecursion (IsAnswered w.answered) u.asked × AllByRecursion (IsServed (entries_kept (journal_at w.nodes first_shard)) w.asked w.answered) u.asked
+stay_answered u es w good run all = (
+  all_within (IsAnswered u.answered) (IsAnswered w.answered) u.asked
+      (λ a taken done. (run_stays u es w a (record { taken = taken; done = done }) run).done) all,
+  all_within (IsAnswered u.answered) (IsServed (entries_kept (journal_at w.nodes first_shard)) w.asked w.answered) u.asked
+      (λ a taken done.
+      let now = run_stays u es w a (record { taken = taken; done = done }) run in
+      answered_served w good a now.taken now.done) all,
+)

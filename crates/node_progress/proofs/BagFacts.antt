@@ -1,0 +1,126 @@
+-- What is known where a message comes to a node.
+use Rattle.std.proofs.Common.{◌≡◌, ◌≢◌, ◌⊎◌, inl, inr, ℕ, ◌+◌, ◌<◌, List, [], ◌∷◌, length, refl, sym, ap, subst, ◌∙◌, arith}
+use Rattle.std.specs.Prelude.{Option, Some, None, Bool, true, false}
+use Rattle.std.specs.List.{AllByRecursion, slice_get}
+use Rattle.std.proofs.lemmas.Option.{slice_get_within}
+use Rattle.history_model.specs.History.{IsIn}
+use Rattle.history_model.proofs.Lists.{all_at, all_weaken}
+use Rattle.chunk_model.specs.Tables.{Table, first_shard}
+use Rattle.base_model.specs.Identities.{RequestId}
+use Rattle.reply_model.specs.Exchanges.{Asked}
+use Rattle.command_model.proofs.Taken.{operations_with_keys}
+use Rattle.node_model.specs.Journal.{Kept, changes_kept}
+use Rattle.node_model.specs.Letters.{At, Body, table_ask, table_told, split_ask, split_done, write_ask, write_done, read_ask, half_ask, read_rows, stale, time_ask, time_told, Letter, Input, letter_input}
+use Rattle.node_model.specs.States.{Catalogue, Shard, Router, Work, writing, reading, sharding, splitting, Open, catalogue_state, shard_state, router_state}
+use Rattle.node_model.specs.World.{World, journal_at}
+use Rattle.node_model.proofs.Journals.{journal_got}
+use Rattle.node_laws.proofs.Views.{Book, View, time_at, view_of, changes_in}
+use Rattle.node_laws.proofs.Facts.{IsKnownTable, BodyFits, WorkFits, IsOpenOf, AreMade, CatalogueFits, ShardFits, RouterFits, SentFits, Good}
+use Rattle.node_laws.proofs.Keeps.{the_begun}
+use Rattle.node_laws.proofs.StepsKeep.{fits_here}
+use Rattle.node_progress.proofs.Versions.{IsFirst, IsTableOf, table_had, IsWell, fits_there}
+use Rattle.node_progress.proofs.ShardPasses.{FitsThere}
+use Rattle.node_progress.proofs.ShardSends.{request_in}
+use Rattle.node_progress.proofs.RouterWaits.{IsWaiting}
+use Rattle.node_progress.proofs.RouterGoesOn.{IsStated, IsReady}
+use Rattle.node_progress.proofs.Bags.{changes_made, OpenGoes, IsOfRouter, Bag}
+
+-- WHAT IS KNOWN OF AN INPUT
+
+-- a message is for the node at the place, and was sent
+abbrev pub IsHere : World → ℕ → Input → Type 0
+IsHere w p i = (m : Letter) → i ≡ letter_input m → (m.receiver ≡ p) × IsIn m w.sent
+
+abbrev pub now : World → Book → View
+now w book = view_of w.nodes book
+
+module _ (w : World) (book : Book) (left : ℕ → Type 0) (good : Good w book) (bag : Bag left w) where
+  pub made : AreMade (time_at w.nodes 0) (changes_in (now w book))
+  made = the_begun (now w book) w.asked w.answered w.given w.nodes good.order good.nodes
+
+  pub sent_fits : (m : Letter) → IsIn m w.sent → SentFits (now w book) w.changed w.asked w.answered w.given m
+  sent_fits m there = all_at (SentFits (now w book) w.changed w.asked w.answered w.given) m w.sent good.letters there
+
+  -- a table that comes was one that the catalogue had
+  pub told_had : (m : Letter) → IsIn m w.sent → (namespace : List ℕ) (create : Bool) (at : At) (t : Table) → m.body ≡ table_told namespace create at (Some t)
+      → IsTableOf (changes_made w) t × (t.namespace ≡ namespace)
+  told_had m there namespace create at t says =
+      let table = subst (λ b. BodyFits (now w book) w.asked m.sender m.receiver m.time b) says (sent_fits m there).0 in
+      (table_had (now w book) m.time t table.0, table.1)
+
+  -- a request that was taken is of a node
+  of_node : (a : Asked) → IsIn a w.asked → (id : RequestId) → a.id ≡ id → id.router < length w.nodes
+  of_node a there id own =
+      let o = all_at (λ (x : Asked). IsOfRouter w.nodes x.id) a w.asked bag.asked there in
+      subst (λ (x : RequestId). x.router < length w.nodes) own
+      (slice_get_within w.nodes a.id.router (record { state = router_state o.router; kept = o.kept }) o.here)
+
+  pub named_request : (m : Letter) → IsIn m w.sent → (id : RequestId) → request_in m.body ≡ Some id → id.router < length w.nodes
+  named_request m there id names = by_body m.body (sent_fits m there).0 names
+    where
+      by_body : (b : Body) → BodyFits (now w book) w.asked m.sender m.receiver m.time b → request_in b ≡ Some id → id.router < length w.nodes
+      by_body (write_ask i turn ordered namespace statements sent) fits names =
+          of_node fits.request fits.taken id (fits.own ∙ cc names)
+      by_body (half_ask i turn namespace at half documents) fits names =
+          of_node fits.read.request fits.read.taken id (fits.read.own ∙ cc names)
+      by_body (time_ask i) fits names = of_node fits.request fits.taken id (fits.own ∙ cc names)
+      by_body (read_ask i turn namespace at half sent) fits names = absurd (cc names)
+      by_body (table_ask namespace create at) fits names = absurd (cc names)
+      by_body (table_told namespace create at table) fits names = absurd (cc names)
+      by_body (split_ask i namespace middle) fits names = absurd (cc names)
+      by_body (split_done i found) fits names = absurd (cc names)
+      by_body (write_done i dones) fits names = absurd (cc names)
+      by_body (read_rows i turn rows) fits names = absurd (cc names)
+      by_body (stale i turn met) fits names = absurd (cc names)
+      by_body (time_told i) fits names = absurd (cc names)
+
+  -- what a shard wants the catalogue has
+  pub known_to : (c : Catalogue) (p : ℕ) (kept : List Kept) → slice_get w.nodes p ≡ Some (record { state = catalogue_state c; kept = kept })
+      → c.changes ≡ changes_made w
+  known_to c p kept here =
+      let fits : CatalogueFits w.asked p kept c = (fits_here w book p (record { state = catalogue_state c; kept = kept }) good here).state in
+      fits.changes ∙ ap (λ k. changes_kept k) (sym (ap (λ n. journal_at w.nodes n) (sym fits.place)
+      ∙ journal_got w.nodes p (record { state = catalogue_state c; kept = kept }) here))
+
+  -- a request that comes to the shard fits there
+  pub fit_here : (s : Shard) (p : ℕ) (kept : List Kept) (m : Letter) → slice_get w.nodes p ≡ Some (record { state = shard_state s; kept = kept }) → IsIn m w.sent
+      → FitsThere s m
+  fit_here s p kept m here there a asks =
+      let fits : ShardFits (now w book) w.asked p kept s = (fits_here w book p (record { state = shard_state s; kept = kept }) good here).state in
+      fits_there (now w book) s.time (time_at w.nodes 0) s.tables a made fits.tables
+      ((all_at (IsWell (changes_made w) (length w.nodes)) m w.sent bag.well there).knowing a asks)
+
+  -- a router may proceed
+  router_fits : (r : Router) (p : ℕ) (kept : List Kept) → slice_get w.nodes p ≡ Some (record { state = router_state r; kept = kept })
+      → RouterFits (now w book) w.asked w.answered p r
+  router_fits r p kept here = (fits_here w book p (record { state = router_state r; kept = kept }) good here).state
+
+  stated_work : (a : Asked) (namespace : List ℕ) (work : Work) → WorkFits a namespace work → IsStated work
+  stated_work a namespace (writing kind ordered statements answers) fits =
+      record { given = fits.0.number; id = a.id; operations = fits.0.operations; are = fits.5; keys = operations_with_keys a.request fits.0 fits.1 }
+  stated_work a namespace (reading named at stages telling) fits = tt
+  stated_work a namespace sharding fits = tt
+  stated_work a namespace (splitting middle) fits = tt
+
+  pub ready_here : (r : Router) (p : ℕ) (kept : List Kept) (i : Input) → slice_get w.nodes p ≡ Some (record { state = router_state r; kept = kept })
+      → IsHere w p i → AllByRecursion (OpenGoes left w r) r.requests → IsReady r i
+  ready_here r p kept i here comes goes =
+      let fits = router_fits r p kept here in
+      let own = fits.own in
+      let place = fits.place in
+      record {
+        place = λ m is. (comes m is).0 ∙ sym own;
+        not_zero = λ e. omega (arith, own, place, e);
+        not_one = λ e. omega (arith, own, place, e);
+        different = fits.different;
+        waiting = all_weaken (OpenGoes left w r) IsWaiting r.requests (λ q o. o.waiting) goes;
+        stated = all_weaken (IsOpenOf (now w book) w.asked w.answered r) (λ (q : Open). IsStated q.work) r.requests
+            (λ q o. stated_work o.request q.namespace q.work o.work) fits.requests;
+        tables = all_weaken (IsKnownTable (now w book) r.time) IsFirst r.tables (λ t k. (table_had (now w book) r.time t k).1) fits.tables;
+        told = λ m is namespace create at t says. let h = told_had m (comes m is).1 namespace create at t says in (h.0.1, h.1);
+      }
+
+  pub tables_here : (r : Router) (p : ℕ) (kept : List Kept) → slice_get w.nodes p ≡ Some (record { state = router_state r; kept = kept })
+      → AllByRecursion (IsTableOf (changes_made w)) r.tables
+  tables_here r p kept here =
+      all_weaken (IsKnownTable (now w book) r.time) (IsTableOf (changes_made w)) r.tables (λ t k. table_had (now w book) r.time t k) (router_fits r p kept here).tables

@@ -1,0 +1,227 @@
+-- A step of the catalogue, of the shard and of a router keeps the bag.
+use Rattle.std.proofs.Common.{◌≡◌, ◌≢◌, ◌⊎◌, inl, inr, ℕ, ◌+◌, ◌<◌, ◌≤◌, List, [], ◌∷◌, ◌++◌, length, refl, sym, ap, subst, ◌∙◌, arith}
+use Rattle.std.specs.Prelude.{Some, None, false}
+use Rattle.std.specs.List.{AllByRecursion, slice_get, slice_set}
+use Rattle.std.proofs.lemmas.Option.{slice_get_within}
+use Rattle.history_model.specs.History.{IsIn}
+use Rattle.history_model.proofs.Lists.{all_at, all_weaken}
+use Rattle.chunk_model.specs.Changes.{known_table}
+use Rattle.chunk_model.specs.Tables.{first_shard}
+use Rattle.reply_model.specs.Exchanges.{Asked}
+use Rattle.node_model.specs.Journal.{Kept, kept_life}
+use Rattle.node_model.specs.Letters.{no_time, Letter, Input, letter_input, Taken, Effect, writes, both}
+use Rattle.node_model.specs.States.{Catalogue, Shard, Router, Open, NodeState, catalogue_state, shard_state, router_state}
+use Rattle.node_model.specs.CatalogueRows.{CatalogueRow}
+use Rattle.node_model.specs.ShardRows.{ShardRow}
+use Rattle.node_model.specs.RouterRows.{begins, RouterRow}
+use Rattle.node_model.specs.World.{Held, World, asked_by, after, is_given, tick}
+use Rattle.node_laws.proofs.Views.{Book, View, view_of}
+use Rattle.node_laws.proofs.Facts.{CatalogueFits, ParkedFits, ShardFits, RouterFits, StateFits, HeldFits, Good}
+use Rattle.node_laws.proofs.Lists.{all_mapped}
+use Rattle.node_laws.proofs.StepsKeep.{fits_here, get_set}
+use Rattle.node_progress.specs.UnderWay.{Thing, a_table, thing_of, IsFor}
+use Rattle.node_progress.proofs.Things.{home, home_of, brings_to, thing_asked, ask_brings}
+use Rattle.node_progress.proofs.Lateness.{wants_other}
+use Rattle.node_progress.proofs.Versions.{IsTableOf, still_there, IsWell}
+use Rattle.node_progress.proofs.CataloguePasses.{IsAmong, catalogue_passes, catalogue_well}
+use Rattle.node_progress.proofs.ShardPasses.{FitsThere, shard_passes, shard_holds}
+use Rattle.node_progress.proofs.ShardParks.{IsNamed, shard_parked}
+use Rattle.node_progress.proofs.ShardSends.{shard_well}
+use Rattle.node_progress.proofs.RouterWaits.{WaitsAfter}
+use Rattle.node_progress.proofs.RouterGoesOn.{IsReady, router_waits}
+use Rattle.node_progress.proofs.RouterSends.{router_well}
+use Rattle.node_progress.proofs.Takings.{catalogue_takes_none, shard_takes_none, IsInLife, stays_in_life}
+use Rattle.node_progress.proofs.Bags.{changes_made, IsHeldFor, OpenGoes, ParkedGoes, NodeGoes, IsOfRouter, Bag, WasFor, Clears, length_set}
+use Rattle.node_progress.proofs.BagSteps.{Carries, still_well, open_moves, parked_moves, parked_after, open_after, bag_after}
+use Rattle.node_progress.proofs.BagFacts.{IsHere, now, told_had, named_request, known_to, fit_here, ready_here, tables_here}
+
+use Rattle.node_progress.proofs.BagMoves.{NoShardTable, within, from_node, others, nothing_taken, together}
+
+-- THE CATALOGUE
+
+pub catalogue_keeps : (left later : ℕ → Type 0) (w : World) (book : Book) (p : ℕ) (i : Input) (kept : List Kept) (c d : Catalogue) (f : Effect)
+    → Good w book → Bag left w → slice_get w.nodes p ≡ Some (record { state = catalogue_state c; kept = kept }) → Clears left later w.sent i
+    → ((n : ℕ) → length w.sent ≤ n → later n) → IsHere w p i → CatalogueRow c i f d
+    → Bag later (tick (after (is_given w p i) p (record { state = catalogue_state c; kept = kept }) f (catalogue_state d)))
+catalogue_keeps left later w book p i kept c d f good bag here clears fresh comes row =
+    together left later w book p i kept (catalogue_state c) f (catalogue_state d) good bag here clears fresh comes
+    (catalogue_well (changes_made w) (length w.nodes) c d i f (subst (λ n. n < length w.nodes) (sym fits.own) inside) from row)
+    tt
+    (others left later w book p i kept (catalogue_state c) f (catalogue_state d) good bag here clears fresh comes carries tables)
+    (λ r is. absurd (cc is))
+    (nothing_taken left later w book p i kept (catalogue_state c) f (catalogue_state d) good bag here clears fresh comes (catalogue_takes_none c d i f row))
+  where
+    fits : CatalogueFits w.asked p kept c
+    fits = (fits_here w book p (record { state = catalogue_state c; kept = kept }) good here).state
+
+    inside : p < length w.nodes
+    inside = within left later w book p i kept (catalogue_state c) f (catalogue_state d) good bag here clears fresh comes
+
+    from : (m : Letter) → i ≡ letter_input m → m.sender < length w.nodes
+    from = from_node left later w book p i kept (catalogue_state c) f (catalogue_state d) good bag here clears fresh comes
+
+    changes : c.changes ≡ changes_made w
+    changes = known_to w book left good bag c p kept here
+
+    passes : (t : Thing) → home t ≢ 0 → ((node : ℕ) (namespace : List ℕ) → t ≡ a_table node namespace false no_time
+          → known_table namespace (changes_made w) ≡ None → ⊥) → WasFor i t → IsAmong f.mail t
+    passes t away known was =
+        catalogue_passes c was.letter f d t ((comes was.letter was.is).0 ∙ fits.place) away
+        (λ node namespace e none. known node namespace e (ap (λ l. known_table namespace l) (sym changes) ∙ none)) was.brings
+        (subst (λ x. CatalogueRow c x f d) was.is row)
+
+    carries : (t : Thing) → first_shard < home t → home t ≢ p → NoShardTable t
+        → Carries left later w p i kept (catalogue_state c) f (catalogue_state d) bag here clears fresh t
+    carries t above other none = record {
+      passes = λ was. inl (passes t (λ e. omega (arith, above, e)) (λ node namespace e missing. none node namespace e) was);
+      holds = λ s is x there brings. absurd (cc is);
+    }
+
+    tables : p ≢ first_shard → (s : Shard) (x : Letter) (g : ParkedGoes left w s x) → WasFor i (a_table first_shard g.ask.namespace false no_time)
+        → IsAmong f.mail (a_table first_shard g.ask.namespace false no_time)
+    tables other s x g was =
+        let k = g.well.knowing g.ask g.asks in
+        passes (a_table first_shard g.ask.namespace false no_time) (λ e. cc e)
+        (λ node namespace e missing.
+        let name : g.ask.namespace ≡ namespace = cc e in
+        still_there (changes_made w) k.table k.had (ap (λ n. known_table n (changes_made w)) (k.name ∙ name) ∙ missing)) was
+
+-- THE SHARD
+
+module _ (left later : ℕ → Type 0) (w : World) (book : Book) (p : ℕ) (i : Input) (kept : List Kept) (s u : Shard) (f : Effect)
+    (good : Good w book) (bag : Bag left w) (here : slice_get w.nodes p ≡ Some (record { state = shard_state s; kept = kept }))
+    (clears : Clears left later w.sent i) (fresh : (n : ℕ) → length w.sent ≤ n → later n) (comes : IsHere w p i) (row : ShardRow s i f u)
+    (goes : AllByRecursion (ParkedGoes left w s) s.parked) where
+  shard_fits : ShardFits (now w book) w.asked p kept s
+  shard_fits = (fits_here w book p (record { state = shard_state s; kept = kept }) good here).state
+
+  is_first : s.me ≡ first_shard
+  is_first = shard_fits.own ∙ shard_fits.place
+
+  waits_at : (t : Thing) (x : Letter) → IsIn x u.parked → IsFor t x
+      → IsHeldFor (slice_set w.nodes p (record { state = shard_state u; kept = kept ++ f.written })) t
+  waits_at t x there brings = record {
+    at = p;
+    shard = u;
+    kept = kept ++ f.written;
+    letter = x;
+    here = get_set w.nodes p (record { state = shard_state s; kept = kept }) (record { state = shard_state u; kept = kept ++ f.written }) here;
+    parked = there;
+    brings = brings;
+  }
+
+  shard_carries : (t : Thing) → first_shard < home t → home t ≢ p → NoShardTable t
+      → Carries left later w p i kept (shard_state s) f (shard_state u) bag here clears fresh t
+  shard_carries t above other none = record {
+    passes = λ was. by_case (shard_passes s was.letter f u t ((comes was.letter was.is).0 ∙ shard_fits.place) is_first (λ e. omega (arith, above, e))
+        (fit_here w book left good bag s p kept was.letter here (comes was.letter was.is).1)
+        (all_weaken (ParkedFits (now w book) w.asked s.time) (λ (x : Letter). x.receiver ≡ first_shard) s.parked (λ x h. h.2) shard_fits.parked)
+        was.brings (subst (λ x. ShardRow s x f u) was.is row));
+    holds = λ o is x there brings. by_parked x (subst (λ l. IsIn x l) (ap (λ (y : Shard). y.parked) (sym (same_shard o is))) there) brings;
+  }
+    where
+      same_shard : (o : Shard) → shard_state s ≡ shard_state o → s ≡ o
+      same_shard o is = cc is
+
+      by_case : IsAmong f.mail t ⊎ ((x : Letter) × IsIn x u.parked × IsFor t x)
+          → IsAmong f.mail t ⊎ IsHeldFor (slice_set w.nodes p (record { state = shard_state u; kept = kept ++ f.written })) t
+      by_case (inl among) = inl among
+      by_case (inr waits) = inr (waits_at t waits.0 waits.1 waits.2)
+
+      by_parked : (x : Letter) → IsIn x s.parked → IsFor t x
+          → IsAmong f.mail t ⊎ IsHeldFor (slice_set w.nodes p (record { state = shard_state u; kept = kept ++ f.written })) t
+      by_parked x there brings =
+          let g = all_at (ParkedGoes left w s) x s.parked goes there in
+          let thing = ask_brings t x.sender x.receiver x.body g.ask g.asks brings in
+          by_held (shard_holds s i f u x g.ask is_first there g.asks row) thing
+        where
+          by_held : {y : Thing} → IsIn x u.parked ⊎ IsAmong f.mail y → t ≡ y
+              → IsAmong f.mail t ⊎ IsHeldFor (slice_set w.nodes p (record { state = shard_state u; kept = kept ++ f.written })) t
+          by_held (inl stays) same = inr (waits_at t x stays brings)
+          by_held (inr among) same = inl (subst (λ y. IsAmong f.mail y) (sym same) among)
+
+  pub shard_keeps : Bag later (tick (after (is_given w p i) p (record { state = shard_state s; kept = kept }) f (shard_state u)))
+  shard_keeps =
+      together left later w book p i kept (shard_state s) f (shard_state u) good bag here clears fresh comes
+      (shard_well (changes_made w) (length w.nodes) s i f u (subst (λ n. n < length w.nodes) (sym shard_fits.own) inside) (omega (arith, inside, shard_fits.place))
+      is_first (λ m is id names. named_request w book left good bag m (comes m is).1 id names) fit_there
+      (all_weaken (ParkedGoes left w s) (IsWell (changes_made w) (length w.nodes)) s.parked (λ x g. g.well) goes) row)
+      (parked_after left later w p i kept (shard_state s) f (shard_state u) bag here clears fresh s u refl is_first goes (λ x is. (comes x is).1)
+      (shard_parked s i f u is_first (λ m is. (comes m is).0 ∙ shard_fits.place)
+      (λ m is namespace create at t says. (told_had w book left good bag m (comes m is).1 namespace create at t says).1) fit_there row))
+      (others left later w book p i kept (shard_state s) f (shard_state u) good bag here clears fresh comes shard_carries
+      (λ other. absurd (other shard_fits.place)))
+      (λ r is. absurd (cc is))
+      (nothing_taken left later w book p i kept (shard_state s) f (shard_state u) good bag here clears fresh comes (shard_takes_none s u i f row))
+    where
+      inside : p < length w.nodes
+      inside = within left later w book p i kept (shard_state s) f (shard_state u) good bag here clears fresh comes
+
+      fit_there : (m : Letter) → i ≡ letter_input m → FitsThere s m
+      fit_there m is = fit_here w book left good bag s p kept m here (comes m is).1
+
+-- A ROUTER
+
+pub router_keeps : (left later : ℕ → Type 0) (w : World) (book : Book) (p : ℕ) (i : Input) (kept : List Kept) (o r u : Router) (f : Effect)
+    → Good w book → Bag left w → slice_get w.nodes p ≡ Some (record { state = router_state o; kept = kept }) → Clears left later w.sent i
+    → ((n : ℕ) → length w.sent ≤ n → later n) → IsHere w p i → RouterRow r i f u → IsReady r i → AllByRecursion (OpenGoes left w r) r.requests
+    → AllByRecursion (IsTableOf (changes_made w)) r.tables → r.me ≡ o.me → r.life ≡ o.life
+    → (g : Effect) → g.mail ≡ f.mail → g.taken ≡ f.taken
+    → Bag later (tick (after (is_given w p i) p (record { state = router_state o; kept = kept }) g (router_state u)))
+router_keeps left later w book p i kept o r u f good bag here clears fresh comes row ready goes tables me life g mail taken =
+    together left later w book p i kept (router_state o) g (router_state u) good bag here clears fresh comes
+    (subst (λ l. AllByRecursion (IsWell (changes_made w) (length w.nodes)) l) (sym mail)
+    (router_well (changes_made w) (length w.nodes) r i f u (subst (λ n. n < length w.nodes) (sym own) inside)
+    (omega (arith, inside, fits.place)) ready tables
+    (λ m is namespace create at t says. (told_had w book left good bag m (comes m is).1 namespace create at t says).0) row))
+    (open_after left later w p i kept (router_state o) g (router_state u) bag here clears fresh r u (λ s is. cc is) goes
+    (subst (λ l. AllByRecursion (WaitsAfter r u i l) u.requests) (sym mail) (router_waits r i f u ready row)))
+    (others left later w book p i kept (router_state o) g (router_state u) good bag here clears fresh comes carries
+    (λ other s x x_goes was. absurd (away (a_table first_shard x_goes.ask.namespace false no_time) (λ e. omega (arith, e, fits.place)) was)))
+    (λ x is. (u, refl, lives.life ∙ (life ∙ ap (λ (y : Router). y.life) (same_router x is))))
+    (subst (λ l. AllByRecursion (λ (a : Asked). IsOfRouter (slice_set w.nodes p (record { state = router_state u; kept = kept ++ g.written })) a.id)
+    (asked_by w.now l)) (sym taken) of_router)
+  where
+    fits : RouterFits (now w book) w.asked w.answered p o
+    fits = (fits_here w book p (record { state = router_state o; kept = kept }) good here).state
+
+    own : r.me ≡ p
+    own = me ∙ fits.own
+
+    lives : IsInLife r u f
+    lives = stays_in_life r u i f row
+
+    same_router : (x : Router) → router_state o ≡ router_state x → o ≡ x
+    same_router x is = cc is
+
+    inside : p < length w.nodes
+    inside = within left later w book p i kept (router_state o) g (router_state u) good bag here clears fresh comes
+
+    -- a message that comes is for no other node
+    away : (t : Thing) → home t ≢ p → WasFor i t → ⊥
+    away t other was =
+        let place : was.letter.receiver ≡ p = (comes was.letter was.is).0 in
+        by_place place (brings_to t was.letter.sender was.letter.receiver was.letter.body was.brings)
+      where
+        by_place : {n : ℕ} → n ≡ p → (n ≡ 0) ⊎ ((n ≡ first_shard) ⊎ (n ≡ home t)) → ⊥
+        by_place place (inl zero_place) = omega (arith, place, zero_place, fits.place)
+        by_place place (inr (inl one_place)) = omega (arith, place, one_place, fits.place)
+        by_place place (inr (inr home_place)) = other (sym home_place ∙ place)
+
+    carries : (t : Thing) → first_shard < home t → home t ≢ p → NoShardTable t
+        → Carries left later w p i kept (router_state o) g (router_state u) bag here clears fresh t
+    carries t above other none = record { passes = λ was. absurd (away t other was); holds = λ s is x there brings. absurd (cc is) }
+
+    of_router : AllByRecursion (λ (a : Asked). IsOfRouter (slice_set w.nodes p (record { state = router_state u; kept = kept ++ g.written })) a.id)
+          (asked_by w.now f.taken)
+    of_router =
+        all_mapped (λ (a : Asked). IsOfRouter (slice_set w.nodes p (record { state = router_state u; kept = kept ++ g.written })) a.id) _ f.taken
+        (all_weaken (λ (x : Taken). (x.id.router ≡ r.me) × (x.id.life ≡ r.life))
+        (λ (x : Taken). IsOfRouter (slice_set w.nodes p (record { state = router_state u; kept = kept ++ g.written })) x.id) f.taken
+        (λ x h. record {
+          router = u;
+          kept = kept ++ g.written;
+          here = ap (λ k. slice_get (slice_set w.nodes p (record { state = router_state u; kept = kept ++ g.written })) k) (h.0 ∙ own)
+              ∙ get_set w.nodes p (record { state = router_state o; kept = kept }) (record { state = router_state u; kept = kept ++ g.written }) here;
+          life = h.1 ∙ sym lives.life;
+        }) lives.taken)

@@ -1,0 +1,200 @@
+-- A step of a node keeps the bag.
+use Rattle.std.proofs.Common.{◌≡◌, ◌≢◌, ◌⊎◌, inl, inr, ℕ, zero, suc, ◌+◌, ◌<◌, ◌≤◌, List, [], ◌∷◌, ◌++◌, length, refl, sym, ap, subst, ◌∙◌, arith, append-nil, length-append}
+use Rattle.std.specs.Prelude.{Some, None, false}
+use Rattle.std.specs.List.{AllByRecursion, slice_get, slice_set}
+use Rattle.history_model.specs.History.{IsIn}
+use Rattle.history_model.proofs.Lists.{all_at, all_weaken, all_append}
+use Rattle.chunk_model.specs.Tables.{first_shard, table_of}
+use Rattle.reply_model.specs.Exchanges.{Asked, Answered}
+use Rattle.node_model.specs.Journal.{Kept}
+use Rattle.node_model.specs.Letters.{no_time, Letter, Input, letter_input, Effect}
+use Rattle.node_model.specs.States.{Shard, Router, Open, NodeState, shard_state, router_state}
+use Rattle.node_model.specs.World.{Held, World, asked_by, after, is_given, tick}
+use Rattle.node_laws.proofs.Views.{View}
+use Rattle.node_laws.proofs.Places.{EachAt, each_set}
+use Rattle.node_laws.proofs.Facts.{HeldFits}
+use Rattle.node_laws.proofs.StepsKeep.{get_set}
+use Rattle.node_progress.specs.UnderWay.{Thing, a_table, thing_of, IsFor, IsSent}
+use Rattle.node_progress.proofs.Versions.{IsWell, well_later}
+use Rattle.node_progress.proofs.CataloguePasses.{IsAmong}
+use Rattle.node_progress.proofs.ShardParks.{IsParkedAfter, Stays, Begins}
+use Rattle.node_progress.proofs.RouterWaits.{StillWaits, WaitsAnew, WaitsAfter, IsWaiting}
+use Rattle.node_progress.proofs.Bags.{changes_made, IsHeldFor, IsCarried, OpenGoes, ParkedGoes, NodeGoes, IsOfRouter, Bag, get_other, get_longer, length_set, same_place, WasFor, Clears, sent_moves, sent_anew, MoreMade, changes_more}
+
+each_both : (P Q : ℕ → Held → Type 0) (i : ℕ) (xs : List Held) → EachAt P i xs → EachAt Q i xs → EachAt (λ j h. P j h × Q j h) i xs
+each_both P Q i [] p q = tt
+each_both P Q i (x ∷ xs) p q = ((p.0, q.0), each_both P Q (i + 1) xs p.1 q.1)
+
+module _ (left later : ℕ → Type 0) (w : World) (p : ℕ) (i : Input) (kept : List Kept) (old : NodeState) (f : Effect) (new : NodeState)
+    (bag : Bag left w) (here : slice_get w.nodes p ≡ Some (record { state = old; kept = kept })) (clears : Clears left later w.sent i)
+    (fresh : (n : ℕ) → length w.sent ≤ n → later n) where
+  abbrev pub stepped : Held
+  stepped = record { state = new; kept = kept ++ f.written }
+
+  abbrev pub next_world : World
+  next_world = tick (after (is_given w p i) p (record { state = old; kept = kept }) f new)
+
+  more_made : MoreMade (changes_made w) (changes_made next_world)
+  more_made = changes_more w.nodes p old kept f.written new here
+
+  pub still_well : (m : Letter) → IsWell (changes_made w) (length w.nodes) m → IsWell (changes_made next_world) (length next_world.nodes) m
+  still_well m well =
+      subst (λ n. IsWell (changes_made next_world) n m) (sym (length_set w.nodes p stepped))
+      (well_later more_made.news (changes_made w) (changes_made next_world) (length w.nodes) m more_made.is well)
+
+  -- WHAT IS UNDER WAY
+
+  -- what the node at the place does with what comes for a thing, and with what it holds for it
+  pub record Carries (t : Thing) : Type 0 where
+    pub passes : WasFor i t → IsAmong f.mail t ⊎ IsHeldFor next_world.nodes t
+    pub holds : (s : Shard) → old ≡ shard_state s → (x : Letter) → IsIn x s.parked → IsFor t x → IsAmong f.mail t ⊎ IsHeldFor next_world.nodes t
+
+  goes_by : (t : Thing) → IsAmong f.mail t ⊎ IsHeldFor next_world.nodes t → IsCarried later next_world t
+  goes_by t (inl among) = inl (sent_anew left later w.sent f.mail i t fresh among)
+  goes_by t (inr held) = inr held
+
+  held_here : (t : Thing) → (h : IsHeldFor w.nodes t) → h.at ≡ p → old ≡ shard_state h.shard
+  held_here t h same =
+      let both : Some (record { state = shard_state h.shard; kept = h.kept }) ≡ Some (record { state = old; kept = kept }) =
+      sym h.here ∙ (ap (λ k. slice_get w.nodes k) same ∙ here) in
+      let held : record { state = old; kept = kept } ≡ record { state = shard_state h.shard; kept = h.kept } = cc both in
+      ap (λ (x : Held). x.state) held
+
+  pub carried_moves : (t : Thing) → Carries t → IsCarried left w t → IsCarried later next_world t
+  carried_moves t c (inl s) = by_place (sent_moves left later w.sent f.mail i t clears s)
+    where
+      by_place : IsSent later (w.sent ++ f.mail) t ⊎ WasFor i t → IsCarried later next_world t
+      by_place (inl still) = inl still
+      by_place (inr was) = goes_by t (c.passes was)
+  carried_moves t c (inr h) = by_place (same_place h.at p)
+    where
+      by_place : (h.at ≡ p) ⊎ (h.at ≢ p) → IsCarried later next_world t
+      by_place (inl same) = goes_by t (c.holds h.shard (held_here t h same) h.letter h.parked h.brings)
+      by_place (inr other) = inr (record {
+        at = h.at;
+        shard = h.shard;
+        kept = h.kept;
+        letter = h.letter;
+        here = get_other w.nodes p h.at stepped other ∙ h.here;
+        parked = h.parked;
+        brings = h.brings;
+      })
+
+  pub open_moves : (r : Router) (q : Open) → Carries (thing_of r q) → OpenGoes left w r q → OpenGoes later next_world r q
+  open_moves r q c o = record { waiting = o.waiting; carried = carried_moves (thing_of r q) c o.carried }
+
+  -- the table of a parked request
+  table_moves : (s : Shard) (x : Letter) → (g : ParkedGoes left w s x)
+      → (WasFor i (a_table first_shard g.ask.namespace false no_time) → IsAmong f.mail (a_table first_shard g.ask.namespace false no_time))
+      → IsSent later (w.sent ++ f.mail) (a_table first_shard g.ask.namespace false no_time)
+  table_moves s x g passes = by_place (sent_moves left later w.sent f.mail i (a_table first_shard g.ask.namespace false no_time) clears g.table)
+    where
+      by_place : IsSent later (w.sent ++ f.mail) (a_table first_shard g.ask.namespace false no_time) ⊎ WasFor i (a_table first_shard g.ask.namespace false no_time)
+          → IsSent later (w.sent ++ f.mail) (a_table first_shard g.ask.namespace false no_time)
+      by_place (inl still) = still
+      by_place (inr was) = sent_anew left later w.sent f.mail i (a_table first_shard g.ask.namespace false no_time) fresh (passes was)
+
+  pub parked_moves : (s : Shard) (x : Letter) → (g : ParkedGoes left w s x)
+      → (WasFor i (a_table first_shard g.ask.namespace false no_time) → IsAmong f.mail (a_table first_shard g.ask.namespace false no_time))
+      → ParkedGoes later next_world s x
+  parked_moves s x g passes =
+      record { ask = g.ask; asks = g.asks; none = g.none; well = still_well x g.well; table = table_moves s x g passes }
+
+  -- THE NODE ITSELF
+
+  -- a shard's parked requests after its step
+  pub parked_after : (s u : Shard) → old ≡ shard_state s → s.me ≡ first_shard → AllByRecursion (ParkedGoes left w s) s.parked
+      → ((x : Letter) → i ≡ letter_input x → IsIn x w.sent)
+      → AllByRecursion (IsParkedAfter s u i f.mail) u.parked → AllByRecursion (ParkedGoes later next_world u) u.parked
+  parked_after s u is me before came all =
+      all_weaken (IsParkedAfter s u i f.mail) (ParkedGoes later next_world u) u.parked (λ x a. by_case x a) all
+    where
+      by_case : (x : Letter) → IsParkedAfter s u i f.mail x → ParkedGoes later next_world u x
+      by_case x (inl still) =
+          let g = all_at (ParkedGoes left w s) x s.parked before still.there in
+          record {
+            ask = g.ask;
+            asks = g.asks;
+            none = still.still g.ask g.asks g.none;
+            well = still_well x g.well;
+            table = table_moves s x g (λ was. absurd (still.not_come g.ask g.asks g.none was.letter was.is
+                (subst (λ n. IsFor (a_table n g.ask.namespace false no_time) was.letter) (sym me) was.brings)));
+          }
+      by_case x (inr begins) = record {
+        ask = begins.ask;
+        asks = begins.asks;
+        none = begins.none;
+        well = still_well x (all_at (IsWell (changes_made w) (length w.nodes)) x w.sent bag.well (came x begins.came));
+        table = sent_anew left later w.sent f.mail i (a_table first_shard begins.ask.namespace false no_time) fresh
+            (subst (λ n. IsAmong f.mail (a_table n begins.ask.namespace false no_time)) me begins.sent);
+      }
+
+  -- a router's open requests after its step
+  pub open_after : (r u : Router) → ((s : Shard) → old ≡ shard_state s → ⊥) → AllByRecursion (OpenGoes left w r) r.requests
+      → AllByRecursion (WaitsAfter r u i f.mail) u.requests → AllByRecursion (OpenGoes later next_world u) u.requests
+  open_after r u no_shard before all = all_weaken (WaitsAfter r u i f.mail) (OpenGoes later next_world u) u.requests (λ q a. by_case q a) all
+    where
+      by_case : (q : Open) → WaitsAfter r u i f.mail q → OpenGoes later next_world u q
+      by_case q (inl still) =
+          let o = all_at (OpenGoes left w r) q r.requests before still.there in
+          record {
+            waiting = o.waiting;
+            carried = subst (λ t. IsCarried later next_world t) (sym still.same)
+                (carried_moves (thing_of r q) (record {
+                  passes = λ was. absurd (still.not_come was.letter was.is was.brings);
+                  holds = λ s is x there brings. absurd (no_shard s is);
+                }) o.carried);
+          }
+      by_case q (inr anew) = record {
+        waiting = record { going = anew.going; fits = anew.fits };
+        carried = inl (sent_anew left later w.sent f.mail i (thing_of u q) fresh anew.sent);
+      }
+
+  -- THE WORLD
+
+  -- an identity stays that of a router
+  asked_stays : ((r : Router) → old ≡ router_state r → (u : Router) × (new ≡ router_state u) × (u.life ≡ r.life)) → (a : Asked) → IsOfRouter w.nodes a.id
+      → IsOfRouter next_world.nodes a.id
+  asked_stays same a o = by_place (same_place a.id.router p)
+    where
+      by_place : (a.id.router ≡ p) ⊎ (a.id.router ≢ p) → IsOfRouter next_world.nodes a.id
+      by_place (inr other) =
+          record { router = o.router; kept = o.kept; here = get_other w.nodes p a.id.router stepped other ∙ o.here; life = o.life }
+      by_place (inl place) =
+          let both : Some (record { state = router_state o.router; kept = o.kept }) ≡ Some (record { state = old; kept = kept }) =
+          sym o.here ∙ (ap (λ k. slice_get w.nodes k) place ∙ here) in
+          let held : record { state = old; kept = kept } ≡ record { state = router_state o.router; kept = o.kept } = cc both in
+          let next = same o.router (ap (λ (x : Held). x.state) held) in
+          record {
+            router = next.0;
+            kept = kept ++ f.written;
+            here = ap (λ k. slice_get next_world.nodes k) place
+                ∙ (get_set w.nodes p (record { state = old; kept = kept }) stepped here
+                ∙ ap (λ (s : NodeState). Some (record { state = s; kept = kept ++ f.written })) next.1);
+            life = o.life ∙ sym next.2;
+          }
+
+  -- the bag, where its parts are known
+  pub bag_after : (v : View) (answered : List Answered) → EachAt (HeldFits v w.asked answered w.given) 0 w.nodes
+      → AllByRecursion (IsWell (changes_made next_world) (length next_world.nodes)) f.mail
+      → NodeGoes later next_world new
+      → ((j : ℕ) (h : Held) → j ≢ p → HeldFits v w.asked answered w.given j h → NodeGoes left w h.state → NodeGoes later next_world h.state)
+      → ((r : Router) → old ≡ router_state r → (u : Router) × (new ≡ router_state u) × (u.life ≡ r.life))
+      → AllByRecursion (λ (a : Asked). IsOfRouter next_world.nodes a.id) (asked_by w.now f.taken)
+      → Bag later next_world
+  bag_after v answered fit well node others same taken = record {
+    fresh = λ n le. let l = length-append w.sent f.mail in fresh n (omega (arith, le, l));
+    well = all_append (IsWell (changes_made next_world) (length next_world.nodes)) w.sent f.mail
+        (all_weaken (IsWell (changes_made w) (length w.nodes)) (IsWell (changes_made next_world) (length next_world.nodes)) w.sent (λ m x. still_well m x) bag.well)
+        well;
+    nodes =
+        each_set (λ j (h : Held). HeldFits v w.asked answered w.given j h × NodeGoes left w h.state) (λ j (h : Held). NodeGoes later next_world h.state) 0 p
+        w.nodes stepped (λ j h other x. others j h (λ e. other (e ∙ from_zero)) x.0 x.1) node
+        (each_both (HeldFits v w.asked answered w.given) (λ j (h : Held). NodeGoes left w h.state) 0 w.nodes fit bag.nodes);
+    asked = all_append (λ (a : Asked). IsOfRouter next_world.nodes a.id) w.asked (asked_by w.now f.taken)
+        (all_weaken (λ (a : Asked). IsOfRouter w.nodes a.id) (λ (a : Asked). IsOfRouter next_world.nodes a.id) w.asked (λ a o. asked_stays same a o) bag.asked)
+        taken;
+  }
+    where
+      from_zero : p ≡ 0 + p
+      from_zero = omega arith

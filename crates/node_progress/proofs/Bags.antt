@@ -1,0 +1,172 @@
+-- What is under way in a world, and what of it a step leaves.
+use Rattle.std.proofs.Common.{◌≡◌, ◌≢◌, ◌⊎◌, inl, inr, ℕ, zero, suc, ◌+◌, ◌<◌, ◌≤◌, List, [], ◌∷◌, ◌++◌, length, refl, sym, ap, subst, ◌∙◌, arith, append_assoc, append-nil, length-append, Bool}
+use Rattle.std.specs.Prelude.{Some, true, false, ◌==◌, None}
+use Rattle.std.specs.List.{AllByRecursion, slice_get, slice_set}
+use Rattle.std.proofs.lemmas.Bool.{eqb-true, eqb-false}
+use Rattle.history_model.specs.History.{IsIn}
+use Rattle.chunk_model.specs.Changes.{Change}
+use Rattle.chunk_model.specs.Tables.{first_shard, table_of}
+use Rattle.base_model.specs.Identities.{RequestId}
+use Rattle.reply_model.specs.Exchanges.{Asked}
+use Rattle.node_model.specs.Journal.{Kept, changes_kept}
+use Rattle.node_model.specs.Letters.{no_time, Letter, Input, letter_input}
+use Rattle.node_model.specs.States.{Shard, Router, Open, NodeState, catalogue_state, shard_state, router_state}
+use Rattle.node_model.specs.ShardRows.{Ask, ask_in}
+use Rattle.node_model.specs.World.{Held, World, journal_at}
+use Rattle.node_model.proofs.Journals.{journal_here, journal_got}
+use Rattle.node_laws.proofs.Places.{EachAt}
+use Rattle.node_laws.proofs.LongerJournals.{changes_longer}
+use Rattle.node_laws.proofs.Journals.{journal_else}
+use Rattle.node_progress.specs.UnderWay.{Thing, a_table, thing_of, IsFor, IsSent}
+use Rattle.node_progress.proofs.Versions.{IsWell}
+use Rattle.node_progress.proofs.CataloguePasses.{IsAmong}
+use Rattle.node_progress.proofs.RouterWaits.{IsWaiting}
+
+-- THE BAG
+
+abbrev pub changes_made : World → List Change
+changes_made w = changes_kept (journal_at w.nodes 0)
+
+-- a message that is parked at a shard is for the thing
+pub record IsHeldFor (nodes : List Held) (t : Thing) : Type 0 where
+  pub at : ℕ
+  pub shard : Shard
+  pub kept : List Kept
+  pub letter : Letter
+  pub here : slice_get nodes at ≡ Some (record { state = shard_state shard; kept = kept })
+  pub parked : IsIn letter shard.parked
+  pub brings : IsFor t letter
+
+abbrev pub IsCarried : (left : ℕ → Type 0) → World → Thing → Type 0
+IsCarried left w t = IsSent left w.sent t ⊎ IsHeldFor w.nodes t
+
+pub record OpenGoes (left : ℕ → Type 0) (w : World) (r : Router) (q : Open) : Type 0 where
+  pub waiting : IsWaiting q
+  pub carried : IsCarried left w (thing_of r q)
+
+pub record ParkedGoes (left : ℕ → Type 0) (w : World) (s : Shard) (p : Letter) : Type 0 where
+  pub ask : Ask
+  pub asks : ask_in p.body ≡ Some ask
+  pub none : table_of ask.namespace s.tables ≡ None
+  pub well : IsWell (changes_made w) (length w.nodes) p
+  pub table : IsSent left w.sent (a_table first_shard ask.namespace false no_time)
+
+abbrev pub NodeGoes : (left : ℕ → Type 0) → World → NodeState → Type 0
+NodeGoes left w (catalogue_state c) = Unit {0}
+NodeGoes left w (shard_state s) = AllByRecursion (ParkedGoes left w s) s.parked
+NodeGoes left w (router_state r) = AllByRecursion (OpenGoes left w r) r.requests
+
+-- the request is of a router, in its life
+pub record IsOfRouter (nodes : List Held) (id : RequestId) : Type 0 where
+  pub router : Router
+  pub kept : List Kept
+  pub here : slice_get nodes id.router ≡ Some (record { state = router_state router; kept = kept })
+  pub life : id.life ≡ router.life
+
+pub record Bag (left : ℕ → Type 0) (w : World) : Type 0 where
+  pub fresh : (n : ℕ) → length w.sent ≤ n → left n
+  pub well : AllByRecursion (IsWell (changes_made w) (length w.nodes)) w.sent
+  pub nodes : EachAt (λ j (h : Held). NodeGoes left w h.state) 0 w.nodes
+  pub asked : AllByRecursion (λ (a : Asked). IsOfRouter w.nodes a.id) w.asked
+
+-- LISTS
+
+pub get_other : {X : Type 0} (xs : List X) (k j : ℕ) (x : X) → j ≢ k → slice_get (slice_set xs k x) j ≡ slice_get xs j
+get_other [] k j x other = refl
+get_other (z ∷ xs) zero zero x other = absurd (other refl)
+get_other (z ∷ xs) zero (suc j) x other = refl
+get_other (z ∷ xs) (suc k) zero x other = refl
+get_other (z ∷ xs) (suc k) (suc j) x other = get_other xs k j x (λ e. other (ap suc e))
+
+pub get_behind : {X : Type 0} (xs : List X) (x : X) (ys : List X) → slice_get (xs ++ x ∷ ys) (length xs) ≡ Some x
+get_behind [] x ys = refl
+get_behind (y ∷ xs) x ys = get_behind xs x ys
+
+pub get_longer : {X : Type 0} (xs ys : List X) (k : ℕ) (x : X) → slice_get xs k ≡ Some x → slice_get (xs ++ ys) k ≡ Some x
+get_longer [] ys k x got = absurd (cc)
+get_longer (z ∷ xs) ys zero x got = got
+get_longer (z ∷ xs) ys (suc k) x got = get_longer xs ys k x got
+
+pub length_set : {X : Type 0} (xs : List X) (k : ℕ) (x : X) → length (slice_set xs k x) ≡ length xs
+length_set [] k x = refl
+length_set (z ∷ xs) zero x = refl
+length_set (z ∷ xs) (suc k) x = ap suc (length_set xs k x)
+
+-- two places are one, or not
+pub same_place : (a b : ℕ) → (a ≡ b) ⊎ (a ≢ b)
+same_place a b = by_test (a == b) refl
+  where
+    by_test : (t : Bool) → (a == b) ≡ t → (a ≡ b) ⊎ (a ≢ b)
+    by_test true h = inl (eqb-true _ _ h)
+    by_test false h = inr (λ e. eqb-false _ _ h e)
+
+-- MESSAGES
+
+-- the input is a message that is for the thing
+pub record WasFor (i : Input) (t : Thing) : Type 0 where
+  pub letter : Letter
+  pub is : i ≡ letter_input letter
+  pub brings : IsFor t letter
+
+-- of the places that are left only that of the message in the input is none later
+abbrev pub Clears : (left later : ℕ → Type 0) → List Letter → Input → Type 0
+Clears left later sent i = (n : ℕ) → left n → later n ⊎ ((m : Letter) × (slice_get sent n ≡ Some m) × (i ≡ letter_input m))
+
+module _ (left later : ℕ → Type 0) (sent mail : List Letter) (i : Input) (t : Thing) where
+  pub sent_moves : Clears left later sent i → IsSent left sent t → IsSent later (sent ++ mail) t ⊎ WasFor i t
+  sent_moves clears s = by_place (clears s.place s.undelivered)
+    where
+      by_place : later s.place ⊎ ((m : Letter) × (slice_get sent s.place ≡ Some m) × (i ≡ letter_input m)) → IsSent later (sent ++ mail) t ⊎ WasFor i t
+      by_place (inl still) = inl (record {
+        place = s.place;
+        letter = s.letter;
+        got = get_longer sent mail s.place s.letter s.got;
+        undelivered = still;
+        brings = s.brings;
+      })
+      by_place (inr (m, got, is)) =
+          let both : Some s.letter ≡ Some m = sym s.got ∙ got in
+          let same : s.letter ≡ m = cc both in
+          inr (record { letter = m; is = is; brings = subst (λ x. IsFor t x) same s.brings })
+
+  pub sent_anew : ((n : ℕ) → length sent ≤ n → later n) → IsAmong mail t → IsSent later (sent ++ mail) t
+  sent_anew fresh a =
+      let front : List Letter = a.sent.0 in
+      let back : List Letter = a.sent.1 in
+      let all : (sent ++ front) ++ a.letter ∷ back ≡ sent ++ mail = append_assoc sent front (a.letter ∷ back) ∙ ap (λ l. sent ++ l) (sym a.sent.2) in
+      let l = length-append sent front in
+      record {
+        place = length (sent ++ front);
+        letter = a.letter;
+        got = subst (λ l. slice_get l (length (sent ++ front)) ≡ Some a.letter) all (get_behind (sent ++ front) a.letter back);
+        undelivered = fresh (length (sent ++ front)) (omega (arith, l));
+        brings = a.brings;
+      }
+
+-- CHANGES
+
+pub record MoreMade (old new : List Change) : Type 0 where
+  pub news : List Change
+  pub is : new ≡ news ++ old
+
+pub changes_more : (nodes : List Held) (p : ℕ) (old : NodeState) (kept written : List Kept) (new : NodeState)
+    → slice_get nodes p ≡ Some (record { state = old; kept = kept })
+    → MoreMade (changes_kept (journal_at nodes 0)) (changes_kept (journal_at (slice_set nodes p (record { state = new; kept = kept ++ written })) 0))
+changes_more nodes p old kept written new here = by_place (same_place p 0)
+  where
+    by_place : (p ≡ 0) ⊎ (p ≢ 0)
+        → MoreMade (changes_kept (journal_at nodes 0)) (changes_kept (journal_at (slice_set nodes p (record { state = new; kept = kept ++ written })) 0))
+    by_place (inl zero_place) =
+        let new_held : Held = record { state = new; kept = kept ++ written } in
+        let after : journal_at (slice_set nodes p new_held) p ≡ kept ++ written = journal_here nodes p (record { state = old; kept = kept }) new_held here in
+        let before : journal_at nodes p ≡ kept = journal_got nodes p (record { state = old; kept = kept }) here in
+        record {
+          news = changes_kept written;
+          is = ap (λ k. changes_kept (journal_at (slice_set nodes p new_held) k)) (sym zero_place)
+              ∙ (ap (λ l. changes_kept l) after ∙ (changes_longer kept written
+              ∙ ap (λ l. changes_kept written ++ l) (ap (λ l. changes_kept l) (sym before) ∙ ap (λ k. changes_kept (journal_at nodes k)) zero_place)));
+        }
+    by_place (inr other) = record {
+      news = [];
+      is = ap (λ l. changes_kept l) (journal_else nodes p (record { state = new; kept = kept ++ written }) 0 (λ e. other (sym e)));
+    }

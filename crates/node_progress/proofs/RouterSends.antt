@@ -1,0 +1,198 @@
+-- What a router sends goes to the catalogue or to the shard, with the versions of a table that the catalogue had.
+use Rattle.std.proofs.Common.{◌≡◌, ℕ, ◌+◌, ◌<◌, List, [], ◌∷◌, ◌++◌, length, drop, refl, sym, ap, subst, ◌∙◌, arith, Bool}
+use Rattle.std.specs.Prelude.{Option, Some, None, true, false, ◌&&◌, max, if◌then◌else◌}
+use Rattle.std.specs.List.{AllByRecursion, flat_map}
+use Rattle.std.specs.Str.{bytes_eq}
+use Rattle.history_model.specs.History.{IsIn}
+use Rattle.history_model.proofs.Lists.{all_at, all_weaken}
+use Rattle.bson_model.specs.Tree.{null_value}
+use Rattle.chunk_model.specs.Changes.{Change}
+use Rattle.chunk_model.specs.Tables.{Table, table_of, first_shard, owner_at}
+use Rattle.chunk_model.specs.Verdicts.{sent_by}
+use Rattle.command_model.specs.Answers.{sharded_answer}
+use Rattle.pipeline_model.specs.Stages.{Stage}
+use Rattle.pipeline_model.specs.Split.{split}
+use Rattle.reply_model.specs.Outcomes.{Done}
+use Rattle.node_model.specs.Letters.{At, Body, Statement, table_ask, split_ask, time_ask, write_ask, read_ask, table_told, Letter, Input, letter_input, Effect}
+use Rattle.node_model.specs.States.{Telling, for_time, for_catalogue, for_shards, Wait, Router, Work, writing, reading, sharding, splitting, Open}
+use Rattle.node_model.specs.RouterRows.{id_of, heard, says, run_to, adopted, asks_to_read, asks_shards, asks_catalogue, asks_times, asks_by, asks_for, asks_again, owner_of_span, is_ahead, is_enough, enough_of, table_for, noted, reached, is_for, is_for_catalogue, Next, stays, is_told, was_created, next_of, next_waiting, letters_in, reply_to, empty_answer, RouterRow, router_begin, router_opened, router_plain, router_more, router_no_cursor, router_kill, router_take, router_learn, router_split, router_not_sharded, router_reach, router_ahead, router_note, router_wrote, router_read, router_excess, router_overflow, router_late, router_skip, router_moment}
+use Rattle.command_model.specs.Command.{command_of}
+use Rattle.command_model.specs.Writes.{WriteKind}
+use Rattle.node_laws.proofs.KnownTables.{table_found, all_adopted}
+use Rattle.node_laws.proofs.OpenRequests.{open_of_found}
+use Rattle.node_progress.specs.UnderWay.{IsNotStale}
+use Rattle.node_progress.proofs.Versions.{IsFirst, IsTableOf, IsKnowing, IsWell}
+use Rattle.node_progress.proofs.Sends.{HasNext, IsGoing, run_sends, going_of}
+use Rattle.node_progress.proofs.Plans.{plan_goes}
+use Rattle.node_progress.proofs.RouterWaits.{IsWaiting, all_flat, enough_found}
+use Rattle.node_progress.proofs.RouterGoesOn.{IsReady, IsStated, stated_of}
+
+module _ (changes : List Change) (nodes : ℕ) (r : Router) (own : r.me < nodes) (two : first_shard < nodes) where
+  abbrev Well : List Letter → Type 0
+  Well mail = AllByRecursion (IsWell changes nodes) mail
+
+  -- A MESSAGE
+
+  to_first : (time : ℕ) (b : Body) → IsKnowing changes b → IsNotStale b → Well (says r first_shard time b ∷ [])
+  to_first time b knowing fresh = (record { knowing = knowing; not_stale = fresh; from = own; to = two }, tt)
+
+  to_catalogue : (time count : ℕ) (namespace : List ℕ) (work : Work) → IsWell changes nodes (asks_catalogue r time count namespace work)
+  to_catalogue time count namespace (writing kind ordered statements answers) =
+      record { knowing = λ a asks. absurd (cc asks); not_stale = tt; from = own; to = omega (arith, two) }
+  to_catalogue time count namespace (reading named at stages telling) =
+      record { knowing = λ a asks. absurd (cc asks); not_stale = tt; from = own; to = omega (arith, two) }
+  to_catalogue time count namespace sharding = record { knowing = λ a asks. absurd (cc asks); not_stale = tt; from = own; to = omega (arith, two) }
+  to_catalogue time count namespace (splitting middle) =
+      record { knowing = λ a asks. absurd (cc asks); not_stale = tt; from = own; to = omega (arith, two) }
+
+  to_time : (time count : ℕ) → Well (asks_times r time (id_of r count))
+  to_time time count = to_first time (time_ask (id_of r count)) (λ a asks. absurd (cc asks)) tt
+
+  -- BY A TABLE
+
+  to_write : (time count : ℕ) (namespace : List ℕ) (t : Table) (kind : WriteKind) (ordered : Bool) (statements : List Statement) (answers : List Done) → IsTableOf changes t
+      → t.namespace ≡ namespace → HasNext statements (length answers)
+      → Well (asks_shards r time count namespace t (writing kind ordered statements answers))
+  to_write time count namespace t kind ordered statements answers is name n =
+      subst (λ l. Well l) (sym (run_sends r time count namespace t ordered statements answers is.1 n))
+      (to_first time (write_ask (id_of r count) 1 ordered namespace (n.first ∷ run_to t first_shard n.more) (sent_by t first_shard))
+      (λ a asks. record { table = t; had = is.0; name = name ∙ cc asks; sent = cc asks }) tt)
+
+  to_read : (time count : ℕ) (namespace : List ℕ) (t : Table) (named : Bool) (at : ℕ) (stages : List Stage) (telling : Telling) → IsTableOf changes t
+      → t.namespace ≡ namespace → Well (asks_shards r time count namespace t (reading named at stages telling))
+  to_read time count namespace t named at stages telling is name = by_owner (owner_at t null_value at) refl
+    where
+      by_owner : (o : Option ℕ) → owner_at t null_value at ≡ o → Well (elim o as (λ (o : Option ℕ). List Letter) [
+            | None ↦ []
+            | Some shard ↦ says r shard time (read_ask (id_of r count) 1 namespace at (split stages).0 (sent_by t shard)) ∷ []
+          ])
+      by_owner None owner = tt
+      by_owner (Some shard) owner =
+          subst (λ n. Well (says r n time (read_ask (id_of r count) 1 namespace at (split stages).0 (sent_by t n)) ∷ []))
+          (sym (is.1.before null_value at shard refl owner))
+          (to_first time (read_ask (id_of r count) 1 namespace at (split stages).0 (sent_by t first_shard))
+          (λ a asks. record { table = t; had = is.0; name = name ∙ cc asks; sent = cc asks }) tt)
+
+  to_shards : (time count : ℕ) (namespace : List ℕ) (t : Table) (work : Work) → IsTableOf changes t → t.namespace ≡ namespace → IsGoing work
+      → Well (asks_shards r time count namespace t work)
+  to_shards time count namespace t (writing kind ordered statements answers) is name going = to_write time count namespace t kind ordered statements answers is name going
+  to_shards time count namespace t (reading named at stages telling) is name going = to_read time count namespace t named at stages telling is name
+  to_shards time count namespace t sharding is name going = tt
+  to_shards time count namespace t (splitting middle) is name going = tt
+
+  -- WHAT A REQUEST SENDS
+
+  by_found : (time count : ℕ) (namespace : List ℕ) (work : Work) (tables : List Table) → AllByRecursion (IsTableOf changes) tables → IsGoing work → (t : Table)
+      → table_of namespace tables ≡ Some t → Well (asks_shards r time count namespace t work)
+  by_found time count namespace work tables had going t is =
+      let found = table_found namespace tables t is in
+      to_shards time count namespace t work (all_at (IsTableOf changes) t tables had found.stands) found.name going
+
+  by_table : (time count : ℕ) (namespace : List ℕ) (work : Work) (tables : List Table) → AllByRecursion (IsTableOf changes) tables → IsGoing work
+      → (o : Option Table) → table_for tables namespace work ≡ o → Well (asks_by r time count namespace work o)
+  by_table time count namespace work tables had going None is = (to_catalogue time count namespace work, tt)
+  by_table time count namespace work tables had going (Some t) is =
+      by_found time count namespace work tables had going t (enough_found (table_of namespace tables) work t is).0
+
+  asks_well : (time count : ℕ) (namespace : List ℕ) (work : Work) → AllByRecursion (IsTableOf changes) r.tables → IsGoing work
+      → Well (asks_for r time count namespace work)
+  asks_well time count namespace work had going = by_ahead (is_ahead time work)
+    where
+      by_ahead : (b : Bool)
+          → Well (if b then asks_times r time (id_of r count) else asks_by r time count namespace work (table_for r.tables namespace work))
+      by_ahead true = to_time time count
+      by_ahead false = by_table time count namespace work r.tables had going (table_for r.tables namespace work) refl
+
+  again_well : (time : ℕ) (q : Open) → AllByRecursion (IsTableOf changes) r.tables → IsGoing q.work → Well (asks_again r time q)
+  again_well time q had going = by_wait q.wait
+    where
+      by_known : (o : Option Table) → table_of q.namespace r.tables ≡ o → Well (elim o as (λ (o : Option Table). List Letter) [
+            | None ↦ []
+            | Some t ↦ asks_shards r time q.count q.namespace t q.work
+          ])
+      by_known None is = tt
+      by_known (Some t) is = by_found time q.count q.namespace q.work r.tables had going t is
+
+      by_wait : (w : Wait) → Well (elim w as (λ (w : Wait). List Letter) [
+            | for_time ↦ asks_times r time (id_of r q.count)
+            | for_catalogue ↦ asks_catalogue r time q.count q.namespace q.work ∷ []
+            | for_shards ↦ elim (table_of q.namespace r.tables) [ None ↦ [] | Some t ↦ asks_shards r time q.count q.namespace t q.work ]
+          ])
+      by_wait for_time = to_time time q.count
+      by_wait for_catalogue = (to_catalogue time q.count q.namespace q.work, tt)
+      by_wait for_shards = by_known (table_of q.namespace r.tables) refl
+
+  -- A TABLE ARRIVES
+
+  without_well : (time : ℕ) (made : Bool) (at : At) (q : Open) (work : Work) → Well (letters_in (elim work as (λ (w : Work). Next) [
+        | writing kind ordered statements answers ↦ stays q []
+        | reading named at_read stages telling ↦ if is_for at at_read then is_told (reply_to r time q (empty_answer q at_read telling)) else stays q []
+        | sharding ↦ if made then is_told (reply_to r time q (sharded_answer q.namespace time)) else stays q []
+        | splitting middle ↦ stays q []
+      ]))
+  without_well time made at q (writing kind ordered statements answers) = tt
+  without_well time made at q (reading named at_read stages telling) = by_test (is_for at at_read)
+    where
+      by_test : (b : Bool) → Well (letters_in (if b then is_told (reply_to r time q (empty_answer q at_read telling)) else stays q []))
+      by_test true = tt
+      by_test false = tt
+  without_well time made at q sharding = by_test made
+    where
+      by_test : (b : Bool) → Well (letters_in (if b then is_told (reply_to r time q (sharded_answer q.namespace time)) else stays q []))
+      by_test true = tt
+      by_test false = tt
+  without_well time made at q (splitting middle) = tt
+
+  next_well : (time : ℕ) (tables : List Table) (namespace : List ℕ) (made : Bool) (at : At) (q : Open) → AllByRecursion (IsTableOf changes) tables
+      → IsGoing q.work → Well (letters_in (next_of r time tables namespace made at q))
+  next_well time tables namespace made at q had going = by_test (is_for_catalogue q.wait && bytes_eq q.namespace namespace)
+    where
+      by_some : (o : Option Table) → table_for tables q.namespace q.work ≡ o → Well (letters_in (next_waiting r time made at q o))
+      by_some None is = without_well time made at q q.work
+      by_some (Some t) is = by_found time q.count q.namespace q.work tables had going t (enough_found (table_of q.namespace tables) q.work t is).0
+
+      by_test : (b : Bool) → Well (letters_in (if b then next_waiting r time made at q (table_for tables q.namespace q.work) else stays q []))
+      by_test true = by_some (table_for tables q.namespace q.work) refl
+      by_test false = tt
+
+-- EACH TRANSITION
+
+abbrev pub ToldTables : List Change → Input → Type 0
+ToldTables changes i = (m : Letter) → i ≡ letter_input m → (namespace : List ℕ) (create : Bool) (at : At) (t : Table)
+    → m.body ≡ table_told namespace create at (Some t) → IsTableOf changes t
+
+pub router_well : (changes : List Change) (nodes : ℕ) (r : Router) (i : Input) (f : Effect) (u : Router) → r.me < nodes → first_shard < nodes → IsReady r i
+    → AllByRecursion (IsTableOf changes) r.tables → ToldTables changes i → RouterRow r i f u → AllByRecursion (IsWell changes nodes) f.mail
+router_well changes nodes _ _ _ _ own two ready had told (router_begin r early) = tt
+router_well changes nodes _ _ _ _ own two ready had told (router_opened r begun) = tt
+router_well changes nodes _ _ _ _ own two ready had told (router_plain r link number request answer begun plan) = tt
+router_well changes nodes _ _ _ _ own two ready had told (router_more r link number request get c batch next begun plan found shows) = tt
+router_well changes nodes _ _ _ _ own two ready had told (router_no_cursor r link number request get begun plan none) = tt
+router_well changes nodes _ _ _ _ own two ready had told (router_kill r link number request kill killed missing next begun plan ends) = tt
+router_well changes nodes _ _ _ _ own two ready had told (router_take r link number request namespace work begun plan) =
+    asks_well changes nodes r own two r.time (r.count + 1) namespace work had
+    (plan_goes r (id_of r (r.count + 1)) request.more request namespace work (command_of request) refl plan)
+router_well changes nodes _ _ _ _ own two ready had told (router_learn r m namespace create at table says) =
+    all_flat (IsWell changes nodes) (λ q. letters_in (next_of r (heard r m) (adopted table r.tables) namespace (was_created create table) at q)) r.requests
+    (λ q there. next_well changes nodes r own two (heard r m) (adopted table r.tables) namespace (was_created create table) at q
+    (all_adopted (IsTableOf changes) table r.tables (λ t is. told m refl namespace create at t (says ∙ ap (λ o. table_told namespace create at o) is)) had)
+    (all_at IsWaiting q r.requests ready.waiting there).going)
+router_well changes nodes _ _ _ _ own two ready had told (router_split r m id q middle says found work) = tt
+router_well changes nodes _ _ _ _ own two ready had told (router_not_sharded r m id q middle says found work) = tt
+router_well changes nodes _ _ _ _ own two ready had told (router_reach r m id q named at stages telling says found work waits le) =
+    asks_well changes nodes r own two (heard r m) q.count q.namespace (reached (heard r m) q.work) had (subst (λ w. IsGoing (reached (heard r m) w)) (sym work) tt)
+router_well changes nodes _ _ _ _ own two ready had told (router_ahead r m id q named at stages telling says found work waits ahead) = tt
+router_well changes nodes _ _ _ _ own two ready had told (router_note r m id dones q kind ordered statements answers says found work news more) =
+    let o = open_of_found r id q found in
+    asks_well changes nodes r own two (heard r m) q.count q.namespace (writing kind ordered statements (noted answers dones)) had
+    (going_of ordered statements (noted answers dones)
+    (stated_of q kind ordered statements answers work (all_at (λ (x : Open). IsStated x.work) q r.requests ready.stated o.stands)) more)
+router_well changes nodes _ _ _ _ own two ready had told (router_wrote r m id dones q kind ordered statements answers says found work news all) = tt
+router_well changes nodes _ _ _ _ own two ready had told (router_read r m id rows q named at stages telling out answer f says found work merged tells) = tt
+router_well changes nodes _ _ _ _ own two ready had told (router_excess r m id n q named at stages telling says found work) = tt
+router_well changes nodes _ _ _ _ own two ready had told (router_overflow r m id q named at stages telling says found work) = tt
+router_well changes nodes _ _ _ _ own two ready had told (router_late r m late) = tt
+router_well changes nodes _ _ _ _ own two ready had told (router_skip r m none) = tt
+router_well changes nodes _ _ _ _ own two ready had told (router_moment r moment begun) =
+    all_flat (IsWell changes nodes) (λ q. asks_again r _ q) r.requests
+    (λ q there. again_well changes nodes r own two _ q had (all_at IsWaiting q r.requests ready.waiting there).going)

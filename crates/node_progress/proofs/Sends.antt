@@ -1,0 +1,224 @@
+-- What a router requests is for what the request waits for.
+use Rattle.std.proofs.Common.{◌≡◌, ◌⊎◌, ℕ, zero, suc, ◌+◌, ◌<◌, List, [], ◌∷◌, length, drop, refl, sym, ap, subst, ◌∙◌, arith, Bool}
+use Rattle.std.specs.Prelude.{Option, Some, None, true, false, if◌then◌else◌}
+use Rattle.std.specs.List.{AllByRecursion}
+use Rattle.value_model.specs.Keys.{is_key, Span}
+use Rattle.pipeline_model.specs.Halves.{Half}
+use Rattle.pipeline_model.specs.Split.{split}
+use Rattle.bson_model.specs.Tree.{Datum, null_value}
+use Rattle.chunk_model.specs.Tables.{Table, first_shard, table_of, owner_now}
+use Rattle.chunk_model.specs.Verdicts.{sent_by}
+use Rattle.history_model.specs.History.{Operation, key_written}
+use Rattle.command_model.specs.Writes.{ClientNumber}
+use Rattle.base_model.specs.Identities.{RequestId}
+use Rattle.reply_model.specs.Exchanges.{number_for}
+use Rattle.reply_model.specs.Outcomes.{Done}
+use Rattle.reply_model.specs.Right.{ends}
+use Rattle.node_model.specs.Letters.{Statement, write_ask, read_ask, time_ask, Letter}
+use Rattle.node_model.specs.States.{Router, Wait, for_time, for_catalogue, for_shards, Work, writing, reading, sharding, splitting}
+use Rattle.node_model.specs.RouterRows.{id_of, statements_from, owner_of_statement, is_on, run_to, says, asks_to_write, owner_of_span, asks_to_read, asks_shards, asks_catalogue, is_enough, enough_of, table_for, asks_times, is_ahead, wait_by, asks_by, wait_of, asks_for, is_answered}
+use Rattle.command_model.proofs.Judged.{HasKey}
+use Rattle.history_model.proofs.Keyed.{written_is_key}
+use Rattle.node_laws.proofs.MadeEntries.{index_at}
+use Rattle.node_progress.specs.UnderWay.{Thing, a_time, a_run, thing_by, IsFor}
+use Rattle.node_progress.proofs.Versions.{IsFirst}
+use Rattle.node_progress.proofs.Lateness.{WaitFits}
+
+-- WORK
+
+-- of these statements so many are answered: there is a next one, which has that index and a key
+pub record HasNext (statements : List Statement) (count : ℕ) : Type 0 where
+  pub first : Statement
+  pub more : List Statement
+  pub left : drop count statements ≡ first ∷ more
+  pub numbered : first.number.index ≡ count
+  pub key : Datum
+  pub written : key_written first.operation ≡ Some key
+  pub is : is_key key ≡ true
+
+-- there is something to do next
+abbrev pub IsGoing : Work → Type 0
+IsGoing (writing kind ordered statements answers) = HasNext statements (length answers)
+IsGoing (reading named at stages telling) = Unit {0}
+IsGoing sharding = Unit {0}
+IsGoing (splitting middle) = Unit {0}
+
+-- one message, which has this property
+pub record Sends (mail : List Letter) (P : Letter → Type 0) : Type 0 where
+  pub letter : Letter
+  pub is : mail ≡ letter ∷ []
+  pub leads : P letter
+
+-- THE SHARD
+
+owner_of : (t : Table) (s : Statement) (key : Datum) → IsFirst t → key_written s.operation ≡ Some key → is_key key ≡ true
+    → owner_of_statement t s ≡ Some first_shard
+owner_of t s key first written is =
+    ap (λ o. elim o as (λ (o : Option Datum). Option ℕ) [ None ↦ None | Some k ↦ owner_now t k ]) written ∙ first.now key is
+
+to_write : (r : Router) (time : ℕ) (id : RequestId) (namespace : List ℕ) (t : Table) (ordered : Bool) (s : Statement) (more : List Statement)
+    → owner_of_statement t s ≡ Some first_shard
+    → asks_to_write r time id namespace t ordered (s ∷ more) ≡ says r first_shard time
+    (write_ask id 1 ordered namespace (s ∷ run_to t first_shard more) (sent_by t first_shard)) ∷ []
+to_write r time id namespace t ordered s more owner =
+    ap (λ o. elim o as (λ (o : Option ℕ). List Letter) [
+      | None ↦ []
+      | Some shard ↦ says r shard time
+          (write_ask id 1 ordered namespace (run_to t shard (s ∷ more)) (sent_by t shard)) ∷ []
+    ]) owner
+    ∙ ap (λ o. says r first_shard time
+    (write_ask id 1 ordered namespace (if is_on first_shard o then s ∷ run_to t first_shard more else []) (sent_by t first_shard)) ∷ []) owner
+
+pub to_read : (r : Router) (time : ℕ) (id : RequestId) (namespace : List ℕ) (t : Table) (at : ℕ) (half : Half)
+    → owner_of_span t at half.span ≡ Some first_shard
+    → asks_to_read r time id namespace t at half ≡ says r first_shard time (read_ask id 1 namespace at half (sent_by t first_shard)) ∷ []
+to_read r time id namespace t at half owner =
+    ap (λ o. elim o as (λ (o : Option ℕ). List Letter) [
+      | None ↦ []
+      | Some shard ↦ says r shard time
+          (read_ask id 1 namespace at half (sent_by t shard)) ∷ []
+    ]) owner
+
+span_owner : (t : Table) (at : ℕ) (span : List Span) → IsFirst t
+    → (elim (owner_of_span t at span) as (λ (o : Option ℕ). Bool) [ None ↦ false | Some shard ↦ true ]) ≡ true → owner_of_span t at span ≡ Some first_shard
+span_owner t at span first enough = by_owner (owner_of_span t at span) refl enough
+  where
+    by_owner : (o : Option ℕ) → owner_of_span t at span ≡ o → (elim o as (λ (o : Option ℕ). Bool) [ None ↦ false | Some shard ↦ true ]) ≡ true
+        → o ≡ Some first_shard
+    by_owner None is enough = absurd (cc enough)
+    by_owner (Some shard) is enough = ap (λ n. Some n) (first.before null_value at shard refl is)
+
+module _ (r : Router) (time count : ℕ) (namespace : List ℕ) where
+  abbrev waited : Work → Wait → Thing
+  waited work wait = thing_by (id_of r count) r.me namespace work wait
+
+  -- the run that is next goes to the first shard
+  pub run_sends : (t : Table) (ordered : Bool) (statements : List Statement) (answers : List Done) → IsFirst t → (n : HasNext statements (length answers))
+      → asks_to_write r time (id_of r count) namespace t ordered (drop (length answers) statements)
+      ≡ says r first_shard time (write_ask (id_of r count) 1 ordered namespace (n.first ∷ run_to t first_shard n.more) (sent_by t first_shard)) ∷ []
+  run_sends t ordered statements answers first n =
+      ap (λ l. asks_to_write r time (id_of r count) namespace t ordered l) n.left
+      ∙ to_write r time (id_of r count) namespace t ordered n.first n.more (owner_of t n.first n.key first n.written n.is)
+
+  -- by a table, what comes next is requested of the shard
+  pub shards_send : (t : Table) → IsFirst t → (work : Work) → IsGoing work → is_enough t work ≡ true
+      → Sends (asks_shards r time count namespace t work) (IsFor (waited work for_shards))
+  shards_send t first (writing kind ordered statements answers) going enough = record {
+    letter = says r first_shard time
+        (write_ask (id_of r count) 1 ordered namespace (going.first ∷ run_to t first_shard going.more) (sent_by t first_shard));
+    is = run_sends t ordered statements answers first going;
+    leads = (ap (λ n. a_run (id_of r count) n) (sym going.numbered), refl);
+  }
+  shards_send t first (reading named at stages telling) going enough = record {
+    letter = says r first_shard time (read_ask (id_of r count) 1 namespace at (split stages).0 (sent_by t first_shard));
+    is = to_read r time (id_of r count) namespace t at (split stages).0 (span_owner t at (split stages).0.span first enough);
+    leads = (refl, refl);
+  }
+  shards_send t first sharding going enough = absurd (cc enough)
+  shards_send t first (splitting middle) going enough = absurd (cc enough)
+
+  -- THE CATALOGUE
+
+  catalogue_sends : (work : Work) → IsFor (waited work for_catalogue) (asks_catalogue r time count namespace work)
+  catalogue_sends (writing kind ordered statements answers) = (refl, refl)
+  catalogue_sends (reading named at stages telling) = (refl, refl)
+  catalogue_sends sharding = (refl, refl)
+  catalogue_sends (splitting middle) = (refl, refl, refl)
+
+  -- WHAT COMES FIRST
+
+  time_sends : (work : Work) → is_ahead time work ≡ true → a_time (id_of r count) ≡ waited work for_time
+  time_sends (writing kind ordered statements answers) is = refl
+  time_sends (reading named at stages telling) is = refl
+  time_sends sharding is = absurd (cc is)
+  time_sends (splitting middle) is = absurd (cc is)
+
+  table_sends : (work : Work) → ((t : Table) → table_of namespace r.tables ≡ Some t → IsFirst t) → IsGoing work → (o p : Option Table)
+      → table_of namespace r.tables ≡ o → enough_of o work ≡ p → Sends (asks_by r time count namespace work p) (IsFor (waited work (wait_by p)))
+  table_sends work firsts going o None is enough =
+      record { letter = asks_catalogue r time count namespace work; is = refl; leads = catalogue_sends work }
+  table_sends work firsts going None (Some t) is enough = absurd (cc enough)
+  table_sends work firsts going (Some x) (Some t) is enough = by_enough (is_enough x work) refl enough
+    where
+      by_enough : (b : Bool) → is_enough x work ≡ b → (if b then Some x else None) ≡ Some t
+          → Sends (asks_shards r time count namespace t work) (IsFor (waited work for_shards))
+      by_enough false lacks got = absurd (cc got)
+      by_enough true has got =
+          let same : x ≡ t = cc got in
+          shards_send t (firsts t (is ∙ ap (λ z. Some z) same)) work going (subst (λ z. is_enough z work ≡ true) same has)
+
+  pub asks_send : (work : Work) → ((t : Table) → table_of namespace r.tables ≡ Some t → IsFirst t) → IsGoing work
+      → Sends (asks_for r time count namespace work) (IsFor (waited work (wait_of r time namespace work)))
+  asks_send work firsts going = by_ahead (is_ahead time work) refl
+    where
+      by_ahead : (b : Bool) → is_ahead time work ≡ b
+          → Sends (if b then asks_times r time (id_of r count) else asks_by r time count namespace work (table_for r.tables namespace work))
+          (IsFor (waited work (if b then for_time else wait_by (table_for r.tables namespace work))))
+      by_ahead true is = record { letter = says r first_shard time (time_ask (id_of r count)); is = refl; leads = (sym (time_sends work is), refl) }
+      by_ahead false is =
+          table_sends work firsts going (table_of namespace r.tables) (table_for r.tables namespace work) refl refl
+
+  -- it waits as it may
+  pub waits_fit : (work : Work) → WaitFits work (wait_of r time namespace work)
+  waits_fit (writing kind ordered statements answers) = by_table (table_for r.tables namespace (writing kind ordered statements answers))
+    where
+      by_table : (o : Option Table) → WaitFits (writing kind ordered statements answers) (wait_by o)
+      by_table None = tt
+      by_table (Some t) = tt
+  waits_fit (reading named at stages telling) = tt
+  waits_fit sharding = by_table (table_of namespace r.tables)
+    where
+      by_table : (o : Option Table) → WaitFits sharding (wait_by (enough_of o sharding))
+      by_table None = tt
+      by_table (Some t) = tt
+  waits_fit (splitting middle) = by_table (table_of namespace r.tables)
+    where
+      by_table : (o : Option Table) → WaitFits (splitting middle) (wait_by (enough_of o (splitting middle)))
+      by_table None = tt
+      by_table (Some t) = tt
+
+-- WHAT IS NEXT OF A WRITE
+
+-- the statements are those of operations with keys
+pub record AreStated (statements : List Statement) : Type 0 where
+  pub given : Option ClientNumber
+  pub id : RequestId
+  pub operations : List Operation
+  pub are : statements ≡ statements_from given id 0 operations
+  pub keys : AllByRecursion HasKey operations
+
+next_from : (given : Option ClientNumber) (id : RequestId) (index count : ℕ) (operations : List Operation) (first : Statement) (more : List Statement)
+    → AllByRecursion HasKey operations
+    → drop count (statements_from given id index operations) ≡ first ∷ more
+    → (first.number.index ≡ index + count) × (key : Datum) × (key_written first.operation ≡ Some key) × (is_key key ≡ true)
+next_from given id index zero [] first more keys left = absurd (cc left)
+next_from given id index (suc n) [] first more keys left = absurd (cc left)
+next_from given id index zero (operation ∷ operations) first more keys left =
+    let same : record { number = number_for given id index; operation = operation } ≡ first = cc left in
+    let at_index : first.number.index ≡ index = ap (λ (s : Statement). s.number.index) (sym same) ∙ sym (index_at given id index) in
+    (omega (arith, at_index), keys.0.0, ap (λ (s : Statement). key_written s.operation) (sym same) ∙ keys.0.1, written_is_key operation keys.0.0 keys.0.1)
+next_from given id index (suc n) (operation ∷ operations) first more keys left =
+    let rest = next_from given id (index + 1) n operations first more keys.1 left in
+    let at_index : first.number.index ≡ index + 1 + n = rest.0 in
+    (omega (arith, at_index), rest.1, rest.2, rest.3)
+
+-- what is not answered is not empty
+some_left : (ordered : Bool) (statements : List Statement) (answers : List Done) → is_answered ordered statements answers ≡ false
+    → (first : Statement) × (more : List Statement) × (drop (length answers) statements ≡ first ∷ more)
+some_left ordered [] answers open_still = absurd (cc open_still)
+some_left ordered (s ∷ statements) [] open_still = (s, statements, refl)
+some_left ordered (s ∷ statements) (d ∷ answers) open_still = by_end (ends ordered d) open_still (λ rest. some_left ordered statements answers rest)
+  where
+    by_end : (b : Bool) → (if b then true else is_answered ordered statements answers) ≡ false
+        → (is_answered ordered statements answers ≡ false → (first : Statement) × (more : List Statement) × (drop (length answers) statements ≡ first ∷ more))
+        → (first : Statement) × (more : List Statement) × (drop (length answers) statements ≡ first ∷ more)
+    by_end true open_still later = absurd (cc open_still)
+    by_end false open_still later = later open_still
+
+pub going_of : (ordered : Bool) (statements : List Statement) (answers : List Done) → AreStated statements → is_answered ordered statements answers ≡ false
+    → HasNext statements (length answers)
+going_of ordered statements answers stated open_still =
+    let left = some_left ordered statements answers open_still in
+    let next = next_from stated.given stated.id 0 (length answers) stated.operations left.0 left.1 stated.keys
+    (ap (λ l. drop (length answers) l) (sym stated.are) ∙ left.2) in
+    record { first = left.0; more = left.1; left = left.2; numbered = (let n = next.0 in omega (arith, n)); key = next.1; written = next.2; is = next.3 }

@@ -1,0 +1,90 @@
+-- What the shard sends goes to nodes, and no request is sent back.
+use Rattle.std.proofs.Common.{◌≡◌, ℕ, ◌<◌, List, [], ◌∷◌, map, refl, sym, ap, subst, ◌∙◌, Bool}
+use Rattle.std.specs.Prelude.{Option, Some, None, Ok, Err, true, false, filter}
+use Rattle.std.specs.List.{AllByRecursion}
+use Rattle.history_model.proofs.Lists.{all_filter, all_weaken}
+use Rattle.chunk_model.specs.Changes.{Change}
+use Rattle.chunk_model.specs.Tables.{first_shard, table_of}
+use Rattle.chunk_model.specs.Verdicts.{router_is_old, verdict_of}
+use Rattle.base_model.specs.Identities.{RequestId}
+use Rattle.node_model.specs.Letters.{Body, table_ask, table_told, split_ask, split_done, write_ask, write_done, read_ask, half_ask, read_rows, stale, time_ask, time_told, Letter, Input, letter_input, Effect}
+use Rattle.node_model.specs.States.{Shard}
+use Rattle.node_model.specs.ShardRows.{Ask, ask_in, asks_table, asks_again, tries, says, wants_table, ShardRow, shard_write, shard_repeat, shard_empty, shard_park, shard_waits, shard_stale, shard_read, shard_rows, shard_excess, shard_overflow, shard_time, shard_learn, shard_known, shard_skip, shard_moment, shard_opened, shard_client}
+use Rattle.node_laws.proofs.Lists.{all_mapped}
+use Rattle.node_progress.specs.UnderWay.{IsNotStale}
+use Rattle.node_progress.proofs.Versions.{IsWell, never_stale}
+use Rattle.node_progress.proofs.ShardPasses.{FitsThere}
+
+-- the request that a message to a shard names
+abbrev pub request_in : Body → Option RequestId
+request_in (write_ask id turn ordered namespace statements sent) = Some id
+request_in (half_ask id turn namespace at half documents) = Some id
+request_in (time_ask id) = Some id
+request_in (read_ask id turn namespace at half sent) = None
+request_in (table_ask namespace create at) = None
+request_in (table_told namespace create at table) = None
+request_in (split_ask id namespace middle) = None
+request_in (split_done id found) = None
+request_in (write_done id dones) = None
+request_in (read_rows id turn rows) = None
+request_in (stale id turn met) = None
+request_in (time_told id) = None
+
+-- it is of a node
+abbrev pub IsOfNode : (count : ℕ) → Input → Type 0
+IsOfNode count i = (m : Letter) → i ≡ letter_input m → (id : RequestId) → request_in m.body ≡ Some id → id.router < count
+
+module _ (changes : List Change) (count : ℕ) (s : Shard) (own : s.me < count) where
+  -- an answer
+  answer_well : (to time : ℕ) (b : Body) → ask_in b ≡ None → IsNotStale b → to < count → AllByRecursion (IsWell changes count) (says s to time b ∷ [])
+  answer_well to time b none fresh goes =
+      (record { knowing = λ a asks. absurd (cc (none, asks)); not_stale = fresh; from = own; to = goes }, tt)
+
+  again_well : (time : ℕ) (parked : List Letter) → 0 < count → AllByRecursion (IsWell changes count) (asks_again s time parked)
+  again_well time [] some = tt
+  again_well time (p ∷ parked) some = by_ask (ask_in p.body) (again_well time parked some)
+    where
+      by_ask : (o : Option Ask) → AllByRecursion (IsWell changes count) (asks_again s time parked)
+          → AllByRecursion (IsWell changes count)
+          (elim o as (λ (o : Option Ask). List Letter) [ None ↦ asks_again s time parked | Some a ↦ asks_table s time a.namespace ∷ asks_again s time parked ])
+      by_ask None more = more
+      by_ask (Some a) more = (record { knowing = λ b asks. absurd (cc asks); not_stale = tt; from = own; to = some }, more)
+
+  tries_well : (time : ℕ) (namespace : List ℕ) (parked : List Letter) → AllByRecursion (IsWell changes count) parked
+      → AllByRecursion (IsWell changes count) (tries s time (filter (wants_table namespace) parked))
+  tries_well time namespace parked all =
+      all_mapped (IsWell changes count) (λ (p : Letter). says s s.me time p.body) (filter (wants_table namespace) parked)
+      (all_weaken (IsWell changes count) (λ (p : Letter). IsWell changes count (says s s.me time p.body)) (filter (wants_table namespace) parked)
+      (λ p w. record { knowing = w.knowing; not_stale = w.not_stale; from = own; to = own })
+      (all_filter (IsWell changes count) (wants_table namespace) parked all))
+
+pub shard_well : (changes : List Change) (count : ℕ) (s : Shard) (i : Input) (f : Effect) (u : Shard) → s.me < count → 0 < count → s.me ≡ first_shard
+    → IsOfNode count i → ((m : Letter) → i ≡ letter_input m → FitsThere s m) → AllByRecursion (IsWell changes count) s.parked → ShardRow s i f u
+    → AllByRecursion (IsWell changes count) f.mail
+shard_well changes count _ _ _ _ own some me of fit parked (shard_write s m id turn ordered namespace statements sent d dones made last body verdict serves) =
+    answer_well changes count s own id.router last _ refl tt (of m refl id (ap (λ b. request_in b) body))
+shard_well changes count _ _ _ _ own some me of fit parked (shard_repeat s m id turn ordered namespace statements sent d dones body verdict again) =
+    answer_well changes count s own id.router _ _ refl tt (of m refl id (ap (λ b. request_in b) body))
+shard_well changes count _ _ _ _ own some me of fit parked (shard_empty s m id turn ordered namespace sent body) = tt
+shard_well changes count _ _ _ _ own some me of fit parked (shard_park s m a asks unseen old not_parked) =
+    answer_well changes count s own 0 _ _ refl tt some
+shard_well changes count _ _ _ _ own some me of fit parked (shard_waits s m a asks unseen old waits) = tt
+shard_well changes count _ _ _ _ own some me of fit parked (shard_stale s m a met asks unseen old) =
+    absurd (never_stale s.tables a met (subst (λ n. verdict_of a.sent n (table_of a.namespace s.tables) ≡ router_is_old met) me old) (fit m refl a asks))
+shard_well changes count _ _ _ _ own some me of fit parked (shard_read s m id turn namespace at half sent body verdict) =
+    answer_well changes count s own s.me _ _ refl tt own
+shard_well changes count _ _ _ _ own some me of fit parked (shard_rows s m id turn namespace at half documents rows body makes few) =
+    answer_well changes count s own id.router _ _ refl tt (of m refl id (ap (λ b. request_in b) body))
+shard_well changes count _ _ _ _ own some me of fit parked (shard_excess s m id turn namespace at half documents rows length n body makes much told) =
+    answer_well changes count s own id.router _ _ refl tt (of m refl id (ap (λ b. request_in b) body))
+shard_well changes count _ _ _ _ own some me of fit parked (shard_overflow s m id turn namespace at half documents body runs) =
+    answer_well changes count s own id.router _ _ refl tt (of m refl id (ap (λ b. request_in b) body))
+shard_well changes count _ _ _ _ own some me of fit parked (shard_time s m id body) =
+    answer_well changes count s own id.router _ _ refl tt (of m refl id (ap (λ b. request_in b) body))
+shard_well changes count _ _ _ _ own some me of fit parked (shard_learn s m namespace create at t body news) =
+    tries_well changes count s own _ t.namespace s.parked parked
+shard_well changes count _ _ _ _ own some me of fit parked (shard_known s m namespace create at table body old) = tt
+shard_well changes count _ _ _ _ own some me of fit parked (shard_skip s m none) = tt
+shard_well changes count _ _ _ _ own some me of fit parked (shard_moment s moment) = again_well changes count s own _ s.parked some
+shard_well changes count _ _ _ _ own some me of fit parked (shard_opened s) = tt
+shard_well changes count _ _ _ _ own some me of fit parked (shard_client s link number request) = tt
