@@ -1,0 +1,11 @@
+pub mod SameWords
+pub mod Replay
+pub mod ShardFollows
+pub mod CatalogueFollows
+pub mod RouterFollows
+pub mod Steps
+pub mod Runs
+pub mod Restarts
+pub mod ShardHistories
+pub mod CatalogueHistories
+pub mod Laws

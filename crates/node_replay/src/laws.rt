@@ -1,0 +1,46 @@
+//! The laws of journals.
+
+ghost use Rattle.std.specs.Prelude.{◌≡◌, ℕ, List, Some};
+ghost use Rattle.std.specs.List.{AllByRecursion};
+ghost use Rattle.record_model.specs.RecordFormat.{IsSound};
+ghost use Rattle.record_model.specs.Records.{Record};
+ghost use Rattle.node_model.specs.Letters.{Effect, Input};
+ghost use Rattle.node_model.specs.States.{NodeState};
+ghost use Rattle.node_model.specs.Steps.{Step};
+ghost use Rattle.node_model.specs.World.{Event, Run, World, start};
+ghost use Rattle.node_replay.specs.Durable.{DurableCatalogue, DurableShard, durable_catalogue, durable_of, durable_shard, empty_catalogue, empty_shard};
+ghost use Rattle.node_replay.specs.Histories.{AreChanges, IsHistory};
+ghost use Rattle.node_replay.specs.Holds.{Holds, MayOpen, Replays};
+ghost use Rattle.node_replay.specs.Replays.{records_of, replayed};
+ghost use Rattle.node_replay.specs.Restarts.{EventOrStop, RunWithStops};
+
+/// The records that a step stores may follow, one after another, in the durable part of the node before it, and lead to the durable part of the node
+/// after it.
+#[tactic(auto, using(crate::proofs::Laws::steps_store_what_may_follow))]
+pub fn steps_store_what_may_follow()
+    ensures { (s : NodeState) (t : NodeState) (i : Input) (f : Effect) → Holds s → Step s i f t → (replayed (Some (durable_of s)) (records_of f.written) ≡ Some (durable_of t)) × Holds t }
+{}
+
+/// In every run from empty journals the journal of each node replays to its durable part.
+#[tactic(auto, using(crate::proofs::Laws::runs_replay))]
+pub fn runs_replay()
+    ensures { (routers : ℕ) (events : List Event) (w : World) → Run (start routers) events w → AllByRecursion Replays w.nodes }
+{}
+
+/// The same where nodes stop between two steps, or in one, and are started again: so no start is refused.
+#[tactic(auto, using(crate::proofs::Laws::runs_with_stops_replay))]
+pub fn runs_with_stops_replay()
+    ensures { (routers : ℕ) (events : List EventOrStop) (w : World) → RunWithStops (start routers) events w → AllByRecursion Replays w.nodes × AllByRecursion MayOpen w.nodes }
+{}
+
+/// A journal of a shard that replays is one legal history, whoever wrote it.
+#[tactic(auto, using(crate::proofs::Laws::replayed_shard_is_one_history))]
+pub fn replayed_shard_is_one_history()
+    ensures { (me : ℕ) (records : List Record) (d : DurableShard) → replayed (Some (durable_shard (empty_shard me))) records ≡ Some (durable_shard d) → IsHistory records d }
+{}
+
+/// A journal of the catalogue that replays stores changes of which each may follow those before it, if its records can be encoded.
+#[tactic(auto, using(crate::proofs::Laws::replayed_catalogue_has_changes))]
+pub fn replayed_catalogue_has_changes()
+    ensures { (me : ℕ) (records : List Record) (d : DurableCatalogue) → AllByRecursion IsSound records → replayed (Some (durable_catalogue (empty_catalogue me))) records ≡ Some (durable_catalogue d) → AreChanges records d }
+{}

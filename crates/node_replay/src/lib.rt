@@ -1,0 +1,8 @@
+//! What the journals of nodes replay to, and that each step of a node stores what may follow.
+#![tactic(auto)]
+
+mod laws;
+
+pub use laws::{
+    replayed_catalogue_has_changes, replayed_shard_is_one_history, runs_replay, runs_with_stops_replay, steps_store_what_may_follow,
+};
