@@ -1,6 +1,7 @@
 -- The record of each transition of the catalogue may follow, and leads to its durable part after it.
 use Rattle.std.proofs.Common.{◌≡◌, ℕ, ◌+◌, ◌<◌, ◌≤◌, List, [], ◌∷◌, refl, sym, ap, subst, ◌∙◌, arith}
 use Rattle.std.specs.Prelude.{max, Bool, true, false, ◌&&◌, ◌==◌, Option, Some, None, is_none, nat_lt, if◌then◌else◌}
+use Rattle.std.specs.Option.{option_map}
 use Rattle.std.proofs.lemmas.Bool.{and_from, lt-ltb, eq-eqb}
 use Rattle.base_model.specs.Times.{time_of_moment}
 use Rattle.bson_model.specs.Tree.{Datum}
@@ -41,7 +42,7 @@ create_leads me at changes namespace later none =
     (and_from _ _ (ap (λ (o : Option Table). is_none o) none) (eq-eqb (creations namespace changes + 1) (creations namespace changes + 1) refl)) in
     let top : at ≡ max at (latest_change changes) = omega (arith, later) in
     record {
-      follows = ap (λ t. replayed (if t then Some (durable_catalogue (with_change d at (create_change c))) else None) []) may
+      follows = ap (λ t. replayed (option_map durable_catalogue (if t then Some (with_change d at (create_change c)) else None)) []) may
           ∙ ap (λ n. Some (durable_catalogue (record { me = me; top = n; changes = create_change c ∷ changes }))) top;
       past = omega (arith, later);
     }
@@ -70,7 +71,7 @@ split_leads me at changes namespace middle t later some can =
     and_from _ _ (lt-ltb (latest_change changes) at later) (ap (λ (o : Option Table). is_inside middle o) some ∙ can) in
     let top : at ≡ max at (latest_change changes) = omega (arith, later) in
     record {
-      follows = ap (λ b. replayed (if b then Some (durable_catalogue (with_change d at (split_change s))) else None) []) may
+      follows = ap (λ b. replayed (option_map durable_catalogue (if b then Some (with_change d at (split_change s)) else None)) []) may
           ∙ ap (λ n. Some (durable_catalogue (record { me = me; top = n; changes = split_change s ∷ changes }))) top;
       past = omega (arith, later);
     }

@@ -11,11 +11,10 @@ use Rattle.chunk_model.specs.Changes.{Change, create_change, split_change, time_
 use Rattle.chunk_model.specs.Placement.{AreFitting, ChangeFits}
 use Rattle.chunk_model.specs.Tables.{Table}
 use Rattle.history_model.proofs.Lists.{all_weaken}
-use Rattle.record_model.specs.RecordFormat.{IsSound}
 use Rattle.record_model.specs.Records.{Record, create_record, split_record, catalogue_ceiling_record}
 use Rattle.node_replay.specs.Durable.{DurableCatalogue, durable_catalogue, empty_catalogue}
 use Rattle.node_replay.specs.Follow.{may_create, may_split, is_inside, with_change, catalogue_follow}
-use Rattle.node_replay.specs.Histories.{changes_over, AreChanges}
+use Rattle.node_replay.specs.Histories.{changes_over, HasKey, AreChanges}
 use Rattle.node_replay.specs.Replays.{replayed}
 use Rattle.node_replay.proofs.ShardHistories.{picked, none_is}
 
@@ -54,42 +53,42 @@ inside_some : (middle : Datum) (o : Option Table) → is_inside middle o ≡ tru
 inside_some middle None e = absurd (cc)
 inside_some middle (Some t) e = record { table = t; known = refl; inside = e }
 
-was_split : (older : List Change) (d : DurableCatalogue) (s : Split) → Grows older d → IsSound (split_record s) → may_split d s ≡ true
+was_split : (older : List Change) (d : DurableCatalogue) (s : Split) → Grows older d → HasKey (split_record s) → may_split d s ≡ true
     → Grows (split_change s ∷ older) (with_change d s.at (split_change s))
-was_split older d s g sound may =
+was_split older d s g key may =
     let p = both (nat_lt d.top s.at) _ may in
     let t = inside_some s.middle (known_table s.namespace d.changes) p.1 in
     change_grows older d (split_change s) g (ltb-true d.top s.at p.0)
-    (record { table = t.table; known = t.known; key = sound.middle.kind; inside = t.inside })
+    (record { table = t.table; known = t.known; key = key; inside = t.inside })
 
-grows_goes : (older : List Change) (records : List Record) (d x : DurableCatalogue) → Grows older d → AllByRecursion IsSound records
+grows_goes : (older : List Change) (records : List Record) (d x : DurableCatalogue) → Grows older d → AllByRecursion HasKey records
     → replayed (Some (durable_catalogue d)) records ≡ Some (durable_catalogue x) → Grows (changes_over older records) x
-grows_goes older [] d x g sound same = let is : d ≡ x = cc in subst (λ y. Grows older y) is g
-grows_goes older (create_record c ∷ records) d x g sound same = by_next (may_create d c) refl same
+grows_goes older [] d x g keyed same = let is : d ≡ x = cc in subst (λ y. Grows older y) is g
+grows_goes older (create_record c ∷ records) d x g keyed same = by_next (may_create d c) refl same
   where
     by_next : (t : Bool) → may_create d c ≡ t
         → replayed (option_map durable_catalogue (if t then Some (with_change d c.at (create_change c)) else None)) records ≡ Some (durable_catalogue x)
         → Grows (changes_over (create_change c ∷ older) records) x
-    by_next true may more = grows_goes (create_change c ∷ older) records (with_change d c.at (create_change c)) x (created older d c g may) sound.1 more
+    by_next true may more = grows_goes (create_change c ∷ older) records (with_change d c.at (create_change c)) x (created older d c g may) keyed.1 more
     by_next false may more = absurd (cc)
-grows_goes older (split_record s ∷ records) d x g sound same = by_next (may_split d s) refl same
+grows_goes older (split_record s ∷ records) d x g keyed same = by_next (may_split d s) refl same
   where
     by_next : (t : Bool) → may_split d s ≡ t
         → replayed (option_map durable_catalogue (if t then Some (with_change d s.at (split_change s)) else None)) records ≡ Some (durable_catalogue x)
         → Grows (changes_over (split_change s ∷ older) records) x
     by_next true may more =
-        grows_goes (split_change s ∷ older) records (with_change d s.at (split_change s)) x (was_split older d s g sound.0 may) sound.1 more
+        grows_goes (split_change s ∷ older) records (with_change d s.at (split_change s)) x (was_split older d s g keyed.0 may) keyed.1 more
     by_next false may more = absurd (cc)
-grows_goes older (catalogue_ceiling_record time ∷ records) d x g sound same =
+grows_goes older (catalogue_ceiling_record time ∷ records) d x g keyed same =
     grows_goes older records (record { me = d.me; top = max d.top time; changes = d.changes }) x (record {
       kept = g.kept;
       fitting = g.fitting;
       past = all_weaken (λ y. time_of y ≤ d.top) (λ y. time_of y ≤ max d.top time) d.changes (λ y le. omega (arith, le)) g.past;
-    }) sound.1 same
-grows_goes older (r ∷ records) d x g sound same = absurd (cc)
+    }) keyed.1 same
+grows_goes older (r ∷ records) d x g keyed same = absurd (cc)
 
-pub catalogue_changes : (me : ℕ) (records : List Record) (d : DurableCatalogue) → AllByRecursion IsSound records
+pub catalogue_changes : (me : ℕ) (records : List Record) (d : DurableCatalogue) → AllByRecursion HasKey records
     → replayed (Some (durable_catalogue (empty_catalogue me))) records ≡ Some (durable_catalogue d) → AreChanges records d
-catalogue_changes me records d sound same =
-    let g = grows_goes [] records (empty_catalogue me) d (record { kept = refl; fitting = tt; past = tt }) sound same in
+catalogue_changes me records d keyed same =
+    let g = grows_goes [] records (empty_catalogue me) d (record { kept = refl; fitting = tt; past = tt }) keyed same in
     record { kept = g.kept; fitting = g.fitting; past = g.past }

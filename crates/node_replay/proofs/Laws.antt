@@ -3,20 +3,21 @@ use Rattle.std.proofs.Common.{◌≡◌, ℕ, List}
 use Rattle.std.specs.Prelude.{Some}
 use Rattle.std.specs.List.{AllByRecursion}
 use Rattle.history_model.proofs.Lists.{all_weaken}
-use Rattle.record_model.specs.RecordFormat.{IsSound}
 use Rattle.record_model.specs.Records.{Record}
 use Rattle.node_model.specs.Letters.{Effect, Input}
 use Rattle.node_model.specs.States.{NodeState}
 use Rattle.node_model.specs.Steps.{Step}
 use Rattle.node_model.specs.World.{Event, Run, World, start}
+use Rattle.node_replay.specs.Acknowledged.{KeepsWrites}
 use Rattle.node_replay.specs.Durable.{DurableCatalogue, DurableShard, durable_catalogue, durable_of, durable_shard, empty_catalogue, empty_shard}
-use Rattle.node_replay.specs.Histories.{AreChanges, IsHistory}
+use Rattle.node_replay.specs.Histories.{AreChanges, HasKey, IsHistory}
 use Rattle.node_replay.specs.Holds.{Holds, MayOpen, Replays}
 use Rattle.node_replay.specs.Replays.{records_of, replayed}
 use Rattle.node_replay.specs.Restarts.{EventOrStop, RunWithStops}
 use Rattle.node_replay.proofs.Steps.{step_follows}
 use Rattle.node_replay.proofs.Runs.{NodeReplays, run_replays, start_replays}
 use Rattle.node_replay.proofs.Restarts.{run_with_stops_replays}
+use Rattle.node_replay.proofs.StopStays.{run_with_stops_keeps}
 use Rattle.node_replay.proofs.ShardHistories.{shard_history}
 use Rattle.node_replay.proofs.CatalogueHistories.{catalogue_changes}
 
@@ -36,6 +37,9 @@ pub replayed_shard_is_one_history : (me : ℕ) (records : List Record) (d : Dura
     → replayed (Some (durable_shard (empty_shard me))) records ≡ Some (durable_shard d) → IsHistory records d
 replayed_shard_is_one_history = shard_history
 
-pub replayed_catalogue_has_changes : (me : ℕ) (records : List Record) (d : DurableCatalogue) → AllByRecursion IsSound records
+pub replayed_catalogue_has_changes : (me : ℕ) (records : List Record) (d : DurableCatalogue) → AllByRecursion HasKey records
     → replayed (Some (durable_catalogue (empty_catalogue me))) records ≡ Some (durable_catalogue d) → AreChanges records d
 replayed_catalogue_has_changes = catalogue_changes
+
+pub runs_with_stops_keep_writes : (routers : ℕ) (events : List EventOrStop) (w : World) → RunWithStops (start routers) events w → KeepsWrites w
+runs_with_stops_keep_writes = run_with_stops_keeps

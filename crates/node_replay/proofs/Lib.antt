@@ -8,4 +8,11 @@ pub mod Runs
 pub mod Restarts
 pub mod ShardHistories
 pub mod CatalogueHistories
+pub mod StayFacts
+pub mod ShardStays
+pub mod CatalogueStays
+pub mod RouterStays
+pub mod RouterNext
+pub mod WorldStays
+pub mod StopStays
 pub mod Laws

@@ -100,11 +100,15 @@ opened_holds records (router_state r) replays holds = (life_first r.begun, inr r
 pub node_opens : (h : Held) → Replays h → opened_on h.state h.kept ≡ Some (opened (latest_time (records_of h.kept)) (durable_of h.state))
 node_opens h replays = ap (λ o. option_map (opened (latest_time (records_of h.kept))) o) replays
 
+pub opened_is : (h : Held) (new : NodeState) → Replays h → opened_on h.state h.kept ≡ Some new
+    → opened (latest_time (records_of h.kept)) (durable_of h.state) ≡ new
+opened_is h new replays opens = some_is (opened (latest_time (records_of h.kept)) (durable_of h.state)) new (sym (node_opens h replays) ∙ opens)
+
 pub opened_replays : (h : Held) (new : NodeState) → NodeReplays h → opened_on h.state h.kept ≡ Some new
     → NodeReplays (record { state = new; kept = h.kept })
 opened_replays h new (replays, holds) opens =
     let became : NodeState = opened (latest_time (records_of h.kept)) (durable_of h.state) in
-    let same : became ≡ new = some_is became new (sym (node_opens h replays) ∙ opens) in
+    let same : became ≡ new = opened_is h new replays opens in
     subst (λ s. NodeReplays (record { state = s; kept = h.kept })) same (
       subst (λ e. replayed (Some e) (records_of h.kept) ≡ Some (durable_of became)) (sym (opened_own (latest_time (records_of h.kept)) h.state))
           (replays ∙ ap (λ d. Some d) (sym (opened_durable (latest_time (records_of h.kept)) h.state))),
@@ -131,7 +135,7 @@ stop_replays w v at i all m =
     (all_set NodeReplays w.nodes at (record { state = m.new; kept = kept }) all
     (opened_replays (record { state = m.reached; kept = kept }) m.new (step_replays m.old m.reached i m.f old s) opens))
 
-occurs_replays : (w v : World) (e : EventOrStop) → AllByRecursion NodeReplays w.nodes → Occurs w e v → AllByRecursion NodeReplays v.nodes
+pub occurs_replays : (w v : World) (e : EventOrStop) → AllByRecursion NodeReplays w.nodes → Occurs w e v → AllByRecursion NodeReplays v.nodes
 occurs_replays _ _ _ all (occurs w v e h) = event_replays w v e all h
 occurs_replays _ _ _ all (restarts w v at m) = restart_replays w v at all m
 occurs_replays _ _ _ all (stops w v at e i gives m) = stop_replays w v at i all m

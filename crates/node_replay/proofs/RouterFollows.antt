@@ -2,6 +2,7 @@
 use Rattle.std.proofs.Common.{◌≡◌, ◌⊎◌, inl, inr, ℕ, ◌+◌, ◌*◌, ◌<◌, ◌≤◌, List, [], ◌∷◌, ◌++◌, refl, sym, ap, subst, ◌∙◌, arith, ℤ}
 use Rattle.std.specs.Prelude.{max, length, drop, Bool, true, false, ◌&&◌, ◌==◌, Option, Some, None, nat_lt, if◌then◌else◌}
 use Rattle.std.specs.List.{flat_map}
+use Rattle.std.specs.Option.{option_map}
 use Rattle.std.proofs.lemmas.Bool.{and_from, lt-ltb, eq-eqb}
 use Rattle.base_model.specs.Identities.{RequestId, same_request}
 use Rattle.pipeline_model.specs.Runs.{Outcome}
@@ -36,8 +37,8 @@ none_open r id none = ap (λ l. if same_request id (id_of r id.count) then open_
 
 -- a router with an open request is in a life
 in_life : (r : Router) (id : RequestId) (q : Open) → (r.begun ≡ true) ⊎ (r.requests ≡ []) → open_of r id ≡ Some q → r.begun ≡ true
-in_life r id q (inl begun) open = begun
-in_life r id q (inr none) open = absurd (let h = none_open r id none in cc)
+in_life r id q (inl begun) found = begun
+in_life r id q (inr none) found = absurd (let h = none_open r id none in cc)
 
 -- requests that are none where there was none
 kept_none : (begun : Bool) (requests next : List Open) → (begun ≡ true) ⊎ (requests ≡ []) → (requests ≡ [] → next ≡ []) → (begun ≡ true) ⊎ (next ≡ [])
@@ -62,7 +63,7 @@ begins_follow : (r : Router) → RouterHolds r → r.begun ≡ false
 begins_follow r holds not_begun =
     let life : next_life r.life r.begun ≡ r.life = ap (λ b. next_life r.life b) not_begun in
     let may : (r.life == next_life r.life r.begun) ≡ true = eq-eqb r.life (next_life r.life r.begun) (sym life) in
-    ap (λ b. replayed (if b then Some (durable_router (record { me = r.me; life = r.life + 1; blocks = r.blocks })) else None) []) may
+    ap (λ b. replayed (option_map durable_router (if b then Some (record { me = r.me; life = r.life + 1; blocks = r.blocks }) else None)) []) may
 
 pub begins_holds : (r : Router) → RouterHolds r → RouterHolds (begins r)
 begins_holds r holds = (holds.0, inl refl)
@@ -75,7 +76,7 @@ block_follows r first begun =
     let life : next_life r.life r.begun ≡ r.life + 1 = ap (λ b. next_life r.life b) begun in
     let may : (nat_lt 1 (next_life r.life r.begun) && (r.blocks == r.blocks)) ≡ true =
     and_from _ _ (lt-ltb 1 (next_life r.life r.begun) (omega (arith, life, first))) (eq-eqb r.blocks r.blocks refl) in
-    ap (λ b. replayed (if b then Some (durable_router (record { me = r.me; life = next_life r.life r.begun; blocks = r.blocks + 1 })) else None) []) may
+    ap (λ b. replayed (option_map durable_router (if b then Some (record { me = r.me; life = next_life r.life r.begun; blocks = r.blocks + 1 }) else None)) []) may
 
 -- the cursors of an answer: a block is stored where one begins
 abbrev numbered : Router → List Cursor → Bool → Opened
@@ -116,25 +117,25 @@ router_follows _ _ _ _ holds (router_learn r m namespace create at table tells) 
     still r _ _ refl refl refl refl refl holds.0
     (kept_none r.begun r.requests _ holds.1
     (λ none. ap (λ (l : List Open). flat_map (λ q. stay_in (next_of r (heard r m) (adopted table r.tables) namespace (was_created create table) at q)) l) none))
-router_follows _ _ _ _ holds (router_split r m id q middle tells open work) =
-    still r _ _ refl refl refl refl refl holds.0 (inl (in_life r id q holds.1 open))
-router_follows _ _ _ _ holds (router_not_sharded r m id q middle tells open work) =
-    still r _ _ refl refl refl refl refl holds.0 (inl (in_life r id q holds.1 open))
-router_follows _ _ _ _ holds (router_reach r m id q named at stages telling tells open work waits reached) =
-    still r _ _ refl refl refl refl refl holds.0 (inl (in_life r id q holds.1 open))
-router_follows _ _ _ _ holds (router_ahead r m id q named at stages telling tells open work waits ahead) =
-    still r _ _ refl refl refl refl refl holds.0 (inl (in_life r id q holds.1 open))
-router_follows _ _ _ _ holds (router_note r m id dones q kind ordered statements answers tells open work news more) =
-    still r _ _ refl refl refl refl refl holds.0 (inl (in_life r id q holds.1 open))
-router_follows _ _ _ _ holds (router_wrote r m id dones q kind ordered statements answers tells open work news all) =
-    still r _ _ refl refl refl refl refl holds.0 (inl (in_life r id q holds.1 open))
-router_follows _ _ _ _ holds (router_read r m id rows q named at stages telling out answer f tells open work merges shown) =
-    let begun : r.begun ≡ true = in_life r id q holds.1 open in
+router_follows _ _ _ _ holds (router_split r m id q middle tells found work) =
+    still r _ _ refl refl refl refl refl holds.0 (inl (in_life r id q holds.1 found))
+router_follows _ _ _ _ holds (router_not_sharded r m id q middle tells found work) =
+    still r _ _ refl refl refl refl refl holds.0 (inl (in_life r id q holds.1 found))
+router_follows _ _ _ _ holds (router_reach r m id q named at stages telling tells found work waits reached) =
+    still r _ _ refl refl refl refl refl holds.0 (inl (in_life r id q holds.1 found))
+router_follows _ _ _ _ holds (router_ahead r m id q named at stages telling tells found work waits ahead) =
+    still r _ _ refl refl refl refl refl holds.0 (inl (in_life r id q holds.1 found))
+router_follows _ _ _ _ holds (router_note r m id dones q kind ordered statements answers tells found work news more) =
+    still r _ _ refl refl refl refl refl holds.0 (inl (in_life r id q holds.1 found))
+router_follows _ _ _ _ holds (router_wrote r m id dones q kind ordered statements answers tells found work news all) =
+    still r _ _ refl refl refl refl refl holds.0 (inl (in_life r id q holds.1 found))
+router_follows _ _ _ _ holds (router_read r m id rows q named at stages telling out answer f tells found work merges shown) =
+    let begun : r.begun ≡ true = in_life r id q holds.1 found in
     record { own = refl; leads = opened_follow r q at telling out answer f holds.0 begun shown; holds = (holds.0, inl begun) }
-router_follows _ _ _ _ holds (router_excess r m id n q named at stages telling tells open work) =
-    still r _ _ refl refl refl refl refl holds.0 (inl (in_life r id q holds.1 open))
-router_follows _ _ _ _ holds (router_overflow r m id q named at stages telling tells open work) =
-    still r _ _ refl refl refl refl refl holds.0 (inl (in_life r id q holds.1 open))
+router_follows _ _ _ _ holds (router_excess r m id n q named at stages telling tells found work) =
+    still r _ _ refl refl refl refl refl holds.0 (inl (in_life r id q holds.1 found))
+router_follows _ _ _ _ holds (router_overflow r m id q named at stages telling tells found work) =
+    still r _ _ refl refl refl refl refl holds.0 (inl (in_life r id q holds.1 found))
 router_follows _ _ _ _ holds (router_late r m late) = still r _ _ refl refl refl refl refl holds.0 holds.1
 router_follows _ _ _ _ holds (router_skip r m none) = still r r _ refl refl refl refl refl holds.0 holds.1
 router_follows _ _ _ _ holds (router_moment r moment begun) = still r _ _ refl refl refl refl refl holds.0 (inl begun)

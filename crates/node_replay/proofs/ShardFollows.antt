@@ -1,6 +1,7 @@
 -- The records of each transition of a shard may follow, and lead to the durable part of the shard after it.
 use Rattle.std.proofs.Common.{◌≡◌, ◌≢◌, ℕ, ◌+◌, ◌<◌, ◌≤◌, List, [], ◌∷◌, ◌++◌, map, refl, sym, ap, subst, ◌∙◌, arith, append_assoc, append-nil}
 use Rattle.std.specs.Prelude.{max, Bool, true, false, ◌&&◌, Option, Some, None, is_some, is_none, nat_lt, if◌then◌else◌}
+use Rattle.std.specs.Option.{option_map}
 use Rattle.std.proofs.lemmas.Bool.{and_from, lt-ltb}
 use Rattle.base_model.specs.Times.{time_of_moment}
 use Rattle.chunk_model.specs.Tables.{Table, table_of, with_table}
@@ -44,7 +45,7 @@ entry_follows me tables entries time namespace s later has new =
     let may : (nat_lt (latest_entry entries) time
     && (is_some (table_of namespace tables) && (is_none (seen_before s.number entries) && same_words (outcome_words e.outcome) (outcome_words e.outcome)))) ≡ true =
     and_from _ _ (lt-ltb (latest_entry entries) time later) (and_from _ _ has (and_from _ _ (ap (λ o. is_none o) new) words)) in
-    ap (λ t. replayed (if t then Some (durable_shard (with_entry d e)) else None) []) may
+    ap (λ t. replayed (option_map durable_shard (if t then Some (with_entry d e) else None)) []) may
     ∙ ap (λ n. Some (durable_shard (record { me = me; top = n; tables = tables; entries = entries ++ e ∷ [] }))) (sym (latest_push entries e later))
 
 -- the entries of statements that are served may follow, one after another
@@ -99,7 +100,7 @@ table_follows : (me : ℕ) (tables : List Table) (entries : List Entry) (t : Tab
     → replayed (Some (durable_shard (durable_with me tables entries))) (records_of (kept_table t ∷ []))
     ≡ Some (durable_shard (durable_with me (with_table t tables) entries))
 table_follows me tables entries t news =
-    ap (λ b. replayed (if b then Some (durable_shard (with_new_table (durable_with me tables entries) t)) else None) []) news
+    ap (λ b. replayed (option_map durable_shard (if b then Some (with_new_table (durable_with me tables entries) t) else None)) []) news
 
 -- TRANSITIONS
 
@@ -124,7 +125,7 @@ shard_follows _ _ _ _ past (shard_write s m id turn ordered namespace statements
           (d ∷ dones) made last serves le;
       holds = served_past s.me namespace ordered s.entries (heard s m) statements (d ∷ dones) made last serves le;
     }
-shard_follows _ _ _ _ past (shard_repeat s m id turn ordered namespace statements sent d dones asks differ repeats) =
+shard_follows _ _ _ _ past (shard_repeat s m id turn ordered namespace statements sent d dones asks differ repeated) =
     still s _ (heard s m) s.parked refl (heard_later s m) past
 shard_follows _ _ _ _ past (shard_empty s m id turn ordered namespace sent asks) = still s _ (heard s m) s.parked refl (heard_later s m) past
 shard_follows _ _ _ _ past (shard_park s m a asks unseen old waits) = still s _ (heard s m) (s.parked ++ m ∷ []) refl (heard_later s m) past

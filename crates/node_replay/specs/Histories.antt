@@ -1,6 +1,7 @@
 -- What the records of a journal store, where they replay.
-use Rattle.std.specs.Prelude.{◌≡◌, ◌≤◌, ℕ, List, [], ◌∷◌}
+use Rattle.std.specs.Prelude.{◌≡◌, ◌≤◌, ℕ, List, [], ◌∷◌, true}
 use Rattle.std.specs.List.{AllByRecursion}
+use Rattle.value_model.specs.Keys.{is_key}
 use Rattle.chunk_model.specs.Changes.{Change, create_change, split_change, time_of}
 use Rattle.chunk_model.specs.Placement.{AreFitting}
 use Rattle.history_model.specs.History.{Entry, Legal}
@@ -23,6 +24,12 @@ changes_over older [] = older
 changes_over older (create_record c ∷ records) = changes_over (create_change c ∷ older) records
 changes_over older (split_record s ∷ records) = changes_over (split_change s ∷ older) records
 changes_over older (r ∷ records) = changes_over older records
+
+-- the key of a split is one that a document may have: it is so in each record that can be encoded (MongoDB manual, "Split Chunks in a
+-- Sharded Cluster")
+abbrev pub HasKey : Record → Type 0
+HasKey (split_record s) = is_key s.middle ≡ true
+HasKey r = Unit {0}
 
 -- the records of the catalogue store its changes, each of which follows those before it
 pub record AreChanges (records : List Record) (d : DurableCatalogue) : Type 0 where

@@ -6,3 +6,4 @@ pub mod Openings
 pub mod Holds
 pub mod Restarts
 pub mod Histories
+pub mod Acknowledged

@@ -2,14 +2,14 @@
 
 ghost use Rattle.std.specs.Prelude.{◌≡◌, ℕ, List, Some};
 ghost use Rattle.std.specs.List.{AllByRecursion};
-ghost use Rattle.record_model.specs.RecordFormat.{IsSound};
 ghost use Rattle.record_model.specs.Records.{Record};
 ghost use Rattle.node_model.specs.Letters.{Effect, Input};
 ghost use Rattle.node_model.specs.States.{NodeState};
 ghost use Rattle.node_model.specs.Steps.{Step};
 ghost use Rattle.node_model.specs.World.{Event, Run, World, start};
+ghost use Rattle.node_replay.specs.Acknowledged.{KeepsWrites};
 ghost use Rattle.node_replay.specs.Durable.{DurableCatalogue, DurableShard, durable_catalogue, durable_of, durable_shard, empty_catalogue, empty_shard};
-ghost use Rattle.node_replay.specs.Histories.{AreChanges, IsHistory};
+ghost use Rattle.node_replay.specs.Histories.{AreChanges, HasKey, IsHistory};
 ghost use Rattle.node_replay.specs.Holds.{Holds, MayOpen, Replays};
 ghost use Rattle.node_replay.specs.Replays.{records_of, replayed};
 ghost use Rattle.node_replay.specs.Restarts.{EventOrStop, RunWithStops};
@@ -39,8 +39,14 @@ pub fn replayed_shard_is_one_history()
     ensures { (me : ℕ) (records : List Record) (d : DurableShard) → replayed (Some (durable_shard (empty_shard me))) records ≡ Some (durable_shard d) → IsHistory records d }
 {}
 
-/// A journal of the catalogue that replays stores changes of which each may follow those before it, if its records can be encoded.
+/// A journal of the catalogue that replays stores changes of which each may follow those before it, if each split is at a key that a document may have.
 #[tactic(auto, using(crate::proofs::Laws::replayed_catalogue_has_changes))]
 pub fn replayed_catalogue_has_changes()
-    ensures { (me : ℕ) (records : List Record) (d : DurableCatalogue) → AllByRecursion IsSound records → replayed (Some (durable_catalogue (empty_catalogue me))) records ≡ Some (durable_catalogue d) → AreChanges records d }
+    ensures { (me : ℕ) (records : List Record) (d : DurableCatalogue) → AllByRecursion HasKey records → replayed (Some (durable_catalogue (empty_catalogue me))) records ≡ Some (durable_catalogue d) → AreChanges records d }
+{}
+
+/// Where nodes stop, in whichever step, and are started again: nothing that a client was told of a write is lost, and no statement is applied twice.
+#[tactic(auto, using(crate::proofs::Laws::runs_with_stops_keep_writes))]
+pub fn runs_with_stops_keep_writes()
+    ensures { (routers : ℕ) (events : List EventOrStop) (w : World) → RunWithStops (start routers) events w → KeepsWrites w }
 {}

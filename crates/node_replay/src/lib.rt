@@ -4,5 +4,6 @@
 mod laws;
 
 pub use laws::{
-    replayed_catalogue_has_changes, replayed_shard_is_one_history, runs_replay, runs_with_stops_replay, steps_store_what_may_follow,
+    replayed_catalogue_has_changes, replayed_shard_is_one_history, runs_replay, runs_with_stops_keep_writes, runs_with_stops_replay,
+    steps_store_what_may_follow,
 };
