@@ -64,21 +64,28 @@ was_split older d s g key may =
 grows_goes : (older : List Change) (records : List Record) (d x : DurableCatalogue) → Grows older d → AllByRecursion HasKey records
     → replayed (Some (durable_catalogue d)) records ≡ Some (durable_catalogue x) → Grows (changes_over older records) x
 grows_goes older [] d x g keyed same = let is : d ≡ x = cc in subst (λ y. Grows older y) is g
-grows_goes older (create_record c ∷ records) d x g keyed same = by_next (may_create d c) refl same
+grows_goes older (create_record c ∷ records) d x g keyed same =
+    by_next (may_create d c) refl (λ h more. grows_goes (create_change c ∷ older) records (with_change d c.at (create_change c)) x h keyed.1 more) same
   where
     by_next : (t : Bool) → may_create d c ≡ t
+        → (Grows (create_change c ∷ older) (with_change d c.at (create_change c))
+        → replayed (Some (durable_catalogue (with_change d c.at (create_change c)))) records ≡ Some (durable_catalogue x)
+        → Grows (changes_over (create_change c ∷ older) records) x)
         → replayed (option_map durable_catalogue (if t then Some (with_change d c.at (create_change c)) else None)) records ≡ Some (durable_catalogue x)
         → Grows (changes_over (create_change c ∷ older) records) x
-    by_next true may more = grows_goes (create_change c ∷ older) records (with_change d c.at (create_change c)) x (created older d c g may) keyed.1 more
-    by_next false may more = absurd (cc)
-grows_goes older (split_record s ∷ records) d x g keyed same = by_next (may_split d s) refl same
+    by_next true may later more = later (created older d c g may) more
+    by_next false may later more = absurd (cc)
+grows_goes older (split_record s ∷ records) d x g keyed same =
+    by_next (may_split d s) refl (λ h more. grows_goes (split_change s ∷ older) records (with_change d s.at (split_change s)) x h keyed.1 more) same
   where
     by_next : (t : Bool) → may_split d s ≡ t
+        → (Grows (split_change s ∷ older) (with_change d s.at (split_change s))
+        → replayed (Some (durable_catalogue (with_change d s.at (split_change s)))) records ≡ Some (durable_catalogue x)
+        → Grows (changes_over (split_change s ∷ older) records) x)
         → replayed (option_map durable_catalogue (if t then Some (with_change d s.at (split_change s)) else None)) records ≡ Some (durable_catalogue x)
         → Grows (changes_over (split_change s ∷ older) records) x
-    by_next true may more =
-        grows_goes (split_change s ∷ older) records (with_change d s.at (split_change s)) x (was_split older d s g keyed.0 may) keyed.1 more
-    by_next false may more = absurd (cc)
+    by_next true may later more = later (was_split older d s g keyed.0 may) more
+    by_next false may later more = absurd (cc)
 grows_goes older (catalogue_ceiling_record time ∷ records) d x g keyed same =
     grows_goes older records (record { me = d.me; top = max d.top time; changes = d.changes }) x (record {
       kept = g.kept;

@@ -61,13 +61,15 @@ follow_top (durable_router d) r e same = absurd (cc)
 
 pub replay_top : (records : List Record) (d e : DurableState) → replayed (Some d) records ≡ Some e → top_of e ≤ max (top_of d) (latest_time records)
 replay_top [] d e same = subst (λ x. top_of x ≤ max (top_of d) 0) (some_is d e same) (omega arith)
-replay_top (r ∷ records) d e same = by_next (follow d r) refl same
+replay_top (r ∷ records) d e same = by_next (follow d r) refl (λ x more. replay_top records x e more) same
   where
-    by_next : (o : Option DurableState) → follow d r ≡ o → replayed o records ≡ Some e → top_of e ≤ max (top_of d) (max (time_in r) (latest_time records))
-    by_next None is more = absurd (cc)
-    by_next (Some x) is more =
+    by_next : (o : Option DurableState) → follow d r ≡ o
+        → ((x : DurableState) → replayed (Some x) records ≡ Some e → top_of e ≤ max (top_of x) (latest_time records)) → replayed o records ≡ Some e
+        → top_of e ≤ max (top_of d) (max (time_in r) (latest_time records))
+    by_next None is later more = absurd (cc)
+    by_next (Some x) is later more =
         let h = follow_top d r x is in
-        let k = replay_top records x e more in
+        let k = later x more in
         omega (arith, h, k)
 
 -- A START

@@ -29,11 +29,11 @@ RouterHolds r = Holds (router_state r)
 -- NO REQUEST IS OPEN OUTSIDE OF A LIFE
 
 none_open : (r : Router) (id : RequestId) → r.requests ≡ [] → open_of r id ≡ None
-none_open r id none = ap (λ l. if same_request id (id_of r id.count) then open_with id.count l else None) none ∙ no_choice (same_request id (id_of r id.count))
+none_open r id none = ap (λ l. if same_request id (id_of r id.count) then open_with id.count l else None) none ∙ no_choice None (same_request id (id_of r id.count))
   where
-    no_choice : (t : Bool) → (if t then None else None) ≡ None
-    no_choice true = refl
-    no_choice false = refl
+    no_choice : (o : Option Open) (t : Bool) → (if t then o else o) ≡ o
+    no_choice o true = refl
+    no_choice o false = refl
 
 -- a router with an open request is in a life
 in_life : (r : Router) (id : RequestId) (q : Open) → (r.begun ≡ true) ⊎ (r.requests ≡ []) → open_of r id ≡ Some q → r.begun ≡ true
@@ -50,12 +50,14 @@ kept_none begun requests next (inr none) f = inr (f none)
 -- the router stores nothing, and is in the same life
 still : (r q : Router) (f : Effect) → f.written ≡ [] → q.me ≡ r.me → q.life ≡ r.life → q.begun ≡ r.begun → q.blocks ≡ r.blocks → 1 ≤ r.life
     → (q.begun ≡ true) ⊎ (q.requests ≡ []) → RouterFollows r f q
-still r q f none me life begun blocks first closed = record {
-  own = me;
-  leads = ap (λ l. replayed (Some (durable_of (router_state r))) (records_of l)) none
-      ∙ (λ i. Some (durable_router (record { me = sym me i; life = next_life (sym life i) (sym begun i); blocks = sym blocks i })));
-  holds = (subst (λ n. 1 ≤ n) (sym life) first, closed);
-}
+still r q f none me life begun blocks first closed =
+    let same : Some (durable_of (router_state r)) ≡ Some (durable_of (router_state q)) =
+    λ i. Some (durable_router (record { me = sym me i; life = next_life (sym life i) (sym begun i); blocks = sym blocks i })) in
+    record {
+      own = me;
+      leads = ap (λ l. replayed (Some (durable_of (router_state r))) (records_of l)) none ∙ same;
+      holds = (subst (λ n. 1 ≤ n) (sym life) first, closed);
+    }
 
 -- the record of a life
 begins_follow : (r : Router) → RouterHolds r → r.begun ≡ false
@@ -110,7 +112,7 @@ router_follows _ _ _ _ holds (router_plain r link number request answer begun pl
 router_follows _ _ _ _ holds (router_more r link number request more c batch next begun plan found shows) =
     still r _ _ refl refl refl refl refl holds.0 (inl begun)
 router_follows _ _ _ _ holds (router_no_cursor r link number request more begun plan none) = still r _ _ refl refl refl refl refl holds.0 (inl begun)
-router_follows _ _ _ _ holds (router_kill r link number request kill killed missing next begun plan kills) =
+router_follows _ _ _ _ holds (router_kill r link number request kill killed missing next begun plan ends) =
     still r _ _ refl refl refl refl refl holds.0 (inl begun)
 router_follows _ _ _ _ holds (router_take r link number request namespace work begun plan) = still r _ _ refl refl refl refl refl holds.0 (inl begun)
 router_follows _ _ _ _ holds (router_learn r m namespace create at table tells) =

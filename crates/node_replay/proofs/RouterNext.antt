@@ -48,11 +48,14 @@ pub record RouterSteps (asked : List Asked) (history : List Entry) (now at : ℕ
 
 all_noted : (P : Done → Type 0) (answers dones : List Done) → AllByRecursion P answers → AllByRecursion P dones → AllByRecursion P (noted answers dones)
 all_noted P answers [] old new = old
-all_noted P answers (d ∷ dones) old new = by_test (d.index == length answers)
+all_noted P answers (d ∷ dones) old new =
+    by_test (d.index == length answers) (all_noted P (answers ++ d ∷ []) dones (all_append P answers (d ∷ []) old (new.0, tt)) new.1)
+    (all_noted P answers dones old new.1)
   where
-    by_test : (b : Bool) → AllByRecursion P (if b then noted (answers ++ d ∷ []) dones else noted answers dones)
-    by_test true = all_noted P (answers ++ d ∷ []) dones (all_append P answers (d ∷ []) old (new.0, tt)) new.1
-    by_test false = all_noted P answers dones old new.1
+    by_test : (b : Bool) → AllByRecursion P (noted (answers ++ d ∷ []) dones) → AllByRecursion P (noted answers dones)
+        → AllByRecursion P (if b then noted (answers ++ d ∷ []) dones else noted answers dones)
+    by_test true with_it without_it = with_it
+    by_test false with_it without_it = without_it
 
 each_again : (asked : List Asked) (history : List Entry) (r : Router) (time : ℕ) (requests : List Open)
     → AllByRecursion (IsOwn asked history 0 r) requests → AllByRecursion (LetterStays asked history) (flat_map (λ q. asks_again r time q) requests)
@@ -144,8 +147,7 @@ module _ (asked : List Asked) (history : List Entry) (now at : ℕ) (r : Router)
       let w = subst (λ x. WorkStays history (id_of r q.count) q.request q.namespace x) is o.work in
       let request : d.request ≡ o.request = one_asked d.request o.request asked one d.taken o.taken (d.own ∙ number ∙ sym o.own) in
       let write : d.write ≡ w.0 =
-      same_write d.write w.0 (command_of q.request) (ap (λ x. command_of x) (sym (ap (λ (a : Asked). a.request) request ∙ o.asks)) ∙ d.asks) w.1 in
-      (
+      same_write d.write w.0 (command_of q.request) (ap (λ x. command_of x) (sym (ap (λ (a : Asked). a.request) request ∙ o.asks)) ∙ d.asks) w.1 in (
         w.0,
         w.1,
         w.2,
@@ -294,7 +296,7 @@ router_steps asked history now at _ _ _ _ mine one input (router_more r link num
 router_steps asked history now at _ _ _ _ mine one input (router_no_cursor r link number request more begun plan none) =
     let no = planned history r (id_of r (r.count + 1)) request request.more (needs_batch more) plan in
     at_once_stays asked history now at r mine one link number request begun _ (takes r []) refl refl refl refl refl refl refl (no_write_told asked history now at r mine one link number request begun _ no, tt)
-router_steps asked history now at _ _ _ _ mine one input (router_kill r link number request kill killed missing next begun plan kills) =
+router_steps asked history now at _ _ _ _ mine one input (router_kill r link number request kill killed missing next begun plan ends) =
     let no = planned history r (id_of r (r.count + 1)) request request.more (needs_end kill) plan in
     at_once_stays asked history now at r mine one link number request begun _ _ refl refl refl refl refl refl refl (no_write_told asked history now at r mine one link number request begun (killed_answer killed missing) no, tt)
 router_steps asked history now at _ _ _ _ mine one input (router_take r link number request namespace work begun plan) =

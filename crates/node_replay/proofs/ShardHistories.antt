@@ -110,13 +110,16 @@ history_goes : (done records : List Record) (d x : DurableShard) → IsHistory d
 history_goes done [] d x h same =
     let is : d ≡ x = cc in
     subst (λ l. IsHistory l x) (sym (append-nil done)) (subst (λ y. IsHistory done y) is h)
-history_goes done (r ∷ records) d x h same = by_next (shard_follow d r) refl same
+history_goes done (r ∷ records) d x h same =
+    by_next (shard_follow d r) refl (λ y i more. history_goes (done ++ r ∷ []) records y x i more) same
   where
-    by_next : (o : Option DurableShard) → shard_follow d r ≡ o → replayed (option_map durable_shard o) records ≡ Some (durable_shard x)
-        → IsHistory (done ++ r ∷ records) x
-    by_next None is more = absurd (cc)
-    by_next (Some y) is more =
-        subst (λ l. IsHistory l x) (append_assoc done (r ∷ []) records) (history_goes (done ++ r ∷ []) records y x (history_step done r d y h is) more)
+    by_next : (o : Option DurableShard) → shard_follow d r ≡ o
+        → ((y : DurableShard) → IsHistory (done ++ r ∷ []) y → replayed (Some (durable_shard y)) records ≡ Some (durable_shard x)
+        → IsHistory ((done ++ r ∷ []) ++ records) x)
+        → replayed (option_map durable_shard o) records ≡ Some (durable_shard x) → IsHistory (done ++ r ∷ records) x
+    by_next None is later more = absurd (cc)
+    by_next (Some y) is later more =
+        subst (λ l. IsHistory l x) (append_assoc done (r ∷ []) records) (later y (history_step done r d y h is) more)
 
 pub shard_history : (me : ℕ) (records : List Record) (d : DurableShard) → replayed (Some (durable_shard (empty_shard me))) records ≡ Some (durable_shard d)
     → IsHistory records d

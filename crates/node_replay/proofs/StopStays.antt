@@ -96,8 +96,6 @@ event_stays _ _ _ stay all (begins w v at m) = move_stays w v at opened_input st
 restart_stays : (w v : World) (at : ℕ) → WorldStays w → AllByRecursion NodeReplays w.nodes → Restarts w at v → WorldStays v
 restart_stays w v at stay all m =
     let replays : NodeReplays m.old = all_got NodeReplays w.nodes at m.old all m.here in
-    let longer : List Entry = stored_in (with_step w.nodes at m.old [] m.new) in
-    let same : w.asked ≡ w.asked ++ [] = sym (append-nil w.asked) in
     let g : Grows w.asked (w.asked ++ []) (stored_in w.nodes) (stored_in (with_step w.nodes at m.old [] m.new)) =
     record { taken = λ a i. subst (λ l. IsIn a l) (sym (append-nil w.asked)) i; stored = stored_stays w.nodes at m.old [] m.new m.here } in
     let old = state_grows w.asked [] (stored_in w.nodes) (stored_in (with_step w.nodes at m.old [] m.new)) g at m.old.kept m.old.state tt
@@ -114,7 +112,6 @@ stop_stays : (w v : World) (at : ℕ) (i : Input) → WorldStays w → AllByRecu
 stop_stays w v at i stay all input m =
     let replays : NodeReplays m.old = all_got NodeReplays w.nodes at m.old all m.here in
     let follows : StepFollows m.old.state m.f m.reached = step_follows m.old.state m.reached i m.f replays.1 m.step in
-    let kept : List Kept = m.old.kept ++ m.f.written in
     let after : NodeReplays (record { state = m.reached; kept = m.old.kept ++ m.f.written }) = step_replays m.old m.reached i m.f replays follows in
     let opens : opened_on m.reached (m.old.kept ++ m.f.written) ≡ Some m.new =
     ap (λ e. option_map (opened (latest_time (records_of (m.old.kept ++ m.f.written)))) (replayed (Some e) (records_of (m.old.kept ++ m.f.written)))) follows.own
@@ -172,24 +169,29 @@ record IsStatementAt (given : Option ClientNumber) (id : RequestId) (index : ℕ
   pub number : s.number ≡ number_for given id (index + length prefix)
   pub does : s.operation ≡ operation
 
+plus_none : (n : ℕ) → n ≡ n + 0
+plus_none n = omega arith
+
 statement_at : (given : Option ClientNumber) (id : RequestId) (index : ℕ) (operations : List Operation) (s : Statement)
     → IsIn s (statements_from given id index operations) → IsStatementAt given id index operations s
 statement_at given id index [] s i = absurd (in_none s i)
 statement_at given id index (o ∷ operations) s i =
     by_place (in_cons s (record { number = number_for given id index; operation = o }) (statements_from given id (index + 1) operations) i)
+    (λ later. statement_at given id (index + 1) operations s later)
   where
     by_place : (s ≡ record { number = number_for given id index; operation = o }) ⊎ IsIn s (statements_from given id (index + 1) operations)
+        → (IsIn s (statements_from given id (index + 1) operations) → IsStatementAt given id (index + 1) operations s)
         → IsStatementAt given id index (o ∷ operations) s
-    by_place (inl same) = record {
+    by_place (inl same) rest = record {
       prefix = [];
       operation = o;
       back = operations;
       both = refl;
-      number = ap (λ (x : Statement). x.number) same ∙ ap (λ n. number_for given id n) (let e : index ≡ index + length {A = Operation} [] = omega arith in e);
+      number = ap (λ (x : Statement). x.number) same ∙ ap (λ n. number_for given id n) (plus_none index);
       does = ap (λ (x : Statement). x.operation) same;
     }
-    by_place (inr later) =
-        let p = statement_at given id (index + 1) operations s later in
+    by_place (inr later) rest =
+        let p = rest later in
         record {
           prefix = o ∷ p.prefix;
           operation = p.operation;
@@ -206,8 +208,7 @@ statement_at given id index (o ∷ operations) s i =
 was_sent_by : (asked : List Asked) (e : Entry) → EntryStays asked e → WasSentBy asked e
 was_sent_by asked e s =
     let p = statement_at s.sent.write.number s.id 0 s.sent.write.operations (statement_of e) s.sent.each.0 in
-    let zero_more : 0 + length p.prefix ≡ length p.prefix = omega arith in
-    (
+    let zero_more : 0 + length p.prefix ≡ length p.prefix = omega arith in (
       s.sent.request,
       s.sent.taken,
       record {

@@ -180,8 +180,6 @@ pub world_after : (w v : World) (at : ℕ) (old : Held) (f : Effect) (new : Node
     → AllByRecursion (IsStored (stored_in (with_step w.nodes at old f.written new))) (answered_by w.now replies)
     → AreDifferent (ids_asked (w.asked ++ asked_by w.now f.taken)) → AllByRecursion (λ (a : Asked). a.id.router ≡ at) (asked_by w.now f.taken) → WorldStays v
 world_after w v at old f new mail replies stay here nodes sent asked answered node letters told one own =
-    let longer : List Entry = stored_in (with_step w.nodes at old f.written new) in
-    let more : List Asked = asked_by w.now f.taken in
     let g : Grows w.asked (w.asked ++ asked_by w.now f.taken) (stored_in w.nodes) (stored_in (with_step w.nodes at old f.written new)) =
     record { taken = λ a i. in_prefix a w.asked (asked_by w.now f.taken) i; stored = stored_stays w.nodes at old f.written new here } in
     let zero_at : 0 + at ≡ at = omega arith in

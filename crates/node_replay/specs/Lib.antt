@@ -7,3 +7,4 @@ pub mod Holds
 pub mod Restarts
 pub mod Histories
 pub mod Acknowledged
+pub mod SampleJournals
