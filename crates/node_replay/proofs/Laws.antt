@@ -8,7 +8,7 @@ use Rattle.node_model.specs.Letters.{Effect, Input}
 use Rattle.node_model.specs.States.{NodeState}
 use Rattle.node_model.specs.Steps.{Step}
 use Rattle.node_model.specs.World.{Event, Run, World, start}
-use Rattle.node_replay.specs.Acknowledged.{KeepsWrites}
+use Rattle.node_replay.specs.Acknowledged.{KeepsJournals, KeepsWrites}
 use Rattle.node_replay.specs.Durable.{DurableCatalogue, DurableShard, durable_catalogue, durable_of, durable_shard, empty_catalogue, empty_shard}
 use Rattle.node_replay.specs.Histories.{AreChanges, HasKey, IsHistory}
 use Rattle.node_replay.specs.Holds.{Holds, MayOpen, Replays}
@@ -18,6 +18,7 @@ use Rattle.node_replay.proofs.Steps.{step_follows}
 use Rattle.node_replay.proofs.Runs.{NodeReplays, run_replays, start_replays}
 use Rattle.node_replay.proofs.Restarts.{run_with_stops_replays}
 use Rattle.node_replay.proofs.StopStays.{run_with_stops_keeps}
+use Rattle.node_replay.proofs.JournalsStay.{run_with_stops_grows}
 use Rattle.node_replay.proofs.ShardHistories.{shard_history}
 use Rattle.node_replay.proofs.CatalogueHistories.{catalogue_changes}
 
@@ -43,3 +44,6 @@ replayed_catalogue_has_changes = catalogue_changes
 
 pub runs_with_stops_keep_writes : (routers : ℕ) (events : List EventOrStop) (w : World) → RunWithStops (start routers) events w → KeepsWrites w
 runs_with_stops_keep_writes = run_with_stops_keeps
+
+pub runs_with_stops_keep_journals : (u : World) (events : List EventOrStop) (w : World) → RunWithStops u events w → KeepsJournals u w
+runs_with_stops_keep_journals u events w run = run_with_stops_grows u w events run

@@ -15,4 +15,5 @@ pub mod RouterStays
 pub mod RouterNext
 pub mod WorldStays
 pub mod StopStays
+pub mod JournalsStay
 pub mod Laws

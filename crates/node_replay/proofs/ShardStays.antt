@@ -16,6 +16,7 @@ use Rattle.node_model.specs.RouterRows.{statements_from}
 use Rattle.node_model.specs.Service.{Serves, Repeats}
 use Rattle.node_model.specs.ShardRows.{heard, at_later, Ask, ask_in, wants_table, says, asks_table, tries, asks_again, ShardRow, shard_write, shard_repeat, shard_empty, shard_park, shard_waits, shard_stale, shard_read, shard_rows, shard_excess, shard_overflow, shard_time, shard_learn, shard_known, shard_skip, shard_moment, shard_opened, shard_client}
 use Rattle.node_model.specs.States.{Shard}
+use Rattle.node_laws.proofs.Dates.{IsNoChange}
 use Rattle.node_laws.proofs.Lists.{all_mapped}
 use Rattle.node_laws.proofs.LongerJournals.{entries_longer}
 use Rattle.node_laws.proofs.MadeEntries.{statements_of}
@@ -38,6 +39,7 @@ pub record ShardNext (asked : List Asked) (history : List Entry) (at : ℕ) (kep
   pub letters : AllByRecursion (LetterStays asked history) f.mail
   pub takes : f.taken ≡ []
   pub tells : f.replies ≡ []
+  pub stores : AllByRecursion IsNoChange f.written
 
 -- LISTS
 
@@ -49,6 +51,10 @@ latest_above time (e ∷ entries) le = (omega (arith, le), latest_above time ent
 only_entries : (made : List Entry) → entries_kept (map kept_entry made) ≡ made
 only_entries [] = refl
 only_entries (e ∷ made) = ap (λ l. e ∷ l) (only_entries made)
+
+no_changes : (made : List Entry) → AllByRecursion IsNoChange (map kept_entry made)
+no_changes [] = tt
+no_changes (e ∷ made) = (tt, no_changes made)
 
 -- OUTCOMES
 
@@ -110,6 +116,7 @@ module _ (asked more : List Asked) (history longer : List Entry) (g : Grows aske
     letters = letters;
     takes = takes;
     tells = tells;
+    stores = subst (λ l. AllByRecursion IsNoChange l) (sym none) tt;
   }
 
   parked_stay : AllByRecursion (LetterStays more longer) s.parked
@@ -164,6 +171,7 @@ module _ (asked more : List Asked) (history longer : List Entry) (g : Grows aske
         );
         takes = refl;
         tells = refl;
+        stores = no_changes made;
       }
 
   -- statements that were applied before
@@ -195,6 +203,7 @@ module _ (asked more : List Asked) (history longer : List Entry) (g : Grows aske
     letters = letters;
     takes = refl;
     tells = refl;
+    stores = (tt, tt);
   }
 
 pub shard_stays : (asked more : List Asked) (history longer : List Entry) (g : Grows asked more history longer) (at : ℕ) (kept : List Kept) (s t : Shard)

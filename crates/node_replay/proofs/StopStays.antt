@@ -81,7 +81,7 @@ move_stays : (w v : World) (at : ℕ) (i : Input) → WorldStays w → AllByRecu
 move_stays w v at i stay all input m =
     let s = taken_step w at i m.old m.f m.new m.new stay (all_got NodeReplays w.nodes at m.old all m.here) input m.here m.step in
     world_after w v at m.old m.f m.new m.f.mail m.f.replies stay m.here (ap (λ (x : World). x.nodes) m.then) (ap (λ (x : World). x.sent) m.then)
-    (ap (λ (x : World). x.asked) m.then) (ap (λ (x : World). x.answered) m.then) s.node s.letters s.told s.one s.here
+    (ap (λ (x : World). x.asked) m.then) (ap (λ (x : World). x.answered) m.then) (ap (λ (x : World). x.changed) m.then) s.changes s.node s.letters s.told s.one s.here
 
 -- a message that was sent
 sent_stays : (w : World) (which : ℕ) (m : Letter) → WorldStays w → slice_get w.sent which ≡ Some m → LetterStays w.asked (stored_in w.nodes) m
@@ -102,7 +102,7 @@ restart_stays w v at stay all m =
     (here_stays w at m.old stay m.here) in
     let became = opened_stays (w.asked ++ []) (stored_in (with_step w.nodes at m.old [] m.new)) at m.old.kept (latest_time (records_of m.old.kept)) m.old.state old in
     world_after w v at m.old nothing m.new [] [] stay m.here (ap (λ (x : World). x.nodes) m.then) (ap (λ (x : World). x.sent) m.then)
-    (ap (λ (x : World). x.asked) m.then) (ap (λ (x : World). x.answered) m.then)
+    (ap (λ (x : World). x.asked) m.then) (ap (λ (x : World). x.answered) m.then) (ap (λ (x : World). x.changed) m.then) (inr tt)
     (subst (λ k. StateStays (w.asked ++ []) (stored_in (with_step w.nodes at m.old [] m.new)) at k m.new) (sym (append-nil m.old.kept))
     (subst (λ s. StateStays (w.asked ++ []) (stored_in (with_step w.nodes at m.old [] m.new)) at m.old.kept s) (opened_is m.old m.new replays.0 m.opens) became))
     tt tt (subst (λ l. AreDifferent (ids_asked l)) (sym (append-nil w.asked)) stay.one) tt
@@ -118,7 +118,7 @@ stop_stays w v at i stay all input m =
     ∙ m.opens in
     let s = taken_step w at i m.old m.f m.reached m.new stay replays input m.here m.step in
     world_after w v at m.old m.f m.new [] [] stay m.here (ap (λ (x : World). x.nodes) m.then) (ap (λ (x : World). x.sent) m.then)
-    (ap (λ (x : World). x.asked) m.then) (ap (λ (x : World). x.answered) m.then)
+    (ap (λ (x : World). x.asked) m.then) (ap (λ (x : World). x.answered) m.then) (ap (λ (x : World). x.changed) m.then) s.changes
     (subst (λ x. StateStays (w.asked ++ asked_by w.now m.f.taken) (stored_in (with_step w.nodes at m.old m.f.written m.new)) at (m.old.kept ++ m.f.written) x)
     (opened_is (record { state = m.reached; kept = m.old.kept ++ m.f.written }) m.new after.0 opens)
     (opened_stays (w.asked ++ asked_by w.now m.f.taken) (stored_in (with_step w.nodes at m.old m.f.written m.new)) at (m.old.kept ++ m.f.written)
@@ -156,6 +156,7 @@ start_stays routers = record {
   letters = tt;
   told = tt;
   one = tt;
+  dated = refl;
 }
 
 -- WHAT IS KEPT
@@ -280,4 +281,5 @@ run_with_stops_keeps routers events w run =
       told = r.0.told;
       fitting = catalogue_of_nodes w.asked (stored_in w.nodes) w.nodes r.0.nodes r.1;
       one = r.0.one;
+      dated = r.0.dated;
     }

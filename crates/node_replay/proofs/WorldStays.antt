@@ -7,15 +7,16 @@ use Rattle.chunk_model.specs.Tables.{first_shard}
 use Rattle.history_model.proofs.Lists.{all_weaken, all_append, all_at, in_prefix}
 use Rattle.history_model.specs.History.{Entry, IsIn, Legal}
 use Rattle.reply_model.specs.Exchanges.{Asked, Answered}
-use Rattle.reply_model.specs.OneHistory.{ids_asked, AreDifferent, AreNumbered}
-use Rattle.node_model.proofs.Journals.{journal_here, journal_got}
+use Rattle.reply_model.specs.OneHistory.{ids_asked, AreDifferent, changes_in as changes_of}
+use Rattle.node_model.proofs.Journals.{journal_here}
 use Rattle.node_model.specs.Journal.{Kept, entries_kept, changes_kept}
 use Rattle.node_model.specs.Letters.{Letter, Input, client_input, letter_input, moment_input, opened_input, Effect, Reply}
 use Rattle.node_model.specs.RouterRows.{begins}
 use Rattle.node_model.specs.States.{Router, NodeState, catalogue_state, shard_state, router_state}
 use Rattle.node_model.specs.Steps.{Step, catalogue_step, shard_step, router_step, begin_step, other_step}
-use Rattle.node_model.specs.World.{Held, World, asked_by, answered_by, routers_from, start, journal_at}
-use Rattle.node_laws.proofs.Journals.{journal_else}
+use Rattle.node_model.specs.World.{Held, World, asked_by, answered_by, dated_onto, journal_at}
+use Rattle.node_laws.proofs.Causes.{router_aside}
+use Rattle.node_laws.proofs.Dates.{IsNoChange, dated_same}
 use Rattle.node_laws.proofs.LongerJournals.{entries_longer}
 use Rattle.node_laws.proofs.Places.{EachAt, each_get, each_set}
 use Rattle.node_laws.proofs.RouterAnswers.{as_answered}
@@ -35,12 +36,13 @@ pub record StepStays (asked : List Asked) (history : List Entry) (now at : ℕ) 
   pub told : AllByRecursion (IsStored history) (answered_by now f.replies)
   pub one : AreDifferent (ids_asked (asked ++ asked_by now f.taken))
   pub here : AllByRecursion (λ (a : Asked). a.id.router ≡ at) (asked_by now f.taken)
+  pub changes : (at ≡ 0) ⊎ AllByRecursion IsNoChange f.written
 
 -- a node that takes and answers nothing
 silent : (asked : List Asked) (history : List Entry) (now at : ℕ) (kept : List Kept) (f : Effect) (new : NodeState) → AreDifferent (ids_asked asked)
     → f.taken ≡ [] → f.replies ≡ [] → StateStays asked history at (kept ++ f.written) new → AllByRecursion (LetterStays asked history) f.mail
-    → StepStays asked history now at kept f new
-silent asked history now at kept f new one takes tells node letters =
+    → (at ≡ 0) ⊎ AllByRecursion IsNoChange f.written → StepStays asked history now at kept f new
+silent asked history now at kept f new one takes tells node letters changes =
     let same : asked ≡ asked ++ asked_by now f.taken = sym (append-nil asked) ∙ ap (λ l. asked ++ asked_by now l) (sym takes) in
     record {
       node = subst (λ l. StateStays l history at (kept ++ f.written) new) same node;
@@ -48,16 +50,18 @@ silent asked history now at kept f new one takes tells node letters =
       told = subst (λ l. AllByRecursion (IsStored history) (answered_by now l)) (sym tells) tt;
       one = subst (λ l. AreDifferent (ids_asked l)) same one;
       here = subst (λ l. AllByRecursion (λ (a : Asked). a.id.router ≡ at) (asked_by now l)) (sym takes) tt;
+      changes = changes;
     }
 
 of_router : (asked : List Asked) (history : List Entry) (now at : ℕ) (kept : List Kept) (f : Effect) (q : Router) → RouterSteps asked history now at f q
-    → StepStays asked history now at kept f (router_state q)
-of_router asked history now at kept f q s = record {
+    → AllByRecursion IsNoChange f.written → StepStays asked history now at kept f (router_state q)
+of_router asked history now at kept f q s none = record {
   node = s.next.node;
   letters = s.next.letters;
   told = of_answers (IsStored history) now f.replies s.next.told;
   one = s.one;
   here = s.here;
+  changes = inr none;
 }
 
 -- entries that are stored later, all before stay
@@ -85,18 +89,26 @@ module _ (asked : List Asked) (history longer : List Entry) (stays : (e : Entry)
       → Step s i f t → StepStays asked longer now at kept f t
   step_stays now at kept _ _ _ _ one written mine holds input (catalogue_step c d i f own row) =
       let h = catalogue_stays asked longer at kept c d i f mine (input_grows i input) row in
-      silent asked longer now at kept f (catalogue_state d) one h.takes h.tells h.node h.letters
+      silent asked longer now at kept f (catalogue_state d) one h.takes h.tells h.node h.letters (inl mine.place)
   step_stays now at kept _ _ _ _ one written mine holds input (shard_step s t i f own row) =
       let h = shard_stays asked asked history longer longer_only at kept s t i f (written mine.place) mine holds input row in
-      silent asked longer now at kept f (shard_state t) one h.takes h.tells h.node h.letters
+      silent asked longer now at kept f (shard_state t) one h.takes h.tells h.node h.letters (inr h.stores)
   step_stays now at kept _ _ _ _ one written mine holds input (router_step r q i f own row) =
       of_router asked longer now at kept f q (router_steps asked longer now at r q i f (router_longer at r mine) one (input_grows i input) row)
+      (router_aside r q i f row)
   step_stays now at kept _ _ _ _ one written mine holds input (begin_step r q i f not_begun before row) =
       let h = router_steps asked longer now at (begins r) q i f
       (begins_stays asked longer now at r (router_longer at r mine) one not_begun) one (input_grows i input) row in
-      let s = of_router asked longer now at kept f q h in
-      record { node = s.node; letters = s.letters; told = s.told; one = s.one; here = s.here }
-  step_stays now at kept _ _ _ _ one written mine holds input (other_step s m apart) = silent asked longer now at kept _ s one refl refl (by_state s mine) tt
+      let s = of_router asked longer now at kept f q h (router_aside (begins r) q i f row) in
+      record {
+        node = s.node;
+        letters = s.letters;
+        told = s.told;
+        one = s.one;
+        here = s.here;
+        changes = inr (tt, router_aside (begins r) q i f row);
+      }
+  step_stays now at kept _ _ _ _ one written mine holds input (other_step s m apart) = silent asked longer now at kept _ s one refl refl (by_state s mine) tt (inr tt)
     where
       by_state : (s : NodeState) → StateStays asked history at kept s → StateStays asked longer at (kept ++ []) s
       by_state (catalogue_state c) s = subst (λ l. CatalogueStays at l c) (sym (append-nil kept)) s
@@ -143,6 +155,7 @@ pub record WorldStays (w : World) : Type 0 where
   pub letters : AllByRecursion (LetterStays w.asked (stored_in w.nodes)) w.sent
   pub told : AllByRecursion (IsStored (stored_in w.nodes)) w.answered
   pub one : AreDifferent (ids_asked w.asked)
+  pub dated : changes_of w.changed ≡ changes_kept (journal_at w.nodes 0)
 
 -- the journal of the shard after a step
 abbrev pub with_step : List Held → ℕ → Held → List Kept → NodeState → List Held
@@ -174,12 +187,13 @@ stored_here nodes at old written new here is =
 pub world_after : (w v : World) (at : ℕ) (old : Held) (f : Effect) (new : NodeState) (mail : List Letter) (replies : List Reply) → WorldStays w
     → slice_get w.nodes at ≡ Some old
     → v.nodes ≡ with_step w.nodes at old f.written new → v.sent ≡ w.sent ++ mail → v.asked ≡ w.asked ++ asked_by w.now f.taken
-    → v.answered ≡ w.answered ++ answered_by w.now replies
+    → v.answered ≡ w.answered ++ answered_by w.now replies → v.changed ≡ dated_onto w.now w.changed f.written
+    → (at ≡ 0) ⊎ AllByRecursion IsNoChange f.written
     → StateStays (w.asked ++ asked_by w.now f.taken) (stored_in (with_step w.nodes at old f.written new)) at (old.kept ++ f.written) new
     → AllByRecursion (LetterStays (w.asked ++ asked_by w.now f.taken) (stored_in (with_step w.nodes at old f.written new))) mail
     → AllByRecursion (IsStored (stored_in (with_step w.nodes at old f.written new))) (answered_by w.now replies)
     → AreDifferent (ids_asked (w.asked ++ asked_by w.now f.taken)) → AllByRecursion (λ (a : Asked). a.id.router ≡ at) (asked_by w.now f.taken) → WorldStays v
-world_after w v at old f new mail replies stay here nodes sent asked answered node letters told one own =
+world_after w v at old f new mail replies stay here nodes sent asked answered changed changes node letters told one own =
     let g : Grows w.asked (w.asked ++ asked_by w.now f.taken) (stored_in w.nodes) (stored_in (with_step w.nodes at old f.written new)) =
     record { taken = λ a i. in_prefix a w.asked (asked_by w.now f.taken) i; stored = stored_stays w.nodes at old f.written new here } in
     let zero_at : 0 + at ≡ at = omega arith in
@@ -207,4 +221,6 @@ world_after w v at old f new mail replies stay here nodes sent asked answered no
           (λ t s. stored_grows w.asked (w.asked ++ asked_by w.now f.taken) (stored_in w.nodes) (stored_in (with_step w.nodes at old f.written new)) g t s) stay.told)
           told));
       one = subst (λ l. AreDifferent (ids_asked l)) (sym asked) one;
+      dated = ap (λ l. changes_of l) changed ∙ dated_same w.now w.nodes at old f.written new w.changed here stay.dated changes
+          ∙ ap (λ l. changes_kept (journal_at l 0)) (sym nodes);
     }

@@ -1,6 +1,6 @@
 //! The definitions on journals that one can check by hand.
 
-ghost use Rattle.std.specs.Prelude.{◌≡◌, ◌∷◌, [], None, Some, codes};
+ghost use Rattle.std.specs.Prelude.{◌≡◌, ◌++◌, ◌∷◌, [], Some};
 ghost use Rattle.base_model.specs.Times.{timestamp};
 ghost use Rattle.chunk_model.specs.Changes.{create_change, split_change};
 ghost use Rattle.chunk_model.specs.SampleCollections.{creation};
@@ -10,8 +10,8 @@ ghost use Rattle.history_model.specs.SampleEntries.{entry_at, first_entry, secon
 ghost use Rattle.record_model.specs.Records.{block_record, catalogue_ceiling_record, ceiling_record, create_record, life_record, move_start_record, record_of, split_record, table_record};
 ghost use Rattle.record_model.specs.SampleRecords.{begun_move};
 ghost use Rattle.node_replay.specs.Durable.{durable_catalogue, durable_router, durable_shard};
-ghost use Rattle.node_replay.specs.Replays.{follow, replayed};
-ghost use Rattle.node_replay.specs.SampleJournals.{catalogue_journal, of_client, router_journal, shard_journal, split, the_catalogue, the_router, the_shard, third_entry};
+ghost use Rattle.node_replay.specs.Replays.{replayed};
+ghost use Rattle.node_replay.specs.SampleJournals.{Refuses, catalogue_journal, of_client, one_entry, one_table, router_journal, shard_journal, split, the_catalogue, the_router, the_shard};
 
 /// What three journals replay to.
 pub fn journals_replay()
@@ -24,35 +24,35 @@ pub fn journals_replay()
 /// has, without a table; of an older transaction; a ceiling that is not above the times, or that comes before every table; a table that is not longer; a
 /// record of another kind of node; a part of a move.
 pub fn shards_refuse()
-    ensures no_table { replayed (Some the_shard) (record_of first_entry ∷ []) ≡ None }
-    ensures time { replayed (Some the_shard) (table_record (first_table creation) ∷ record_of first_entry ∷ record_of (record second_entry { time = timestamp 1000 2 }) ∷ []) ≡ None }
-    ensures number { replayed (Some the_shard) (table_record (first_table creation) ∷ record_of first_entry ∷ record_of (record second_entry { number = first_entry.number }) ∷ []) ≡ None }
-    ensures outcome { replayed (Some the_shard) (table_record (first_table creation) ∷ record_of first_entry ∷ record_of (record second_entry { outcome = done }) ∷ []) ≡ None }
-    ensures older { replayed (Some the_shard) (table_record (first_table creation) ∷ record_of first_entry ∷ record_of (of_client (timestamp 1000 3) 2) ∷ record_of (of_client (timestamp 1000 4) 1) ∷ []) ≡ None }
-    ensures ceiling { replayed (Some the_shard) (table_record (first_table creation) ∷ record_of first_entry ∷ ceiling_record (timestamp 1000 2) ∷ []) ≡ None }
-    ensures first_ceiling { replayed (Some the_shard) (ceiling_record 1 ∷ []) ≡ None }
-    ensures below_ceiling { replayed (Some the_shard) (table_record (first_table creation) ∷ ceiling_record (timestamp 1000 2) ∷ record_of first_entry ∷ []) ≡ None }
-    ensures table { replayed (Some the_shard) (table_record (first_table creation) ∷ table_record (first_table creation) ∷ []) ≡ None }
-    ensures creation { replayed (Some the_shard) (create_record creation ∷ []) ≡ None }
-    ensures move { replayed (Some the_shard) (move_start_record begun_move ∷ []) ≡ None }
+    ensures no_table { Refuses the_shard [] (record_of first_entry) }
+    ensures time { Refuses the_shard one_entry (record_of (record second_entry { time = timestamp 1000 2 })) }
+    ensures number { Refuses the_shard one_entry (record_of (record second_entry { number = first_entry.number })) }
+    ensures outcome { Refuses the_shard one_entry (record_of (record second_entry { outcome = done })) }
+    ensures older { Refuses the_shard (one_entry ++ record_of (of_client (timestamp 1000 3) 2) ∷ []) (record_of (of_client (timestamp 1000 4) 1)) }
+    ensures ceiling { Refuses the_shard one_entry (ceiling_record (timestamp 1000 2)) }
+    ensures first_ceiling { Refuses the_shard [] (ceiling_record 1) }
+    ensures below_ceiling { Refuses the_shard (one_table ++ ceiling_record (timestamp 1000 2) ∷ []) (record_of first_entry) }
+    ensures table { Refuses the_shard one_table (table_record (first_table creation)) }
+    ensures creation { Refuses the_shard one_table (create_record creation) }
+    ensures move { Refuses the_shard one_table (move_start_record begun_move) }
 {}
 
 /// What may not be the next record of the catalogue: a creation of a name that exists, of another epoch than the next, at a time that is not above every
 /// one before; a split at a bound, or of a collection that is not there; an entry.
 pub fn catalogues_refuse()
-    ensures name { replayed (Some the_catalogue) (create_record creation ∷ create_record (record creation { epoch = 2; at = timestamp 1000 2 }) ∷ []) ≡ None }
-    ensures epoch { replayed (Some the_catalogue) (create_record (record creation { epoch = 2 }) ∷ []) ≡ None }
-    ensures time { replayed (Some the_catalogue) (catalogue_ceiling_record (timestamp 1000 1) ∷ create_record creation ∷ []) ≡ None }
-    ensures bound { replayed (Some the_catalogue) (create_record creation ∷ split_record split ∷ split_record (record split { at = timestamp 1000 3 }) ∷ []) ≡ None }
-    ensures absent { replayed (Some the_catalogue) (split_record split ∷ []) ≡ None }
-    ensures entry { replayed (Some the_catalogue) (record_of first_entry ∷ []) ≡ None }
+    ensures name { Refuses the_catalogue (create_record creation ∷ []) (create_record (record creation { epoch = 2; at = timestamp 1000 2 })) }
+    ensures epoch { Refuses the_catalogue [] (create_record (record creation { epoch = 2 })) }
+    ensures time { Refuses the_catalogue (catalogue_ceiling_record (timestamp 1000 1) ∷ []) (create_record creation) }
+    ensures bound { Refuses the_catalogue catalogue_journal (split_record (record split { at = timestamp 1000 3 })) }
+    ensures absent { Refuses the_catalogue [] (split_record split) }
+    ensures entry { Refuses the_catalogue [] (record_of first_entry) }
 {}
 
 /// What may not be the next record of a router: a life or a block that is not the next, a block before the first life, a table.
 pub fn routers_refuse()
-    ensures second_life { replayed (Some the_router) (life_record 2 ∷ []) ≡ None }
-    ensures same_life { replayed (Some the_router) (life_record 1 ∷ life_record 1 ∷ []) ≡ None }
-    ensures second_block { replayed (Some the_router) (life_record 1 ∷ block_record 1 ∷ []) ≡ None }
-    ensures no_life { replayed (Some the_router) (block_record 0 ∷ []) ≡ None }
-    ensures table { replayed (Some the_router) (table_record (first_table creation) ∷ []) ≡ None }
+    ensures second_life { Refuses the_router [] (life_record 2) }
+    ensures same_life { Refuses the_router (life_record 1 ∷ []) (life_record 1) }
+    ensures second_block { Refuses the_router (life_record 1 ∷ []) (block_record 1) }
+    ensures no_life { Refuses the_router [] (block_record 0) }
+    ensures table { Refuses the_router [] (table_record (first_table creation)) }
 {}

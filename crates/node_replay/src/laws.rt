@@ -7,7 +7,7 @@ ghost use Rattle.node_model.specs.Letters.{Effect, Input};
 ghost use Rattle.node_model.specs.States.{NodeState};
 ghost use Rattle.node_model.specs.Steps.{Step};
 ghost use Rattle.node_model.specs.World.{Event, Run, World, start};
-ghost use Rattle.node_replay.specs.Acknowledged.{KeepsWrites};
+ghost use Rattle.node_replay.specs.Acknowledged.{KeepsJournals, KeepsWrites};
 ghost use Rattle.node_replay.specs.Durable.{DurableCatalogue, DurableShard, durable_catalogue, durable_of, durable_shard, empty_catalogue, empty_shard};
 ghost use Rattle.node_replay.specs.Histories.{AreChanges, HasKey, IsHistory};
 ghost use Rattle.node_replay.specs.Holds.{Holds, MayOpen, Replays};
@@ -49,4 +49,10 @@ pub fn replayed_catalogue_has_changes()
 #[tactic(auto, using(crate::proofs::Laws::runs_with_stops_keep_writes))]
 pub fn runs_with_stops_keep_writes()
     ensures { (routers : ℕ) (events : List EventOrStop) (w : World) → RunWithStops (start routers) events w → KeepsWrites w }
+{}
+
+/// Nor is any record lost that was stored: from any world on, each journal grows at its end alone.
+#[tactic(auto, using(crate::proofs::Laws::runs_with_stops_keep_journals))]
+pub fn runs_with_stops_keep_journals()
+    ensures { (u : World) (events : List EventOrStop) (w : World) → RunWithStops u events w → KeepsJournals u w }
 {}
