@@ -29,7 +29,8 @@ durable_from me changes = record { me = me; top = latest_change changes; changes
 
 -- a change that is later than others leads to just these with it
 record Leads (me at : ℕ) (changes : List Change) (x : Change) : Type 0 where
-  pub follows : replayed (Some (durable_catalogue (durable_from me changes))) (records_of (kept_change x ∷ [])) ≡ Some (durable_catalogue (durable_from me (x ∷ changes)))
+  pub follows : replayed (Some (durable_catalogue (durable_from me changes))) (records_of (kept_change x ∷ []))
+      ≡ Some (durable_catalogue (durable_from me (x ∷ changes)))
   pub past : latest_change (x ∷ changes) ≤ at
 
 create_leads : (me at : ℕ) (changes : List Change) (namespace : List ℕ) → latest_change changes < at → known_table namespace changes ≡ None
@@ -37,7 +38,8 @@ create_leads : (me at : ℕ) (changes : List Change) (namespace : List ℕ) → 
 create_leads me at changes namespace later none =
     let c : Creation = record { namespace = namespace; epoch = creations namespace changes + 1; at = at } in
     let d : DurableCatalogue = durable_from me changes in
-    let may : (nat_lt (latest_change changes) at && (is_none (known_table namespace changes) && creations namespace changes + 1 == creations namespace changes + 1)) ≡ true =
+    let may : (nat_lt (latest_change changes) at
+    && (is_none (known_table namespace changes) && creations namespace changes + 1 == creations namespace changes + 1)) ≡ true =
     and_from _ _ (lt-ltb (latest_change changes) at later)
     (and_from _ _ (ap (λ (o : Option Table). is_none o) none) (eq-eqb (creations namespace changes + 1) (creations namespace changes + 1) refl)) in
     let top : at ≡ max at (latest_change changes) = omega (arith, later) in

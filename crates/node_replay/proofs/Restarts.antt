@@ -51,7 +51,8 @@ follow_top (durable_shard d) (entry_record w) e same =
     subst (λ x. top_of x ≤ max d.top w.time) (chosen durable_shard (may_enter d w) (with_entry d (entry_from d w)) e same) (omega arith)
 follow_top (durable_shard d) (ceiling_record time) e same =
     subst (λ x. top_of x ≤ max d.top time)
-    (chosen durable_shard (nat_lt d.top time && has_table d.tables) (record { me = d.me; top = time; tables = d.tables; entries = d.entries }) e same) (omega arith)
+    (chosen durable_shard (nat_lt d.top time && has_table d.tables) (record { me = d.me; top = time; tables = d.tables; entries = d.entries }) e same)
+    (omega arith)
 follow_top (durable_shard d) r e same = absurd (cc)
 follow_top (durable_router d) (life_record n) e same =
     subst (λ x. top_of x ≤ max 0 0) (chosen durable_router _ (record { me = d.me; life = n + 1; blocks = d.blocks }) e same) (omega arith)

@@ -29,7 +29,9 @@ RouterHolds r = Holds (router_state r)
 -- NO REQUEST IS OPEN OUTSIDE OF A LIFE
 
 none_open : (r : Router) (id : RequestId) → r.requests ≡ [] → open_of r id ≡ None
-none_open r id none = ap (λ l. if same_request id (id_of r id.count) then open_with id.count l else None) none ∙ no_choice None (same_request id (id_of r id.count))
+none_open r id none =
+    ap (λ l. if same_request id (id_of r id.count) then open_with id.count l else None) none
+    ∙ no_choice None (same_request id (id_of r id.count))
   where
     no_choice : (o : Option Open) (t : Bool) → (if t then o else o) ≡ o
     no_choice o true = refl
@@ -78,7 +80,8 @@ block_follows r first begun =
     let life : next_life r.life r.begun ≡ r.life + 1 = ap (λ b. next_life r.life b) begun in
     let may : (nat_lt 1 (next_life r.life r.begun) && (r.blocks == r.blocks)) ≡ true =
     and_from _ _ (lt-ltb 1 (next_life r.life r.begun) (omega (arith, life, first))) (eq-eqb r.blocks r.blocks refl) in
-    ap (λ b. replayed (option_map durable_router (if b then Some (record { me = r.me; life = next_life r.life r.begun; blocks = r.blocks + 1 }) else None)) []) may
+    ap (λ b. replayed (option_map durable_router (if b then Some (record { me = r.me; life = next_life r.life r.begun; blocks = r.blocks + 1 }) else None)) [])
+    may
 
 -- the cursors of an answer: a block is stored where one begins
 abbrev numbered : Router → List Cursor → Bool → Opened

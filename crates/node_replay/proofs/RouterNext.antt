@@ -125,12 +125,17 @@ module _ (asked : List Asked) (history : List Entry) (now at : ℕ) (r : Router)
         (goes_on asked history now r q (wait_of r time q.namespace work) work o does)
         (all_weaken (IsOwn asked history now r) (λ (p : Open). p.count ≢ q.count → IsOwn asked history now r p) r.requests (λ p o apart. o) mine.requests),
     asks_stay asked history r time q.count q.namespace work
-        (record { request = o.request; taken = o.taken; own = o.own; work = subst (λ x. WorkStays history (id_of r q.count) x q.namespace work) (sym o.asks) does }),
+        (record {
+          request = o.request;
+          taken = o.taken;
+          own = o.own;
+          work = subst (λ x. WorkStays history (id_of r q.count) x q.namespace work) (sym o.asks) does;
+        }),
   )
 
   -- a read goes on
-  read_no_write : (q : Open) (named : Bool) (time : ℕ) (stages : List Stage) (telling : Telling) → q.work ≡ reading named time stages telling → IsOwn asked history now r q
-      → IsNoWrite q.request
+  read_no_write : (q : Open) (named : Bool) (time : ℕ) (stages : List Stage) (telling : Telling) → q.work ≡ reading named time stages telling
+      → IsOwn asked history now r q → IsNoWrite q.request
   read_no_write q named time stages telling is o = subst (λ w. WorkStays history (id_of r q.count) q.request q.namespace w) is o.work
 
   split_none : (q : Open) (middle : Datum) → q.work ≡ splitting middle → IsOwn asked history now r q → IsNoWrite q.request
@@ -264,7 +269,14 @@ module _ (asked : List Asked) (history : List Entry) (now at : ℕ) (r : Router)
 
     -- a request that is no write is answered
     no_write_told : (answer : Answer) → IsNoWrite request
-        → IsTold asked history now r (record { id = id_of r (r.count + 1); link = link; number = number; request = request; time = r.time; document = answer_document answer })
+        → IsTold asked history now r (record {
+          id = id_of r (r.count + 1);
+          link = link;
+          number = number;
+          request = request;
+          time = r.time;
+          document = answer_document answer;
+        })
     no_write_told answer no write asks = absurd (no write asks)
 
 -- the reply to a write has the outcomes that arrived
@@ -284,27 +296,34 @@ wrote_told asked history now r q time kind ordered statements dones does write a
 pub router_steps : (asked : List Asked) (history : List Entry) (now at : ℕ) (r q : Router) (i : Input) (f : Effect) → RouterStays asked history at r
     → AreDifferent (ids_asked asked) → InputStays asked history i → RouterRow r i f q → RouterSteps asked history now at f q
 router_steps asked history now at _ _ _ _ mine one input (router_begin r not_begun) =
-    no_request asked history now at r mine one _ (begins r) refl (record { node = begins_stays asked history now at r mine one not_begun; letters = tt; told = tt })
+    no_request asked history now at r mine one _ (begins r) refl
+    (record { node = begins_stays asked history now at r mine one not_begun; letters = tt; told = tt })
 router_steps asked history now at _ _ _ _ mine one input (router_opened r begun) =
     still asked history now at r mine one _ r refl refl refl refl refl mine.requests tt tt
 router_steps asked history now at _ _ _ _ mine one input (router_plain r link number request answer begun plan) =
     let no = planned history r (id_of r (r.count + 1)) request request.more (at_once answer) plan in
-    at_once_stays asked history now at r mine one link number request begun _ (takes r []) refl refl refl refl refl refl refl (no_write_told asked history now at r mine one link number request begun answer no, tt)
+    at_once_stays asked history now at r mine one link number request begun _ (takes r []) refl refl refl refl refl refl refl
+    (no_write_told asked history now at r mine one link number request begun answer no, tt)
 router_steps asked history now at _ _ _ _ mine one input (router_more r link number request more c batch next begun plan found shows) =
     let no = planned history r (id_of r (r.count + 1)) request request.more (needs_batch more) plan in
-    at_once_stays asked history now at r mine one link number request begun _ _ refl refl refl refl refl refl refl (no_write_told asked history now at r mine one link number request begun (next_answer batch) no, tt)
+    at_once_stays asked history now at r mine one link number request begun _ _ refl refl refl refl refl refl refl
+    (no_write_told asked history now at r mine one link number request begun (next_answer batch) no, tt)
 router_steps asked history now at _ _ _ _ mine one input (router_no_cursor r link number request more begun plan none) =
     let no = planned history r (id_of r (r.count + 1)) request request.more (needs_batch more) plan in
-    at_once_stays asked history now at r mine one link number request begun _ (takes r []) refl refl refl refl refl refl refl (no_write_told asked history now at r mine one link number request begun _ no, tt)
+    at_once_stays asked history now at r mine one link number request begun _ (takes r []) refl refl refl refl refl refl refl
+    (no_write_told asked history now at r mine one link number request begun _ no, tt)
 router_steps asked history now at _ _ _ _ mine one input (router_kill r link number request kill killed missing next begun plan ends) =
     let no = planned history r (id_of r (r.count + 1)) request request.more (needs_end kill) plan in
-    at_once_stays asked history now at r mine one link number request begun _ _ refl refl refl refl refl refl refl (no_write_told asked history now at r mine one link number request begun (killed_answer killed missing) no, tt)
+    at_once_stays asked history now at r mine one link number request begun _ _ refl refl refl refl refl refl refl
+    (no_write_told asked history now at r mine one link number request begun (killed_answer killed missing) no, tt)
 router_steps asked history now at _ _ _ _ mine one input (router_take r link number request namespace work begun plan) =
-    take_stays asked history now at r mine one link number request begun namespace work (planned history r (id_of r (r.count + 1)) request request.more (needs namespace work) plan)
+    take_stays asked history now at r mine one link number request begun namespace work
+    (planned history r (id_of r (r.count + 1)) request request.more (needs namespace work) plan)
 router_steps asked history now at _ _ _ _ mine one input (router_learn r m namespace create told table tells) =
     let next : (q : Open) → Next = λ q. next_of r (heard r m) (adopted table r.tables) namespace (was_created create table) told q in
     let all : AllByRecursion (λ q. NextIs (IsOwn asked history now r) (LetterStays asked history) (IsTold asked history now r) (next q)) r.requests =
-    all_weaken (IsOwn asked history now r) (λ q. NextIs (IsOwn asked history now r) (LetterStays asked history) (IsTold asked history now r) (next q)) r.requests
+    all_weaken (IsOwn asked history now r)
+    (λ q. NextIs (IsOwn asked history now r) (LetterStays asked history) (IsTold asked history now r) (next q)) r.requests
     (λ q o. next_stays asked history now r (heard r m) (adopted table r.tables) namespace (was_created create table) told q o) mine.requests in
     let e = each_next (IsOwn asked history now r) (LetterStays asked history) (IsTold asked history now r) next r.requests all in
     still asked history now at r mine one _ _ refl refl refl refl refl e.stay e.ask e.tell
@@ -328,11 +347,14 @@ router_steps asked history now at _ _ _ _ mine one input (router_ahead r m id q 
     still asked history now at r mine one _ _ refl refl refl refl refl (closed asked history now at r mine one q) tt
     (plain_told asked history now r q (heard r m) _ (read_no_write asked history now at r mine one q named time stages telling work o), tt)
 router_steps asked history now at _ _ _ _ mine one input (router_note r m id dones q kind ordered statements answers tells opens_here work news_come more) =
-    let does = news asked history now at r mine one id dones q kind ordered statements answers opens_here work (subst (λ b. BodyStays asked history b) tells input) in
-    let p = proceeds asked history now at r mine one q (heard r m) (writing kind ordered statements (noted answers dones)) (found asked history now at r mine one id q opens_here) does in
+    let does = news asked history now at r mine one id dones q kind ordered statements answers opens_here work
+    (subst (λ b. BodyStays asked history b) tells input) in
+    let p = proceeds asked history now at r mine one q (heard r m) (writing kind ordered statements (noted answers dones))
+    (found asked history now at r mine one id q opens_here) does in
     still asked history now at r mine one _ _ refl refl refl refl refl p.0 p.1 tt
 router_steps asked history now at _ _ _ _ mine one input (router_wrote r m id dones q kind ordered statements answers tells opens_here work news_come all) =
-    let does = news asked history now at r mine one id dones q kind ordered statements answers opens_here work (subst (λ b. BodyStays asked history b) tells input) in
+    let does = news asked history now at r mine one id dones q kind ordered statements answers opens_here work
+    (subst (λ b. BodyStays asked history b) tells input) in
     still asked history now at r mine one _ _ refl refl refl refl refl (closed asked history now at r mine one q) tt
     (wrote_told asked history now r q (heard r m) kind ordered statements (noted answers dones) does, tt)
 router_steps asked history now at _ _ _ _ mine one input (router_read r m id rows q named time stages telling out answer f tells opens_here work merges shown) =
@@ -352,4 +374,5 @@ router_steps asked history now at _ _ _ _ mine one input (router_late r m late) 
 router_steps asked history now at _ _ _ _ mine one input (router_skip r m none) =
     still asked history now at r mine one _ r refl refl refl refl refl mine.requests tt tt
 router_steps asked history now at _ _ _ _ mine one input (router_moment r moment begun) =
-    still asked history now at r mine one _ _ refl refl refl refl refl mine.requests (each_again asked history r (max r.time (time_of_moment moment)) r.requests mine.requests) tt
+    still asked history now at r mine one _ _ refl refl refl refl refl mine.requests
+    (each_again asked history r (max r.time (time_of_moment moment)) r.requests mine.requests) tt

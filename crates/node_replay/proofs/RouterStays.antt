@@ -43,7 +43,10 @@ PlanStays history id request (needs_end kill) = IsNoWrite request
 module _ (history : List Entry) (r : Router) (id : RequestId) (request : Request) (silent : Bool) where
   -- a read has no write to do, whatever its time
   plan_read_stays : IsNoWrite request → (namespace : List ℕ) (at : Option ℕ) (time : ℕ) (stages : List Stage) (telling : Telling)
-      → WorkStays history id request namespace (elim at as (λ (o : Option ℕ). Work) [ None ↦ reading false time stages telling | Some named ↦ reading true named stages telling ])
+      → WorkStays history id request namespace (elim at as (λ (o : Option ℕ). Work) [
+        | None ↦ reading false time stages telling
+        | Some named ↦ reading true named stages telling
+      ])
   plan_read_stays no namespace None time stages telling = no
   plan_read_stays no namespace (Some named) time stages telling = no
 
@@ -77,7 +80,8 @@ all_drop P zero xs all = all
 all_drop P (suc n) [] all = tt
 all_drop P (suc n) (x ∷ xs) all = all_drop P n xs all.1
 
-all_run : (P : Statement → Type 0) (t : Table) (shard : ℕ) (statements : List Statement) → AllByRecursion P statements → AllByRecursion P (run_to t shard statements)
+all_run : (P : Statement → Type 0) (t : Table) (shard : ℕ) (statements : List Statement) → AllByRecursion P statements
+    → AllByRecursion P (run_to t shard statements)
 all_run P t shard [] all = tt
 all_run P t shard (s ∷ statements) all = by_test (is_on shard (owner_of_statement t s)) (all_run P t shard statements all.1)
   where
@@ -153,7 +157,8 @@ module _ (asked : List Asked) (history : List Entry) (r : Router) (time count : 
   shards_stay t sharding w = tt
   shards_stay t (splitting middle) w = tt
 
-  catalogue_stays : (work : Work) → IsWorking asked history (id_of r count) namespace work → LetterStays asked history (asks_catalogue r time count namespace work)
+  catalogue_stays : (work : Work) → IsWorking asked history (id_of r count) namespace work
+      → LetterStays asked history (asks_catalogue r time count namespace work)
   catalogue_stays (writing kind ordered statements answers) w = tt
   catalogue_stays (reading named at stages telling) w = tt
   catalogue_stays sharding w = tt

@@ -95,7 +95,8 @@ key_is (Some a) None e = absurd cc
 
 pub words_itself : (a : OutcomeWords) → same_words a a ≡ true
 words_itself a =
-    and_from (a.count == a.count) (a.modified == a.modified && (same_key_data a.upserted a.upserted && int_eq a.code a.code)) ((Decides-eqb a.count a.count).1 refl)
+    and_from (a.count == a.count) (a.modified == a.modified && (same_key_data a.upserted a.upserted && int_eq a.code a.code))
+    ((Decides-eqb a.count a.count).1 refl)
     (and_from (a.modified == a.modified) (same_key_data a.upserted a.upserted && int_eq a.code a.code) ((Decides-eqb a.modified a.modified).1 refl)
     (and_from (same_key_data a.upserted a.upserted) (int_eq a.code a.code) (key_itself a.upserted) ((Decides-int_eq a.code a.code).1 refl)))
 

@@ -43,7 +43,8 @@ entry_follows me tables entries time namespace s later has new =
     let d : DurableShard = durable_with me tables entries in
     let words : same_words (outcome_words e.outcome) (outcome_words e.outcome) ≡ true = words_itself (outcome_words e.outcome) in
     let may : (nat_lt (latest_entry entries) time
-    && (is_some (table_of namespace tables) && (is_none (seen_before s.number entries) && same_words (outcome_words e.outcome) (outcome_words e.outcome)))) ≡ true =
+    && (is_some (table_of namespace tables)
+    && (is_none (seen_before s.number entries) && same_words (outcome_words e.outcome) (outcome_words e.outcome)))) ≡ true =
     and_from _ _ (lt-ltb (latest_entry entries) time later) (and_from _ _ has (and_from _ _ (ap (λ o. is_none o) new) words)) in
     ap (λ t. replayed (option_map durable_shard (if t then Some (with_entry d e) else None)) []) may
     ∙ ap (λ n. Some (durable_shard (record { me = me; top = n; tables = tables; entries = entries ++ e ∷ [] }))) (sym (latest_push entries e later))
@@ -83,7 +84,8 @@ served_past me namespace ordered _ _ _ _ _ _ (serves_new entries time s rest don
     let push : latest_entry (entries ++ e ∷ []) ≡ time + 1 = latest_push entries e (omega (arith, past)) in
     subst (λ l. latest_entry l ≤ last) (append_assoc entries (e ∷ []) made)
     (served_past me namespace ordered (entries ++ e ∷ []) (time + 1) rest dones made last more (omega (arith, push)))
-served_past me namespace ordered _ _ _ _ _ _ (ends_again entries time s rest d seen over) past = subst (λ l. latest_entry l ≤ time) (sym (append-nil entries)) past
+served_past me namespace ordered _ _ _ _ _ _ (ends_again entries time s rest d seen over) past =
+    subst (λ l. latest_entry l ≤ time) (sym (append-nil entries)) past
 served_past me namespace ordered _ _ _ _ _ _ (ends_new entries time s rest new over) past =
     let push : latest_entry (entries ++ entry_for entries (time + 1) me namespace s ∷ []) ≡ time + 1 =
     latest_push entries (entry_for entries (time + 1) me namespace s) (omega (arith, past)) in

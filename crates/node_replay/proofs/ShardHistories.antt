@@ -42,7 +42,8 @@ numbered_push (d ∷ entries) e numbered all =
 -- the record of an entry keeps the entry that it is read as
 keeps_entry : (d : DurableShard) (w : EntryWords) → outcome_words (entry_from d w).outcome ≡ w.outcome → Keeps d.me w (entry_from d w)
 keeps_entry d w same = record {
-  own = ap (λ (o : OutcomeWords). entry_record (record { time = w.time; namespace = w.namespace; number = w.number; operation = w.operation; outcome = o })) same;
+  own = ap (λ (o : OutcomeWords).
+      entry_record (record { time = w.time; namespace = w.namespace; number = w.number; operation = w.operation; outcome = o })) same;
   place = refl;
   error = known_effect w.operation (document_left w.namespace (key_written w.operation) d.entries)
       ∙ ap (λ (o : OutcomeWords). error_among known_errors o.code) same;

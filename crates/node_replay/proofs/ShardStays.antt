@@ -58,8 +58,8 @@ no_changes (e ∷ made) = (tt, no_changes made)
 
 -- OUTCOMES
 
-outcome_from : (history : List Entry) (time : ℕ) (write : WriteCommand) (id : RequestId) (dones : List Done) → AllByRecursion (IsDoneAt history time write id) dones
-    → AllByRecursion (IsOutcomeAt history write id) dones
+outcome_from : (history : List Entry) (time : ℕ) (write : WriteCommand) (id : RequestId) (dones : List Done)
+    → AllByRecursion (IsDoneAt history time write id) dones → AllByRecursion (IsOutcomeAt history write id) dones
 outcome_from history time write id dones all =
     all_weaken (IsDoneAt history time write id) (IsOutcomeAt history write id) dones
     (λ d h. record { within = h.within; outcome = by_answer (number_for write.number id d.index) d.answer h.answer }) all
@@ -209,10 +209,12 @@ module _ (asked more : List Asked) (history longer : List Entry) (g : Grows aske
 pub shard_stays : (asked more : List Asked) (history longer : List Entry) (g : Grows asked more history longer) (at : ℕ) (kept : List Kept) (s t : Shard)
     (i : Input) (f : Effect) → longer ≡ entries_kept (kept ++ f.written) → ShardStays asked history at kept s → latest_entry s.entries ≤ s.time
     → InputStays asked history i → ShardRow s i f t → ShardNext more longer at kept f t
-shard_stays asked more history longer g at kept _ _ _ _ here mine past input (shard_write s m id turn ordered namespace statements sent d dones made last asks agree serves) =
+shard_stays asked more history longer g at kept _ _ _ _ here mine past input
+    (shard_write s m id turn ordered namespace statements sent d dones made last asks agree serves) =
     writes_stay asked more history longer g at kept s mine past id namespace ordered (heard s m) statements (d ∷ dones) made last id.router (omega arith) here
     (subst (λ b. BodyStays asked history b) asks input) serves
-shard_stays asked more history longer g at kept _ _ _ _ here mine past input (shard_repeat s m id turn ordered namespace statements sent d dones asks differ repeated) =
+shard_stays asked more history longer g at kept _ _ _ _ here mine past input
+    (shard_repeat s m id turn ordered namespace statements sent d dones asks differ repeated) =
     repeats_stay asked more history longer g at kept s mine past id namespace ordered (heard s m) statements (d ∷ dones) id.router (omega arith) here
     (subst (λ b. BodyStays asked history b) asks input) repeated
 shard_stays asked more history longer g at kept _ _ _ _ here mine past input (shard_empty s m id turn ordered namespace sent asks) =
@@ -229,7 +231,8 @@ shard_stays asked more history longer g at kept _ _ _ _ here mine past input (sh
     says_one asked more history longer g at kept s mine past _ (heard s m) refl refl refl (tt, tt)
 shard_stays asked more history longer g at kept _ _ _ _ here mine past input (shard_rows s m id turn namespace at_time half documents rows asks shows small) =
     says_one asked more history longer g at kept s mine past _ (heard s m) refl refl refl (tt, tt)
-shard_stays asked more history longer g at kept _ _ _ _ here mine past input (shard_excess s m id turn namespace at_time half documents rows length n asks shows much told) =
+shard_stays asked more history longer g at kept _ _ _ _ here mine past input
+    (shard_excess s m id turn namespace at_time half documents rows length n asks shows much told) =
     says_one asked more history longer g at kept s mine past _ (heard s m) refl refl refl (tt, tt)
 shard_stays asked more history longer g at kept _ _ _ _ here mine past input (shard_overflow s m id turn namespace at_time half documents asks over) =
     says_one asked more history longer g at kept s mine past _ (heard s m) refl refl refl (tt, tt)

@@ -116,7 +116,8 @@ pub record Grows (asked more : List Asked) (history longer : List Entry) : Type 
   pub stored : (e : Entry) → IsIn e history → IsIn e longer
 
 module _ (asked more : List Asked) (history longer : List Entry) (g : Grows asked more history longer) where
-  pub sent_grows : (id : RequestId) (namespace : List ℕ) (statements : List Statement) → AreSent asked id namespace statements → AreSent more id namespace statements
+  pub sent_grows : (id : RequestId) (namespace : List ℕ) (statements : List Statement) → AreSent asked id namespace statements
+      → AreSent more id namespace statements
   sent_grows id namespace statements s = record {
     request = s.request;
     write = s.write;
@@ -180,7 +181,8 @@ module _ (asked more : List Asked) (history longer : List Entry) (g : Grows aske
 
   pub entries_grow : (entries : List Entry) → AllByRecursion (EntryStays asked) entries → AllByRecursion (EntryStays more) entries
   entries_grow entries all =
-      all_weaken (EntryStays asked) (EntryStays more) entries (λ (e : Entry) s. record { id = s.id; sent = sent_grows s.id e.namespace (statement_of e ∷ []) s.sent }) all
+      all_weaken (EntryStays asked) (EntryStays more) entries
+      (λ (e : Entry) s. record { id = s.id; sent = sent_grows s.id e.namespace (statement_of e ∷ []) s.sent }) all
 
   pub stored_grows : (t : Answered) → IsStored history t → IsStored longer t
   stored_grows t s write asks =

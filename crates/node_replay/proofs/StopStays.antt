@@ -65,7 +65,7 @@ here_stays : (w : World) (at : ℕ) (old : Held) → WorldStays w → slice_get 
     → StateStays w.asked (stored_in w.nodes) at old.kept old.state
 here_stays w at old stay here =
     let zero_at : 0 + at ≡ at = omega arith in
-    subst (λ n. HeldStays w.asked (stored_in w.nodes) n old) zero_at (each_get (HeldStays w.asked (stored_in w.nodes)) 0 at w.nodes old stay.nodes here)
+    subst (λ n. HeldStays w.asked (stored_in w.nodes) n old) zero_at (each_get (HeldStays w.asked (stored_in w.nodes)) 0 at w.nodes old stay.each here)
 
 -- a step of it, before a state that it becomes
 taken_step : (w : World) (at : ℕ) (i : Input) (old : Held) (f : Effect) (reached new : NodeState) → WorldStays w → NodeReplays old
@@ -74,14 +74,15 @@ taken_step : (w : World) (at : ℕ) (i : Input) (old : Held) (f : Effect) (reach
     → StepStays w.asked (stored_in (with_step w.nodes at old f.written new)) w.now at old.kept f reached
 taken_step w at i old f reached new stay replays input here step =
     step_stays w.asked (stored_in w.nodes) (stored_in (with_step w.nodes at old f.written new)) (stored_stays w.nodes at old f.written new here)
-    w.now at old.kept old.state reached i f stay.one (λ is. stored_here w.nodes at old f.written new here is) (here_stays w at old stay here) replays.1 input step
+    w.now at old.kept old.state reached i f stay.one (λ is. stored_here w.nodes at old f.written new here is) (here_stays w at old stay here)
+    replays.1 input step
 
 move_stays : (w v : World) (at : ℕ) (i : Input) → WorldStays w → AllByRecursion NodeReplays w.nodes → InputStays w.asked (stored_in w.nodes) i → Moves w at i v
     → WorldStays v
 move_stays w v at i stay all input m =
     let s = taken_step w at i m.old m.f m.new m.new stay (all_got NodeReplays w.nodes at m.old all m.here) input m.here m.step in
-    world_after w v at m.old m.f m.new m.f.mail m.f.replies stay m.here (ap (λ (x : World). x.nodes) m.then) (ap (λ (x : World). x.sent) m.then)
-    (ap (λ (x : World). x.asked) m.then) (ap (λ (x : World). x.answered) m.then) (ap (λ (x : World). x.changed) m.then) s.changes s.node s.letters s.told s.one s.here
+    subst (λ x. WorldStays x) (sym m.then)
+    (world_after w at m.old m.f m.new stay m.here m.f.mail m.f.replies s.changes s.node s.letters s.told s.one s.here)
 
 -- a message that was sent
 sent_stays : (w : World) (which : ℕ) (m : Letter) → WorldStays w → slice_get w.sent which ≡ Some m → LetterStays w.asked (stored_in w.nodes) m
@@ -100,12 +101,14 @@ restart_stays w v at stay all m =
     record { taken = λ a i. subst (λ l. IsIn a l) (sym (append-nil w.asked)) i; stored = stored_stays w.nodes at m.old [] m.new m.here } in
     let old = state_grows w.asked [] (stored_in w.nodes) (stored_in (with_step w.nodes at m.old [] m.new)) g at m.old.kept m.old.state tt
     (here_stays w at m.old stay m.here) in
-    let became = opened_stays (w.asked ++ []) (stored_in (with_step w.nodes at m.old [] m.new)) at m.old.kept (latest_time (records_of m.old.kept)) m.old.state old in
-    world_after w v at m.old nothing m.new [] [] stay m.here (ap (λ (x : World). x.nodes) m.then) (ap (λ (x : World). x.sent) m.then)
-    (ap (λ (x : World). x.asked) m.then) (ap (λ (x : World). x.answered) m.then) (ap (λ (x : World). x.changed) m.then) (inr tt)
+    let became = opened_stays (w.asked ++ []) (stored_in (with_step w.nodes at m.old [] m.new)) at m.old.kept
+    (latest_time (records_of m.old.kept)) m.old.state old in
+    subst (λ x. WorldStays x) (sym m.then)
+    (world_after w at m.old nothing m.new stay m.here [] [] (inr tt)
     (subst (λ k. StateStays (w.asked ++ []) (stored_in (with_step w.nodes at m.old [] m.new)) at k m.new) (sym (append-nil m.old.kept))
-    (subst (λ s. StateStays (w.asked ++ []) (stored_in (with_step w.nodes at m.old [] m.new)) at m.old.kept s) (opened_is m.old m.new replays.0 m.opens) became))
-    tt tt (subst (λ l. AreDifferent (ids_asked l)) (sym (append-nil w.asked)) stay.one) tt
+    (subst (λ s. StateStays (w.asked ++ []) (stored_in (with_step w.nodes at m.old [] m.new)) at m.old.kept s)
+    (opened_is m.old m.new replays.0 m.opens) became))
+    tt tt (subst (λ l. AreDifferent (ids_asked l)) (sym (append-nil w.asked)) stay.one) tt)
 
 stop_stays : (w v : World) (at : ℕ) (i : Input) → WorldStays w → AllByRecursion NodeReplays w.nodes → InputStays w.asked (stored_in w.nodes) i → Stops w at i v
     → WorldStays v
@@ -114,16 +117,17 @@ stop_stays w v at i stay all input m =
     let follows : StepFollows m.old.state m.f m.reached = step_follows m.old.state m.reached i m.f replays.1 m.step in
     let after : NodeReplays (record { state = m.reached; kept = m.old.kept ++ m.f.written }) = step_replays m.old m.reached i m.f replays follows in
     let opens : opened_on m.reached (m.old.kept ++ m.f.written) ≡ Some m.new =
-    ap (λ e. option_map (opened (latest_time (records_of (m.old.kept ++ m.f.written)))) (replayed (Some e) (records_of (m.old.kept ++ m.f.written)))) follows.own
+    ap (λ e. option_map (opened (latest_time (records_of (m.old.kept ++ m.f.written)))) (replayed (Some e) (records_of (m.old.kept ++ m.f.written))))
+    follows.own
     ∙ m.opens in
     let s = taken_step w at i m.old m.f m.reached m.new stay replays input m.here m.step in
-    world_after w v at m.old m.f m.new [] [] stay m.here (ap (λ (x : World). x.nodes) m.then) (ap (λ (x : World). x.sent) m.then)
-    (ap (λ (x : World). x.asked) m.then) (ap (λ (x : World). x.answered) m.then) (ap (λ (x : World). x.changed) m.then) s.changes
+    subst (λ x. WorldStays x) (sym m.then)
+    (world_after w at m.old (cut_off m.f) m.new stay m.here [] [] s.changes
     (subst (λ x. StateStays (w.asked ++ asked_by w.now m.f.taken) (stored_in (with_step w.nodes at m.old m.f.written m.new)) at (m.old.kept ++ m.f.written) x)
     (opened_is (record { state = m.reached; kept = m.old.kept ++ m.f.written }) m.new after.0 opens)
     (opened_stays (w.asked ++ asked_by w.now m.f.taken) (stored_in (with_step w.nodes at m.old m.f.written m.new)) at (m.old.kept ++ m.f.written)
     (latest_time (records_of (m.old.kept ++ m.f.written))) m.reached s.node))
-    tt tt s.one s.here
+    tt tt s.one s.here)
 
 given_stays : (w : World) (e : Event) (at : ℕ) (i : Input) → WorldStays w → Gives w e at i → InputStays w.asked (stored_in w.nodes) i
 given_stays w _ _ _ stay (gives_request at link number request is) = tt
@@ -149,7 +153,7 @@ routers_stay at (suc n) less = (record { own = refl; place = less; requests = tt
 
 start_stays : (routers : ℕ) → WorldStays (start routers)
 start_stays routers = record {
-  nodes = (
+  each = (
     record { own = refl; place = refl; changes = refl; keyed = tt },
     (record { own = refl; place = refl; entries = refl; sent = tt; parked = tt }, routers_stay 2 routers (omega arith)),
   );
@@ -248,7 +252,11 @@ shard_keeps asked history kept (router_state r) stay replays = let l = stay.plac
 shard_keeps asked history kept (shard_state x) stay replays =
     let h = shard_history x.me (records_of kept) (record { me = x.me; top = latest_entry x.entries; tables = x.tables; entries = x.entries }) replays.0 in
     subst (λ l. ShardKeeps asked l) stay.entries
-    (record { legal = h.legal; numbers = h.numbered; sent = all_weaken (EntryStays asked) (WasSentBy asked) x.entries (λ e s. was_sent_by asked e s) stay.sent })
+    (record {
+      legal = h.legal;
+      numbers = h.numbered;
+      sent = all_weaken (EntryStays asked) (WasSentBy asked) x.entries (λ e s. was_sent_by asked e s) stay.sent;
+    })
 
 shard_of_nodes : (asked : List Asked) (history : List Entry) (nodes : List Held) → EachAt (HeldStays asked history) 0 nodes → AllByRecursion NodeReplays nodes
     → ShardKeeps asked (stored_in nodes)
@@ -273,13 +281,13 @@ catalogue_of_nodes asked history (c ∷ nodes) stay all = catalogue_keeps asked 
 pub run_with_stops_keeps : (routers : ℕ) (events : List EventOrStop) (w : World) → RunWithStops (start routers) events w → KeepsWrites w
 run_with_stops_keeps routers events w run =
     let r = run_stays (start routers) w events (start_stays routers) (start_replays routers) run in
-    let s = shard_of_nodes w.asked (stored_in w.nodes) w.nodes r.0.nodes r.1 in
+    let s = shard_of_nodes w.asked (stored_in w.nodes) w.nodes r.0.each r.1 in
     record {
       legal = s.legal;
       numbers = s.numbers;
       sent = s.sent;
       told = r.0.told;
-      fitting = catalogue_of_nodes w.asked (stored_in w.nodes) w.nodes r.0.nodes r.1;
+      fitting = catalogue_of_nodes w.asked (stored_in w.nodes) w.nodes r.0.each r.1;
       one = r.0.one;
       dated = r.0.dated;
     }

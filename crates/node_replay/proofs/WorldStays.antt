@@ -7,7 +7,7 @@ use Rattle.chunk_model.specs.Tables.{first_shard}
 use Rattle.history_model.proofs.Lists.{all_weaken, all_append, all_at, in_prefix}
 use Rattle.history_model.specs.History.{Entry, IsIn, Legal}
 use Rattle.reply_model.specs.Exchanges.{Asked, Answered}
-use Rattle.reply_model.specs.OneHistory.{ids_asked, AreDifferent, changes_in as changes_of}
+use Rattle.reply_model.specs.OneHistory.{Dated, ids_asked, AreDifferent, changes_in as changes_of}
 use Rattle.node_model.proofs.Journals.{journal_here}
 use Rattle.node_model.specs.Journal.{Kept, entries_kept, changes_kept}
 use Rattle.node_model.specs.Letters.{Letter, Input, client_input, letter_input, moment_input, opened_input, Effect, Reply}
@@ -108,7 +108,8 @@ module _ (asked : List Asked) (history longer : List Entry) (stays : (e : Entry)
         here = s.here;
         changes = inr (tt, router_aside (begins r) q i f row);
       }
-  step_stays now at kept _ _ _ _ one written mine holds input (other_step s m apart) = silent asked longer now at kept _ s one refl refl (by_state s mine) tt (inr tt)
+  step_stays now at kept _ _ _ _ one written mine holds input (other_step s m apart) =
+      silent asked longer now at kept _ s one refl refl (by_state s mine) tt (inr tt)
     where
       by_state : (s : NodeState) → StateStays asked history at kept s → StateStays asked longer at (kept ++ []) s
       by_state (catalogue_state c) s = subst (λ l. CatalogueStays at l c) (sym (append-nil kept)) s
@@ -150,12 +151,15 @@ state_grows asked more history longer g j kept (router_state r) other s = record
 abbrev pub stored_in : List Held → List Entry
 stored_in nodes = entries_kept (journal_at nodes first_shard)
 
-pub record WorldStays (w : World) : Type 0 where
-  pub nodes : EachAt (HeldStays w.asked (stored_in w.nodes)) 0 w.nodes
-  pub letters : AllByRecursion (LetterStays w.asked (stored_in w.nodes)) w.sent
-  pub told : AllByRecursion (IsStored (stored_in w.nodes)) w.answered
-  pub one : AreDifferent (ids_asked w.asked)
-  pub dated : changes_of w.changed ≡ changes_kept (journal_at w.nodes 0)
+pub record ListsStay (nodes : List Held) (sent : List Letter) (asked : List Asked) (answered : List Answered) (changed : List Dated) : Type 0 where
+  pub each : EachAt (HeldStays asked (stored_in nodes)) 0 nodes
+  pub letters : AllByRecursion (LetterStays asked (stored_in nodes)) sent
+  pub told : AllByRecursion (IsStored (stored_in nodes)) answered
+  pub one : AreDifferent (ids_asked asked)
+  pub dated : changes_of changed ≡ changes_kept (journal_at nodes 0)
+
+abbrev pub WorldStays : World → Type 0
+WorldStays w = ListsStay w.nodes w.sent w.asked w.answered w.changed
 
 -- the journal of the shard after a step
 abbrev pub with_step : List Held → ℕ → Held → List Kept → NodeState → List Held
@@ -183,44 +187,39 @@ stored_here nodes at old written new here is =
     ap (λ n. entries_kept (journal_at (with_step nodes at old written new) n)) (sym is)
     ∙ ap (λ l. entries_kept l) (journal_here nodes at old (record { state = new; kept = old.kept ++ written }) here)
 
--- the world after a step
-pub world_after : (w v : World) (at : ℕ) (old : Held) (f : Effect) (new : NodeState) (mail : List Letter) (replies : List Reply) → WorldStays w
-    → slice_get w.nodes at ≡ Some old
-    → v.nodes ≡ with_step w.nodes at old f.written new → v.sent ≡ w.sent ++ mail → v.asked ≡ w.asked ++ asked_by w.now f.taken
-    → v.answered ≡ w.answered ++ answered_by w.now replies → v.changed ≡ dated_onto w.now w.changed f.written
-    → (at ≡ 0) ⊎ AllByRecursion IsNoChange f.written
-    → StateStays (w.asked ++ asked_by w.now f.taken) (stored_in (with_step w.nodes at old f.written new)) at (old.kept ++ f.written) new
-    → AllByRecursion (LetterStays (w.asked ++ asked_by w.now f.taken) (stored_in (with_step w.nodes at old f.written new))) mail
-    → AllByRecursion (IsStored (stored_in (with_step w.nodes at old f.written new))) (answered_by w.now replies)
-    → AreDifferent (ids_asked (w.asked ++ asked_by w.now f.taken)) → AllByRecursion (λ (a : Asked). a.id.router ≡ at) (asked_by w.now f.taken) → WorldStays v
-world_after w v at old f new mail replies stay here nodes sent asked answered changed changes node letters told one own =
-    let g : Grows w.asked (w.asked ++ asked_by w.now f.taken) (stored_in w.nodes) (stored_in (with_step w.nodes at old f.written new)) =
-    record { taken = λ a i. in_prefix a w.asked (asked_by w.now f.taken) i; stored = stored_stays w.nodes at old f.written new here } in
-    let zero_at : 0 + at ≡ at = omega arith in
-    let all : EachAt (HeldStays (w.asked ++ asked_by w.now f.taken) (stored_in (with_step w.nodes at old f.written new))) 0 (with_step w.nodes at old f.written new) =
-    each_set (HeldStays w.asked (stored_in w.nodes)) (HeldStays (w.asked ++ asked_by w.now f.taken) (stored_in (with_step w.nodes at old f.written new))) 0 at
-    w.nodes (record { state = new; kept = old.kept ++ f.written })
-    (λ j y apart s. state_grows w.asked (asked_by w.now f.taken) (stored_in w.nodes) (stored_in (with_step w.nodes at old f.written new)) g j y.kept y.state
-    (all_weaken (λ (a : Asked). a.id.router ≡ at) (λ (a : Asked). a.id.router ≢ j) (asked_by w.now f.taken)
-    (λ a is e. apart (sym e ∙ is ∙ sym zero_at)) own) s)
-    (subst (λ n. StateStays (w.asked ++ asked_by w.now f.taken) (stored_in (with_step w.nodes at old f.written new)) n (old.kept ++ f.written) new) (sym zero_at) node)
-    stay.nodes in
-    record {
-      nodes = subst (λ l. EachAt (HeldStays v.asked (stored_in l)) 0 l) (sym nodes)
-          (subst (λ l. EachAt (HeldStays l (stored_in (with_step w.nodes at old f.written new))) 0 (with_step w.nodes at old f.written new)) (sym asked) all);
-      letters = subst (λ l. AllByRecursion (LetterStays v.asked (stored_in l)) v.sent) (sym nodes)
-          (subst (λ l. AllByRecursion (LetterStays l (stored_in (with_step w.nodes at old f.written new))) v.sent) (sym asked)
-          (subst (λ l. AllByRecursion (LetterStays (w.asked ++ asked_by w.now f.taken) (stored_in (with_step w.nodes at old f.written new))) l) (sym sent)
-          (all_append (LetterStays (w.asked ++ asked_by w.now f.taken) (stored_in (with_step w.nodes at old f.written new))) w.sent mail
-          (letters_grow w.asked (w.asked ++ asked_by w.now f.taken) (stored_in w.nodes) (stored_in (with_step w.nodes at old f.written new)) g w.sent stay.letters)
-          letters)));
-      told = subst (λ l. AllByRecursion (IsStored (stored_in l)) v.answered) (sym nodes)
-          (subst (λ l. AllByRecursion (IsStored (stored_in (with_step w.nodes at old f.written new))) l) (sym answered)
-          (all_append (IsStored (stored_in (with_step w.nodes at old f.written new))) w.answered (answered_by w.now replies)
-          (all_weaken (IsStored (stored_in w.nodes)) (IsStored (stored_in (with_step w.nodes at old f.written new))) w.answered
-          (λ t s. stored_grows w.asked (w.asked ++ asked_by w.now f.taken) (stored_in w.nodes) (stored_in (with_step w.nodes at old f.written new)) g t s) stay.told)
-          told));
-      one = subst (λ l. AreDifferent (ids_asked l)) (sym asked) one;
-      dated = ap (λ l. changes_of l) changed ∙ dated_same w.now w.nodes at old f.written new w.changed here stay.dated changes
-          ∙ ap (λ l. changes_kept (journal_at l 0)) (sym nodes);
-    }
+-- what the world has after a step
+module _ (w : World) (at : ℕ) (old : Held) (f : Effect) (new : NodeState) (stay : WorldStays w) (here : slice_get w.nodes at ≡ Some old) where
+  abbrev More : List Asked
+  More = asked_by w.now f.taken
+
+  abbrev Next : List Held
+  Next = with_step w.nodes at old f.written new
+
+  grown : Grows w.asked (w.asked ++ More) (stored_in w.nodes) (stored_in Next)
+  grown = record { taken = λ a i. in_prefix a w.asked More i; stored = stored_stays w.nodes at old f.written new here }
+
+  nodes_after : StateStays (w.asked ++ More) (stored_in Next) at (old.kept ++ f.written) new → AllByRecursion (λ (a : Asked). a.id.router ≡ at) More
+      → EachAt (HeldStays (w.asked ++ More) (stored_in Next)) 0 Next
+  nodes_after node own =
+      let zero_at : 0 + at ≡ at = omega arith in
+      each_set (HeldStays w.asked (stored_in w.nodes)) (HeldStays (w.asked ++ More) (stored_in Next)) 0 at w.nodes
+      (record { state = new; kept = old.kept ++ f.written })
+      (λ j y apart s. state_grows w.asked More (stored_in w.nodes) (stored_in Next) grown j y.kept y.state
+      (all_weaken (λ (a : Asked). a.id.router ≡ at) (λ (a : Asked). a.id.router ≢ j) More (λ a is e. apart (sym e ∙ is ∙ sym zero_at)) own) s)
+      (subst (λ n. StateStays (w.asked ++ More) (stored_in Next) n (old.kept ++ f.written) new) (sym zero_at) node) stay.each
+
+  pub world_after : (mail : List Letter) (replies : List Reply) → (at ≡ 0) ⊎ AllByRecursion IsNoChange f.written
+      → StateStays (w.asked ++ More) (stored_in Next) at (old.kept ++ f.written) new → AllByRecursion (LetterStays (w.asked ++ More) (stored_in Next)) mail
+      → AllByRecursion (IsStored (stored_in Next)) (answered_by w.now replies) → AreDifferent (ids_asked (w.asked ++ More))
+      → AllByRecursion (λ (a : Asked). a.id.router ≡ at) More
+      → ListsStay Next (w.sent ++ mail) (w.asked ++ More) (w.answered ++ answered_by w.now replies) (dated_onto w.now w.changed f.written)
+  world_after mail replies changes node letters told one own = record {
+    each = nodes_after node own;
+    letters = all_append (LetterStays (w.asked ++ More) (stored_in Next)) w.sent mail
+        (letters_grow w.asked (w.asked ++ More) (stored_in w.nodes) (stored_in Next) grown w.sent stay.letters) letters;
+    told = all_append (IsStored (stored_in Next)) w.answered (answered_by w.now replies)
+        (all_weaken (IsStored (stored_in w.nodes)) (IsStored (stored_in Next)) w.answered
+        (λ t s. stored_grows w.asked (w.asked ++ More) (stored_in w.nodes) (stored_in Next) grown t s) stay.told) told;
+    one = one;
+    dated = dated_same w.now w.nodes at old f.written new w.changed here stay.dated changes;
+  }

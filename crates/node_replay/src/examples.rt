@@ -34,7 +34,7 @@ pub fn shards_refuse()
     ensures below_ceiling { Refuses the_shard (one_table ++ ceiling_record (timestamp 1000 2) ∷ []) (record_of first_entry) }
     ensures table { Refuses the_shard one_table (table_record (first_table creation)) }
     ensures creation { Refuses the_shard one_table (create_record creation) }
-    ensures move { Refuses the_shard one_table (move_start_record begun_move) }
+    ensures part_of_a_move { Refuses the_shard one_table (move_start_record begun_move) }
 {}
 
 /// What may not be the next record of the catalogue: a creation of a name that exists, of another epoch than the next, at a time that is not above every
