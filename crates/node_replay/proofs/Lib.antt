@@ -16,4 +16,4 @@ pub mod RouterNext
 pub mod WorldStays
 pub mod StopStays
 pub mod JournalsStay
-pub mod Laws
+pub mod LawProofs

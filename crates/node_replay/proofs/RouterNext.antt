@@ -10,7 +10,7 @@ use Rattle.command_model.specs.Command.{command_of}
 use Rattle.command_model.specs.Writes.{WriteCommand, WriteKind}
 use Rattle.history_model.proofs.Lists.{all_weaken, all_append, all_at, in_back, in_first, in_prefix}
 use Rattle.history_model.specs.History.{Entry, IsIn}
-use Rattle.opmsg_model.specs.Requests.{Request}
+use Rattle.reply_model.specs.Requests.{Request}
 use Rattle.pipeline_model.specs.Stages.{Stage}
 use Rattle.bson_model.specs.Tree.{Datum}
 use Rattle.reply_model.specs.Exchanges.{Asked, Answered}

@@ -13,7 +13,7 @@ use Rattle.command_model.specs.Writes.{WriteCommand, WriteKind}
 use Rattle.command_model.proofs.Taken.{middle_is_key}
 use Rattle.history_model.proofs.Lists.{all_weaken, all_append, all_at, all_from, in_back, in_first, in_prefix}
 use Rattle.history_model.specs.History.{Entry, IsIn}
-use Rattle.opmsg_model.specs.Requests.{Request}
+use Rattle.reply_model.specs.Requests.{Request}
 use Rattle.pipeline_model.specs.Halves.{Half}
 use Rattle.pipeline_model.specs.Split.{split}
 use Rattle.pipeline_model.specs.Stages.{Stage}

@@ -12,7 +12,7 @@ use Rattle.history_model.proofs.Lists.{all_weaken, in_prefix}
 use Rattle.history_model.specs.History.{StatementNumber, Entry, IsIn}
 use Rattle.reply_model.specs.Exchanges.{Asked, Answered, number_for}
 use Rattle.reply_model.specs.Outcomes.{StatementOutcome, Done}
-use Rattle.opmsg_model.specs.Requests.{Request}
+use Rattle.reply_model.specs.Requests.{Request}
 use Rattle.node_model.specs.Journal.{Kept, entries_kept, changes_kept}
 use Rattle.node_model.specs.Letters.{Statement, Body, table_ask, table_told, split_ask, split_done, write_ask, write_done, read_ask, half_ask, read_rows, stale, time_ask, time_told, Letter}
 use Rattle.node_model.specs.RouterRows.{statements_from}

@@ -30,12 +30,12 @@ abbrev mutual
   pub same_items : Items → Items → Bool
   same_items no_items no_items = true
   same_items (item a items) (item b others) = same_datum a b && same_items items others
-  same_items items others = false
+  same_items a b = false
 
   pub same_fields : Fields → Fields → Bool
   same_fields no_fields no_fields = true
   same_fields (field name a fields) (field other b others) = bytes_eq name other && (same_datum a b && same_fields fields others)
-  same_fields fields others = false
+  same_fields a b = false
 
 abbrev pub same_key_data : Option Datum → Option Datum → Bool
 same_key_data None None = true
