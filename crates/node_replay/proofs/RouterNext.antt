@@ -129,7 +129,7 @@ module _ (asked : List Asked) (history : List Entry) (now at : ℕ) (r : Router)
           request = o.request;
           taken = o.taken;
           own = o.own;
-          work = subst (λ x. WorkStays history (id_of r q.count) x q.namespace work) (sym o.asks) does;
+          does = subst (λ x. WorkStays history (id_of r q.count) x q.namespace work) (sym o.asks) does;
         }),
   )
 
@@ -164,7 +164,7 @@ module _ (asked : List Asked) (history : List Entry) (now at : ℕ) (r : Router)
       )
 
   -- a life begins: of a life that did not begin there is nothing
-  begins_stays : r.begun ≡ false → RouterStays asked history at (begins r)
+  pub begins_stays : r.begun ≡ false → RouterStays asked history at (begins r)
   begins_stays none = record {
     own = mine.own;
     place = mine.place;
@@ -180,7 +180,7 @@ module _ (asked : List Asked) (history : List Entry) (now at : ℕ) (r : Router)
 
   -- A REQUEST COMES
 
-  new_number : r.begun ≡ true → AllByRecursion (λ (b : Asked). b.id ≢ id_of r (r.count + 1)) asked
+  pub new_number : r.begun ≡ true → AllByRecursion (λ (b : Asked). b.id ≢ id_of r (r.count + 1)) asked
   new_number begun =
       all_weaken (λ (a : Asked). a.id.router ≡ at → IsBy a.id.life r.life r.begun (a.id.count ≤ r.count)) (λ (b : Asked). b.id ≢ id_of r (r.count + 1)) asked
       (λ b c e. not_taken b.id.life b.id.count (c (ap (λ (i : RequestId). i.router) e ∙ mine.own)) (ap (λ (i : RequestId). i.life) e)
@@ -265,7 +265,7 @@ module _ (asked : List Asked) (history : List Entry) (now at : ℕ) (r : Router)
         took _ (takes r (opened_request r link number request namespace work ∷ [])) (opened_request r link number request namespace work ∷ [])
         refl refl refl refl refl refl (opened namespace work does, tt)
         (asks_stay (asked ++ Came ∷ []) history r r.time (r.count + 1) namespace work
-        (record { request = Came; taken = in_back Came asked (Came ∷ []) (in_first Came []); own = refl; work = does })) tt
+        (record { request = Came; taken = in_back Came asked (Came ∷ []) (in_first Came []); own = refl; does = does })) tt
 
     -- a request that is no write is answered
     no_write_told : (answer : Answer) → IsNoWrite request
@@ -277,7 +277,7 @@ module _ (asked : List Asked) (history : List Entry) (now at : ℕ) (r : Router)
           time = r.time;
           document = answer_document answer;
         })
-    no_write_told answer no write asks = absurd (no write asks)
+    no_write_told answer plain write asks = absurd (plain write asks)
 
 -- the reply to a write has the outcomes that arrived
 wrote_told : (asked : List Asked) (history : List Entry) (now : ℕ) (r : Router) (q : Open) (time : ℕ) (kind : WriteKind) (ordered : Bool)
@@ -301,21 +301,21 @@ router_steps asked history now at _ _ _ _ mine one input (router_begin r not_beg
 router_steps asked history now at _ _ _ _ mine one input (router_opened r begun) =
     still asked history now at r mine one _ r refl refl refl refl refl mine.requests tt tt
 router_steps asked history now at _ _ _ _ mine one input (router_plain r link number request answer begun plan) =
-    let no = planned history r (id_of r (r.count + 1)) request request.more (at_once answer) plan in
+    let plain = planned history r (id_of r (r.count + 1)) request request.more (at_once answer) plan in
     at_once_stays asked history now at r mine one link number request begun _ (takes r []) refl refl refl refl refl refl refl
-    (no_write_told asked history now at r mine one link number request begun answer no, tt)
+    (no_write_told asked history now at r mine one link number request begun answer plain, tt)
 router_steps asked history now at _ _ _ _ mine one input (router_more r link number request more c batch next begun plan found shows) =
-    let no = planned history r (id_of r (r.count + 1)) request request.more (needs_batch more) plan in
+    let plain = planned history r (id_of r (r.count + 1)) request request.more (needs_batch more) plan in
     at_once_stays asked history now at r mine one link number request begun _ _ refl refl refl refl refl refl refl
-    (no_write_told asked history now at r mine one link number request begun (next_answer batch) no, tt)
+    (no_write_told asked history now at r mine one link number request begun (next_answer batch) plain, tt)
 router_steps asked history now at _ _ _ _ mine one input (router_no_cursor r link number request more begun plan none) =
-    let no = planned history r (id_of r (r.count + 1)) request request.more (needs_batch more) plan in
+    let plain = planned history r (id_of r (r.count + 1)) request request.more (needs_batch more) plan in
     at_once_stays asked history now at r mine one link number request begun _ (takes r []) refl refl refl refl refl refl refl
-    (no_write_told asked history now at r mine one link number request begun _ no, tt)
+    (no_write_told asked history now at r mine one link number request begun _ plain, tt)
 router_steps asked history now at _ _ _ _ mine one input (router_kill r link number request kill killed missing next begun plan ends) =
-    let no = planned history r (id_of r (r.count + 1)) request request.more (needs_end kill) plan in
+    let plain = planned history r (id_of r (r.count + 1)) request request.more (needs_end kill) plan in
     at_once_stays asked history now at r mine one link number request begun _ _ refl refl refl refl refl refl refl
-    (no_write_told asked history now at r mine one link number request begun (killed_answer killed missing) no, tt)
+    (no_write_told asked history now at r mine one link number request begun (killed_answer killed missing) plain, tt)
 router_steps asked history now at _ _ _ _ mine one input (router_take r link number request namespace work begun plan) =
     take_stays asked history now at r mine one link number request begun namespace work
     (planned history r (id_of r (r.count + 1)) request request.more (needs namespace work) plan)
@@ -337,9 +337,9 @@ router_steps asked history now at _ _ _ _ mine one input (router_not_sharded r m
     (plain_told asked history now r q (heard r m) _ (split_none asked history now at r mine one q middle work o), tt)
 router_steps asked history now at _ _ _ _ mine one input (router_reach r m id q named time stages telling tells opens_here work waits past) =
     let o = found asked history now at r mine one id q opens_here in
-    let no = read_no_write asked history now at r mine one q named time stages telling work o in
+    let plain = read_no_write asked history now at r mine one q named time stages telling work o in
     let does : WorkStays history (id_of r q.count) q.request q.namespace (reached (heard r m) q.work) =
-    subst (λ w. WorkStays history (id_of r q.count) q.request q.namespace (reached (heard r m) w)) (sym work) no in
+    subst (λ w. WorkStays history (id_of r q.count) q.request q.namespace (reached (heard r m) w)) (sym work) plain in
     let p = proceeds asked history now at r mine one q (heard r m) (reached (heard r m) q.work) o does in
     still asked history now at r mine one _ _ refl refl refl refl refl p.0 p.1 tt
 router_steps asked history now at _ _ _ _ mine one input (router_ahead r m id q named time stages telling tells opens_here work waits ahead) =

@@ -1,5 +1,5 @@
 -- Each transition of a router keeps the facts that stay.
-use Rattle.std.proofs.Common.{◌≡◌, ◌≢◌, ◌⊎◌, inl, inr, ℕ, ℤ, ◌+◌, ◌≤◌, List, [], ◌∷◌, ◌++◌, refl, sym, ap, subst, ◌∙◌, arith, append-nil}
+use Rattle.std.proofs.Common.{◌≡◌, ◌≢◌, ◌⊎◌, inl, inr, ℕ, zero, suc, ℤ, ◌+◌, ◌≤◌, List, [], ◌∷◌, ◌++◌, refl, sym, ap, subst, ◌∙◌, arith, append-nil}
 use Rattle.std.specs.Prelude.{max, length, drop, Bool, true, false, ◌==◌, ◌&&◌, Option, Some, None, Result, Ok, Err, if◌then◌else◌}
 use Rattle.std.specs.List.{AllByRecursion}
 use Rattle.base_model.specs.Identities.{RequestId}
@@ -47,8 +47,8 @@ module _ (history : List Entry) (r : Router) (id : RequestId) (request : Request
         | None ↦ reading false time stages telling
         | Some named ↦ reading true named stages telling
       ])
-  plan_read_stays no namespace None time stages telling = no
-  plan_read_stays no namespace (Some named) time stages telling = no
+  plan_read_stays plain namespace None time stages telling = plain
+  plan_read_stays plain namespace (Some named) time stages telling = plain
 
   other_command : (c : Result Command Refusal) → command_of request ≡ c → ((write : WriteCommand) → c ≡ Ok (write_command write) → ⊥) → IsNoWrite request
   other_command c is none write asks = none write (sym is ∙ asks)
@@ -94,7 +94,7 @@ pub record IsWorking (asked : List Asked) (history : List Entry) (id : RequestId
   pub request : Asked
   pub taken : IsIn request asked
   pub own : request.id ≡ id
-  pub work : WorkStays history id request.request namespace work
+  pub does : WorkStays history id request.request namespace work
 
 module _ (asked : List Asked) (history : List Entry) (r : Router) (time count : ℕ) (namespace : List ℕ) where
   abbrev Stay : List Letter → Type 0
@@ -139,15 +139,15 @@ module _ (asked : List Asked) (history : List Entry) (r : Router) (time count : 
       → AreSent asked (id_of r count) namespace (unanswered statements answers)
   left_sent kind ordered statements answers w = record {
     request = w.request;
-    write = w.work.0;
+    write = w.does.0;
     taken = w.taken;
     own = w.own;
-    asks = w.work.1;
-    name = w.work.3;
-    each = all_drop (λ x. IsIn x (statements_from w.work.0.number (id_of r count) 0 w.work.0.operations)) (length answers) statements
-        (subst (λ l. AllByRecursion (λ x. IsIn x (statements_from w.work.0.number (id_of r count) 0 w.work.0.operations)) l) (sym w.work.4)
-        (all_from (λ x. IsIn x (statements_from w.work.0.number (id_of r count) 0 w.work.0.operations))
-        (statements_from w.work.0.number (id_of r count) 0 w.work.0.operations) (λ x i. i)));
+    asks = w.does.1;
+    name = w.does.3;
+    each = all_drop (λ x. IsIn x (statements_from w.does.0.number (id_of r count) 0 w.does.0.operations)) (length answers) statements
+        (subst (λ l. AllByRecursion (λ x. IsIn x (statements_from w.does.0.number (id_of r count) 0 w.does.0.operations)) l) (sym w.does.4)
+        (all_from (λ x. IsIn x (statements_from w.does.0.number (id_of r count) 0 w.does.0.operations))
+        (statements_from w.does.0.number (id_of r count) 0 w.does.0.operations) (λ x i. i)));
   }
 
   pub shards_stay : (t : Table) (work : Work) → IsWorking asked history (id_of r count) namespace work → Stay (asks_shards r time count namespace t work)
@@ -162,7 +162,7 @@ module _ (asked : List Asked) (history : List Entry) (r : Router) (time count : 
   catalogue_stays (writing kind ordered statements answers) w = tt
   catalogue_stays (reading named at stages telling) w = tt
   catalogue_stays sharding w = tt
-  catalogue_stays (splitting middle) w = middle_is_key w.request.request (record { namespace = namespace; middle = middle }) w.work
+  catalogue_stays (splitting middle) w = middle_is_key w.request.request (record { namespace = namespace; middle = middle }) w.does
 
   pub asks_stay : (work : Work) → IsWorking asked history (id_of r count) namespace work → Stay (asks_for r time count namespace work)
   asks_stay work w = by_ahead (is_ahead time work) (table_for r.tables namespace work)
@@ -198,7 +198,7 @@ module _ (asked : List Asked) (history : List Entry) (now : ℕ) (r : Router) wh
     request = o.request;
     taken = o.taken;
     own = o.own;
-    work = subst (λ x. WorkStays history (id_of r q.count) x q.namespace q.work) (sym o.asks) o.work;
+    does = subst (λ x. WorkStays history (id_of r q.count) x q.namespace q.work) (sym o.asks) o.work;
   }
 
   -- it proceeds with this work
@@ -207,10 +207,10 @@ module _ (asked : List Asked) (history : List Entry) (now : ℕ) (r : Router) wh
   goes_on q wait work o does = record { request = o.request; taken = o.taken; own = o.own; asks = o.asks; work = does }
 
   -- a reply to no write
-  plain_told : (q : Open) (time : ℕ) (answer : Answer) → IsNoWrite q.request → IsTold (reply_to r time q answer)
-  plain_told q time answer no write asks = absurd (no write asks)
+  pub plain_told : (q : Open) (time : ℕ) (answer : Answer) → IsNoWrite q.request → IsTold (reply_to r time q answer)
+  plain_told q time answer plain write asks = absurd (plain write asks)
 
-  split_no_write : (request : Request) (namespace : List ℕ) (middle : Datum)
+  pub split_no_write : (request : Request) (namespace : List ℕ) (middle : Datum)
       → command_of request ≡ Ok (split_command (record { namespace = namespace; middle = middle })) → IsNoWrite request
   split_no_write request namespace middle is write asks = absurd (other is asks)
     where
@@ -229,21 +229,21 @@ module _ (asked : List Asked) (history : List Entry) (now : ℕ) (r : Router) wh
   without_stays q time made told (writing kind ordered statements answers) is o = (o, tt)
   without_stays q time made told (reading named at stages telling) is o = by_test (is_for told at)
     where
-      no : IsNoWrite q.request
-      no = subst (λ w. WorkStays history (id_of r q.count) q.request q.namespace w) is o.work
+      plain : IsNoWrite q.request
+      plain = subst (λ w. WorkStays history (id_of r q.count) q.request q.namespace w) is o.work
 
       by_test : (b : Bool) → NextIs IsOwn (LetterStays asked history) IsTold
           (if b then is_told (reply_to r time q (empty_answer q at telling)) else stays q [])
-      by_test true = plain_told q time (empty_answer q at telling) no
+      by_test true = plain_told q time (empty_answer q at telling) plain
       by_test false = (o, tt)
   without_stays q time made told sharding is o = by_test made
     where
-      no : IsNoWrite q.request
-      no = subst (λ w. WorkStays history (id_of r q.count) q.request q.namespace w) is o.work
+      plain : IsNoWrite q.request
+      plain = subst (λ w. WorkStays history (id_of r q.count) q.request q.namespace w) is o.work
 
       by_test : (b : Bool) → NextIs IsOwn (LetterStays asked history) IsTold
           (if b then is_told (reply_to r time q (sharded_answer q.namespace time)) else stays q [])
-      by_test true = plain_told q time (sharded_answer q.namespace time) no
+      by_test true = plain_told q time (sharded_answer q.namespace time) plain
       by_test false = (o, tt)
   without_stays q time made told (splitting middle) is o = (o, tt)
 

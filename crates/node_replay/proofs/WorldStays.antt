@@ -125,7 +125,7 @@ module _ (asked : List Asked) (history longer : List Entry) (stays : (e : Entry)
 -- OTHER NODES
 
 -- what is true of a node stays where another one steps
-state_grows : (asked more : List Asked) (history longer : List Entry) → Grows asked (asked ++ more) history longer → (j : ℕ) (kept : List Kept) (s : NodeState)
+pub state_grows : (asked more : List Asked) (history longer : List Entry) → Grows asked (asked ++ more) history longer → (j : ℕ) (kept : List Kept) (s : NodeState)
     → AllByRecursion (λ (a : Asked). a.id.router ≢ j) more → StateStays asked history j kept s → StateStays (asked ++ more) longer j kept s
 state_grows asked more history longer g j kept (catalogue_state c) other s = s
 state_grows asked more history longer g j kept (shard_state x) other s = record {
@@ -175,13 +175,13 @@ stored_longer (h ∷ nodes) zero old written new here (suc p) = ([], sym (append
 stored_longer (h ∷ nodes) (suc at) old written new here zero = ([], sym (append-nil (entries_kept h.kept)))
 stored_longer (h ∷ nodes) (suc at) old written new here (suc p) = stored_longer nodes at old written new here p
 
-stored_stays : (nodes : List Held) (at : ℕ) (old : Held) (written : List Kept) (new : NodeState) → slice_get nodes at ≡ Some old → (e : Entry)
+pub stored_stays : (nodes : List Held) (at : ℕ) (old : Held) (written : List Kept) (new : NodeState) → slice_get nodes at ≡ Some old → (e : Entry)
     → IsIn e (stored_in nodes) → IsIn e (stored_in (with_step nodes at old written new))
 stored_stays nodes at old written new here e i =
     let m = stored_longer nodes at old written new here first_shard in
     subst (λ l. IsIn e l) (sym m.1) (in_prefix e (stored_in nodes) m.0 i)
 
-stored_here : (nodes : List Held) (at : ℕ) (old : Held) (written : List Kept) (new : NodeState) → slice_get nodes at ≡ Some old → at ≡ first_shard
+pub stored_here : (nodes : List Held) (at : ℕ) (old : Held) (written : List Kept) (new : NodeState) → slice_get nodes at ≡ Some old → at ≡ first_shard
     → stored_in (with_step nodes at old written new) ≡ entries_kept (old.kept ++ written)
 stored_here nodes at old written new here is =
     ap (λ n. entries_kept (journal_at (with_step nodes at old written new) n)) (sym is)

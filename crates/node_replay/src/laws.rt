@@ -16,43 +16,36 @@ ghost use Rattle.node_replay.specs.Restarts.{EventOrStop, RunWithStops};
 
 /// The records that a step stores may follow, one after another, in the durable part of the node before it, and lead to the durable part of the node
 /// after it.
-#[tactic(auto, using(crate::proofs::LawProofs::steps_store_what_may_follow))]
 pub fn steps_store_what_may_follow()
     ensures { (s : NodeState) (t : NodeState) (i : Input) (f : Effect) → Holds s → Step s i f t → (replayed (Some (durable_of s)) (records_of f.written) ≡ Some (durable_of t)) × Holds t }
 {}
 
 /// In every run from empty journals the journal of each node replays to its durable part.
-#[tactic(auto, using(crate::proofs::LawProofs::runs_replay))]
 pub fn runs_replay()
     ensures { (routers : ℕ) (events : List Event) (w : World) → Run (start routers) events w → AllByRecursion Replays w.nodes }
 {}
 
 /// The same where nodes stop between two steps, or in one, and are started again: so no start is refused.
-#[tactic(auto, using(crate::proofs::LawProofs::runs_with_stops_replay))]
 pub fn runs_with_stops_replay()
     ensures { (routers : ℕ) (events : List EventOrStop) (w : World) → RunWithStops (start routers) events w → AllByRecursion Replays w.nodes × AllByRecursion MayOpen w.nodes }
 {}
 
 /// A journal of a shard that replays is one legal history, whoever wrote it.
-#[tactic(auto, using(crate::proofs::LawProofs::replayed_shard_is_one_history))]
 pub fn replayed_shard_is_one_history()
     ensures { (me : ℕ) (records : List Record) (d : DurableShard) → replayed (Some (durable_shard (empty_shard me))) records ≡ Some (durable_shard d) → IsHistory records d }
 {}
 
 /// A journal of the catalogue that replays stores changes of which each may follow those before it, if each split is at a key that a document may have.
-#[tactic(auto, using(crate::proofs::LawProofs::replayed_catalogue_has_changes))]
 pub fn replayed_catalogue_has_changes()
     ensures { (me : ℕ) (records : List Record) (d : DurableCatalogue) → AllByRecursion HasKey records → replayed (Some (durable_catalogue (empty_catalogue me))) records ≡ Some (durable_catalogue d) → AreChanges records d }
 {}
 
 /// Where nodes stop, in whichever step, and are started again: nothing that a client was told of a write is lost, and no statement is applied twice.
-#[tactic(auto, using(crate::proofs::LawProofs::runs_with_stops_keep_writes))]
 pub fn runs_with_stops_keep_writes()
     ensures { (routers : ℕ) (events : List EventOrStop) (w : World) → RunWithStops (start routers) events w → KeepsWrites w }
 {}
 
 /// Nor is any record lost that was stored: from any world on, each journal grows at its end alone.
-#[tactic(auto, using(crate::proofs::LawProofs::runs_with_stops_keep_journals))]
 pub fn runs_with_stops_keep_journals()
     ensures { (u : World) (events : List EventOrStop) (w : World) → RunWithStops u events w → KeepsJournals u w }
 {}
