@@ -15,5 +15,7 @@ pub mod RouterStays
 pub mod RouterNext
 pub mod WorldStays
 pub mod StopStays
+pub mod OnceStays
+pub mod OnceRuns
 pub mod JournalsStay
 pub mod LawProofs

@@ -2,7 +2,9 @@
 use Rattle.std.proofs.Common.{◌≡◌, ◌≢◌, ◌⊎◌, inl, inr, ℕ, ℤ, ◌+◌, ◌<◌, ◌≤◌, List, [], ◌∷◌, ◌++◌, refl, sym, ap, subst, ◌∙◌, arith, append-nil}
 use Rattle.std.specs.Prelude.{max, length, Bool, true, false, ◌==◌, Option, Some, None, if◌then◌else◌}
 use Rattle.std.specs.List.{AllByRecursion, flat_map}
+use Rattle.base_model.specs.Errors.{cursor_not_found, namespace_not_sharded, overflow}
 use Rattle.base_model.specs.Identities.{RequestId}
+use Rattle.base_model.specs.Refusals.{cursor_evidence, time_ahead, without_evidence}
 use Rattle.base_model.specs.Times.{time_of_moment}
 use Rattle.chunk_model.specs.Tables.{Table, first_shard, table_of}
 use Rattle.command_model.specs.Answers.{Answer, next_answer, killed_answer, changed_answer, refusal_answer, answer_document}
@@ -17,7 +19,7 @@ use Rattle.reply_model.specs.Exchanges.{Asked, Answered}
 use Rattle.reply_model.specs.OneHistory.{ids_asked, AreDifferent}
 use Rattle.reply_model.specs.Outcomes.{Done, answer_of}
 use Rattle.node_model.specs.Letters.{At, Statement, Body, write_done, Letter, Input, Effect, Reply, Taken}
-use Rattle.node_model.specs.RouterRows.{heard, id_of, needs, at_once, needs_batch, needs_end, plan_of, statements_from, asks_for, noted, reply_to, going_on, reached, next_of, stay_in, letters_in, replies_in, adopted, was_created, asks_again, open_of, begins, takes, Next, knows, with_work, wait_of, opened_request, taken_now, RouterRow, router_begin, router_opened, router_plain, router_more, router_no_cursor, router_kill, router_take, router_learn, router_split, router_not_sharded, router_reach, router_ahead, router_note, router_wrote, router_read, router_excess, router_overflow, router_late, router_skip, router_moment}
+use Rattle.node_model.specs.RouterRows.{heard, id_of, needs, at_once, needs_batch, needs_end, plan_of, statements_from, asks_for, noted, reply_to, going_on, reached, next_of, stay_in, letters_in, replies_in, adopted, was_created, asks_again, open_of, begins, takes, Next, knows, with_work, wait_of, opened_request, taken_now, too_much, RouterRow, router_begin, router_opened, router_plain, router_more, router_no_cursor, router_kill, router_take, router_learn, router_split, router_not_sharded, router_reach, router_ahead, router_note, router_wrote, router_read, router_excess, router_overflow, router_late, router_skip, router_moment}
 use Rattle.node_model.specs.States.{Telling, Work, writing, reading, sharding, splitting, Open, Router, without, replaced}
 use Rattle.node_model.specs.World.{asked_by, answered_by}
 use Rattle.node_laws.proofs.Facts.{IsBy}
@@ -310,8 +312,11 @@ router_steps asked history now at _ _ _ _ mine one input (router_more r link num
     (no_write_told asked history now at r mine one link number request begun (next_answer batch) plain, tt)
 router_steps asked history now at _ _ _ _ mine one input (router_no_cursor r link number request more begun plan none) =
     let plain = planned history r (id_of r (r.count + 1)) request request.more (needs_batch more) plan in
-    at_once_stays asked history now at r mine one link number request begun _ (takes r []) refl refl refl refl refl refl refl
-    (no_write_told asked history now at r mine one link number request begun _ plain, tt)
+    at_once_stays asked history now at r mine one link number request begun _ (takes r []) refl refl refl refl refl refl refl (
+      no_write_told asked history now at r mine one link number request begun
+          (refusal_answer (record { error = cursor_not_found; evidence = cursor_evidence more.cursor })) plain,
+      tt,
+    )
 router_steps asked history now at _ _ _ _ mine one input (router_kill r link number request kill killed missing next begun plan ends) =
     let plain = planned history r (id_of r (r.count + 1)) request request.more (needs_end kill) plan in
     at_once_stays asked history now at r mine one link number request begun _ _ refl refl refl refl refl refl refl
@@ -333,8 +338,11 @@ router_steps asked history now at _ _ _ _ mine one input (router_split r m id q 
     (plain_told asked history now r q (heard r m) (changed_answer (heard r m)) (split_none asked history now at r mine one q middle work o), tt)
 router_steps asked history now at _ _ _ _ mine one input (router_not_sharded r m id q middle tells opens_here work) =
     let o = found asked history now at r mine one id q opens_here in
-    still asked history now at r mine one _ _ refl refl refl refl refl (closed asked history now at r mine one q) tt
-    (plain_told asked history now r q (heard r m) _ (split_none asked history now at r mine one q middle work o), tt)
+    still asked history now at r mine one _ _ refl refl refl refl refl (closed asked history now at r mine one q) tt (
+      plain_told asked history now r q (heard r m) (refusal_answer (without_evidence namespace_not_sharded))
+          (split_none asked history now at r mine one q middle work o),
+      tt,
+    )
 router_steps asked history now at _ _ _ _ mine one input (router_reach r m id q named time stages telling tells opens_here work waits past) =
     let o = found asked history now at r mine one id q opens_here in
     let plain = read_no_write asked history now at r mine one q named time stages telling work o in
@@ -344,8 +352,11 @@ router_steps asked history now at _ _ _ _ mine one input (router_reach r m id q 
     still asked history now at r mine one _ _ refl refl refl refl refl p.0 p.1 tt
 router_steps asked history now at _ _ _ _ mine one input (router_ahead r m id q named time stages telling tells opens_here work waits ahead) =
     let o = found asked history now at r mine one id q opens_here in
-    still asked history now at r mine one _ _ refl refl refl refl refl (closed asked history now at r mine one q) tt
-    (plain_told asked history now r q (heard r m) _ (read_no_write asked history now at r mine one q named time stages telling work o), tt)
+    still asked history now at r mine one _ _ refl refl refl refl refl (closed asked history now at r mine one q) tt (
+      plain_told asked history now r q (heard r m) (refusal_answer (time_ahead (heard r m)))
+          (read_no_write asked history now at r mine one q named time stages telling work o),
+      tt,
+    )
 router_steps asked history now at _ _ _ _ mine one input (router_note r m id dones q kind ordered statements answers tells opens_here work news_come more) =
     let does = news asked history now at r mine one id dones q kind ordered statements answers opens_here work
     (subst (λ b. BodyStays asked history b) tells input) in
@@ -363,12 +374,18 @@ router_steps asked history now at _ _ _ _ mine one input (router_read r m id row
     (plain_told asked history now r q (heard r m) answer (read_no_write asked history now at r mine one q named time stages telling work o), tt)
 router_steps asked history now at _ _ _ _ mine one input (router_excess r m id n q named time stages telling tells opens_here work) =
     let o = found asked history now at r mine one id q opens_here in
-    still asked history now at r mine one _ _ refl refl refl refl refl (closed asked history now at r mine one q) tt
-    (plain_told asked history now r q (heard r m) _ (read_no_write asked history now at r mine one q named time stages telling work o), tt)
+    still asked history now at r mine one _ _ refl refl refl refl refl (closed asked history now at r mine one q) tt (
+      plain_told asked history now r q (heard r m) (refusal_answer (too_much n))
+          (read_no_write asked history now at r mine one q named time stages telling work o),
+      tt,
+    )
 router_steps asked history now at _ _ _ _ mine one input (router_overflow r m id q named time stages telling tells opens_here work) =
     let o = found asked history now at r mine one id q opens_here in
-    still asked history now at r mine one _ _ refl refl refl refl refl (closed asked history now at r mine one q) tt
-    (plain_told asked history now r q (heard r m) _ (read_no_write asked history now at r mine one q named time stages telling work o), tt)
+    still asked history now at r mine one _ _ refl refl refl refl refl (closed asked history now at r mine one q) tt (
+      plain_told asked history now r q (heard r m) (refusal_answer (without_evidence overflow))
+          (read_no_write asked history now at r mine one q named time stages telling work o),
+      tt,
+    )
 router_steps asked history now at _ _ _ _ mine one input (router_late r m late) =
     still asked history now at r mine one _ _ refl refl refl refl refl mine.requests tt tt
 router_steps asked history now at _ _ _ _ mine one input (router_skip r m none) =

@@ -61,7 +61,7 @@ opened_stays asked history at kept time (router_state r) s = record {
 -- EVENTS
 
 -- the node at a place
-here_stays : (w : World) (at : ℕ) (old : Held) → WorldStays w → slice_get w.nodes at ≡ Some old
+pub here_stays : (w : World) (at : ℕ) (old : Held) → WorldStays w → slice_get w.nodes at ≡ Some old
     → StateStays w.asked (stored_in w.nodes) at old.kept old.state
 here_stays w at old stay here =
     let zero_at : 0 + at ≡ at = omega arith in
@@ -135,7 +135,7 @@ given_stays w _ _ _ stay (gives_message at which m got to) = sent_stays w which 
 given_stays w _ _ _ stay (gives_moment at moment) = tt
 given_stays w _ _ _ stay (gives_opening at) = tt
 
-occurs_stays : (w v : World) (e : EventOrStop) → WorldStays w → AllByRecursion NodeReplays w.nodes → Occurs w e v → WorldStays v
+pub occurs_stays : (w v : World) (e : EventOrStop) → WorldStays w → AllByRecursion NodeReplays w.nodes → Occurs w e v → WorldStays v
 occurs_stays _ _ _ stay all (occurs w v e h) = event_stays w v e stay all h
 occurs_stays _ _ _ stay all (restarts w v at m) = restart_stays w v at stay all m
 occurs_stays _ _ _ stay all (stops w v at e i gives m) = stop_stays w v at i stay all (given_stays w e at i stay gives) m
@@ -151,7 +151,7 @@ routers_stay : (at n : ℕ) → first_shard < at → EachAt (HeldStays [] []) at
 routers_stay at zero less = tt
 routers_stay at (suc n) less = (record { own = refl; place = less; requests = tt; counted = tt }, routers_stay (at + 1) n (omega arith))
 
-start_stays : (routers : ℕ) → WorldStays (start routers)
+pub start_stays : (routers : ℕ) → WorldStays (start routers)
 start_stays routers = record {
   each = (
     record { own = refl; place = refl; changes = refl; keyed = tt },
