@@ -4,6 +4,7 @@ use Rattle.std.specs.Prelude.{Some}
 use Rattle.std.specs.List.{AllByRecursion}
 use Rattle.history_model.proofs.Lists.{all_weaken}
 use Rattle.record_model.specs.Records.{Record}
+use Rattle.reply_model.specs.OneHistory.{AreDifferent, ids_told}
 use Rattle.node_model.specs.Letters.{Effect, Input}
 use Rattle.node_model.specs.States.{NodeState}
 use Rattle.node_model.specs.Steps.{Step}
@@ -19,6 +20,7 @@ use Rattle.node_replay.proofs.Runs.{NodeReplays, run_replays, start_replays}
 use Rattle.node_replay.proofs.Restarts.{run_with_stops_replays}
 use Rattle.node_replay.proofs.StopStays.{run_with_stops_keeps}
 use Rattle.node_replay.proofs.JournalsStay.{run_with_stops_grows}
+use Rattle.node_replay.proofs.OnceRuns.{run_with_stops_once}
 use Rattle.node_replay.proofs.ShardHistories.{shard_history}
 use Rattle.node_replay.proofs.CatalogueHistories.{catalogue_changes}
 
@@ -47,3 +49,7 @@ runs_with_stops_keep_writes = run_with_stops_keeps
 
 pub runs_with_stops_keep_journals : (u : World) (events : List EventOrStop) (w : World) → RunWithStops u events w → KeepsJournals u w
 runs_with_stops_keep_journals u events w run = run_with_stops_grows u w events run
+
+pub runs_with_stops_answer_once : (routers : ℕ) (events : List EventOrStop) (w : World) → RunWithStops (start routers) events w
+    → AreDifferent (ids_told w.answered)
+runs_with_stops_answer_once = run_with_stops_once

@@ -70,6 +70,10 @@ left_silent r answered next keeps (q ∷ requests) all = by_next (next q) (keeps
 module _ (asked : List Asked) (history : List Entry) (answered : List Answered) (now at : ℕ) (r : Router) (mine : RouterStays asked history at r)
     (own : RouterOnce answered r) (told : AllByRecursion (λ (t : Answered). IsIn t.id (ids_asked asked)) answered)
     (once : AreDifferent (ids_told answered)) where
+  -- a reply to an open request
+  abbrev IsHere : Answered → Type 0
+  IsHere t = (x : Open) × IsIn x r.requests × (t.id ≡ id_of r x.count)
+
   -- requests that stay open, and others that are answered
   parted : (f : Effect) (q : Router) → f.taken ≡ [] → q.me ≡ r.me → q.life ≡ r.life → IsParted r r.requests q.requests (answered_by now f.replies)
       → AllByRecursion (λ (p : Open). IsSilent answered r.me r.life p.count) q.requests
@@ -96,9 +100,6 @@ module _ (asked : List Asked) (history : List Entry) (answered : List Answered) 
             (all_at (λ (x : Open). IsSilent answered r.me r.life x.count) h.0 r.requests own.silent h.1)) p.own);
       }
     where
-      abbrev IsHere : Answered → Type 0
-      IsHere t = (x : Open) × IsIn x r.requests × (t.id ≡ id_of r x.count)
-
       was_asked : (t : Answered) (x : Open) → IsIn x r.requests → t.id ≡ id_of r x.count → IsIn t.id (ids_asked asked)
       was_asked t x i same =
           let o = all_at (OpenStays asked history r.me r.life) x r.requests mine.requests i in

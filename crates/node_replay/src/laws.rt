@@ -3,6 +3,7 @@
 ghost use Rattle.std.specs.Prelude.{◌≡◌, ℕ, List, Some};
 ghost use Rattle.std.specs.List.{AllByRecursion};
 ghost use Rattle.record_model.specs.Records.{Record};
+ghost use Rattle.reply_model.specs.OneHistory.{AreDifferent, ids_told};
 ghost use Rattle.node_model.specs.Letters.{Effect, Input};
 ghost use Rattle.node_model.specs.States.{NodeState};
 ghost use Rattle.node_model.specs.Steps.{Step};
@@ -48,4 +49,9 @@ pub fn runs_with_stops_keep_writes()
 /// Nor is any record lost that was stored: from any world on, each journal grows at its end alone.
 pub fn runs_with_stops_keep_journals()
     ensures { (u : World) (events : List EventOrStop) (w : World) → RunWithStops u events w → KeepsJournals u w }
+{}
+
+/// Nor is any request answered twice.
+pub fn runs_with_stops_answer_once()
+    ensures { (routers : ℕ) (events : List EventOrStop) (w : World) → RunWithStops (start routers) events w → AreDifferent (ids_told w.answered) }
 {}
