@@ -1,0 +1,395 @@
+-- Each transition of a router keeps the facts that stay: the rows.
+use Rattle.std.proofs.Common.{◌≡◌, ◌≢◌, ◌⊎◌, inl, inr, ℕ, ℤ, ◌+◌, ◌<◌, ◌≤◌, List, [], ◌∷◌, ◌++◌, refl, sym, ap, subst, ◌∙◌, arith, append-nil}
+use Rattle.std.specs.Prelude.{max, length, Bool, true, false, ◌==◌, Option, Some, None, if◌then◌else◌}
+use Rattle.std.specs.List.{AllByRecursion, flat_map}
+use Rattle.base_model.specs.Errors.{cursor_not_found, namespace_not_sharded, overflow}
+use Rattle.base_model.specs.Identities.{RequestId}
+use Rattle.base_model.specs.Refusals.{cursor_evidence, time_ahead, without_evidence}
+use Rattle.base_model.specs.Times.{time_of_moment}
+use Rattle.chunk_model.specs.Tables.{Table, first_shard, table_of}
+use Rattle.command_model.specs.Answers.{Answer, next_answer, killed_answer, changed_answer, refusal_answer, answer_document}
+use Rattle.command_model.specs.Command.{command_of}
+use Rattle.command_model.specs.Writes.{WriteCommand, WriteKind}
+use Rattle.history_model.proofs.Lists.{all_weaken, all_append, all_at, in_back, in_first, in_prefix}
+use Rattle.history_model.specs.History.{Entry, IsIn}
+use Rattle.reply_model.specs.Requests.{Request}
+use Rattle.pipeline_model.specs.Stages.{Stage}
+use Rattle.bson_model.specs.Tree.{Datum}
+use Rattle.reply_model.specs.Exchanges.{Asked, Answered}
+use Rattle.reply_model.specs.OneHistory.{ids_asked, AreDifferent}
+use Rattle.reply_model.specs.Outcomes.{Done, answer_of}
+use Rattle.node_model.specs.Letters.{At, Statement, Body, write_done, Letter, Input, Effect, Reply, Taken}
+use Rattle.node_model.specs.RouterRows.{heard, id_of, needs, at_once, needs_batch, needs_end, plan_of, statements_from, asks_for, noted, reply_to, going_on, reached, next_of, stay_in, letters_in, replies_in, adopted, was_created, asks_again, open_of, begins, takes, Next, knows, with_work, wait_of, opened_request, taken_now, too_much, RouterRow, router_begin, router_opened, router_plain, router_more, router_no_cursor, router_kill, router_take, router_learn, router_split, router_not_sharded, router_reach, router_ahead, router_note, router_wrote, router_read, router_excess, router_overflow, router_late, router_skip, router_moment}
+use Rattle.node_model.specs.States.{Telling, Work, writing, reading, sharding, splitting, Open, Router, without, replaced}
+use Rattle.node_model.specs.World.{asked_by, answered_by}
+use Rattle.node_laws.proofs.Facts.{IsBy}
+use Rattle.node_laws.proofs.Lists.{all_of}
+use Rattle.node_laws.proofs.NextRequests.{NextIs, AreNext, each_next}
+use Rattle.node_laws.proofs.OpenFacts.{by_weaken}
+use Rattle.node_laws.proofs.OpenRequests.{IsOpenWith, open_of_found, all_without, all_replaced}
+use Rattle.node_laws.proofs.RouterAnswers.{as_answered, same_write}
+use Rattle.reply_facts.proofs.Requests.{one_asked}
+use Rattle.node_replay.specs.Acknowledged.{IsOutcomeAt, IsAcknowledged, IsStored}
+use Rattle.node_replay.proofs.StayFacts.{AreDone, BodyStays, LetterStays, IsNoWrite, WorkStays, id_in, OpenStays, RouterStays, Grows, open_grows}
+use Rattle.node_replay.proofs.ShardStays.{InputStays}
+use Rattle.node_replay.proofs.RouterStays.{planned, IsWorking, asks_stay, again_stays, IsOwn, IsTold, working, goes_on, plain_told, split_no_write, next_stays}
+
+-- what a step of a router has to show, for what was requested after it
+pub record RouterNext (asked : List Asked) (history : List Entry) (now at : ℕ) (f : Effect) (q : Router) : Type 0 where
+  pub node : RouterStays asked history at q
+  pub letters : AllByRecursion (LetterStays asked history) f.mail
+  pub told : AllByRecursion (λ x. IsStored history (as_answered now x)) f.replies
+
+-- with no request, or with one that is new
+pub record RouterSteps (asked : List Asked) (history : List Entry) (now at : ℕ) (f : Effect) (q : Router) : Type 0 where
+  pub next : RouterNext (asked ++ asked_by now f.taken) history now at f q
+  pub one : AreDifferent (ids_asked (asked ++ asked_by now f.taken))
+  pub here : AllByRecursion (λ (a : Asked). a.id.router ≡ at) (asked_by now f.taken)
+
+-- LISTS
+
+all_noted : (P : Done → Type 0) (answers dones : List Done) → AllByRecursion P answers → AllByRecursion P dones → AllByRecursion P (noted answers dones)
+all_noted P answers [] old new = old
+all_noted P answers (d ∷ dones) old new =
+    by_test (d.index == length answers) (all_noted P (answers ++ d ∷ []) dones (all_append P answers (d ∷ []) old (new.0, tt)) new.1)
+    (all_noted P answers dones old new.1)
+  where
+    by_test : (b : Bool) → AllByRecursion P (noted (answers ++ d ∷ []) dones) → AllByRecursion P (noted answers dones)
+        → AllByRecursion P (if b then noted (answers ++ d ∷ []) dones else noted answers dones)
+    by_test true with_it without_it = with_it
+    by_test false with_it without_it = without_it
+
+each_again : (asked : List Asked) (history : List Entry) (r : Router) (time : ℕ) (requests : List Open)
+    → AllByRecursion (IsOwn asked history 0 r) requests → AllByRecursion (LetterStays asked history) (flat_map (λ q. asks_again r time q) requests)
+each_again asked history r time [] all = tt
+each_again asked history r time (q ∷ requests) all =
+    all_append (LetterStays asked history) (asks_again r time q) _
+    (again_stays asked history r time q.count q.namespace q.wait q.work (table_of q.namespace r.tables) (working asked history 0 r q all.0))
+    (each_again asked history r time requests all.1)
+
+one_more : (asked : List Asked) (a : Asked) → AreDifferent (ids_asked asked) → AllByRecursion (λ (b : Asked). b.id ≢ a.id) asked
+    → AreDifferent (ids_asked (asked ++ a ∷ []))
+one_more [] a different new = (tt, tt)
+one_more (b ∷ asked) a different new = (joined asked different.0, one_more asked a different.1 new.1)
+  where
+    joined : (rest : List Asked) → AllByRecursion (λ other. ¬ (other ≡ b.id)) (ids_asked rest)
+        → AllByRecursion (λ other. ¬ (other ≡ b.id)) (ids_asked (rest ++ a ∷ []))
+    joined [] all = ((λ e. new.0 (sym e)), tt)
+    joined (c ∷ rest) all = (all.0, joined rest all.1)
+
+-- TRANSITIONS
+
+module _ (asked : List Asked) (history : List Entry) (now at : ℕ) (r : Router) (mine : RouterStays asked history at r)
+    (one : AreDifferent (ids_asked asked)) where
+  -- a step that takes no request
+  no_request : (f : Effect) (q : Router) → f.taken ≡ [] → RouterNext asked history now at f q → RouterSteps asked history now at f q
+  no_request f q none next =
+      let same : asked ≡ asked ++ asked_by now f.taken = sym (append-nil asked) ∙ ap (λ l. asked ++ asked_by now l) (sym none) in
+      record {
+        next = subst (λ l. RouterNext l history now at f q) same next;
+        one = subst (λ l. AreDifferent (ids_asked l)) same one;
+        here = subst (λ l. AllByRecursion (λ (a : Asked). a.id.router ≡ at) (asked_by now l)) (sym none) tt;
+      }
+
+  -- the router in the same life, with the same count of requests
+  in_place : (q : Router) → q.me ≡ r.me → q.life ≡ r.life → q.begun ≡ r.begun → q.count ≡ r.count
+      → AllByRecursion (OpenStays asked history q.me q.life) q.requests → RouterStays asked history at q
+  in_place q me life begun count requests = record {
+    own = me ∙ mine.own;
+    place = mine.place;
+    requests = requests;
+    counted = all_weaken (λ (a : Asked). a.id.router ≡ at → IsBy a.id.life r.life r.begun (a.id.count ≤ r.count))
+        (λ (a : Asked). a.id.router ≡ at → IsBy a.id.life q.life q.begun (a.id.count ≤ q.count)) asked
+        (λ a c e. subst (λ n. IsBy a.id.life n q.begun (a.id.count ≤ q.count)) (sym life)
+        (subst (λ b. IsBy a.id.life r.life b (a.id.count ≤ q.count)) (sym begun)
+        (subst (λ n. IsBy a.id.life r.life r.begun (a.id.count ≤ n)) (sym count) (c e)))) mine.counted;
+  }
+
+  still : (f : Effect) (q : Router) → f.taken ≡ [] → q.me ≡ r.me → q.life ≡ r.life → q.begun ≡ r.begun → q.count ≡ r.count
+      → AllByRecursion (OpenStays asked history q.me q.life) q.requests → AllByRecursion (LetterStays asked history) f.mail
+      → AllByRecursion (IsTold asked history now r) f.replies → RouterSteps asked history now at f q
+  still f q none me life begun count requests letters told =
+      no_request f q none (record { node = in_place q me life begun count requests; letters = letters; told = told })
+
+  -- the open request with a number
+  found : (id : RequestId) (q : Open) → open_of r id ≡ Some q → IsOwn asked history now r q
+  found id q opens_here = all_at (IsOwn asked history now r) q r.requests mine.requests (open_of_found r id q opens_here).stands
+
+  closed : (q : Open) → AllByRecursion (IsOwn asked history now r) (without q.count r.requests)
+  closed q = all_without (IsOwn asked history now r) q.count r.requests mine.requests
+
+  -- it proceeds with this work
+  proceeds : (q : Open) (time : ℕ) (work : Work) → IsOwn asked history now r q → WorkStays history (id_of r q.count) q.request q.namespace work
+      → AllByRecursion (IsOwn asked history now r) (replaced (going_on r time q work) r.requests)
+      × AllByRecursion (LetterStays asked history) (asks_for r time q.count q.namespace work)
+  proceeds q time work o does = (
+    all_replaced (IsOwn asked history now r) (going_on r time q work) r.requests
+        (goes_on asked history now r q (wait_of r time q.namespace work) work o does)
+        (all_weaken (IsOwn asked history now r) (λ (p : Open). p.count ≢ q.count → IsOwn asked history now r p) r.requests (λ p o apart. o) mine.requests),
+    asks_stay asked history r time q.count q.namespace work
+        (record {
+          request = o.request;
+          taken = o.taken;
+          own = o.own;
+          does = subst (λ x. WorkStays history (id_of r q.count) x q.namespace work) (sym o.asks) does;
+        }),
+  )
+
+  -- a read goes on
+  read_no_write : (q : Open) (named : Bool) (time : ℕ) (stages : List Stage) (telling : Telling) → q.work ≡ reading named time stages telling
+      → IsOwn asked history now r q → IsNoWrite q.request
+  read_no_write q named time stages telling is o = subst (λ w. WorkStays history (id_of r q.count) q.request q.namespace w) is o.work
+
+  split_none : (q : Open) (middle : Datum) → q.work ≡ splitting middle → IsOwn asked history now r q → IsNoWrite q.request
+  split_none q middle is o =
+      split_no_write asked history now r q.request q.namespace middle (subst (λ w. WorkStays history (id_of r q.count) q.request q.namespace w) is o.work)
+
+  -- outcomes that arrive are of the same write
+  news : (id : RequestId) (dones : List Done) (q : Open) (kind : WriteKind) (ordered : Bool) (statements : List Statement) (answers : List Done)
+      → open_of r id ≡ Some q → q.work ≡ writing kind ordered statements answers → AreDone asked history id dones
+      → WorkStays history (id_of r q.count) q.request q.namespace (writing kind ordered statements (noted answers dones))
+  news id dones q kind ordered statements answers opens_here is d =
+      let o = found id q opens_here in
+      let number : id ≡ id_of r q.count = (open_of_found r id q opens_here).own in
+      let w = subst (λ x. WorkStays history (id_of r q.count) q.request q.namespace x) is o.work in
+      let request : d.request ≡ o.request = one_asked d.request o.request asked one d.taken o.taken (d.own ∙ number ∙ sym o.own) in
+      let write : d.write ≡ w.0 =
+      same_write d.write w.0 (command_of q.request) (ap (λ x. command_of x) (sym (ap (λ (a : Asked). a.request) request ∙ o.asks)) ∙ d.asks) w.1 in (
+        w.0,
+        w.1,
+        w.2,
+        w.3,
+        w.4,
+        all_noted (IsOutcomeAt history w.0 (id_of r q.count)) answers dones w.5
+            (subst (λ x. AllByRecursion (IsOutcomeAt history x (id_of r q.count)) dones) write
+            (subst (λ i. AllByRecursion (IsOutcomeAt history d.write i) dones) number d.each)),
+      )
+
+  -- a life begins: of a life that did not begin there is nothing
+  pub begins_stays : r.begun ≡ false → RouterStays asked history at (begins r)
+  begins_stays none = record {
+    own = mine.own;
+    place = mine.place;
+    requests = mine.requests;
+    counted = all_weaken (λ (a : Asked). a.id.router ≡ at → IsBy a.id.life r.life r.begun (a.id.count ≤ r.count))
+        (λ (a : Asked). a.id.router ≡ at → IsBy a.id.life r.life true (a.id.count ≤ 0)) asked
+        (λ a c e. before a.id.life r.begun (a.id.count ≤ r.count) (a.id.count ≤ 0) none (c e)) mine.counted;
+  }
+    where
+      before : (life : ℕ) (begun : Bool) (P Q : Type 0) → begun ≡ false → IsBy life r.life begun P → IsBy life r.life true Q
+      before life begun P Q none (inl less) = inl less
+      before life begun P Q none (inr (e, is, p)) = absurd (cc)
+
+  -- A REQUEST COMES
+
+  pub new_number : r.begun ≡ true → AllByRecursion (λ (b : Asked). b.id ≢ id_of r (r.count + 1)) asked
+  new_number begun =
+      all_weaken (λ (a : Asked). a.id.router ≡ at → IsBy a.id.life r.life r.begun (a.id.count ≤ r.count)) (λ (b : Asked). b.id ≢ id_of r (r.count + 1)) asked
+      (λ b c e. not_taken b.id.life b.id.count (c (ap (λ (i : RequestId). i.router) e ∙ mine.own)) (ap (λ (i : RequestId). i.life) e)
+      (ap (λ (i : RequestId). i.count) e)) mine.counted
+    where
+      not_taken : (life count : ℕ) → IsBy life r.life r.begun (count ≤ r.count) → life ≡ r.life → count ≡ r.count + 1 → ⊥
+      not_taken life count (inl less) a b = omega arith
+      not_taken life count (inr (e, is, l)) a b = omega arith
+
+  module _ (link : ℕ) (number : ℤ) (request : Request) (begun : r.begun ≡ true) where
+    abbrev Came : Asked
+    Came = record { id = id_of r (r.count + 1); link = link; number = number; came = now; time = r.time; moment = r.moment; request = request }
+
+    grown : Grows asked (asked ++ Came ∷ []) history history
+    grown = record { taken = λ a i. in_prefix a asked (Came ∷ []) i; stored = λ e i. i }
+
+    -- what it has to do is known, where it stays open
+    took : (f : Effect) (q : Router) (more : List Open) → f.taken ≡ taken_now r link number request ∷ [] → q.me ≡ r.me → q.life ≡ r.life → q.begun ≡ r.begun
+        → q.count ≡ r.count + 1 → q.requests ≡ r.requests ++ more → AllByRecursion (IsOwn (asked ++ Came ∷ []) history now r) more
+        → AllByRecursion (LetterStays (asked ++ Came ∷ []) history) f.mail → AllByRecursion (IsTold asked history now r) f.replies
+        → RouterSteps asked history now at f q
+    took f q more takes me life begun_same count requests opens letters told =
+        let same : asked ++ Came ∷ [] ≡ asked ++ asked_by now f.taken = ap (λ l. asked ++ asked_by now l) (sym takes) in
+        let own : AllByRecursion (IsOwn (asked ++ Came ∷ []) history now r) (r.requests ++ more) =
+        all_append (IsOwn (asked ++ Came ∷ []) history now r) r.requests more
+        (all_weaken (IsOwn asked history now r) (IsOwn (asked ++ Came ∷ []) history now r) r.requests
+        (λ p o. open_grows asked (asked ++ Came ∷ []) history history grown r.me r.life p o) mine.requests) opens in
+        record {
+          next = subst (λ l. RouterNext l history now at f q) same (record {
+            node = record {
+              own = me ∙ mine.own;
+              place = mine.place;
+              requests = subst (λ l. AllByRecursion (OpenStays (asked ++ Came ∷ []) history q.me q.life) l) (sym requests)
+                  (subst (λ n. AllByRecursion (OpenStays (asked ++ Came ∷ []) history q.me n) (r.requests ++ more)) (sym life)
+                  (subst (λ n. AllByRecursion (OpenStays (asked ++ Came ∷ []) history n r.life) (r.requests ++ more)) (sym me) own));
+              counted = counted q life begun_same count;
+            };
+            letters = letters;
+            told = told;
+          });
+          one = subst (λ l. AreDifferent (ids_asked l)) same (one_more asked Came one (new_number begun));
+          here = subst (λ l. AllByRecursion (λ (a : Asked). a.id.router ≡ at) (asked_by now l)) (sym takes) (mine.own, tt);
+        }
+      where
+        counted : (q : Router) → q.life ≡ r.life → q.begun ≡ r.begun → q.count ≡ r.count + 1
+            → AllByRecursion (λ (a : Asked). a.id.router ≡ at → IsBy a.id.life q.life q.begun (a.id.count ≤ q.count)) (asked ++ Came ∷ [])
+        counted q life begun_same count =
+            all_append (λ (a : Asked). a.id.router ≡ at → IsBy a.id.life q.life q.begun (a.id.count ≤ q.count)) asked (Came ∷ [])
+            (all_weaken (λ (a : Asked). a.id.router ≡ at → IsBy a.id.life r.life r.begun (a.id.count ≤ r.count))
+            (λ (a : Asked). a.id.router ≡ at → IsBy a.id.life q.life q.begun (a.id.count ≤ q.count)) asked
+            (λ a c e. subst (λ n. IsBy a.id.life n q.begun (a.id.count ≤ q.count)) (sym life)
+            (subst (λ b. IsBy a.id.life r.life b (a.id.count ≤ q.count)) (sym begun_same)
+            (by_weaken a.id.life r.life r.begun (a.id.count ≤ r.count) (a.id.count ≤ q.count) (λ l. omega (arith, l, count)) (c e)))) mine.counted)
+            ((λ e. inr (sym life, begun_same ∙ begun, omega (arith, count))), tt)
+
+    -- it is answered at once
+    at_once_stays : (f : Effect) (q : Router) → f.taken ≡ taken_now r link number request ∷ [] → q.me ≡ r.me → q.life ≡ r.life → q.begun ≡ r.begun
+        → q.count ≡ r.count + 1 → q.requests ≡ r.requests ++ [] → f.mail ≡ [] → AllByRecursion (IsTold asked history now r) f.replies
+        → RouterSteps asked history now at f q
+    at_once_stays f q takes me life begun_same count requests none told =
+        took f q [] takes me life begun_same count requests tt (subst (λ l. AllByRecursion (LetterStays (asked ++ Came ∷ []) history) l) (sym none) tt) told
+
+    -- it has work to do
+    opened : (namespace : List ℕ) (work : Work) → WorkStays history (id_of r (r.count + 1)) request namespace work
+        → IsOwn (asked ++ Came ∷ []) history now r (opened_request r link number request namespace work)
+    opened namespace work does = record {
+      request = Came;
+      taken = in_back Came asked (Came ∷ []) (in_first Came []);
+      own = refl;
+      asks = refl;
+      work = does;
+    }
+
+    take_stays : (namespace : List ℕ) (work : Work) → WorkStays history (id_of r (r.count + 1)) request namespace work
+        → RouterSteps asked history now at (record {
+          written = [];
+          mail = asks_for r r.time (r.count + 1) namespace work;
+          taken = taken_now r link number request ∷ [];
+          replies = [];
+        }) (takes r (opened_request r link number request namespace work ∷ []))
+    take_stays namespace work does =
+        took _ (takes r (opened_request r link number request namespace work ∷ [])) (opened_request r link number request namespace work ∷ [])
+        refl refl refl refl refl refl (opened namespace work does, tt)
+        (asks_stay (asked ++ Came ∷ []) history r r.time (r.count + 1) namespace work
+        (record { request = Came; taken = in_back Came asked (Came ∷ []) (in_first Came []); own = refl; does = does })) tt
+
+    -- a request that is no write is answered
+    no_write_told : (answer : Answer) → IsNoWrite request
+        → IsTold asked history now r (record {
+          id = id_of r (r.count + 1);
+          link = link;
+          number = number;
+          request = request;
+          time = r.time;
+          document = answer_document answer;
+        })
+    no_write_told answer plain write asks = absurd (plain write asks)
+
+-- the reply to a write has the outcomes that arrived
+wrote_told : (asked : List Asked) (history : List Entry) (now : ℕ) (r : Router) (q : Open) (time : ℕ) (kind : WriteKind) (ordered : Bool)
+    (statements : List Statement) (dones : List Done) → WorkStays history (id_of r q.count) q.request q.namespace (writing kind ordered statements dones)
+    → IsTold asked history now r (reply_to r time q (answer_of kind time dones))
+wrote_told asked history now r q time kind ordered statements dones does write asks =
+    let same : does.0 ≡ write = same_write does.0 write (command_of q.request) does.1 asks in
+    record {
+      dones = dones;
+      document = ap (λ k. answer_document (answer_of k time dones)) (does.2 ∙ ap (λ (w : WriteCommand). w.kind) same);
+      stored = subst (λ w. AllByRecursion (IsOutcomeAt history w (id_of r q.count)) dones) same does.5;
+    }
+
+-- ALL ROWS
+
+pub router_steps : (asked : List Asked) (history : List Entry) (now at : ℕ) (r q : Router) (i : Input) (f : Effect) → RouterStays asked history at r
+    → AreDifferent (ids_asked asked) → InputStays asked history i → RouterRow r i f q → RouterSteps asked history now at f q
+router_steps asked history now at _ _ _ _ mine one input (router_begin r not_begun) =
+    no_request asked history now at r mine one _ (begins r) refl
+    (record { node = begins_stays asked history now at r mine one not_begun; letters = tt; told = tt })
+router_steps asked history now at _ _ _ _ mine one input (router_opened r begun) =
+    still asked history now at r mine one _ r refl refl refl refl refl mine.requests tt tt
+router_steps asked history now at _ _ _ _ mine one input (router_plain r link number request answer begun plan) =
+    let plain = planned history r (id_of r (r.count + 1)) request request.more (at_once answer) plan in
+    at_once_stays asked history now at r mine one link number request begun _ (takes r []) refl refl refl refl refl refl refl
+    (no_write_told asked history now at r mine one link number request begun answer plain, tt)
+router_steps asked history now at _ _ _ _ mine one input (router_more r link number request more c batch next begun plan found shows) =
+    let plain = planned history r (id_of r (r.count + 1)) request request.more (needs_batch more) plan in
+    at_once_stays asked history now at r mine one link number request begun _ _ refl refl refl refl refl refl refl
+    (no_write_told asked history now at r mine one link number request begun (next_answer batch) plain, tt)
+router_steps asked history now at _ _ _ _ mine one input (router_no_cursor r link number request more begun plan none) =
+    let plain = planned history r (id_of r (r.count + 1)) request request.more (needs_batch more) plan in
+    at_once_stays asked history now at r mine one link number request begun _ (takes r []) refl refl refl refl refl refl refl (
+      no_write_told asked history now at r mine one link number request begun
+          (refusal_answer (record { error = cursor_not_found; evidence = cursor_evidence more.cursor })) plain,
+      tt,
+    )
+router_steps asked history now at _ _ _ _ mine one input (router_kill r link number request kill killed missing next begun plan ends) =
+    let plain = planned history r (id_of r (r.count + 1)) request request.more (needs_end kill) plan in
+    at_once_stays asked history now at r mine one link number request begun _ _ refl refl refl refl refl refl refl
+    (no_write_told asked history now at r mine one link number request begun (killed_answer killed missing) plain, tt)
+router_steps asked history now at _ _ _ _ mine one input (router_take r link number request namespace work begun plan) =
+    take_stays asked history now at r mine one link number request begun namespace work
+    (planned history r (id_of r (r.count + 1)) request request.more (needs namespace work) plan)
+router_steps asked history now at _ _ _ _ mine one input (router_learn r m namespace create told table tells) =
+    let next : (q : Open) → Next = λ q. next_of r (heard r m) (adopted table r.tables) namespace (was_created create table) told q in
+    let all : AllByRecursion (λ q. NextIs (IsOwn asked history now r) (LetterStays asked history) (IsTold asked history now r) (next q)) r.requests =
+    all_weaken (IsOwn asked history now r)
+    (λ q. NextIs (IsOwn asked history now r) (LetterStays asked history) (IsTold asked history now r) (next q)) r.requests
+    (λ q o. next_stays asked history now r (heard r m) (adopted table r.tables) namespace (was_created create table) told q o) mine.requests in
+    let e = each_next (IsOwn asked history now r) (LetterStays asked history) (IsTold asked history now r) next r.requests all in
+    still asked history now at r mine one _ _ refl refl refl refl refl e.stay e.ask e.tell
+router_steps asked history now at _ _ _ _ mine one input (router_split r m id q middle tells opens_here work) =
+    let o = found asked history now at r mine one id q opens_here in
+    still asked history now at r mine one _ _ refl refl refl refl refl (closed asked history now at r mine one q) tt
+    (plain_told asked history now r q (heard r m) (changed_answer (heard r m)) (split_none asked history now at r mine one q middle work o), tt)
+router_steps asked history now at _ _ _ _ mine one input (router_not_sharded r m id q middle tells opens_here work) =
+    let o = found asked history now at r mine one id q opens_here in
+    still asked history now at r mine one _ _ refl refl refl refl refl (closed asked history now at r mine one q) tt (
+      plain_told asked history now r q (heard r m) (refusal_answer (without_evidence namespace_not_sharded))
+          (split_none asked history now at r mine one q middle work o),
+      tt,
+    )
+router_steps asked history now at _ _ _ _ mine one input (router_reach r m id q named time stages telling tells opens_here work waits past) =
+    let o = found asked history now at r mine one id q opens_here in
+    let plain = read_no_write asked history now at r mine one q named time stages telling work o in
+    let does : WorkStays history (id_of r q.count) q.request q.namespace (reached (heard r m) q.work) =
+    subst (λ w. WorkStays history (id_of r q.count) q.request q.namespace (reached (heard r m) w)) (sym work) plain in
+    let p = proceeds asked history now at r mine one q (heard r m) (reached (heard r m) q.work) o does in
+    still asked history now at r mine one _ _ refl refl refl refl refl p.0 p.1 tt
+router_steps asked history now at _ _ _ _ mine one input (router_ahead r m id q named time stages telling tells opens_here work waits ahead) =
+    let o = found asked history now at r mine one id q opens_here in
+    still asked history now at r mine one _ _ refl refl refl refl refl (closed asked history now at r mine one q) tt (
+      plain_told asked history now r q (heard r m) (refusal_answer (time_ahead (heard r m)))
+          (read_no_write asked history now at r mine one q named time stages telling work o),
+      tt,
+    )
+router_steps asked history now at _ _ _ _ mine one input (router_note r m id dones q kind ordered statements answers tells opens_here work news_come more) =
+    let does = news asked history now at r mine one id dones q kind ordered statements answers opens_here work
+    (subst (λ b. BodyStays asked history b) tells input) in
+    let p = proceeds asked history now at r mine one q (heard r m) (writing kind ordered statements (noted answers dones))
+    (found asked history now at r mine one id q opens_here) does in
+    still asked history now at r mine one _ _ refl refl refl refl refl p.0 p.1 tt
+router_steps asked history now at _ _ _ _ mine one input (router_wrote r m id dones q kind ordered statements answers tells opens_here work news_come all) =
+    let does = news asked history now at r mine one id dones q kind ordered statements answers opens_here work
+    (subst (λ b. BodyStays asked history b) tells input) in
+    still asked history now at r mine one _ _ refl refl refl refl refl (closed asked history now at r mine one q) tt
+    (wrote_told asked history now r q (heard r m) kind ordered statements (noted answers dones) does, tt)
+router_steps asked history now at _ _ _ _ mine one input (router_read r m id rows q named time stages telling out answer f tells opens_here work merges shown) =
+    let o = found asked history now at r mine one id q opens_here in
+    still asked history now at r mine one _ _ refl refl refl refl refl (closed asked history now at r mine one q) tt
+    (plain_told asked history now r q (heard r m) answer (read_no_write asked history now at r mine one q named time stages telling work o), tt)
+router_steps asked history now at _ _ _ _ mine one input (router_excess r m id n q named time stages telling tells opens_here work) =
+    let o = found asked history now at r mine one id q opens_here in
+    still asked history now at r mine one _ _ refl refl refl refl refl (closed asked history now at r mine one q) tt (
+      plain_told asked history now r q (heard r m) (refusal_answer (too_much n))
+          (read_no_write asked history now at r mine one q named time stages telling work o),
+      tt,
+    )
+router_steps asked history now at _ _ _ _ mine one input (router_overflow r m id q named time stages telling tells opens_here work) =
+    let o = found asked history now at r mine one id q opens_here in
+    still asked history now at r mine one _ _ refl refl refl refl refl (closed asked history now at r mine one q) tt (
+      plain_told asked history now r q (heard r m) (refusal_answer (without_evidence overflow))
+          (read_no_write asked history now at r mine one q named time stages telling work o),
+      tt,
+    )
+router_steps asked history now at _ _ _ _ mine one input (router_late r m late) =
+    still asked history now at r mine one _ _ refl refl refl refl refl mine.requests tt tt
+router_steps asked history now at _ _ _ _ mine one input (router_skip r m none) =
+    still asked history now at r mine one _ r refl refl refl refl refl mine.requests tt tt
+router_steps asked history now at _ _ _ _ mine one input (router_moment r moment begun) =
+    still asked history now at r mine one _ _ refl refl refl refl refl mine.requests
+    (each_again asked history r (max r.time (time_of_moment moment)) r.requests mine.requests) tt

@@ -1,0 +1,57 @@
+-- What stays true in runs in which nodes stop and are started again (MongoDB manual, "Write Concern": an acknowledged write is not lost;
+-- "Retryable Writes": a statement is applied at most once).
+use Rattle.std.specs.Prelude.{◌≡◌, ◌<◌, ℕ, List, ◌++◌, length, Ok, true, int_lt}
+use Rattle.std.specs.List.{AllByRecursion}
+use Rattle.command_model.specs.Answers.{answer_document}
+use Rattle.command_model.specs.Command.{write_command, command_of}
+use Rattle.command_model.specs.Writes.{WriteCommand}
+use Rattle.base_model.specs.Identities.{RequestId}
+use Rattle.chunk_model.specs.Placement.{AreFitting}
+use Rattle.chunk_model.specs.Tables.{first_shard}
+use Rattle.history_model.specs.History.{StatementNumber, Entry, Legal, IsIn}
+use Rattle.reply_model.specs.Exchanges.{Asked, Answered, number_for}
+use Rattle.reply_model.specs.OneHistory.{AreNumbered, ids_asked, AreDifferent, changes_in}
+use Rattle.reply_model.specs.Outcomes.{StatementOutcome, is_older, Done, answer_by, answer_of}
+use Rattle.reply_model.specs.Right.{Sends}
+use Rattle.node_model.specs.Journal.{Kept, entries_kept, changes_kept}
+use Rattle.node_model.specs.World.{World, journal_at}
+
+-- the outcome is that of a stored entry under the number, or says that a stored entry has a greater transaction of its session
+pub data IsOutcomeOf (history : List Entry) (number : StatementNumber) : StatementOutcome → Type 0 where
+  of_entry : (e : Entry) → IsIn e history → e.number ≡ number → IsOutcomeOf history number (answer_by e)
+  of_greater : (e : Entry) → IsIn e history → e.number.session ≡ number.session → int_lt number.transaction e.number.transaction ≡ true
+      → IsOutcomeOf history number (is_older e.number.transaction)
+
+-- of a statement of a write
+pub record IsOutcomeAt (history : List Entry) (write : WriteCommand) (id : RequestId) (d : Done) : Type 0 where
+  pub within : d.index < length write.operations
+  pub outcome : IsOutcomeOf history (number_for write.number id d.index) d.answer
+
+-- the reply to a write returns outcomes of its statements, each of which is stored
+pub record IsAcknowledged (history : List Entry) (write : WriteCommand) (t : Answered) : Type 0 where
+  pub dones : List Done
+  pub document : t.document ≡ answer_document (answer_of write.kind t.time dones)
+  pub stored : AllByRecursion (IsOutcomeAt history write t.id) dones
+
+abbrev pub IsStored : List Entry → Answered → Type 0
+IsStored history t = (write : WriteCommand) → command_of t.request ≡ Ok (write_command write) → IsAcknowledged history write t
+
+-- a request that a router took sent the entry's statement
+abbrev pub WasSentBy : List Asked → Entry → Type 0
+WasSentBy asked e = (a : Asked) × IsIn a asked × Sends a e
+
+-- The shard's journal is one legal history of an unsharded collection, with each statement at most once; each entry is that of a statement
+-- that a client sent; each reply to a write is one of what is stored; the catalogue's changes fit, and are those that its journal stores;
+-- no two requests have one number.
+pub record KeepsWrites (w : World) : Type 0 where
+  pub legal : Legal (entries_kept (journal_at w.nodes first_shard))
+  pub numbers : AreNumbered (entries_kept (journal_at w.nodes first_shard))
+  pub sent : AllByRecursion (WasSentBy w.asked) (entries_kept (journal_at w.nodes first_shard))
+  pub told : AllByRecursion (IsStored (entries_kept (journal_at w.nodes first_shard))) w.answered
+  pub fitting : AreFitting (changes_kept (journal_at w.nodes 0))
+  pub one : AreDifferent (ids_asked w.asked)
+  pub dated : changes_in w.changed ≡ changes_kept (journal_at w.nodes 0)
+
+-- each journal of one world has all records that it had in another, in order, and then more
+abbrev pub KeepsJournals : World → World → Type 0
+KeepsJournals u w = (at : ℕ) → (more : List Kept) × (journal_at w.nodes at ≡ journal_at u.nodes at ++ more)

@@ -1,0 +1,10 @@
+pub mod SameData
+pub mod Durable
+pub mod Follow
+pub mod Replays
+pub mod Openings
+pub mod Holds
+pub mod Restarts
+pub mod Histories
+pub mod Acknowledged
+pub mod SampleJournals

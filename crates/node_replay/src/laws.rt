@@ -1,0 +1,57 @@
+//! The laws of journals.
+
+ghost use Rattle.std.specs.Prelude.{◌≡◌, ℕ, List, Some};
+ghost use Rattle.std.specs.List.{AllByRecursion};
+ghost use Rattle.record_model.specs.Records.{Record};
+ghost use Rattle.reply_model.specs.OneHistory.{AreDifferent, ids_told};
+ghost use Rattle.node_model.specs.Letters.{Effect, Input};
+ghost use Rattle.node_model.specs.States.{NodeState};
+ghost use Rattle.node_model.specs.Steps.{Step};
+ghost use Rattle.node_model.specs.World.{Event, Run, World, start};
+ghost use Rattle.node_replay.specs.Acknowledged.{KeepsJournals, KeepsWrites};
+ghost use Rattle.node_replay.specs.Durable.{DurableCatalogue, DurableShard, durable_catalogue, durable_of, durable_shard, empty_catalogue, empty_shard};
+ghost use Rattle.node_replay.specs.Histories.{AreChanges, HasKey, IsHistory};
+ghost use Rattle.node_replay.specs.Holds.{Holds, MayOpen, Replays};
+ghost use Rattle.node_replay.specs.Replays.{records_of, replayed};
+ghost use Rattle.node_replay.specs.Restarts.{EventOrStop, RunWithStops};
+
+/// The records that a step stores may follow, one after another, in the durable part of the node before it, and lead to the durable part of the node
+/// after it.
+pub fn steps_store_what_may_follow()
+    ensures { (s : NodeState) (t : NodeState) (i : Input) (f : Effect) → Holds s → Step s i f t → (replayed (Some (durable_of s)) (records_of f.written) ≡ Some (durable_of t)) × Holds t }
+{}
+
+/// In every run from empty journals the journal of each node replays to its durable part.
+pub fn runs_replay()
+    ensures { (routers : ℕ) (events : List Event) (w : World) → Run (start routers) events w → AllByRecursion Replays w.nodes }
+{}
+
+/// The same where nodes stop between two steps, or in one, and are started again: so no start is refused.
+pub fn runs_with_stops_replay()
+    ensures { (routers : ℕ) (events : List EventOrStop) (w : World) → RunWithStops (start routers) events w → AllByRecursion Replays w.nodes × AllByRecursion MayOpen w.nodes }
+{}
+
+/// A journal of a shard that replays is one legal history, whoever wrote it.
+pub fn replayed_shard_is_one_history()
+    ensures { (me : ℕ) (records : List Record) (d : DurableShard) → replayed (Some (durable_shard (empty_shard me))) records ≡ Some (durable_shard d) → IsHistory records d }
+{}
+
+/// A journal of the catalogue that replays stores changes of which each may follow those before it, if each split is at a key that a document may have.
+pub fn replayed_catalogue_has_changes()
+    ensures { (me : ℕ) (records : List Record) (d : DurableCatalogue) → AllByRecursion HasKey records → replayed (Some (durable_catalogue (empty_catalogue me))) records ≡ Some (durable_catalogue d) → AreChanges records d }
+{}
+
+/// Where nodes stop, in whichever step, and are started again: nothing that a client was told of a write is lost, and no statement is applied twice.
+pub fn runs_with_stops_keep_writes()
+    ensures { (routers : ℕ) (events : List EventOrStop) (w : World) → RunWithStops (start routers) events w → KeepsWrites w }
+{}
+
+/// Nor is any record lost that was stored: from any world on, each journal grows at its end alone.
+pub fn runs_with_stops_keep_journals()
+    ensures { (u : World) (events : List EventOrStop) (w : World) → RunWithStops u events w → KeepsJournals u w }
+{}
+
+/// Nor is any request answered twice.
+pub fn runs_with_stops_answer_once()
+    ensures { (routers : ℕ) (events : List EventOrStop) (w : World) → RunWithStops (start routers) events w → AreDifferent (ids_told w.answered) }
+{}

@@ -1,0 +1,11 @@
+//! What the journals of nodes replay to, and that each step of a node stores what may follow.
+#![tactic(auto)]
+
+mod examples;
+mod laws;
+
+pub use examples::{catalogues_refuse, journals_replay, routers_refuse, shards_refuse};
+pub use laws::{
+    replayed_catalogue_has_changes, replayed_shard_is_one_history, runs_replay,
+    runs_with_stops_keep_writes, runs_with_stops_replay, steps_store_what_may_follow,
+};
