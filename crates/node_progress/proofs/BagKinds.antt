@@ -34,7 +34,6 @@ use Rattle.node_progress.proofs.Takings.{catalogue_takes_none, shard_takes_none,
 use Rattle.node_progress.proofs.Bags.{changes_made, IsHeldFor, OpenGoes, ParkedGoes, NodeGoes, IsOfRouter, Bag, WasFor, Clears, length_set}
 use Rattle.node_progress.proofs.BagSteps.{Carries, still_well, open_moves, parked_moves, parked_after, open_after, bag_after}
 use Rattle.node_progress.proofs.BagFacts.{IsHere, now, told_had, named_request, known_to, fit_here, ready_here, tables_here}
-
 use Rattle.node_progress.proofs.BagMoves.{NoShardTable, within, from_node, others, nothing_taken, together}
 
 -- THE CATALOGUE
@@ -64,7 +63,7 @@ catalogue_keeps left later w book p i kept c d f good bag here clears fresh come
     changes = known_to w book left good bag c p kept here
 
     passes : (t : Thing) → home t ≢ 0 → ((node : ℕ) (namespace : List ℕ) → t ≡ a_table node namespace false no_time
-          → known_table namespace (changes_made w) ≡ None → ⊥) → WasFor i t → IsAmong f.mail t
+        → known_table namespace (changes_made w) ≡ None → ⊥) → WasFor i t → IsAmong f.mail t
     passes t away known was =
         catalogue_passes c was.letter f d t ((comes was.letter was.is).0 ∙ fits.place) away
         (λ node namespace e none. known node namespace e (ap (λ l. known_table namespace l) (sym changes) ∙ none)) was.brings
@@ -213,7 +212,7 @@ router_keeps left later w book p i kept o r u f good bag here clears fresh comes
     carries t above other none = record { passes = λ was. absurd (away t other was); holds = λ s is x there brings. absurd (cc is) }
 
     of_router : AllByRecursion (λ (a : Asked). IsOfRouter (slice_set w.nodes p (record { state = router_state u; kept = kept ++ g.written })) a.id)
-          (asked_by w.now f.taken)
+        (asked_by w.now f.taken)
     of_router =
         all_mapped (λ (a : Asked). IsOfRouter (slice_set w.nodes p (record { state = router_state u; kept = kept ++ g.written })) a.id) _ f.taken
         (all_weaken (λ (x : Taken). (x.id.router ≡ r.me) × (x.id.life ≡ r.life))

@@ -54,9 +54,11 @@ catalogue_passes _ _ _ _ t place own known is (catalogue_create c m namespace at
     (l.0, λ none. subst (λ o. IsSome o) (sym made.1) refl)
 catalogue_passes _ _ _ _ t place own known is (catalogue_tell c m namespace create at says there) =
     let l = subst (λ b. Brings t m.sender m.receiver b) says is in
-    only_among (told c m (heard c m) namespace create at (known_table namespace c.changes)) t
-    (l.0, λ none. there_if create (known_table namespace c.changes) there
-    (λ not_created. known m.sender namespace (l.0 ∙ (ap (λ b. a_table m.sender namespace b at) not_created ∙ ap (λ a. a_table m.sender namespace false a) none))))
+    only_among (told c m (heard c m) namespace create at (known_table namespace c.changes)) t (
+      l.0,
+      λ none. there_if create (known_table namespace c.changes) there
+          (λ not_created. known m.sender namespace (l.0 ∙ (ap (λ b. a_table m.sender namespace b at) not_created ∙ ap (λ a. a_table m.sender namespace false a) none))),
+    )
 catalogue_passes _ _ _ _ t place own known is (catalogue_split c m id namespace middle x says new) = splits c m t _ id namespace middle true says is
 catalogue_passes _ _ _ _ t place own known is (catalogue_bound c m id namespace middle says there) = splits c m t _ id namespace middle true says is
 catalogue_passes _ _ _ _ t place own known is (catalogue_none c m id namespace middle says none) = splits c m t _ id namespace middle false says is

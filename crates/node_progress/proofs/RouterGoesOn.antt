@@ -104,12 +104,14 @@ taken_waits r link number request namespace work ready plan =
     all_append (WaitsAfter r u (client_input link number request) (asks_for r r.time (r.count + 1) namespace work)) r.requests
     (opened_request r link number request namespace work ∷ [])
     (all_wait r u (client_input link number request) (asks_for r r.time (r.count + 1) namespace work) refl refl
-    (came_no_letter r (client_input link number request) (λ m is. cc is)))
-    (inr (record {
-      going = going;
-      fits = waits_fit r r.time (r.count + 1) namespace work;
-      sent = record { letter = s.letter; sent = subst (λ l. IsIn s.letter l) (sym s.is) (in_first s.letter []); brings = s.leads };
-    }), tt)
+    (came_no_letter r (client_input link number request) (λ m is. cc is))) (
+      inr (record {
+        going = going;
+        fits = waits_fit r r.time (r.count + 1) namespace work;
+        sent = record { letter = s.letter; sent = subst (λ l. IsIn s.letter l) (sym s.is) (in_first s.letter []); brings = s.leads };
+      }),
+      tt,
+    )
 
 at_once_waits : (r u : Router) (link : ℕ) (number : ℤ) (request : Request) → u.me ≡ r.me → u.life ≡ r.life → u.requests ≡ r.requests ++ []
     → AllByRecursion (WaitsAfter r u (client_input link number request) []) u.requests

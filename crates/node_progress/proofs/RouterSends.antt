@@ -63,9 +63,9 @@ module _ (changes : List Change) (nodes : ℕ) (r : Router) (own : r.me < nodes)
   to_read time count namespace t named at stages telling is name = by_owner (owner_at t null_value at) refl
     where
       by_owner : (o : Option ℕ) → owner_at t null_value at ≡ o → Well (elim o as (λ (o : Option ℕ). List Letter) [
-            | None ↦ []
-            | Some shard ↦ says r shard time (read_ask (id_of r count) 1 namespace at (split stages).0 (sent_by t shard)) ∷ []
-          ])
+        | None ↦ []
+        | Some shard ↦ says r shard time (read_ask (id_of r count) 1 namespace at (split stages).0 (sent_by t shard)) ∷ []
+      ])
       by_owner None owner = tt
       by_owner (Some shard) owner =
           subst (λ n. Well (says r n time (read_ask (id_of r count) 1 namespace at (split stages).0 (sent_by t n)) ∷ []))
@@ -107,17 +107,17 @@ module _ (changes : List Change) (nodes : ℕ) (r : Router) (own : r.me < nodes)
   again_well time q had going = by_wait q.wait
     where
       by_known : (o : Option Table) → table_of q.namespace r.tables ≡ o → Well (elim o as (λ (o : Option Table). List Letter) [
-            | None ↦ []
-            | Some t ↦ asks_shards r time q.count q.namespace t q.work
-          ])
+        | None ↦ []
+        | Some t ↦ asks_shards r time q.count q.namespace t q.work
+      ])
       by_known None is = tt
       by_known (Some t) is = by_found time q.count q.namespace q.work r.tables had going t is
 
       by_wait : (w : Wait) → Well (elim w as (λ (w : Wait). List Letter) [
-            | for_time ↦ asks_times r time (id_of r q.count)
-            | for_catalogue ↦ asks_catalogue r time q.count q.namespace q.work ∷ []
-            | for_shards ↦ elim (table_of q.namespace r.tables) [ None ↦ [] | Some t ↦ asks_shards r time q.count q.namespace t q.work ]
-          ])
+        | for_time ↦ asks_times r time (id_of r q.count)
+        | for_catalogue ↦ asks_catalogue r time q.count q.namespace q.work ∷ []
+        | for_shards ↦ elim (table_of q.namespace r.tables) [ None ↦ [] | Some t ↦ asks_shards r time q.count q.namespace t q.work ]
+      ])
       by_wait for_time = to_time time q.count
       by_wait for_catalogue = (to_catalogue time q.count q.namespace q.work, tt)
       by_wait for_shards = by_known (table_of q.namespace r.tables) refl
@@ -125,11 +125,11 @@ module _ (changes : List Change) (nodes : ℕ) (r : Router) (own : r.me < nodes)
   -- A TABLE ARRIVES
 
   without_well : (time : ℕ) (made : Bool) (at : At) (q : Open) (work : Work) → Well (letters_in (elim work as (λ (w : Work). Next) [
-        | writing kind ordered statements answers ↦ stays q []
-        | reading named at_read stages telling ↦ if is_for at at_read then is_told (reply_to r time q (empty_answer q at_read telling)) else stays q []
-        | sharding ↦ if made then is_told (reply_to r time q (sharded_answer q.namespace time)) else stays q []
-        | splitting middle ↦ stays q []
-      ]))
+    | writing kind ordered statements answers ↦ stays q []
+    | reading named at_read stages telling ↦ if is_for at at_read then is_told (reply_to r time q (empty_answer q at_read telling)) else stays q []
+    | sharding ↦ if made then is_told (reply_to r time q (sharded_answer q.namespace time)) else stays q []
+    | splitting middle ↦ stays q []
+  ]))
   without_well time made at q (writing kind ordered statements answers) = tt
   without_well time made at q (reading named at_read stages telling) = by_test (is_for at at_read)
     where

@@ -122,16 +122,18 @@ next_after : (r u : Router) (i : Input) (mail : List Letter) (next : Next) → (
     → AllByRecursion (WaitsAfter r u i mail) (stay_in next)
 next_after r u i mail (stays p letters) among (inl still) = (inl still, tt)
 next_after r u i mail (stays p letters) among (inr anew) =
-    let s = anew.2 in
-    (inr (record {
-      going = anew.0;
-      fits = anew.1;
-      sent = record {
-        letter = s.letter;
-        sent = among s.letter (subst (λ l. IsIn s.letter l) (sym s.is) (in_first s.letter []));
-        brings = s.leads;
-      };
-    }), tt)
+    let s = anew.2 in (
+      inr (record {
+        going = anew.0;
+        fits = anew.1;
+        sent = record {
+          letter = s.letter;
+          sent = among s.letter (subst (λ l. IsIn s.letter l) (sym s.is) (in_first s.letter []));
+          brings = s.leads;
+        };
+      }),
+      tt,
+    )
 next_after r u i mail (is_told reply) among next = tt
 
 shards_fit : (t : Table) (work : Work) → is_enough t work ≡ true → WaitFits work for_shards
