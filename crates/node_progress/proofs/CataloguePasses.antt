@@ -8,7 +8,7 @@ use Rattle.history_model.specs.History.{IsIn}
 use Rattle.history_model.proofs.Lists.{in_first}
 use Rattle.chunk_model.specs.Changes.{Change, known_table}
 use Rattle.chunk_model.specs.Tables.{Table}
-use Rattle.node_model.specs.Letters.{At, no_time, Body, table_ask, table_told, split_ask, split_done, Letter, Input, letter_input, Effect}
+use Rattle.node_model.specs.Letters.{At, no_time, split_ask, Letter, Input, letter_input, Effect}
 use Rattle.node_model.specs.States.{Catalogue}
 use Rattle.node_model.specs.CatalogueRows.{CatalogueRow, catalogue_create, catalogue_tell, catalogue_split, catalogue_bound, catalogue_none, catalogue_skip, catalogue_moment, catalogue_opened, catalogue_client, heard, told, split_told}
 use Rattle.node_laws.proofs.CatalogueAnswers.{created_known}
@@ -54,9 +54,11 @@ catalogue_passes _ _ _ _ t place own known is (catalogue_create c m namespace at
     (l.0, λ none. subst (λ o. IsSome o) (sym made.1) refl)
 catalogue_passes _ _ _ _ t place own known is (catalogue_tell c m namespace create at says there) =
     let l = subst (λ b. Brings t m.sender m.receiver b) says is in
-    only_among (told c m (heard c m) namespace create at (known_table namespace c.changes)) t
-    (l.0, λ none. there_if create (known_table namespace c.changes) there
-    (λ not_created. known m.sender namespace (l.0 ∙ (ap (λ b. a_table m.sender namespace b at) not_created ∙ ap (λ a. a_table m.sender namespace false a) none))))
+    only_among (told c m (heard c m) namespace create at (known_table namespace c.changes)) t (
+      l.0,
+      λ none. there_if create (known_table namespace c.changes) there
+          (λ not_created. known m.sender namespace (l.0 ∙ (ap (λ b. a_table m.sender namespace b at) not_created ∙ ap (λ a. a_table m.sender namespace false a) none))),
+    )
 catalogue_passes _ _ _ _ t place own known is (catalogue_split c m id namespace middle x says new) = splits c m t _ id namespace middle true says is
 catalogue_passes _ _ _ _ t place own known is (catalogue_bound c m id namespace middle says there) = splits c m t _ id namespace middle true says is
 catalogue_passes _ _ _ _ t place own known is (catalogue_none c m id namespace middle says none) = splits c m t _ id namespace middle false says is

@@ -1,10 +1,9 @@
 -- What a router sends goes to the catalogue or to the shard, with the versions of a table that the catalogue had.
-use Rattle.std.proofs.Common.{◌≡◌, ℕ, ◌+◌, ◌<◌, List, [], ◌∷◌, ◌++◌, length, drop, refl, sym, ap, subst, ◌∙◌, arith, Bool}
-use Rattle.std.specs.Prelude.{Option, Some, None, true, false, ◌&&◌, max, if◌then◌else◌}
-use Rattle.std.specs.List.{AllByRecursion, flat_map}
+use Rattle.std.proofs.Common.{◌≡◌, ℕ, ◌+◌, ◌<◌, List, [], ◌∷◌, length, refl, sym, ap, subst, ◌∙◌, arith, Bool}
+use Rattle.std.specs.Prelude.{Option, Some, None, true, false, ◌&&◌, if◌then◌else◌}
+use Rattle.std.specs.List.{AllByRecursion}
 use Rattle.std.specs.Str.{bytes_eq}
-use Rattle.history_model.specs.History.{IsIn}
-use Rattle.history_model.proofs.Lists.{all_at, all_weaken}
+use Rattle.history_model.proofs.Lists.{all_at}
 use Rattle.bson_model.specs.Tree.{null_value}
 use Rattle.chunk_model.specs.Changes.{Change}
 use Rattle.chunk_model.specs.Tables.{Table, table_of, first_shard, owner_at}
@@ -13,15 +12,15 @@ use Rattle.command_model.specs.Answers.{sharded_answer}
 use Rattle.pipeline_model.specs.Stages.{Stage}
 use Rattle.pipeline_model.specs.Split.{split}
 use Rattle.reply_model.specs.Outcomes.{Done}
-use Rattle.node_model.specs.Letters.{At, Body, Statement, table_ask, split_ask, time_ask, write_ask, read_ask, table_told, Letter, Input, letter_input, Effect}
+use Rattle.node_model.specs.Letters.{At, Body, Statement, time_ask, write_ask, read_ask, table_told, Letter, Input, letter_input, Effect}
 use Rattle.node_model.specs.States.{Telling, for_time, for_catalogue, for_shards, Wait, Router, Work, writing, reading, sharding, splitting, Open}
-use Rattle.node_model.specs.RouterRows.{id_of, heard, says, run_to, adopted, asks_to_read, asks_shards, asks_catalogue, asks_times, asks_by, asks_for, asks_again, owner_of_span, is_ahead, is_enough, enough_of, table_for, noted, reached, is_for, is_for_catalogue, Next, stays, is_told, was_created, next_of, next_waiting, letters_in, reply_to, empty_answer, RouterRow, router_begin, router_opened, router_plain, router_more, router_no_cursor, router_kill, router_take, router_learn, router_split, router_not_sharded, router_reach, router_ahead, router_note, router_wrote, router_read, router_excess, router_overflow, router_late, router_skip, router_moment}
+use Rattle.node_model.specs.RouterRows.{id_of, heard, says, run_to, adopted, asks_shards, asks_catalogue, asks_times, asks_by, asks_for, asks_again, is_ahead, table_for, noted, reached, is_for, is_for_catalogue, Next, stays, is_told, was_created, next_of, next_waiting, letters_in, reply_to, empty_answer, RouterRow, router_begin, router_opened, router_plain, router_more, router_no_cursor, router_kill, router_take, router_learn, router_split, router_not_sharded, router_reach, router_ahead, router_note, router_wrote, router_read, router_excess, router_overflow, router_late, router_skip, router_moment}
 use Rattle.command_model.specs.Command.{command_of}
 use Rattle.command_model.specs.Writes.{WriteKind}
 use Rattle.node_laws.proofs.KnownTables.{table_found, all_adopted}
 use Rattle.node_laws.proofs.OpenRequests.{open_of_found}
 use Rattle.node_progress.specs.UnderWay.{IsNotStale}
-use Rattle.node_progress.proofs.Versions.{IsFirst, IsTableOf, IsKnowing, IsWell}
+use Rattle.node_progress.proofs.Versions.{IsTableOf, IsKnowing, IsWell}
 use Rattle.node_progress.proofs.Sends.{HasNext, IsGoing, run_sends, going_of}
 use Rattle.node_progress.proofs.Plans.{plan_goes}
 use Rattle.node_progress.proofs.RouterWaits.{IsWaiting, all_flat, enough_found}
@@ -63,9 +62,9 @@ module _ (changes : List Change) (nodes : ℕ) (r : Router) (own : r.me < nodes)
   to_read time count namespace t named at stages telling is name = by_owner (owner_at t null_value at) refl
     where
       by_owner : (o : Option ℕ) → owner_at t null_value at ≡ o → Well (elim o as (λ (o : Option ℕ). List Letter) [
-            | None ↦ []
-            | Some shard ↦ says r shard time (read_ask (id_of r count) 1 namespace at (split stages).0 (sent_by t shard)) ∷ []
-          ])
+        | None ↦ []
+        | Some shard ↦ says r shard time (read_ask (id_of r count) 1 namespace at (split stages).0 (sent_by t shard)) ∷ []
+      ])
       by_owner None owner = tt
       by_owner (Some shard) owner =
           subst (λ n. Well (says r n time (read_ask (id_of r count) 1 namespace at (split stages).0 (sent_by t n)) ∷ []))
@@ -107,17 +106,17 @@ module _ (changes : List Change) (nodes : ℕ) (r : Router) (own : r.me < nodes)
   again_well time q had going = by_wait q.wait
     where
       by_known : (o : Option Table) → table_of q.namespace r.tables ≡ o → Well (elim o as (λ (o : Option Table). List Letter) [
-            | None ↦ []
-            | Some t ↦ asks_shards r time q.count q.namespace t q.work
-          ])
+        | None ↦ []
+        | Some t ↦ asks_shards r time q.count q.namespace t q.work
+      ])
       by_known None is = tt
       by_known (Some t) is = by_found time q.count q.namespace q.work r.tables had going t is
 
       by_wait : (w : Wait) → Well (elim w as (λ (w : Wait). List Letter) [
-            | for_time ↦ asks_times r time (id_of r q.count)
-            | for_catalogue ↦ asks_catalogue r time q.count q.namespace q.work ∷ []
-            | for_shards ↦ elim (table_of q.namespace r.tables) [ None ↦ [] | Some t ↦ asks_shards r time q.count q.namespace t q.work ]
-          ])
+        | for_time ↦ asks_times r time (id_of r q.count)
+        | for_catalogue ↦ asks_catalogue r time q.count q.namespace q.work ∷ []
+        | for_shards ↦ elim (table_of q.namespace r.tables) [ None ↦ [] | Some t ↦ asks_shards r time q.count q.namespace t q.work ]
+      ])
       by_wait for_time = to_time time q.count
       by_wait for_catalogue = (to_catalogue time q.count q.namespace q.work, tt)
       by_wait for_shards = by_known (table_of q.namespace r.tables) refl
@@ -125,11 +124,11 @@ module _ (changes : List Change) (nodes : ℕ) (r : Router) (own : r.me < nodes)
   -- A TABLE ARRIVES
 
   without_well : (time : ℕ) (made : Bool) (at : At) (q : Open) (work : Work) → Well (letters_in (elim work as (λ (w : Work). Next) [
-        | writing kind ordered statements answers ↦ stays q []
-        | reading named at_read stages telling ↦ if is_for at at_read then is_told (reply_to r time q (empty_answer q at_read telling)) else stays q []
-        | sharding ↦ if made then is_told (reply_to r time q (sharded_answer q.namespace time)) else stays q []
-        | splitting middle ↦ stays q []
-      ]))
+    | writing kind ordered statements answers ↦ stays q []
+    | reading named at_read stages telling ↦ if is_for at at_read then is_told (reply_to r time q (empty_answer q at_read telling)) else stays q []
+    | sharding ↦ if made then is_told (reply_to r time q (sharded_answer q.namespace time)) else stays q []
+    | splitting middle ↦ stays q []
+  ]))
   without_well time made at q (writing kind ordered statements answers) = tt
   without_well time made at q (reading named at_read stages telling) = by_test (is_for at at_read)
     where

@@ -4,6 +4,7 @@
 mod laws;
 
 pub use laws::{
-    delivered_runs_are_answered, each_request_is_taken, earlier_requests_stay_answered, messages_go_to_nodes, no_request_is_sent_back,
-    piped_requests_are_answered, piped_rounds_are_a_run, requests_stay_under_way,
+    delivered_runs_are_answered, each_request_is_taken, earlier_requests_stay_answered,
+    messages_go_to_nodes, no_request_is_sent_back, piped_requests_are_answered,
+    piped_rounds_are_a_run, requests_stay_under_way,
 };
