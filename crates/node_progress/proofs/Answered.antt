@@ -1,5 +1,5 @@
 -- Where no message is left, every request is answered and every write is served.
-use Rattle.std.proofs.Common.{◌≡◌, ◌⊎◌, inl, inr, ℕ, ◌<◌, List, [], ◌∷◌, length, refl, sym, ap, subst, ◌∙◌}
+use Rattle.std.proofs.Common.{◌≡◌, ◌⊎◌, inl, inr, ℕ, ◌<◌, List, [], ◌∷◌, length, sym, ap, subst, ◌∙◌}
 use Rattle.std.specs.Prelude.{Ok}
 use Rattle.std.specs.List.{AllByRecursion}
 use Rattle.history_model.proofs.Lists.{all_weaken, in_first, in_later, in_cons, in_none, in_prefix}
@@ -20,10 +20,10 @@ use Rattle.node_laws.proofs.Others.{told_more}
 use Rattle.node_laws.proofs.StepsKeep.{StaysTrue}
 use Rattle.node_laws.proofs.Runs.{makes_one_history}
 use Rattle.node_progress.specs.Completion.{IsAnswered, IsServed, AreAnswered}
-use Rattle.node_progress.specs.UnderWay.{IsUnderWay, IsLeft, IsDelivered, IsNotStale}
+use Rattle.node_progress.specs.UnderWay.{IsLeft, IsDelivered, IsNotStale}
 use Rattle.node_progress.proofs.Versions.{IsWell}
 use Rattle.node_progress.proofs.Bags.{changes_made, Bag}
-use Rattle.node_progress.proofs.BagRuns.{BagOf, run_bag}
+use Rattle.node_progress.proofs.BagRuns.{run_bag}
 use Rattle.node_progress.proofs.Progress.{bag_under_way, all_answered, all_quiet}
 
 -- WHAT AN ANSWERED REQUEST HAS

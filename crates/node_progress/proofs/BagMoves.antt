@@ -1,39 +1,25 @@
 -- Each step of each node keeps the bag.
-use Rattle.std.proofs.Common.{◌≡◌, ◌≢◌, ◌⊎◌, inl, inr, ℕ, ◌+◌, ◌<◌, ◌≤◌, List, [], ◌∷◌, ◌++◌, length, refl, sym, ap, subst, ◌∙◌, arith}
-use Rattle.std.specs.Prelude.{Some, None, false}
-use Rattle.std.specs.List.{AllByRecursion, slice_get, slice_set}
+use Rattle.std.proofs.Common.{◌≡◌, ◌≢◌, ℕ, ◌<◌, ◌≤◌, List, [], length, sym, subst, ◌∙◌, arith}
+use Rattle.std.specs.Prelude.{Some, false}
+use Rattle.std.specs.List.{AllByRecursion, slice_get}
 use Rattle.std.proofs.lemmas.Option.{slice_get_within}
-use Rattle.history_model.specs.History.{IsIn}
 use Rattle.history_model.proofs.Lists.{all_at, all_weaken}
-use Rattle.chunk_model.specs.Changes.{known_table}
 use Rattle.chunk_model.specs.Tables.{first_shard}
 use Rattle.reply_model.specs.Exchanges.{Asked}
-use Rattle.node_model.specs.Journal.{Kept, kept_life}
-use Rattle.node_model.specs.Letters.{no_time, Letter, Input, letter_input, Taken, Effect, writes, both}
-use Rattle.node_model.specs.States.{Catalogue, Shard, Router, Open, NodeState, catalogue_state, shard_state, router_state}
-use Rattle.node_model.specs.CatalogueRows.{CatalogueRow}
-use Rattle.node_model.specs.ShardRows.{ShardRow}
-use Rattle.node_model.specs.RouterRows.{begins, RouterRow}
+use Rattle.node_model.specs.Journal.{Kept}
+use Rattle.node_model.specs.Letters.{no_time, Letter, Input, letter_input, Effect}
+use Rattle.node_model.specs.States.{Shard, Router, NodeState, catalogue_state, shard_state, router_state}
 use Rattle.node_model.specs.World.{Held, World, asked_by, after, is_given, tick}
-use Rattle.node_laws.proofs.Views.{Book, View, view_of}
-use Rattle.node_laws.proofs.Facts.{CatalogueFits, ParkedFits, ShardFits, RouterFits, StateFits, HeldFits, Good}
-use Rattle.node_laws.proofs.Lists.{all_mapped}
-use Rattle.node_laws.proofs.StepsKeep.{fits_here, get_set}
-use Rattle.node_progress.specs.UnderWay.{Thing, a_table, thing_of, IsFor}
-use Rattle.node_progress.proofs.Things.{home, home_of, brings_to, thing_asked, ask_brings}
+use Rattle.node_laws.proofs.Views.{Book}
+use Rattle.node_laws.proofs.Facts.{RouterFits, StateFits, HeldFits, Good}
+use Rattle.node_progress.specs.UnderWay.{Thing, a_table, thing_of}
+use Rattle.node_progress.proofs.Things.{home, home_of}
 use Rattle.node_progress.proofs.Lateness.{wants_other}
-use Rattle.node_progress.proofs.Versions.{still_there, IsWell}
-use Rattle.node_progress.proofs.CataloguePasses.{IsAmong, catalogue_passes, catalogue_well}
-use Rattle.node_progress.proofs.ShardPasses.{shard_passes, shard_holds}
-use Rattle.node_progress.proofs.ShardParks.{IsNamed, shard_parked}
-use Rattle.node_progress.proofs.ShardSends.{shard_well}
-use Rattle.node_progress.proofs.RouterWaits.{WaitsAfter}
-use Rattle.node_progress.proofs.RouterGoesOn.{IsReady, router_waits}
-use Rattle.node_progress.proofs.RouterSends.{router_well}
-use Rattle.node_progress.proofs.Takings.{catalogue_takes_none, shard_takes_none, IsInLife, stays_in_life}
-use Rattle.node_progress.proofs.Bags.{changes_made, IsHeldFor, OpenGoes, ParkedGoes, NodeGoes, IsOfRouter, Bag, WasFor, Clears, length_set}
-use Rattle.node_progress.proofs.BagSteps.{Carries, still_well, open_moves, parked_moves, parked_after, open_after, bag_after}
-use Rattle.node_progress.proofs.BagFacts.{IsHere, now, told_had, named_request, known_to, fit_here, ready_here, tables_here}
+use Rattle.node_progress.proofs.Versions.{IsWell}
+use Rattle.node_progress.proofs.CataloguePasses.{IsAmong}
+use Rattle.node_progress.proofs.Bags.{changes_made, OpenGoes, ParkedGoes, NodeGoes, IsOfRouter, Bag, WasFor, Clears}
+use Rattle.node_progress.proofs.BagSteps.{Carries, still_well, open_moves, parked_moves, bag_after}
+use Rattle.node_progress.proofs.BagFacts.{IsHere, now}
 
 -- no table that a shard wants
 abbrev pub NoShardTable : Thing → Type 0

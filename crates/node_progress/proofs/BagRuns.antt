@@ -7,7 +7,7 @@ use Rattle.history_model.specs.History.{IsIn}
 use Rattle.history_model.proofs.Lists.{all_at, all_weaken, in_push, in_none}
 use Rattle.node_model.specs.Journal.{Kept, kept_life}
 use Rattle.node_model.specs.Letters.{Letter, Input, client_input, letter_input, moment_input, opened_input, Effect, writes, both}
-use Rattle.node_model.specs.States.{Router, NodeState, catalogue_state, shard_state, router_state, new_router}
+use Rattle.node_model.specs.States.{Router, NodeState, catalogue_state, shard_state, router_state}
 use Rattle.node_model.specs.RouterRows.{begins}
 use Rattle.node_model.specs.Steps.{Step, catalogue_step, shard_step, router_step, begin_step, other_step, number_of}
 use Rattle.node_model.specs.World.{Held, World, after, is_given, tick, Moves, Event, client_event, deliver_event, moment_event, opened_event, Happens, comes, delivers, passes, begins as was_opened, Run, stands, goes, routers_from, start}

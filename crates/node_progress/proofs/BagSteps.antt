@@ -1,10 +1,10 @@
 -- A step of a node keeps the bag.
-use Rattle.std.proofs.Common.{◌≡◌, ◌≢◌, ◌⊎◌, inl, inr, ℕ, zero, suc, ◌+◌, ◌<◌, ◌≤◌, List, [], ◌∷◌, ◌++◌, length, refl, sym, ap, subst, ◌∙◌, arith, append-nil, length-append}
-use Rattle.std.specs.Prelude.{Some, None, false}
-use Rattle.std.specs.List.{AllByRecursion, slice_get, slice_set}
+use Rattle.std.proofs.Common.{◌≡◌, ◌≢◌, ◌⊎◌, inl, inr, ℕ, ◌+◌, ◌≤◌, List, [], ◌∷◌, ◌++◌, length, sym, ap, subst, ◌∙◌, arith, length-append}
+use Rattle.std.specs.Prelude.{Some, false}
+use Rattle.std.specs.List.{AllByRecursion, slice_get}
 use Rattle.history_model.specs.History.{IsIn}
 use Rattle.history_model.proofs.Lists.{all_at, all_weaken, all_append}
-use Rattle.chunk_model.specs.Tables.{first_shard, table_of}
+use Rattle.chunk_model.specs.Tables.{first_shard}
 use Rattle.reply_model.specs.Exchanges.{Asked, Answered}
 use Rattle.node_model.specs.Journal.{Kept}
 use Rattle.node_model.specs.Letters.{no_time, Letter, Input, letter_input, Effect}
@@ -17,9 +17,9 @@ use Rattle.node_laws.proofs.StepsKeep.{get_set}
 use Rattle.node_progress.specs.UnderWay.{Thing, a_table, thing_of, IsFor, IsSent}
 use Rattle.node_progress.proofs.Versions.{IsWell, well_later}
 use Rattle.node_progress.proofs.CataloguePasses.{IsAmong}
-use Rattle.node_progress.proofs.ShardParks.{IsParkedAfter, Stays, Begins}
-use Rattle.node_progress.proofs.RouterWaits.{StillWaits, WaitsAnew, WaitsAfter, IsWaiting}
-use Rattle.node_progress.proofs.Bags.{changes_made, IsHeldFor, IsCarried, OpenGoes, ParkedGoes, NodeGoes, IsOfRouter, Bag, get_other, get_longer, length_set, same_place, WasFor, Clears, sent_moves, sent_anew, MoreMade, changes_more}
+use Rattle.node_progress.proofs.ShardParks.{IsParkedAfter}
+use Rattle.node_progress.proofs.RouterWaits.{WaitsAfter}
+use Rattle.node_progress.proofs.Bags.{changes_made, IsHeldFor, IsCarried, OpenGoes, ParkedGoes, NodeGoes, IsOfRouter, Bag, get_other, length_set, same_place, WasFor, Clears, sent_moves, sent_anew, MoreMade, changes_more}
 
 each_both : (P Q : ℕ → Held → Type 0) (i : ℕ) (xs : List Held) → EachAt P i xs → EachAt Q i xs → EachAt (λ j h. P j h × Q j h) i xs
 each_both P Q i [] p q = tt

@@ -8,7 +8,7 @@ use Rattle.history_model.specs.History.{IsIn}
 use Rattle.history_model.proofs.Lists.{in_first}
 use Rattle.chunk_model.specs.Changes.{Change, known_table}
 use Rattle.chunk_model.specs.Tables.{Table}
-use Rattle.node_model.specs.Letters.{At, no_time, Body, table_ask, table_told, split_ask, split_done, Letter, Input, letter_input, Effect}
+use Rattle.node_model.specs.Letters.{At, no_time, split_ask, Letter, Input, letter_input, Effect}
 use Rattle.node_model.specs.States.{Catalogue}
 use Rattle.node_model.specs.CatalogueRows.{CatalogueRow, catalogue_create, catalogue_tell, catalogue_split, catalogue_bound, catalogue_none, catalogue_skip, catalogue_moment, catalogue_opened, catalogue_client, heard, told, split_told}
 use Rattle.node_laws.proofs.CatalogueAnswers.{created_known}

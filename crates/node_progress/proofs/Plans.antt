@@ -1,5 +1,5 @@
 -- A request with work to do has a first thing to do.
-use Rattle.std.proofs.Common.{◌≡◌, ◌≢◌, ℕ, List, [], ◌∷◌, refl, sym, subst, Bool}
+use Rattle.std.proofs.Common.{◌≡◌, ◌≢◌, ℕ, List, [], ◌∷◌, refl, subst, Bool}
 use Rattle.std.specs.Prelude.{Option, Some, None, Result, Ok, Err, true, false, max, ◌||◌}
 use Rattle.std.specs.List.{AllByRecursion}
 use Rattle.std.specs.Option.{unwrap_or}

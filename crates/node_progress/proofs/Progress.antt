@@ -1,28 +1,24 @@
 -- What is under way in each world of a run; and where no message is left, every request is answered.
-use Rattle.std.proofs.Common.{◌≡◌, ◌⊎◌, inl, inr, ℕ, zero, suc, ◌+◌, ◌<◌, List, [], ◌∷◌, ◌++◌, length, refl, sym, ap, subst, ◌∙◌, arith}
+use Rattle.std.proofs.Common.{◌≡◌, ◌⊎◌, inl, inr, ℕ, suc, ◌<◌, List, [], ◌∷◌, length, refl, sym, subst, ◌∙◌}
 use Rattle.std.specs.Prelude.{Some, false}
 use Rattle.std.specs.List.{AllByRecursion, slice_get}
 use Rattle.std.proofs.lemmas.Option.{slice_get_within}
 use Rattle.history_model.specs.History.{IsIn}
 use Rattle.history_model.proofs.Lists.{all_at, all_from, all_weaken, in_first, in_later, in_none, in_cons}
-use Rattle.chunk_model.specs.Tables.{first_shard}
-use Rattle.base_model.specs.Identities.{RequestId}
 use Rattle.reply_model.specs.Exchanges.{Asked}
 use Rattle.node_model.specs.Journal.{Kept}
 use Rattle.node_model.specs.Letters.{no_time, Letter}
 use Rattle.node_model.specs.States.{Shard, Router, Open, NodeState, catalogue_state, shard_state, router_state}
-use Rattle.node_model.specs.RouterRows.{id_of}
 use Rattle.node_model.specs.World.{Held, World, Event, Run, start}
 use Rattle.node_laws.proofs.Views.{Book}
 use Rattle.node_laws.proofs.Places.{each_get}
 use Rattle.node_laws.proofs.Facts.{counts_of, IsClosedOrOpen, ShardFits, RouterFits, Good}
-use Rattle.node_laws.proofs.Lists.{all_within}
 use Rattle.node_laws.proofs.StepsKeep.{fits_here}
 use Rattle.node_progress.specs.Completion.{IsQuiet, IsAnswered}
-use Rattle.node_progress.specs.UnderWay.{Thing, a_table, thing_of, things_of, IsSent, IsFetched, IsParked, IsComing, IsServedNext, IsUnderWay, IsLeft, IsDelivered}
+use Rattle.node_progress.specs.UnderWay.{Thing, a_table, thing_of, things_of, IsSent, IsFetched, IsComing, IsServedNext, IsUnderWay, IsLeft}
 use Rattle.node_progress.proofs.Bags.{OpenGoes, ParkedGoes, NodeGoes, IsCarried, IsOfRouter, Bag}
 use Rattle.node_progress.proofs.BagFacts.{now}
-use Rattle.node_progress.proofs.BagRuns.{BagOf, run_bag}
+use Rattle.node_progress.proofs.BagRuns.{run_bag}
 
 -- FROM THE BAG
 

@@ -1,17 +1,17 @@
 -- After each round of the schedule of `pipe` every request is answered.
-use Rattle.std.proofs.Common.{◌≡◌, ◌≢◌, ◌⊎◌, inl, inr, ℕ, zero, suc, ◌+◌, ◌<◌, ◌≤◌, List, [], ◌∷◌, ◌++◌, length, refl, sym, ap, subst, ◌∙◌, arith, append-nil}
+use Rattle.std.proofs.Common.{◌≡◌, ◌≢◌, ◌⊎◌, inl, inr, ℕ, zero, suc, ◌+◌, ◌<◌, ◌≤◌, List, [], ◌++◌, length, refl, ap, subst, ◌∙◌, arith, append-nil}
 use Rattle.std.specs.List.{AllByRecursion}
 use Rattle.std.proofs.lemmas.Option.{slice_get_within}
 use Rattle.chunk_model.specs.Tables.{first_shard}
 use Rattle.node_model.specs.Journal.{entries_kept}
-use Rattle.node_model.specs.Letters.{Letter, Input, opened_input, Effect}
+use Rattle.node_model.specs.Letters.{Letter, opened_input, Effect}
 use Rattle.node_model.specs.States.{NodeState}
 use Rattle.node_model.specs.CatalogueRows.{catalogue_opened}
 use Rattle.node_model.specs.ShardRows.{shard_opened}
 use Rattle.node_model.specs.RouterRows.{router_begin, router_opened}
 use Rattle.node_model.specs.Steps.{Step, catalogue_step, shard_step, router_step, begin_step}
-use Rattle.node_model.specs.World.{World, Moves, Event, client_event, deliver_event, moment_event, opened_event, Happens, delivers, begins as was_opened, Run, stands, goes, start, journal_at}
-use Rattle.node_model.specs.Schedule.{openings, moments_given, Delivers, delivers_none, delivers_next, Round, IsRound, Pipes, opens, serves}
+use Rattle.node_model.specs.World.{World, Event, client_event, deliver_event, opened_event, Happens, delivers, begins as was_opened, Run, stands, goes, start, journal_at}
+use Rattle.node_model.specs.Schedule.{openings, moments_given, Delivers, delivers_none, delivers_next, Round, Pipes, opens, serves}
 use Rattle.node_laws.proofs.StepsKeep.{run_keeps}
 use Rattle.node_laws.proofs.Runs.{start_true}
 use Rattle.node_progress.specs.Completion.{IsAnswered, IsServed, AreAnswered}

@@ -1,30 +1,29 @@
 -- In each transition of a router: what its open requests wait for, and what it sends.
-use Rattle.std.proofs.Common.{◌≡◌, ◌≢◌, ◌⊎◌, inl, inr, ℕ, ℤ, ◌+◌, ◌<◌, List, [], ◌∷◌, ◌++◌, length, refl, sym, ap, subst, ◌∙◌, append-nil, Bool}
+use Rattle.std.proofs.Common.{◌≡◌, ◌≢◌, inr, ℕ, ℤ, ◌+◌, List, [], ◌∷◌, ◌++◌, refl, sym, ap, subst, ◌∙◌, Bool}
 use Rattle.std.specs.Prelude.{Some, Result, Ok, Err, true, false, Bool}
-use Rattle.std.specs.List.{AllByRecursion, flat_map}
-use Rattle.history_model.specs.History.{Operation, IsIn}
+use Rattle.std.specs.List.{AllByRecursion}
+use Rattle.history_model.specs.History.{IsIn}
 use Rattle.history_model.proofs.Lists.{all_at, all_append, in_first}
-use Rattle.chunk_model.specs.Tables.{Table, table_of, first_shard}
+use Rattle.chunk_model.specs.Tables.{Table, first_shard}
 use Rattle.base_model.specs.Identities.{RequestId}
-use Rattle.command_model.specs.Writes.{ClientNumber, WriteKind}
+use Rattle.command_model.specs.Writes.{WriteKind}
 use Rattle.command_model.specs.Command.{command_of}
 use Rattle.opmsg_model.specs.Requests.{Request}
 use Rattle.reply_model.specs.Outcomes.{Done}
-use Rattle.node_model.specs.Letters.{At, Body, table_told, split_done, write_done, read_rows, time_told, half_overflow, half_excess, HalfFault, Statement, Letter, Input, client_input, letter_input, Effect}
+use Rattle.node_model.specs.Letters.{At, table_told, split_done, write_done, read_rows, time_told, half_overflow, half_excess, HalfFault, Statement, Letter, Input, client_input, letter_input, Effect}
 use Rattle.node_model.specs.States.{Router, Work, writing, reading, sharding, splitting, Open, without, replaced}
 use Rattle.pipeline_model.specs.Halves.{Rows}
 use Rattle.node_model.specs.RouterRows.{id_of, heard, knows, noted, reached, going_on, asks_for, opened_request, takes, needs, plan_of, IsLate, TellsNothing, RouterRow, router_begin, router_opened, router_plain, router_more, router_no_cursor, router_kill, router_take, router_learn, router_split, router_not_sharded, router_reach, router_ahead, router_note, router_wrote, router_read, router_excess, router_overflow, router_late, router_skip, router_moment}
 use Rattle.node_laws.proofs.Facts.{counts_of, AreDifferentCounts}
 use Rattle.node_laws.proofs.KnownTables.{table_found, all_adopted}
 use Rattle.node_laws.proofs.OpenRequests.{open_of_found}
-use Rattle.node_progress.specs.UnderWay.{Thing, thing_by, thing_of, Brings, IsFor}
+use Rattle.node_progress.specs.UnderWay.{Thing, thing_of, Brings, IsFor}
 use Rattle.node_progress.proofs.Things.{router_idle}
-use Rattle.node_progress.proofs.Lateness.{WaitFits, named_in, not_late}
+use Rattle.node_progress.proofs.Lateness.{named_in, not_late}
 use Rattle.node_progress.proofs.Versions.{IsFirst}
-use Rattle.node_progress.proofs.CataloguePasses.{IsAmong}
-use Rattle.node_progress.proofs.Sends.{IsGoing, Sends, AreStated, going_of, asks_send, waits_fit}
+use Rattle.node_progress.proofs.Sends.{IsGoing, AreStated, going_of, asks_send, waits_fit}
 use Rattle.node_progress.proofs.Plans.{plan_goes}
-use Rattle.node_progress.proofs.RouterWaits.{StillWaits, WaitsAnew, WaitsAfter, IsWaiting, all_wait, answered_wait, replaced_wait, learned_wait}
+use Rattle.node_progress.proofs.RouterWaits.{WaitsAfter, IsWaiting, all_wait, answered_wait, replaced_wait, learned_wait}
 
 -- WHAT IS KNOWN BEFORE
 

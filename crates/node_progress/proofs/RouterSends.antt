@@ -1,10 +1,9 @@
 -- What a router sends goes to the catalogue or to the shard, with the versions of a table that the catalogue had.
-use Rattle.std.proofs.Common.{◌≡◌, ℕ, ◌+◌, ◌<◌, List, [], ◌∷◌, ◌++◌, length, drop, refl, sym, ap, subst, ◌∙◌, arith, Bool}
-use Rattle.std.specs.Prelude.{Option, Some, None, true, false, ◌&&◌, max, if◌then◌else◌}
-use Rattle.std.specs.List.{AllByRecursion, flat_map}
+use Rattle.std.proofs.Common.{◌≡◌, ℕ, ◌+◌, ◌<◌, List, [], ◌∷◌, length, refl, sym, ap, subst, ◌∙◌, arith, Bool}
+use Rattle.std.specs.Prelude.{Option, Some, None, true, false, ◌&&◌, if◌then◌else◌}
+use Rattle.std.specs.List.{AllByRecursion}
 use Rattle.std.specs.Str.{bytes_eq}
-use Rattle.history_model.specs.History.{IsIn}
-use Rattle.history_model.proofs.Lists.{all_at, all_weaken}
+use Rattle.history_model.proofs.Lists.{all_at}
 use Rattle.bson_model.specs.Tree.{null_value}
 use Rattle.chunk_model.specs.Changes.{Change}
 use Rattle.chunk_model.specs.Tables.{Table, table_of, first_shard, owner_at}
@@ -13,15 +12,15 @@ use Rattle.command_model.specs.Answers.{sharded_answer}
 use Rattle.pipeline_model.specs.Stages.{Stage}
 use Rattle.pipeline_model.specs.Split.{split}
 use Rattle.reply_model.specs.Outcomes.{Done}
-use Rattle.node_model.specs.Letters.{At, Body, Statement, table_ask, split_ask, time_ask, write_ask, read_ask, table_told, Letter, Input, letter_input, Effect}
+use Rattle.node_model.specs.Letters.{At, Body, Statement, time_ask, write_ask, read_ask, table_told, Letter, Input, letter_input, Effect}
 use Rattle.node_model.specs.States.{Telling, for_time, for_catalogue, for_shards, Wait, Router, Work, writing, reading, sharding, splitting, Open}
-use Rattle.node_model.specs.RouterRows.{id_of, heard, says, run_to, adopted, asks_to_read, asks_shards, asks_catalogue, asks_times, asks_by, asks_for, asks_again, owner_of_span, is_ahead, is_enough, enough_of, table_for, noted, reached, is_for, is_for_catalogue, Next, stays, is_told, was_created, next_of, next_waiting, letters_in, reply_to, empty_answer, RouterRow, router_begin, router_opened, router_plain, router_more, router_no_cursor, router_kill, router_take, router_learn, router_split, router_not_sharded, router_reach, router_ahead, router_note, router_wrote, router_read, router_excess, router_overflow, router_late, router_skip, router_moment}
+use Rattle.node_model.specs.RouterRows.{id_of, heard, says, run_to, adopted, asks_shards, asks_catalogue, asks_times, asks_by, asks_for, asks_again, is_ahead, table_for, noted, reached, is_for, is_for_catalogue, Next, stays, is_told, was_created, next_of, next_waiting, letters_in, reply_to, empty_answer, RouterRow, router_begin, router_opened, router_plain, router_more, router_no_cursor, router_kill, router_take, router_learn, router_split, router_not_sharded, router_reach, router_ahead, router_note, router_wrote, router_read, router_excess, router_overflow, router_late, router_skip, router_moment}
 use Rattle.command_model.specs.Command.{command_of}
 use Rattle.command_model.specs.Writes.{WriteKind}
 use Rattle.node_laws.proofs.KnownTables.{table_found, all_adopted}
 use Rattle.node_laws.proofs.OpenRequests.{open_of_found}
 use Rattle.node_progress.specs.UnderWay.{IsNotStale}
-use Rattle.node_progress.proofs.Versions.{IsFirst, IsTableOf, IsKnowing, IsWell}
+use Rattle.node_progress.proofs.Versions.{IsTableOf, IsKnowing, IsWell}
 use Rattle.node_progress.proofs.Sends.{HasNext, IsGoing, run_sends, going_of}
 use Rattle.node_progress.proofs.Plans.{plan_goes}
 use Rattle.node_progress.proofs.RouterWaits.{IsWaiting, all_flat, enough_found}

@@ -1,5 +1,5 @@
 -- What an open request of a router waits for after a step is what it waited for, and did not come; or it is requested in this step.
-use Rattle.std.proofs.Common.{◌≡◌, ◌≢◌, ◌⊎◌, inl, inr, ℕ, ◌+◌, List, [], ◌∷◌, ◌++◌, length, refl, sym, ap, subst, ◌∙◌, append-nil, Bool}
+use Rattle.std.proofs.Common.{◌≡◌, ◌≢◌, ◌⊎◌, inl, inr, ℕ, List, [], ◌∷◌, ◌++◌, refl, sym, ap, subst, ◌∙◌, Bool}
 use Rattle.std.specs.Prelude.{Option, Some, None, true, false, IsSome, ◌==◌, ◌&&◌, if◌then◌else◌}
 use Rattle.std.specs.List.{AllByRecursion, flat_map}
 use Rattle.std.specs.Str.{bytes_eq}
@@ -11,8 +11,8 @@ use Rattle.history_model.proofs.Lists.{all_at, all_append, all_from, in_first, i
 use Rattle.chunk_model.specs.Tables.{Table, table_of}
 use Rattle.base_model.specs.Identities.{RequestId}
 use Rattle.command_model.specs.Answers.{sharded_answer}
-use Rattle.node_model.specs.Letters.{At, no_time, at_time, Body, table_told, Letter, Input, letter_input}
-use Rattle.node_model.specs.States.{Wait, for_catalogue, for_shards, Router, Work, writing, reading, sharding, splitting, Open, without, replaced}
+use Rattle.node_model.specs.Letters.{At, no_time, table_told, Letter, Input, letter_input}
+use Rattle.node_model.specs.States.{for_catalogue, for_shards, Router, Work, writing, reading, sharding, splitting, Open, without, replaced}
 use Rattle.node_model.specs.RouterRows.{id_of, with_work, asks_shards, is_enough, enough_of, table_for, adopted, is_for, is_for_catalogue, Next, stays, is_told, was_created, next_of, next_waiting, stay_in, letters_in, reply_to, empty_answer}
 use Rattle.node_laws.proofs.KnownTables.{table_found, table_there}
 use Rattle.node_laws.proofs.OpenRequests.{all_replaced}

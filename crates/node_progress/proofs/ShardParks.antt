@@ -1,22 +1,20 @@
 -- Of each request that is parked at the shard the table is under way.
-use Rattle.std.proofs.Common.{◌≡◌, ◌≢◌, ◌⊎◌, inl, inr, ℕ, ◌<◌, List, [], ◌∷◌, ◌++◌, map, refl, sym, ap, subst, ◌∙◌, Bool}
-use Rattle.std.specs.Prelude.{Option, Some, None, true, false, filter, not, IsSome, if◌then◌else◌}
+use Rattle.std.proofs.Common.{◌≡◌, ◌⊎◌, inl, inr, ℕ, List, [], ◌∷◌, refl, sym, ap, subst, ◌∙◌, Bool}
+use Rattle.std.specs.Prelude.{Option, Some, None, true, false, filter, not, if◌then◌else◌}
 use Rattle.std.specs.List.{AllByRecursion}
 use Rattle.std.specs.Str.{bytes_eq}
 use Rattle.std.proofs.lemmas.Slice.Eq.{bytes_eq-Decides}
 use Rattle.history_model.specs.History.{IsIn}
-use Rattle.history_model.proofs.Lists.{all_at, all_from, all_weaken, all_push, in_first}
-use Rattle.chunk_model.specs.Changes.{Change}
+use Rattle.history_model.proofs.Lists.{all_from, all_weaken, all_push}
 use Rattle.chunk_model.specs.Tables.{Table, first_shard, table_of, with_table, is_longer}
 use Rattle.chunk_model.specs.Verdicts.{shard_is_old, verdict_of}
-use Rattle.base_model.specs.Identities.{RequestId}
 use Rattle.node_model.specs.Letters.{At, no_time, Body, table_ask, table_told, split_ask, split_done, write_ask, write_done, read_ask, half_ask, read_rows, stale, time_ask, time_told, Letter, Input, letter_input, Effect}
 use Rattle.node_model.specs.States.{Shard}
-use Rattle.node_model.specs.ShardRows.{Ask, ask_in, wants_table, asks_table, asks_again, tries, says, heard, is_news, IsNoNews, AsksNothing, ShardRow, shard_write, shard_repeat, shard_empty, shard_park, shard_waits, shard_stale, shard_read, shard_rows, shard_excess, shard_overflow, shard_time, shard_learn, shard_known, shard_skip, shard_moment, shard_opened, shard_client}
-use Rattle.node_laws.proofs.Lists.{all_filtered, all_mapped}
-use Rattle.node_progress.specs.UnderWay.{Thing, a_table, Brings, IsFor}
-use Rattle.node_progress.proofs.Versions.{IsWell, IsKnowing, none_where_old, never_stale}
-use Rattle.node_progress.proofs.CataloguePasses.{IsAmong, only_among, IsFrom}
+use Rattle.node_model.specs.ShardRows.{Ask, ask_in, wants_table, asks_table, says, heard, is_news, IsNoNews, AsksNothing, ShardRow, shard_write, shard_repeat, shard_empty, shard_park, shard_waits, shard_stale, shard_read, shard_rows, shard_excess, shard_overflow, shard_time, shard_learn, shard_known, shard_skip, shard_moment, shard_opened, shard_client}
+use Rattle.node_laws.proofs.Lists.{all_filtered}
+use Rattle.node_progress.specs.UnderWay.{a_table, Brings, IsFor}
+use Rattle.node_progress.proofs.Versions.{none_where_old}
+use Rattle.node_progress.proofs.CataloguePasses.{IsAmong, only_among}
 use Rattle.node_progress.proofs.ShardPasses.{FitsThere}
 
 -- A TABLE FOR A SHARD

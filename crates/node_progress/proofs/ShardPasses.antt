@@ -1,8 +1,7 @@
 -- The shard passes on what is under way, or parks it.
-use Rattle.std.proofs.Common.{◌≡◌, ◌≢◌, ◌⊎◌, inl, inr, ℕ, List, [], ◌∷◌, ◌++◌, map, refl, sym, ap, subst, ◌∙◌, Bool}
+use Rattle.std.proofs.Common.{◌≡◌, ◌≢◌, ◌⊎◌, inl, inr, ℕ, List, [], ◌∷◌, map, refl, sym, ap, subst, ◌∙◌, Bool}
 use Rattle.std.specs.Prelude.{Option, Some, None, Result, Ok, Err, true, false, filter, not, if◌then◌else◌}
 use Rattle.std.specs.List.{AllByRecursion}
-use Rattle.std.specs.Str.{bytes_eq}
 use Rattle.history_model.specs.History.{StatementNumber, Entry, IsIn}
 use Rattle.history_model.proofs.Lists.{all_at, in_first, in_later, in_back, in_prefix, in_cons, in_none}
 use Rattle.chunk_model.specs.Tables.{first_shard, table_of}
@@ -11,12 +10,12 @@ use Rattle.bson_model.specs.Tree.{Fields}
 use Rattle.pipeline_model.specs.Halves.{Half, Rows}
 use Rattle.base_model.specs.Identities.{RequestId}
 use Rattle.reply_model.specs.Outcomes.{Done}
-use Rattle.node_model.specs.Letters.{Statement, HalfFault, half_overflow, half_excess, table_told, write_ask, write_done, read_ask, half_ask, read_rows, time_ask, time_told, Letter, Input, letter_input, Effect}
+use Rattle.node_model.specs.Letters.{Statement, HalfFault, half_overflow, half_excess, write_ask, write_done, half_ask, read_rows, time_told, Letter, Input, letter_input, Effect}
 use Rattle.node_model.specs.States.{Shard}
 use Rattle.node_model.specs.Service.{seen_before, Serves, serves_again, serves_new, ends_again, ends_new, Repeats, repeats, ends_repeat, documents_at}
 use Rattle.node_model.specs.ShardRows.{Ask, is_ask, same_ask, ask_in, wants_table, says, heard, ShardRow, shard_write, shard_repeat, shard_empty, shard_park, shard_waits, shard_stale, shard_read, shard_rows, shard_excess, shard_overflow, shard_time, shard_learn, shard_known, shard_skip, shard_moment, shard_opened, shard_client}
 use Rattle.node_laws.proofs.SeenStatements.{IsFound, found_entry, found_older, seen_found}
-use Rattle.node_progress.specs.UnderWay.{Thing, a_table, a_run, Brings, IsFor}
+use Rattle.node_progress.specs.UnderWay.{Thing, a_run, Brings, IsFor}
 use Rattle.node_progress.proofs.Things.{home, shard_idle, thing_asked, ask_brings, brings_asked, same_thing, any_found}
 use Rattle.node_progress.proofs.Versions.{never_stale}
 use Rattle.node_progress.proofs.CataloguePasses.{IsAmong, only_among}

@@ -1,5 +1,5 @@
 -- Who takes requests: a router, in its life.
-use Rattle.std.proofs.Common.{◌≡◌, ℕ, ◌+◌, List, [], ◌∷◌, refl}
+use Rattle.std.proofs.Common.{◌≡◌, [], refl}
 use Rattle.std.specs.List.{AllByRecursion}
 use Rattle.node_model.specs.Letters.{Input, Taken, Effect}
 use Rattle.node_model.specs.States.{Catalogue, Shard, Router}

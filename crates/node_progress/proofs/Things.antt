@@ -1,22 +1,18 @@
 -- What an open request waits for, and which messages are for it.
-use Rattle.std.proofs.Common.{◌≡◌, ◌≢◌, ◌⊎◌, inl, inr, ℕ, ◌+◌, ◌≤◌, List, [], ◌∷◌, ◌++◌, length, refl, sym, ap, subst, ◌∙◌, arith, length-append, Bool}
+use Rattle.std.proofs.Common.{◌≡◌, ◌≢◌, ◌⊎◌, inl, inr, ℕ, List, [], ◌∷◌, refl, sym, ap, ◌∙◌, Bool}
 use Rattle.std.specs.Prelude.{Option, Some, None, true, false, ◌==◌, ◌&&◌, ◌||◌}
-use Rattle.std.specs.List.{AllByRecursion, list_any}
+use Rattle.std.specs.List.{list_any}
 use Rattle.std.proofs.lemmas.Bool.{eqb-true}
-use Rattle.std.proofs.lemmas.Bool.Decides.{Decides-eqb}
 use Rattle.history_model.specs.History.{IsIn}
-use Rattle.history_model.proofs.Lists.{in_first, in_later, in_cons, in_none}
+use Rattle.history_model.proofs.Lists.{in_first, in_later}
 use Rattle.chunk_model.specs.Tables.{first_shard}
-use Rattle.base_model.specs.Identities.{RequestId, same_request}
-use Rattle.reply_model.specs.Outcomes.{Done}
-use Rattle.node_model.specs.Letters.{At, no_time, at_time, Body, table_ask, table_told, split_ask, split_done, write_ask, write_done, read_ask, half_ask, read_rows, stale, time_ask, time_told, Letter}
-use Rattle.node_model.specs.States.{Wait, for_time, for_catalogue, for_shards, Work, writing, reading, sharding, splitting, Open, Router, open_with}
+use Rattle.base_model.specs.Identities.{same_request}
+use Rattle.node_model.specs.Letters.{Body, table_ask, table_told, split_ask, split_done, write_ask, write_done, read_ask, half_ask, read_rows, stale, time_ask, time_told}
+use Rattle.node_model.specs.States.{Wait, for_time, for_catalogue, for_shards, Work, writing, reading, sharding, splitting, Open, Router}
 use Rattle.node_model.specs.CatalogueRows.{AsksNothing as AsksNoTable}
-use Rattle.node_model.specs.ShardRows.{Ask, ask_in, same_index, same_ask, is_ask, AsksNothing}
-use Rattle.node_model.specs.RouterRows.{id_of, noted, TellsNothing, AreNoNews, IsNoRead, IsNotAwaited, IsNoSplit, open_of}
+use Rattle.node_model.specs.ShardRows.{Ask, ask_in, same_index, same_ask, AsksNothing}
+use Rattle.node_model.specs.RouterRows.{id_of, TellsNothing}
 use Rattle.reply_facts.proofs.Requests.{same_id}
-use Rattle.node_laws.proofs.Facts.{counts_of, AreDifferentCounts}
-use Rattle.node_laws.proofs.SeenStatements.{own_session}
 use Rattle.node_progress.specs.UnderWay.{Thing, a_time, a_table, a_split, a_run, a_part, thing_by, thing_of, Brings}
 
 -- WHERE MESSAGES GO

@@ -1,7 +1,7 @@
 -- What is under way for each request that is not answered yet: of each thing that it waits for, one message is not delivered yet, which requests the
 -- thing or brings it; or such a message is parked at a shard, and the table that it wants there is under way in the same manner. This speaks of no
 -- schedule: any number of requests may be open, and messages may be delivered in any order, and again.
-use Rattle.std.specs.Prelude.{◌≡◌, ◌⊎◌, ℕ, List, [], ◌∷◌, length, Bool, true, false, Option, Some, IsSome}
+use Rattle.std.specs.Prelude.{◌≡◌, ◌⊎◌, ℕ, List, [], ◌∷◌, length, Bool, true, false, Some, IsSome}
 use Rattle.std.specs.List.{AllByRecursion, slice_get}
 use Rattle.base_model.specs.Identities.{RequestId}
 use Rattle.chunk_model.specs.Tables.{first_shard}
@@ -12,7 +12,7 @@ use Rattle.node_model.specs.Letters.{At, no_time, at_time, Body, table_ask, tabl
 use Rattle.node_model.specs.States.{Shard, Router, Wait, for_time, for_catalogue, for_shards, Work, writing, reading, sharding, splitting, Open, router_state, shard_state}
 use Rattle.node_model.specs.ShardRows.{Ask, ask_in}
 use Rattle.node_model.specs.RouterRows.{id_of}
-use Rattle.node_model.specs.World.{Held, World, Event, deliver_event}
+use Rattle.node_model.specs.World.{World, Event, deliver_event}
 use Rattle.node_progress.specs.Completion.{IsAnswered}
 
 -- THINGS
