@@ -302,7 +302,7 @@ works_of v asked answered r all =
 -- an input says so truly
 pub input_truly : (w : World) (book : Book) (i : Input) → InputFits w book i → TellsTruly w.changed w.asked i
 input_truly w book (letter_input m) fits = λ id says.
-    subst (λ b. TimeFits (view_of w.nodes book) w.changed w.asked w.answered m.time b) says fits.2
+    subst (λ b. TimeFits (view_of w.nodes book) w.changed w.asked w.answered m.sender m.time b) says fits.2
 input_truly w book (client_input link number request) fits = tt
 input_truly w book (moment_input moment) fits = tt
 input_truly w book opened_input fits = tt

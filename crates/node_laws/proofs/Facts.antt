@@ -21,7 +21,7 @@ use Rattle.node_model.specs.Letters.{At, no_time, at_time, Statement, Body, tabl
 use Rattle.node_model.specs.States.{Catalogue, Shard, Router, Work, writing, reading, sharding, splitting, Wait, for_time, Open, NodeState, catalogue_state, shard_state, router_state, time_of_node}
 use Rattle.node_model.specs.RouterRows.{id_of, statements_from, owner_of_statement, is_ahead, block_size}
 use Rattle.node_model.specs.World.{Held, World, journal_at}
-use Rattle.node_laws.proofs.Views.{Choice, Book, View, view_of, entries_in, changes_in, MovesNothing}
+use Rattle.node_laws.proofs.Views.{Choice, Book, View, view_of, entries_in, changes_in, IsShardAt, history_in, HavePassed, IsWithin, MovesNothing}
 use Rattle.node_laws.proofs.Places.{EachAt}
 use Rattle.node_laws.proofs.SplitFacts.{IsSplitOf, IsSplitDone, WasMissing, IsMissing}
 use Rattle.node_laws.proofs.WriteFacts.{IsDoneAt, AreAnswers, OnlyLast, WasMade}
@@ -61,7 +61,7 @@ pub record IsWriteOf (v : View) (asked : List Asked) (receiver time : ℕ) (id :
   pub asks : command_of request.request ≡ Ok (write_command write)
   pub order : ordered ≡ write.ordered
   pub name : namespace ≡ write.namespace
-  pub answered : AreAnswers (entries_in v first_shard) time write id 0 front
+  pub answered : AreAnswers (history_in v) time write id 0 front
   pub goes_on : AllByRecursion (λ d. ends ordered d ≡ false) front
   pub next : drop (length front) (statements_from write.number id 0 write.operations) ≡ statements ++ back
   pub owned : AllByRecursion (IsOwned v time namespace receiver) statements
@@ -115,13 +115,13 @@ BodyFits v asked sender receiver time (split_ask id namespace middle) = IsSplitO
 BodyFits v asked sender receiver time (split_done id true) = IsSplitDone v asked id time
 BodyFits v asked sender receiver time (split_done id false) = Unit {0}
 BodyFits v asked sender receiver time (write_ask id turn ordered namespace statements sent) = IsWriteOf v asked receiver time id ordered namespace statements
-BodyFits v asked sender receiver time (write_done id dones) = (sender ≡ first_shard) × IsDoneOf v asked sender time id dones
-BodyFits v asked sender receiver time (read_ask id turn namespace at half sent) = IsReadOf v asked id namespace at half × (at ≤ time) × (receiver ≡ first_shard)
+BodyFits v asked sender receiver time (write_done id dones) = IsShardAt sender × IsDoneOf v asked sender time id dones
+BodyFits v asked sender receiver time (read_ask id turn namespace at half sent) = IsReadOf v asked id namespace at half × (at ≤ time) × IsShardAt receiver
 BodyFits v asked sender receiver time (half_ask id turn namespace at half documents) = IsShown v asked sender time id namespace at half documents
 BodyFits v asked sender receiver time (read_rows id turn rows) = RowsFit v asked sender time id rows
 BodyFits v asked sender receiver time (stale id turn met) = Unit {0}
 BodyFits v asked sender receiver time (time_ask id) = IsOfRequest asked id
-BodyFits v asked sender receiver time (time_told id) = IsOfRequest asked id
+BodyFits v asked sender receiver time (time_told id) = IsShardAt sender × IsOfRequest asked id
 
 abbrev pub LetterFits : View → List Asked → Letter → Type 0
 LetterFits v asked m = BodyFits v asked m.sender m.receiver m.time m.body
@@ -138,11 +138,11 @@ pub record CatalogueFits (asked : List Asked) (at : ℕ) (kept : List Kept) (c :
 
 -- a request that waits for a table: it fits as the message that it came in, which is not of a later time than the shard's
 abbrev pub ParkedFits : View → List Asked → ℕ → Letter → Type 0
-ParkedFits v asked time m = LetterFits v asked m × (m.time ≤ time) × (m.receiver ≡ first_shard)
+ParkedFits v asked time m = LetterFits v asked m × (m.time ≤ time) × IsShardAt m.receiver
 
 pub record ShardFits (v : View) (asked : List Asked) (at : ℕ) (kept : List Kept) (s : Shard) : Type 0 where
   pub own : s.me ≡ at
-  pub place : at ≡ first_shard
+  pub place : IsShardAt at
   pub entries : s.entries ≡ entries_kept kept
   pub past : AllByRecursion (λ (e : Entry). e.time ≤ s.time) s.entries
   pub legal : Legal s.entries
@@ -166,7 +166,7 @@ WorkFits a namespace (splitting middle) = command_of a.request ≡ Ok (split_com
 -- the outcomes of a write that arrived, of entries that are not above a time
 abbrev pub AreSeen : View → ℕ → Asked → Work → Type 0
 AreSeen v time a (writing kind ordered statements answers) =
-    (write : WriteCommand) → command_of a.request ≡ Ok (write_command write) → AreAnswers (entries_in v first_shard) time write a.id 0 answers
+    (write : WriteCommand) → command_of a.request ≡ Ok (write_command write) → AreAnswers (history_in v) time write a.id 0 answers
 AreSeen v time a (reading named at stages telling) = Unit {0}
 AreSeen v time a sharding = Unit {0}
 AreSeen v time a (splitting middle) = Unit {0}
@@ -226,7 +226,7 @@ StateFits v asked answered at kept (router_state r) = RouterFits v asked answere
 
 -- a time that was met
 abbrev pub IsMet : View → List Given → ℕ → Type 0
-IsMet v given time = WasMet given (changes_in v) (entries_in v first_shard) time
+IsMet v given time = WasMet given (changes_in v) (history_in v) time
 
 -- CURSORS
 
@@ -261,9 +261,9 @@ pub record HeldFits (v : View) (asked : List Asked) (answered : List Answered) (
 
 -- ANSWERS
 
--- the reply to a read stays right: its time is one that the shard has passed, or the collection is created after it
+-- the reply to a read stays right: its time is one that the shards have passed, or the collection is created after it
 abbrev pub IsFixed : View → Reading → ℕ → Type 0
-IsFixed v read time = (time ≤ v.bound first_shard) ⊎ NoneBegan v read.namespace time
+IsFixed v read time = HavePassed v time ⊎ NoneBegan v read.namespace time
 
 abbrev pub IsRefusalFixed : View → (changes : List Change) (history : List Entry) (answered : List Answered) (a : Asked) (t : Answered) (read : Reading)
     → IsReadRefused changes history answered a t read → Type 0
@@ -301,8 +301,8 @@ pub record AnswerFits (v : View) (asked : List Asked) (answered : List Answered)
   pub same : request.request ≡ t.request
   pub came : request.came ≤ t.step
   pub risen : request.time ≤ t.time
-  pub right : IsRight (changes_in v) (entries_in v first_shard) asked answered cursors request t next
-  pub settled : IsSettled v (changes_in v) (entries_in v first_shard) asked answered cursors request t next right
+  pub right : IsRight (changes_in v) (history_in v) asked answered cursors request t next
+  pub settled : IsSettled v (changes_in v) (history_in v) asked answered cursors request t next right
 
 -- all replies, in order, from these cursors to those
 pub data AnswersFit (v : View) (asked : List Asked) (answered : List Answered) : List Cursor → List Answered → List Cursor → Type 0 where
@@ -317,23 +317,23 @@ abbrev pub IsToldOf : (s : Answered) (write : WriteCommand) (index : ℕ) (e : E
 IsToldOf s write index e = (command_of s.request ≡ Ok (write_command write)) × (e.number ≡ number_for write.number s.id index)
     × (operation_time (Some s.document) ≡ Some e.time)
 
--- no entry whose time any router had returned before the request came is above the time
-abbrev pub IsPast : View → List Answered → Asked → ℕ → Type 0
-IsPast v answered a time = (s : Answered) (write : WriteCommand) (index : ℕ) (e : Entry) → IsIn s answered → s.step < a.came
-    → IsIn e (entries_in v first_shard) → IsToldOf s write index e → e.time ≤ time
+-- no entry of a shard whose time any router had returned before the request came is above the time
+abbrev pub IsPast : View → (shard : ℕ) → List Answered → Asked → ℕ → Type 0
+IsPast v shard answered a time = (s : Answered) (write : WriteCommand) (index : ℕ) (e : Entry) → IsIn s answered → s.step < a.came
+    → IsIn e (entries_in v shard) → IsToldOf s write index e → e.time ≤ time
 
-abbrev pub TimeFits : View → List Dated → List Asked → List Answered → ℕ → Body → Type 0
-TimeFits v dated asked answered time (time_told id) = (a : Asked) × IsIn a asked × (a.id ≡ id) × IsPast v answered a time
-TimeFits v dated asked answered time (split_done id false) = WasMissing dated asked id
-TimeFits v dated asked answered time body = Unit {0}
+abbrev pub TimeFits : View → List Dated → List Asked → List Answered → (sender time : ℕ) → Body → Type 0
+TimeFits v dated asked answered sender time (time_told id) = (a : Asked) × IsIn a asked × (a.id ≡ id) × IsPast v sender answered a time
+TimeFits v dated asked answered sender time (split_done id false) = WasMissing dated asked id
+TimeFits v dated asked answered sender time body = Unit {0}
 
--- no entry is above the time that is sent; and a collection that is not found was not created
-abbrev pub TellsAll : View → List Asked → ℕ → Body → Type 0
-TellsAll v asked time (time_told id) = AllByRecursion (λ (e : Entry). e.time ≤ time) (entries_in v first_shard)
-TellsAll v asked time (split_done id false) = IsMissing v asked id
-TellsAll v asked time body = Unit {0}
+-- no entry of the sender is above the time that it sends; and a collection that is not found was not created
+abbrev pub TellsAll : View → List Asked → (sender time : ℕ) → Body → Type 0
+TellsAll v asked sender time (time_told id) = AllByRecursion (λ (e : Entry). e.time ≤ time) (entries_in v sender)
+TellsAll v asked sender time (split_done id false) = IsMissing v asked id
+TellsAll v asked sender time body = Unit {0}
 
--- WHAT THE CATALOGUE AND THE SHARD KEEP
+-- WHAT THE CATALOGUE AND THE SHARDS KEEP
 
 -- what changes the catalogue made
 pub record AreMade (time : ℕ) (changes : List Change) : Type 0 where
@@ -344,11 +344,11 @@ pub record AreMade (time : ℕ) (changes : List Change) : Type 0 where
 pub record NeighboursFit (v : View) (asked : List Asked) : Type 0 where
   pub begun : AreMade (v.bound 0) (changes_in v)
   pub one : AreDifferent (ids_asked asked)
-  pub past : AllByRecursion (λ (e : Entry). e.time ≤ v.bound first_shard) (entries_in v first_shard)
-  pub sent : AllByRecursion (WasMade (entries_in v first_shard) asked) (entries_in v first_shard)
-  pub numbers : AreNumbered (entries_in v first_shard)
-  pub parts : AllByRecursion (StandsInPart (entries_in v first_shard)) asked
-  pub placed : AllByRecursion (IsPlaced (changes_in v)) (entries_in v first_shard)
+  pub past : AllByRecursion (IsWithin v.bound) (history_in v)
+  pub sent : AllByRecursion (WasMade (history_in v) asked) (history_in v)
+  pub numbers : AreNumbered (history_in v)
+  pub parts : AllByRecursion (StandsInPart (history_in v)) asked
+  pub placed : AllByRecursion (IsPlaced (changes_in v)) (history_in v)
 
 -- THE WORLD
 
@@ -368,7 +368,7 @@ InOrder nodes = (c : Held) × (s : Held) × (routers : List Held) × (nodes ≡ 
 
 -- what is true of a message that was ever sent
 abbrev pub SentFits : View → List Dated → List Asked → List Answered → List Given → Letter → Type 0
-SentFits v dated asked answered given m = LetterFits v asked m × IsMet v given m.time × TimeFits v dated asked answered m.time m.body
+SentFits v dated asked answered given m = LetterFits v asked m × IsMet v given m.time × TimeFits v dated asked answered m.sender m.time m.body
 
 pub record Good (w : World) (book : Book) : Type 0 where
   pub order : InOrder w.nodes

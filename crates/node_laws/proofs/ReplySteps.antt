@@ -16,7 +16,6 @@ use Rattle.command_model.specs.Command.{Command, write_command, shard_collection
 use Rattle.command_model.specs.Answers.{changed_answer, answer_document}
 use Rattle.command_model.proofs.AnswerTimes.{time_of_changed, time_refused}
 use Rattle.chunk_model.specs.Changes.{Change}
-use Rattle.chunk_model.specs.Tables.{first_shard}
 use Rattle.reply_model.specs.Exchanges.{Asked, Answered}
 use Rattle.reply_model.specs.Cursors.{Cursor}
 use Rattle.reply_model.specs.Right.{Reads, find_reads, count_reads, WasCreated, WasSplit, not_sharded, IsRight, right_write, right_find, right_count, right_refused_read, right_more, right_no_cursor, right_kill, right_shard, right_split, right_not_sharded, right_hello, right_legacy, right_ping, right_end_sessions, right_refusal}
@@ -25,7 +24,7 @@ use Rattle.reply_facts.proofs.RightAnswers.{TellsSplit, right_of}
 use Rattle.node_model.specs.Journal.{Kept, kept_table, kept_entry, kept_change, kept_life, kept_block}
 use Rattle.node_model.specs.Letters.{Input, Reply}
 use Rattle.node_model.specs.World.{World, answered_by, dated_onto, after, is_given, tick, Moves}
-use Rattle.node_laws.proofs.Views.{Book, View, view_of, entries_in, changes_in}
+use Rattle.node_laws.proofs.Views.{Book, View, view_of, changes_in, history_in}
 use Rattle.node_laws.proofs.Facts.{AnswersFit, no_answer, one_answer, Good}
 use Rattle.node_laws.proofs.Dates.{before_stays}
 
@@ -109,7 +108,7 @@ all_rest : (v : View) (asked : List Asked) (answered : List Answered) (cursors l
     → AnswersFit v asked answered cursors told last → AllByRecursion (RestsOn (changes_in v)) told
 all_rest v asked answered _ _ _ (no_answer cursors) = tt
 all_rest v asked answered _ _ _ (one_answer cursors next last t rest f others) = (
-  right_rests (changes_in v) (entries_in v first_shard) asked answered cursors f.request t next f.same f.right,
+  right_rests (changes_in v) (history_in v) asked answered cursors f.request t next f.same f.right,
   all_rest v asked answered next last rest others,
 )
 

@@ -58,7 +58,7 @@ pub record Leaves (w : World) (book : Book) (at : ℕ) (r s : Router) (f : Opene
   pub chose : AllByRecursion (λ (c : Choice). (c.id.router ≡ at) × IsIn c.id (ids_asked w.asked)) news
   pub cursors : List Cursor
   pub turns : Turns book.cursors cursors at s
-  pub rises : AllByRecursion (IsAbove r.time) f.written
+  pub rises : AllByRecursion (IsAbove at r.time) f.written
 
 -- LISTS
 

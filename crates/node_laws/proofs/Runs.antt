@@ -10,8 +10,8 @@ use Rattle.reply_model.specs.OneHistory.{WasSent, AreNumbered, IsReached, WasWan
 use Rattle.reply_model.specs.Cursors.{Cursor}
 use Rattle.node_model.specs.Journal.{Kept, entries_kept, changes_kept}
 use Rattle.node_model.specs.States.{Catalogue, NodeState, catalogue_state, shard_state, router_state, new_router}
-use Rattle.node_model.specs.World.{Held, World, Event, Run, routers_from, start, journal_at}
-use Rattle.node_laws.proofs.Views.{View, view_of, entries_in, changes_in}
+use Rattle.node_model.specs.World.{Held, World, Event, Run, routers_from, start, journal_at, history_of}
+use Rattle.node_laws.proofs.Views.{View, view_of, changes_in, history_in}
 use Rattle.node_laws.proofs.Places.{EachAt}
 use Rattle.node_laws.proofs.WriteFacts.{WasMade}
 use Rattle.node_laws.proofs.SentEntries.{was_sent, is_reached}
@@ -118,7 +118,7 @@ the_catalogue w asked answered given nodes (c, s, routers, same, is_c, is_s) all
 -- all replies are right, at times that were met
 all_right : (v : View) (given : List Given) (asked : List Asked) (answered : List Answered) (cursors last : List Cursor) (told : List Answered)
     → AnswersFit v asked answered cursors told last → AllByRecursion (λ (t : Answered). IsMet v given t.time) told
-    → AreRight given (changes_in v) (entries_in v first_shard) asked answered cursors told
+    → AreRight given (changes_in v) (history_in v) asked answered cursors told
 all_right v given asked answered _ _ _ (no_answer cursors) met = nothing_told cursors
 all_right v given asked answered _ _ _ (one_answer cursors next last t rest f others) met = then_told cursors next t rest (record {
   request = f.request;
@@ -134,16 +134,16 @@ all_right v given asked answered _ _ _ (one_answer cursors next last t rest f ot
 }) (all_right v given asked answered next last rest others met.1)
 
 pub makes_one_history : (w : World) → StaysTrue w
-    → OneHistory w.given w.changed (entries_kept (journal_at w.nodes first_shard)) w.asked w.answered
+    → OneHistory w.given w.changed (history_of w.nodes) w.asked w.answered
 makes_one_history w (known, moments, told, based) =
     let good = known.good in
     let v : View = view_of w.nodes known.book in
     let s = the_shard v w.asked w.answered w.given w.nodes good.order good.nodes in
     let c = the_catalogue v w.asked w.answered w.given w.nodes good.order good.nodes in
     let n = nodes_keep v w.asked w.answered w.given w.nodes good.order good.nodes (λ p. refl) (λ p. refl) good.one in
-    let entries : s.shard.entries ≡ entries_kept (journal_at w.nodes first_shard) = s.fits.entries ∙ sym (ap (λ k. entries_kept k) s.journal) in
+    let entries : s.shard.entries ≡ history_of w.nodes = s.fits.entries ∙ sym (ap (λ k. entries_kept k) s.journal) in
     let changes : changes_kept c.kept ≡ changes_of w.changed = sym (ap (λ k. changes_kept k) c.journal) ∙ sym good.dated in
-    let history : List Entry = entries_kept (journal_at w.nodes first_shard) in
+    let history : List Entry = history_of w.nodes in
     let numbers : AreNumbered history = subst (λ l. AreNumbered l) entries s.fits.numbers in
     let made : AllByRecursion (WasMade history w.asked) history = subst (λ l. AllByRecursion (WasMade l w.asked) l) entries s.fits.sent in
     let first : (e : Entry) → IsIn e history → e.shard ≡ first_shard =
@@ -172,7 +172,7 @@ makes_one_history w (known, moments, told, based) =
     }
 
 pub run_makes_one_history : (routers : ℕ) (events : List Event) (w : World) → Run (start routers) events w
-    → OneHistory w.given w.changed (entries_kept (journal_at w.nodes first_shard)) w.asked w.answered
+    → OneHistory w.given w.changed (history_of w.nodes) w.asked w.answered
 run_makes_one_history routers events w run = makes_one_history w (run_keeps (start routers) w events (start_true routers) run)
 
 -- THE CHANGES OF THE CATALOGUE

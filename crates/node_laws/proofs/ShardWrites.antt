@@ -16,14 +16,15 @@ use Rattle.node_model.specs.States.{Shard, shard_state}
 use Rattle.node_model.specs.Service.{Serves, serves_no_more, serves_again, serves_new, ends_again, ends_new}
 use Rattle.node_model.specs.RouterRows.{statements_from}
 use Rattle.node_model.specs.ShardRows.{heard, says}
-use Rattle.node_model.specs.World.{Held, World, journal_at}
+use Rattle.node_model.specs.World.{Held, World}
 use Rattle.node_model.proofs.Journals.{journal_got}
-use Rattle.node_laws.proofs.Views.{Book, View, view_of, entries_in, changes_in, IsAbove}
+use Rattle.node_laws.proofs.Views.{Book, View, view_of, entries_in, changes_in, IsShardAt, history_in, IsAbove}
 use Rattle.node_laws.proofs.WriteFacts.{AreAnswers, OnlyLast, AreDoneBefore, WasMade}
 use Rattle.node_laws.proofs.Facts.{IsKnownTable, IsOwned, IsWriteOf, HasBegun, IsDoneOf, ParkedFits, ShardFits, IsMet, Good}
 use Rattle.node_laws.proofs.Owes.{Owes}
 use Rattle.node_laws.proofs.Lists.{all_mapped}
-use Rattle.node_laws.proofs.LongerJournals.{entries_longer, still_grows}
+use Rattle.node_laws.proofs.LongerJournals.{entries_longer, IsNewAt, still_grows}
+use Rattle.node_laws.proofs.Histories.{shard_entries, entry_of_shard}
 use Rattle.node_laws.proofs.Growth.{entry_grows, known_grows, placed_grows, met_later}
 use Rattle.node_laws.proofs.NotedOutcomes.{HasNoOther, made_no_other, answers_stand}
 use Rattle.node_laws.proofs.ServedStatements.{AreUpTo, Rises, IsEntryOf, up_to_later, serves_rises, serves_legal, serves_numbered, legal_joined, serves_entries, serves_told, serves_last}
@@ -48,8 +49,8 @@ entries_only : (made : List Entry) → entries_kept (map kept_entry made) ≡ ma
 entries_only [] = refl
 entries_only (e ∷ made) = ap (λ l. e ∷ l) (entries_only made)
 
-kept_above : (time : ℕ) (made : List Entry) → AllByRecursion (λ (e : Entry). time < e.time) made → AllByRecursion (IsAbove time) (map kept_entry made)
-kept_above time made all = all_mapped (IsAbove time) kept_entry made all
+kept_above : (at time : ℕ) (made : List Entry) → AllByRecursion (IsNewAt at time) made → AllByRecursion (IsAbove at time) (map kept_entry made)
+kept_above at time made all = all_mapped (IsAbove at time) kept_entry made all
 
 -- what is served of a request that fits
 pub record Served (w : World) (book : Book) (at : ℕ) (s : Shard) (time : ℕ) (id : RequestId) (dones : List Done) (made : List Entry) (last : ℕ) : Type 0 where
@@ -60,12 +61,13 @@ pub record Served (w : World) (book : Book) (at : ℕ) (s : Shard) (time : ℕ) 
   pub numbers : AreNumbered (s.entries ++ made)
   pub placed : AllByRecursion (IsPlaced (changes_in (view_of w.nodes book))) made
   pub parts : AllByRecursion (StandsInPart (s.entries ++ made)) w.asked
+  pub own : AllByRecursion (λ (e : Entry). e.shard ≡ s.me) made
   pub told : AreToldBy (view_of w.nodes book) w.asked (s.entries ++ made) last id dones
 
--- the journal at the shard's place has its entries
-shard_entries : (w : World) (book : Book) (at : ℕ) (kept : List Kept) (s : Shard) → Stood w book at kept s
-    → entries_in (view_of w.nodes book) first_shard ≡ s.entries
-shard_entries w book at kept s is = ap (λ n. entries_kept (journal_at w.nodes n)) (sym is.fits.place)
+-- the journal at the shard's place has its entries, which are the history's
+own_entries : (w : World) (book : Book) (at : ℕ) (kept : List Kept) (s : Shard) → Stood w book at kept s
+    → history_in (view_of w.nodes book) ≡ s.entries
+own_entries w book at kept s is = sym (shard_entries (view_of w.nodes book) at is.fits.place)
     ∙ ap (λ k. entries_kept k) (journal_got w.nodes at (held_shard s kept) is.here) ∙ sym is.fits.entries
 
 part_moved : (a : RequestId) (from into : List ℕ) (x y : Bool) (operations : List Operation) (entries : List Entry) → from ≡ into → x ≡ y
@@ -99,11 +101,11 @@ pub longer_made : (old new : List Entry) (asked : List Asked) (e : Entry) → ((
 longer_made old new asked e stays m = subst (λ l. WasMade new l e) (append-nil asked) (entry_grows old new asked [] e stays m)
 
 -- the last time is one that was met: that of the message, or of the last entry
-last_met : (w : World) (book : Book) (at : ℕ) (v : View) (time last : ℕ) (made entries : List Entry) → first_shard ≡ at → entries_in v at ≡ entries ++ made
+last_met : (w : World) (book : Book) (at : ℕ) (v : View) (time last : ℕ) (made entries : List Entry) → IsShardAt at → entries_in v at ≡ entries ++ made
     → IsMet v w.given time → (last ≡ time) ⊎ ((e : Entry) × IsIn e made × (last ≡ e.time)) → IsMet v w.given last
 last_met w book at v time last made entries place same met (inl e) = subst (λ t. IsMet v w.given t) (sym e) met
 last_met w book at v time last made entries place same met (inr (e, i, t)) =
-    inr (inr (inr (e, subst (λ l. IsIn e l) (sym (ap (λ n. entries_in v n) place ∙ same)) (in_back e entries made i), t)))
+    inr (inr (inr (e, entry_of_shard v at e place (subst (λ l. IsIn e l) (sym same) (in_back e entries made i)), t)))
 
 module _ (w : World) (book : Book) (at : ℕ) (kept : List Kept) (s : Shard) (is : Stood w book at kept s)
     (receiver early now : ℕ) (id : RequestId) (ordered : Bool) (namespace : List ℕ) (statements : List Statement) (dones : List Done) (made : List Entry)
@@ -119,7 +121,7 @@ module _ (w : World) (book : Book) (at : ℕ) (kept : List Kept) (s : Shard) (is
   before : AreAnswers s.entries early ask.write Own.id 0 ask.front
   before =
       subst (λ i. AreAnswers s.entries early ask.write i 0 ask.front) (sym ask.own)
-      (subst (λ l. AreAnswers l early ask.write id 0 ask.front) (shard_entries w book at kept s is) ask.answered)
+      (subst (λ l. AreAnswers l early ask.write id 0 ask.front) (own_entries w book at kept s is) ask.answered)
 
   next : drop (length ask.front) (statements_from ask.write.number Own.id 0 ask.write.operations) ≡ statements ++ ask.back
   next = subst (λ i. drop (length ask.front) (statements_from ask.write.number i 0 ask.write.operations) ≡ statements ++ ask.back) (sym ask.own) ask.next
@@ -178,6 +180,7 @@ module _ (w : World) (book : Book) (at : ℕ) (kept : List Kept) (s : Shard) (is
             (all_weaken (IsMadeAt Own ask.write ordered (s.entries ++ made)) (IsBy ask.write.number Own.id) made
             (λ e h. (h.index, h.entry.statement.same_number)) made_at)
             part_stands is.fits.parts;
+        own = all_weaken (IsEntryOf s.me namespace (IsOwned u early namespace receiver)) (λ (e : Entry). e.shard ≡ s.me) made (λ e h. h.0) owned;
         told = record {
           request = Own;
           write = ask.write;
@@ -218,10 +221,11 @@ writes_all w book at kept s m id dones made last is met h =
     let longer : entries_kept (kept ++ map kept_entry made) ≡ s.entries ++ made = entries_longer kept (map kept_entry made)
     ∙ ap (λ l. l ++ entries_kept (map kept_entry made)) (sym is.fits.entries) ∙ ap (λ l. s.entries ++ l) (entries_only made) in
     wrote w book at (held_shard s kept) (map kept_entry made) (says s id.router last (write_done id dones) ∷ []) _ is.good tt
-    (kept_above s.time made (all_weaken (λ (e : Entry). heard s m < e.time) (λ (e : Entry). s.time < e.time) made (λ e l. omega arith) h.rises.above)) le
+    (kept_above at s.time made (all_both (λ (e : Entry). heard s m < e.time) (λ (e : Entry). e.shard ≡ s.me) (IsNewAt at s.time) made
+    (λ e l own. (own ∙ is.fits.own, omega arith)) h.rises.above h.own)) le
     (λ v grows journal bound.
     let entries : entries_in v at ≡ s.entries ++ made = ap (λ k. entries_kept k) journal ∙ longer in
-    let reached : IsMet v w.given last = last_met w book at v (heard s m) last made s.entries (sym is.fits.place) entries
+    let reached : IsMet v w.given last = last_met w book at v (heard s m) last made s.entries is.fits.place entries
     (met_later u v w.given (heard s m) grows met) h.rises.reached in
     record {
       node = record {

@@ -3,15 +3,13 @@ use Rattle.std.specs.Prelude.{◌≡◌, List, [], None, Ok}
 use Rattle.std.specs.List.{AllByRecursion}
 use Rattle.command_model.specs.Writes.{WriteCommand}
 use Rattle.command_model.specs.Command.{write_command, command_of}
-use Rattle.chunk_model.specs.Tables.{first_shard}
 use Rattle.history_model.specs.History.{Entry, IsIn}
 use Rattle.reply_model.specs.Exchanges.{Asked, Answered}
 use Rattle.reply_model.specs.Right.{AreTold, IsWhole}
 use Rattle.reply_model.specs.Outcomes.{Done}
 use Rattle.reply_model.specs.OneHistory.{ids_told}
-use Rattle.node_model.specs.Journal.{entries_kept}
 use Rattle.node_model.specs.States.{NodeState, catalogue_state, shard_state, router_state}
-use Rattle.node_model.specs.World.{Held, World, journal_at}
+use Rattle.node_model.specs.World.{Held, World, history_of}
 
 -- no request is open, and none waits for a table
 abbrev pub IsQuiet : NodeState → Type 0
@@ -43,5 +41,5 @@ IsServed history asked answered a = (write : WriteCommand) → command_of a.requ
 -- Every request that was taken is answered, every write among them is served, and nothing is under way.
 pub record AreAnswered (w : World) : Type 0 where
   pub answered : AllByRecursion (IsAnswered w.answered) w.asked
-  pub served : AllByRecursion (IsServed (entries_kept (journal_at w.nodes first_shard)) w.asked w.answered) w.asked
+  pub served : AllByRecursion (IsServed (history_of w.nodes) w.asked w.answered) w.asked
   pub quiet : AllByRecursion (λ (h : Held). IsQuiet h.state) w.nodes
