@@ -147,7 +147,7 @@ pub record ShardFits (v : View) (asked : List Asked) (at : ℕ) (kept : List Kep
   pub entries : s.entries ≡ entries_kept kept
   pub past : AllByRecursion (λ (e : Entry). e.time ≤ s.time) s.entries
   pub legal : Legal s.entries
-  pub sent : AllByRecursion (WasMade s.entries asked) s.entries
+  pub sent : AllByRecursion (WasMade (history_in v) asked) s.entries
   pub numbers : AreNumbered s.entries
   pub placed : AllByRecursion (IsPlaced (changes_in v)) s.entries
   pub parts : AllByRecursion (StandsInPart s.entries) asked

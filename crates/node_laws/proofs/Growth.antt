@@ -332,6 +332,12 @@ entry_grows old new asked more e stays m = record {
   reached = λ ordered i before. let r = m.reached ordered i before in (r.0, stays r.0 r.1, r.2, r.3, r.4);
 }
 
+-- also where only journals are longer
+pub made_later : (v w : View) (asked : List Asked) (e : Entry) → Later v w → WasMade (history_in v) asked e → WasMade (history_in w) asked e
+made_later v w asked e later m =
+    subst (λ l. WasMade (history_in w) l e) (append-nil asked)
+    (entry_grows (history_in v) (history_in w) asked [] e (λ d i. history_stays v w d later i) m)
+
 pub change_wanted_grows : (asked more : List Asked) (x : Change) → WasWanted asked x → WasWanted (asked ++ more) x
 change_wanted_grows asked more x s = record { request = s.request; taken = in_prefix s.request asked more s.taken; asks = s.asks; later = s.later }
 

@@ -124,7 +124,7 @@ nodes_keep v asked answered given nodes order all journals bounds different =
           let of_first : e.shard ≡ first_shard = placed_first (changes_in v) s.fits.still e placed in
           (of_first, subst (λ n. e.time ≤ n) (sym (bounds e.shard ∙ ap (λ n. time_at nodes n) of_first ∙ s.time)) le))
           s.fits.past s.fits.placed);
-      sent = subst (λ l. AllByRecursion (WasMade l asked) l) entries s.fits.sent;
+      sent = subst (λ l. AllByRecursion (WasMade (history_in v) asked) l) entries s.fits.sent;
       numbers = subst (λ l. AreNumbered l) entries s.fits.numbers;
       parts = subst (λ l. AllByRecursion (StandsInPart l) asked) entries s.fits.parts;
       placed = subst (λ l. AllByRecursion (IsPlaced (changes_in v)) l) entries s.fits.placed;

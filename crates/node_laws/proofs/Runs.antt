@@ -146,7 +146,7 @@ makes_one_history w (known, moments, told, based) =
     let changes : changes_kept c.kept ≡ changes_kept (journal_at w.nodes 0) = sym (ap (λ k. changes_kept k) c.journal) in
     let history : List Entry = history_of w.nodes in
     let numbers : AreNumbered history = subst (λ l. AreNumbered l) entries s.fits.numbers in
-    let made : AllByRecursion (WasMade history w.asked) history = subst (λ l. AllByRecursion (WasMade l w.asked) l) entries s.fits.sent in
+    let made : AllByRecursion (WasMade history w.asked) history = subst (λ l. AllByRecursion (WasMade history w.asked) l) entries s.fits.sent in
     let first : (e : Entry) → IsIn e history → e.shard ≡ first_shard =
     λ e i. placed_first (changes_in v) n.begun.still e (all_at (IsPlaced (changes_in v)) e history n.placed i) in
     record {

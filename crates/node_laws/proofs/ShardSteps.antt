@@ -19,14 +19,14 @@ use Rattle.node_model.specs.Letters.{Statement, Body, table_ask, table_told, spl
 use Rattle.node_model.specs.States.{Shard, NodeState, time_of_node}
 use Rattle.node_model.specs.ShardRows.{at_later, says, Ask, ask_in, wants_table, asks_table, asks_again}
 use Rattle.node_model.specs.World.{Held, World}
-use Rattle.node_laws.proofs.Views.{Book, View, view_of, entries_in, changes_in, IsAbove, Later, IsShardAt}
+use Rattle.node_laws.proofs.Views.{Book, View, view_of, entries_in, changes_in, IsShardAt, history_in, IsAbove, Later}
 use Rattle.node_laws.proofs.ReadFacts.{IsShown}
-use Rattle.node_laws.proofs.WriteFacts.{IsDoneAt, OnlyLast}
+use Rattle.node_laws.proofs.WriteFacts.{IsDoneAt, OnlyLast, WasMade}
 use Rattle.node_laws.proofs.Facts.{IsKnownTable, IsOwned, HasBegun, IsDoneOf, BodyFits, LetterFits, ParkedFits, ShardFits, StateFits, OwnCursors, IsMet, TellsAll, SameKind, Good}
 use Rattle.node_laws.proofs.Owes.{IsSaid, Owes}
 use Rattle.node_laws.proofs.CatalogueRows.{no_answers}
 use Rattle.node_laws.proofs.LongerJournals.{still_grows}
-use Rattle.node_laws.proofs.Growth.{answers_later, begun_grows, known_grows, owned_grows, shown_grows, letter_grows, placed_grows}
+use Rattle.node_laws.proofs.Growth.{answers_later, begun_grows, made_later, known_grows, owned_grows, shown_grows, letter_grows, placed_grows}
 use Rattle.node_laws.proofs.Journals.{later_self}
 use Rattle.node_laws.proofs.ServedStatements.{up_to_later}
 use Rattle.node_laws.proofs.KnownTables.{table_created}
@@ -103,7 +103,7 @@ shard_later u v asked at time kept s later le f = record {
   entries = f.entries;
   past = up_to_later s.time time s.entries le f.past;
   legal = f.legal;
-  sent = f.sent;
+  sent = all_weaken (WasMade (history_in u) asked) (WasMade (history_in v) asked) s.entries (λ e m. made_later u v asked e later m) f.sent;
   numbers = f.numbers;
   placed = all_weaken (IsPlaced (changes_in u)) (IsPlaced (changes_in v)) s.entries (λ e p. placed_grows u v e later f.still p) f.placed;
   parts = f.parts;

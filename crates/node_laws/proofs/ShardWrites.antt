@@ -2,7 +2,7 @@
 use Rattle.std.proofs.Common.{◌≡◌, ◌⊎◌, inl, inr, ℕ, ◌+◌, ◌<◌, ◌≤◌, List, [], ◌∷◌, ◌++◌, refl, sym, ap, subst, ◌∙◌, arith, append-nil, Bool}
 use Rattle.std.specs.Prelude.{Some, None, true, map, length, drop}
 use Rattle.std.specs.List.{AllByRecursion, slice_get}
-use Rattle.history_model.proofs.Lists.{all_weaken, all_both, all_append, all_at, in_back, in_prefix}
+use Rattle.history_model.proofs.Lists.{all_weaken, all_both, all_append, all_at, in_back}
 use Rattle.chunk_model.specs.Tables.{first_shard}
 use Rattle.history_model.specs.History.{Operation, Entry, IsIn, Legal}
 use Rattle.base_model.specs.Identities.{RequestId}
@@ -25,7 +25,7 @@ use Rattle.node_laws.proofs.Owes.{Owes}
 use Rattle.node_laws.proofs.Lists.{all_mapped}
 use Rattle.node_laws.proofs.LongerJournals.{entries_longer, IsNewAt, still_grows}
 use Rattle.node_laws.proofs.Histories.{shard_entries, entry_of_shard}
-use Rattle.node_laws.proofs.Growth.{entry_grows, known_grows, placed_grows, met_later}
+use Rattle.node_laws.proofs.Growth.{entry_grows, made_later, known_grows, placed_grows, met_later}
 use Rattle.node_laws.proofs.NotedOutcomes.{HasNoOther, made_no_other, answers_stand}
 use Rattle.node_laws.proofs.ServedStatements.{AreUpTo, Rises, IsEntryOf, up_to_later, serves_rises, serves_legal, serves_numbered, legal_joined, serves_entries, serves_told, serves_last}
 use Rattle.node_laws.proofs.MadeEntries.{drop_statements, parted, few_answers, front_done, IsMadeAt, serves_made}
@@ -146,8 +146,9 @@ module _ (w : World) (book : Book) (at : ℕ) (kept : List Kept) (s : Shard) (is
   part_stands : ask.write.number ≡ None → IsPart (s.entries ++ made) Own.id ask.write
   part_stands none =
       let part : IsPart s.entries Own.id ask.write = all_at (StandsInPart s.entries) Own w.asked is.fits.parts ask.taken ask.write ask.asks none in
-      let zero : AllByRecursion HasNoOther s.entries = all_weaken (WasMade s.entries w.asked) HasNoOther s.entries
-      (λ e m. made_no_other s.entries w.asked e m) is.fits.sent in
+      let u : View = view_of w.nodes book in
+      let zero : AllByRecursion HasNoOther s.entries = all_weaken (WasMade (history_in u) w.asked) HasNoOther s.entries
+      (λ e m. made_no_other (history_in u) w.asked e m) is.fits.sent in
       let told = answers_stand s.entries early ask.write Own.id ask.front none zero part before in
       part_moved Own.id namespace ask.write.namespace ordered ask.write.ordered ask.write.operations (s.entries ++ made) ask.name ask.order
       (request_part Own.id s.me namespace ordered ask.write.operations s.entries now statements dones made last serves ask.front told.0 ask.back told.1
@@ -234,9 +235,12 @@ writes_all w book at kept s m id dones made last is met h =
         entries = sym longer;
         past = h.past;
         legal = h.legal;
-        sent = all_append (WasMade (s.entries ++ made) w.asked) s.entries made
-            (all_weaken (WasMade s.entries w.asked) (WasMade (s.entries ++ made) w.asked) s.entries
-            (λ e m. longer_made s.entries (s.entries ++ made) w.asked e (λ d i. in_prefix d s.entries made i) m) is.fits.sent) h.sent;
+        sent = all_append (WasMade (history_in v) w.asked) s.entries made
+            (all_weaken (WasMade (history_in u) w.asked) (WasMade (history_in v) w.asked) s.entries
+            (λ e m. made_later u v w.asked e grows m) is.fits.sent)
+            (all_weaken (WasMade (s.entries ++ made) w.asked) (WasMade (history_in v) w.asked) made
+            (λ e m. longer_made (s.entries ++ made) (history_in v) w.asked e
+            (λ d i. entry_of_shard v at d is.fits.place (subst (λ l. IsIn d l) (sym entries) i)) m) h.sent);
         numbers = h.numbers;
         placed = all_weaken (IsPlaced (changes_in u)) (IsPlaced (changes_in v)) (s.entries ++ made) (λ e p. placed_grows u v e grows is.fits.still p)
             (all_append (IsPlaced (changes_in u)) s.entries made is.fits.placed h.placed);
