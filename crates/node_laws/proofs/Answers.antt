@@ -67,7 +67,7 @@ closed_write : (v w : View) (asked more : List Asked) (a : Asked) (write : Write
     → command_of a.request ≡ Ok (write_command write) → write.number ≡ None → IsWhole (history_in v) a.id write
     → entries_by a.id (history_in w) ≡ entries_by a.id (history_in v)
 closed_write v w asked more a write later after taken asks own whole =
-    whole_extended v.bound (history_in v) (history_in w) a.id write (history_extends v w later)
+    whole_extended (IsBeyond v.bound) (history_in v) (history_in w) a.id write (history_extends v w later)
     (all_at (StandsInPart (history_in w)) a (asked ++ more) after.parts (in_prefix a asked more taken) write asks own) whole
 
 -- TIMES THAT WERE RETURNED
