@@ -18,11 +18,13 @@ use Rattle.pipeline_model.specs.Runs.{Outcome, Allows}
 use Rattle.history_model.specs.History.{StatementNumber, Operation, Entry, IsIn}
 use Rattle.base_model.specs.Identities.{RequestId}
 use Rattle.reply_model.specs.Exchanges.{Asked, Answered, number_for, entries_by}
+use Rattle.reply_facts.proofs.Statements.{told_stays}
+use Rattle.reply_model.specs.Accounts.{Account}
 use Rattle.reply_model.specs.Outcomes.{StatementOutcome, was_done, was_refused, Done, done_of, time_of, answer_of, later as greatest}
 use Rattle.reply_model.specs.Reads.{MayGive, IsExcess, excess_answer, excess_half, IsAhead, owned_by}
 use Rattle.reply_model.specs.Right.{ends, MayBeTold, told_own, told_other, told_older, AreTold, AreAll, IsWhole, Reads, find_reads, count_reads, IsReadRefused, refused_overflow, refused_excess, refused_ahead, IsRight, right_write, right_find, right_count, right_refused_read, right_more, right_no_cursor, right_kill, right_shard, right_split, right_not_sharded, right_hello, right_legacy, right_ping, right_end_sessions, right_refusal}
 use Rattle.reply_model.specs.OneHistory.{StandsInPart, IsPlaced, KeepsNumbers}
-use Rattle.node_laws.proofs.Views.{View, changes_in, IsShardAt, history_in, IsWithin, IsBeyond, Later}
+use Rattle.node_laws.proofs.Views.{View, changes_in, IsShardAt, history_in, IsWithin, IsBeyond, Later, account_in}
 use Rattle.node_laws.proofs.Facts.{IsFixed, IsRefusalFixed, IsSettled, AnswersFit, no_answer, one_answer, IsToldOf, NeighboursFit}
 use Rattle.node_laws.proofs.CatalogueTables.{placed_first}
 use Rattle.node_laws.proofs.KeptDocuments.{AreOwned, all_owned, owned_same}
@@ -65,63 +67,30 @@ closed_write : (v w : View) (asked more : List Asked) (a : Asked) (write : Write
     → command_of a.request ≡ Ok (write_command write) → write.number ≡ None → IsWhole (history_in v) a.id write
     → entries_by a.id (history_in w) ≡ entries_by a.id (history_in v)
 closed_write v w asked more a write later after taken asks own whole =
-    whole_extended v.bound (history_in v) (history_in w) a.id write (history_extends v w later)
+    whole_extended (IsBeyond v.bound) (history_in v) (history_in w) a.id write (history_extends v w later)
     (all_at (StandsInPart (history_in w)) a (asked ++ more) after.parts (in_prefix a asked more taken) write asks own) whole
-
-module _ (old new : List Entry) (asked more : List Asked) (t : Answered) (stays : (d : Entry) → IsIn d old → IsIn d new) where
-  -- an outcome that a statement may have it may have with more entries and requests
-  may_grow : (given : Option ClientNumber) (number : StatementNumber) (namespace : List ℕ) (operation : Operation) (answer : StatementOutcome)
-      → MayBeTold old asked t given number namespace operation answer → MayBeTold new (asked ++ more) t given number namespace operation answer
-  may_grow given number namespace operation _ (told_own e i is past) = told_own e (stays e i) is past
-  may_grow given number namespace operation _ (told_other e by i some is past had) =
-      told_other e by (stays e i) some is past (record {
-        request = had.request;
-        taken = in_prefix had.request asked more had.taken;
-        sends = had.sends;
-        came = had.came;
-      })
-  may_grow given number namespace operation _ (told_older e by i some is less past had) =
-      told_older e by (stays e i) some is less past
-      (record { request = had.request; taken = in_prefix had.request asked more had.taken; sends = had.sends; came = had.came })
-
-  told_grow : (write : WriteCommand) (index : ℕ) (operations : List Operation) (dones : List Done) → AreTold old asked t write index operations dones
-      → AreTold new (asked ++ more) t write index operations dones
-  told_grow write index [] dones told = told
-  told_grow write index (operation ∷ operations) [] told = absurd told
-  told_grow write index (operation ∷ operations) (d ∷ dones) told = (
-    told.0,
-    may_grow write.number (number_for write.number t.id index) write.namespace operation d.answer told.1,
-    by_end (ends write.ordered d) told.2 (λ rest. told_grow write (index + 1) operations dones rest),
-  )
-    where
-      by_end : (b : Bool)
-          → (elim b as (λ x. Type 0) [ true ↦ dones ≡ [] | false ↦ AreTold old asked t write (index + 1) operations dones ])
-          → (AreTold old asked t write (index + 1) operations dones → AreTold new (asked ++ more) t write (index + 1) operations dones)
-          → (elim b as (λ x. Type 0) [ true ↦ dones ≡ [] | false ↦ AreTold new (asked ++ more) t write (index + 1) operations dones ])
-      by_end true none later = none
-      by_end false rest later = later rest
 
 -- TIMES THAT WERE RETURNED
 
-may_below : (history : List Entry) (asked : List Asked) (t : Answered) (bound : ℕ) (given : Option ClientNumber) (number : StatementNumber)
-    (namespace : List ℕ) (operation : Operation) (answer : StatementOutcome) → AllByRecursion (λ (e : Entry). e.time ≤ bound) history
-    → MayBeTold history asked t given number namespace operation answer → IsBelow bound answer
-may_below history asked t bound given number namespace operation _ past (told_own e i is at) = all_at (λ (d : Entry). d.time ≤ bound) e history past i
-may_below history asked t bound given number namespace operation _ past (told_other e by i some is at had) =
-    all_at (λ (d : Entry). d.time ≤ bound) e history past i
-may_below history asked t bound given number namespace operation _ past (told_older e by i some is less at had) = tt
+may_below : (account : Account) (t : Answered) (bound : ℕ) (given : Option ClientNumber) (number : StatementNumber)
+    (namespace : List ℕ) (operation : Operation) (answer : StatementOutcome) → AllByRecursion (λ (e : Entry). e.time ≤ bound) account.history
+    → MayBeTold account t given number namespace operation answer → IsBelow bound answer
+may_below account t bound given number namespace operation _ past (told_own e i is at) = all_at (λ (d : Entry). d.time ≤ bound) e account.history past i
+may_below account t bound given number namespace operation _ past (told_other e by i some is at had) =
+    all_at (λ (d : Entry). d.time ≤ bound) e account.history past i
+may_below account t bound given number namespace operation _ past (told_older e by i some is less at had) = tt
 
-told_below : (history : List Entry) (asked : List Asked) (t : Answered) (bound : ℕ) (write : WriteCommand) (index : ℕ) (operations : List Operation)
-    (dones : List Done) → AllByRecursion (λ (e : Entry). e.time ≤ bound) history → AreTold history asked t write index operations dones → AreBelow bound dones
-told_below history asked t bound write index [] dones past told = subst (λ l. AreBelow bound l) (sym told) tt
-told_below history asked t bound write index (operation ∷ operations) [] past told = absurd told
-told_below history asked t bound write index (operation ∷ operations) (d ∷ dones) past told = (
-  may_below history asked t bound write.number (number_for write.number t.id index) write.namespace operation d.answer past told.1,
-  by_end (ends write.ordered d) told.2 (λ rest. told_below history asked t bound write (index + 1) operations dones past rest),
+told_below : (account : Account) (t : Answered) (bound : ℕ) (write : WriteCommand) (index : ℕ) (operations : List Operation)
+    (dones : List Done) → AllByRecursion (λ (e : Entry). e.time ≤ bound) account.history → AreTold account t write index operations dones → AreBelow bound dones
+told_below account t bound write index [] dones past told = subst (λ l. AreBelow bound l) (sym told) tt
+told_below account t bound write index (operation ∷ operations) [] past told = absurd told
+told_below account t bound write index (operation ∷ operations) (d ∷ dones) past told = (
+  may_below account t bound write.number (number_for write.number t.id index) write.namespace operation d.answer past told.1,
+  by_end (ends write.ordered d) told.2 (λ rest. told_below account t bound write (index + 1) operations dones past rest),
 )
   where
-    by_end : (b : Bool) → (elim b as (λ x. Type 0) [ true ↦ dones ≡ [] | false ↦ AreTold history asked t write (index + 1) operations dones ])
-        → (AreTold history asked t write (index + 1) operations dones → AreBelow bound dones) → AreBelow bound dones
+    by_end : (b : Bool) → (elim b as (λ x. Type 0) [ true ↦ dones ≡ [] | false ↦ AreTold account t write (index + 1) operations dones ])
+        → (AreTold account t write (index + 1) operations dones → AreBelow bound dones) → AreBelow bound dones
     by_end true none later = subst (λ l. AreBelow bound l) (sym none) tt
     by_end false rest later = later rest
 
@@ -139,10 +108,11 @@ IsClosed v w s = (write : WriteCommand) (index : ℕ) (e : Entry) → IsIn e (hi
 write_is : (a b : WriteCommand) (command : Result Command Refusal) → command ≡ Ok (write_command a) → command ≡ Ok (write_command b) → a ≡ b
 write_is a b command e f = cc
 
-module _ (v w : View) (asked more : List Asked) (later : Later v w) (before : NeighboursFit v asked) (after : NeighboursFit w (asked ++ more)) where
+module _ (v w : View) (asked more : List Asked) (answered : List Answered) (later : Later v w) (before : NeighboursFit v asked)
+    (after : NeighboursFit w (asked ++ more)) where
   -- an entry that comes later is of no statement that was answered with an older one
   none_later : (t : Answered) (write : WriteCommand) (index : ℕ) (operations : List Operation) (dones : List Done) (e : Entry) (j : ℕ)
-      → AreTold (history_in v) asked t write index operations dones → dones ≢ [] → time_of dones ≡ None
+      → AreTold (account_in v asked answered) t write index operations dones → dones ≢ [] → time_of dones ≡ None
       → IsIn e (history_in w) → ((x : Entry) → IsIn x (history_in v) → KeepsNumbers x e) → e.number ≡ number_for write.number t.id j → ⊥
   none_later t write index [] dones e j told some none stands keeps number = some told
   none_later t write index (operation ∷ operations) [] e j told some none stands keeps number = some refl
@@ -162,7 +132,7 @@ module _ (v w : View) (asked more : List Asked) (later : Later v w) (before : Ne
           true_false (sym less ∙ ap (λ n. int_lt n x.number.transaction) (sym at) ∙ not_less)
 
       by_answer : (answer : StatementOutcome)
-          → MayBeTold (history_in v) asked t write.number (number_for write.number t.id index) write.namespace operation answer
+          → MayBeTold (account_in v asked answered) t write.number (number_for write.number t.id index) write.namespace operation answer
           → (elim answer as (λ (x : StatementOutcome). Option ℕ) [
             | was_done at outcome ↦ Some (greatest at (time_of dones))
             | was_refused refusal ↦ time_of
@@ -173,7 +143,7 @@ module _ (v w : View) (asked more : List Asked) (later : Later v w) (before : Ne
       by_answer _ (told_other x by i some is past had) none = absurd (cc)
       by_answer _ (told_older x by i some session less past had) none = by_older x i session less
 
-  told_closed : (t : Answered) (write : WriteCommand) (dones : List Done) → AreTold (history_in v) asked t write 0 write.operations dones
+  told_closed : (t : Answered) (write : WriteCommand) (dones : List Done) → AreTold (account_in v asked answered) t write 0 write.operations dones
       → dones ≢ [] → t.document ≡ answer_document (answer_of write.kind t.time dones) → command_of t.request ≡ Ok (write_command write) → IsClosed v w t
   told_closed t write dones told some document asks other index e stands (same, number, shows) =
       by_place (stored_or_new v.bound (history_in v) (history_in w) e (history_extends v w later) after.numbers stands)
@@ -199,7 +169,7 @@ module _ (v w : View) (asked more : List Asked) (later : Later v w) (before : Ne
       by_time (Some time) is shown new keeps =
           let above : v.bound e.shard < e.time = new.1 in
           let below : time ≤ v.bound e.shard = greatest_below (v.bound e.shard) dones
-          (told_below (history_in v) asked t (v.bound e.shard) write 0 write.operations dones passed told) time is in
+          (told_below (account_in v asked answered) t (v.bound e.shard) write 0 write.operations dones passed told) time is in
           let exact : time ≡ e.time = cc in
           omega arith
 
@@ -211,45 +181,45 @@ module _ (v w : View) (asked more : List Asked) (later : Later v w) (before : Ne
   other_closed : (t : Answered) → IsNoWrite (command_of t.request) → IsClosed v w t
   other_closed t not write index e stands told = absurd (not write told.0)
 
-  closed_right : (answered : List Answered) (cursors next : List Cursor) (a : Asked) (t : Answered) → a.request ≡ t.request
-      → (r : IsRight (changes_in v) (history_in v) asked answered cursors a t next)
-      → IsSettled v (changes_in v) (history_in v) asked answered cursors a t next r → IsClosed v w t
-  closed_right answered cursors _ a t same (right_write write dones c asks may whole begun name past told) settled =
+  closed_right : (cursors next : List Cursor) (a : Asked) (t : Answered) → a.request ≡ t.request
+      → (r : IsRight (account_in v asked answered) cursors a t next)
+      → IsSettled v (account_in v asked answered) cursors a t next r → IsClosed v w t
+  closed_right cursors _ a t same (right_write write dones c asks may whole begun name past told) settled =
       told_closed t write dones may settled told (ap (λ q. command_of q) (sym same) ∙ asks)
-  closed_right answered cursors _ a t same (right_find find time documents batch next asks of may small name when shows told) settled =
+  closed_right cursors _ a t same (right_find find time documents batch next asks of may small name when shows told) settled =
       other_closed t (other_command _ _ (ap (λ q. command_of q) (sym same) ∙ asks) (λ write e. cc))
-  closed_right answered cursors _ a t same (right_count read time n asks of may told) settled =
+  closed_right cursors _ a t same (right_count read time n asks of may told) settled =
       other_closed t (other_command _ _ (ap (λ q. command_of q) (sym same) ∙ asks) (λ write e. cc))
-  closed_right answered cursors _ a t same (right_more get c batch next asks found shows told) settled =
+  closed_right cursors _ a t same (right_more get c batch next asks found shows told) settled =
       other_closed t (other_command _ _ (ap (λ q. command_of q) (sym same) ∙ asks) (λ write e. cc))
-  closed_right answered cursors _ a t same (right_no_cursor get asks none told) settled =
+  closed_right cursors _ a t same (right_no_cursor get asks none told) settled =
       other_closed t (other_command _ _ (ap (λ q. command_of q) (sym same) ∙ asks) (λ write e. cc))
-  closed_right answered cursors _ a t same (right_kill kill killed missing next asks closed told) settled =
+  closed_right cursors _ a t same (right_kill kill killed missing next asks closed told) settled =
       other_closed t (other_command _ _ (ap (λ q. command_of q) (sym same) ∙ asks) (λ write e. cc))
-  closed_right answered cursors _ a t same (right_shard namespace asks created told) settled =
+  closed_right cursors _ a t same (right_shard namespace asks created told) settled =
       other_closed t (other_command _ _ (ap (λ q. command_of q) (sym same) ∙ asks) (λ write e. cc))
-  closed_right answered cursors _ a t same (right_split split asks begins told) settled =
+  closed_right cursors _ a t same (right_split split asks begins told) settled =
       other_closed t (other_command _ _ (ap (λ q. command_of q) (sym same) ∙ asks) (λ write e. cc))
-  closed_right answered cursors _ a t same (right_not_sharded split asks told) settled =
+  closed_right cursors _ a t same (right_not_sharded split asks told) settled =
       other_closed t (other_command _ _ (ap (λ q. command_of q) (sym same) ∙ asks) (λ write e. cc))
-  closed_right answered cursors _ a t same (right_hello asks told) settled =
+  closed_right cursors _ a t same (right_hello asks told) settled =
       other_closed t (other_command _ _ (ap (λ q. command_of q) (sym same) ∙ asks) (λ write e. cc))
-  closed_right answered cursors _ a t same (right_legacy legacy asks told) settled =
+  closed_right cursors _ a t same (right_legacy legacy asks told) settled =
       other_closed t (other_command _ _ (ap (λ q. command_of q) (sym same) ∙ asks) (λ write e. cc))
-  closed_right answered cursors _ a t same (right_ping asks told) settled =
+  closed_right cursors _ a t same (right_ping asks told) settled =
       other_closed t (other_command _ _ (ap (λ q. command_of q) (sym same) ∙ asks) (λ write e. cc))
-  closed_right answered cursors _ a t same (right_end_sessions asks told) settled =
+  closed_right cursors _ a t same (right_end_sessions asks told) settled =
       other_closed t (other_command _ _ (ap (λ q. command_of q) (sym same) ∙ asks) (λ write e. cc))
-  closed_right answered cursors _ a t same (right_refusal refusal asks told) settled =
+  closed_right cursors _ a t same (right_refusal refusal asks told) settled =
       other_closed t (other_command _ _ (ap (λ q. command_of q) (sym same) ∙ asks) (λ write e. cc))
-  closed_right answered cursors _ a t same (right_refused_read read reads refused) settled =
+  closed_right cursors _ a t same (right_refused_read read reads refused) settled =
       other_closed t (reads_not (command_of t.request) read (subst (λ q. Reads (command_of q) read) same reads))
 
-  pub all_closed : (answered : List Answered) (cursors last : List Cursor) (told : List Answered) → AnswersFit v asked answered cursors told last
+  pub all_closed : (cursors last : List Cursor) (told : List Answered) → AnswersFit v asked answered cursors told last
       → AllByRecursion (IsClosed v w) told
-  all_closed answered _ _ _ (no_answer cursors) = tt
-  all_closed answered _ _ _ (one_answer cursors next last t rest f others) =
-      (closed_right answered cursors next f.request t f.same f.right f.settled, all_closed answered next last rest others)
+  all_closed _ _ _ (no_answer cursors) = tt
+  all_closed _ _ _ (one_answer cursors next last t rest f others) =
+      (closed_right cursors next f.request t f.same f.right f.settled, all_closed next last rest others)
 
 -- REPLIES TO READS
 
@@ -263,12 +233,12 @@ fixed_grows : (v w : View) (read : Reading) (time : ℕ) → Later v w → IsFix
 fixed_grows v w read time later (inl h) = inl (passed_later v w time later h)
 fixed_grows v w read time later (inr h) = inr (began_grows v w read.namespace time later h)
 
-excess_stays : (v w : View) (asked more : List Asked) (read : Reading) (time n : ℕ) → Later v w → NeighboursFit v asked → NeighboursFit w (asked ++ more)
+excess_stays : (v w : View) (asked more : List Asked) (answered news : List Answered) (read : Reading) (time n : ℕ) → Later v w → NeighboursFit v asked → NeighboursFit w (asked ++ more)
     → IsFixed v read time
-    → IsExcess (history_in v) (changes_in v) read time n → IsExcess (history_in w) (changes_in w) read time n
-excess_stays v w asked more read time n later before after fixed (excess_answer answer may much) =
+    → IsExcess (account_in v asked answered) read time n → IsExcess (account_in w (asked ++ more) (answered ++ news)) read time n
+excess_stays v w asked more answered news read time n later before after fixed (excess_answer answer may much) =
     excess_answer answer (give_stays v w read time _ later fixed after.placed may) much
-excess_stays v w asked more read time n later before after fixed (excess_half shard ordered rows permutes makes much) =
+excess_stays v w asked more answered news read time n later before after fixed (excess_half shard ordered rows permutes makes much) =
     let same = documents_stay v w read.namespace time later fixed after.placed in
     let old = all_owned (changes_in v) (history_in v) read.namespace shard time before.begun.still before.placed in
     let new = all_owned (changes_in w) (history_in w) read.namespace shard time after.begun.still after.placed in
@@ -284,16 +254,16 @@ excess_stays v w asked more read time n later before after fixed (excess_half sh
 -- an answer, with that its read stays
 pub record StaysRight (w : View) (asked : List Asked) (answered : List Answered) (cursors : List Cursor) (a : Asked) (t : Answered)
     (next : List Cursor) : Type 0 where
-  pub right : IsRight (changes_in w) (history_in w) asked answered cursors a t next
-  pub settled : IsSettled w (changes_in w) (history_in w) asked answered cursors a t next right
+  pub right : IsRight (account_in w asked answered) cursors a t next
+  pub settled : IsSettled w (account_in w asked answered) cursors a t next right
 
 module _ (v w : View) (asked more : List Asked) (answered news : List Answered) (now : ℕ) (g : Grows v w asked more answered news now)
     (closed : AllByRecursion (IsClosed v w) answered) where
   abbrev After : List Cursor → Asked → Answered → List Cursor → Type 0
   After cursors a t next = StaysRight w (asked ++ more) (answered ++ news) cursors a t next
 
-  ahead_stays : (a : Asked) (t : Answered) (read : Reading) → a.came < now + 1 → IsAhead (history_in v) answered a t read
-      → IsAhead (history_in w) (answered ++ news) a t read
+  ahead_stays : (a : Asked) (t : Answered) (read : Reading) → a.came < now + 1 → IsAhead (account_in v asked answered) a t read
+      → IsAhead (account_in w (asked ++ more) (answered ++ news)) a t read
   ahead_stays a t read came h = record {
     wanted = h.wanted;
     wants = h.wants;
@@ -309,26 +279,26 @@ module _ (v w : View) (asked more : List Asked) (answered news : List Answered) 
           let at : s.step ≡ now = all_at (λ (x : Answered). x.step ≡ now) s news g.steps i in absurd (omega arith)
 
   refused_stays : (a : Asked) (t : Answered) (read : Reading) (cursors : List Cursor) → a.came < now + 1 → Reads (command_of a.request) read
-      → (r : IsReadRefused (changes_in v) (history_in v) answered a t read)
-      → IsRefusalFixed v (changes_in v) (history_in v) answered a t read r → After cursors a t cursors
+      → (r : IsReadRefused (account_in v asked answered) a t read)
+      → IsRefusalFixed v (account_in v asked answered) a t read r → After cursors a t cursors
   refused_stays a t read cursors came reads (refused_overflow time of may told) fixed = record {
     right = right_refused_read read reads (refused_overflow time of (give_stays v w read time _ g.later fixed g.after.placed may) told);
     settled = fixed_grows v w read time g.later fixed;
   }
   refused_stays a t read cursors came reads (refused_excess time n of much told) fixed = record {
-    right = right_refused_read read reads (refused_excess time n of (excess_stays v w asked more read time n g.later g.before g.after fixed much) told);
+    right = right_refused_read read reads (refused_excess time n of (excess_stays v w asked more answered news read time n g.later g.before g.after fixed much) told);
     settled = fixed_grows v w read time g.later fixed;
   }
   refused_stays a t read cursors came reads (refused_ahead ahead told) fixed =
       record { right = right_refused_read read reads (refused_ahead (ahead_stays a t read came ahead) told); settled = tt }
 
   right_stays : (cursors next : List Cursor) (a : Asked) (t : Answered) → IsIn a asked
-      → (r : IsRight (changes_in v) (history_in v) asked answered cursors a t next)
-      → IsSettled v (changes_in v) (history_in v) asked answered cursors a t next r → After cursors a t next
+      → (r : IsRight (account_in v asked answered) cursors a t next)
+      → IsSettled v (account_in v asked answered) cursors a t next r → After cursors a t next
   right_stays cursors _ a t taken (right_write write dones c asks may whole begun name past told) settled = record {
     right = right_write write dones c asks
-        (told_grow (history_in v) (history_in w) asked more t (λ d i. history_stays v w d g.later i) write 0 write.operations
-        dones may)
+        (told_stays (account_in v asked answered) (account_in w (asked ++ more) (answered ++ news)) t (λ d i. history_stays v w d g.later i)
+        (λ b i. in_prefix b asked more i) write 0 write.operations dones may)
         (λ own.
         let same = closed_write v w asked more a write g.later g.after taken asks own (whole own) in
         record {

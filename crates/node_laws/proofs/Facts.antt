@@ -13,15 +13,16 @@ use Rattle.chunk_model.specs.Tables.{Table, first_shard}
 use Rattle.history_model.specs.History.{Entry, Legal, IsIn}
 use Rattle.base_model.specs.Identities.{RequestId}
 use Rattle.reply_model.specs.Exchanges.{Asked, Answered, number_for}
+use Rattle.reply_model.specs.Accounts.{Given, Dated, Account, changes_in as changes_of}
 use Rattle.reply_model.specs.Outcomes.{Done}
 use Rattle.reply_model.specs.Right.{ends, IsReadRefused, refused_overflow, refused_excess, refused_ahead, WasCreated, IsRight, right_write, right_find, right_count, right_refused_read, right_more, right_no_cursor, right_kill, right_shard, right_split, right_not_sharded, right_hello, right_legacy, right_ping, right_end_sessions, right_refusal}
-use Rattle.reply_model.specs.OneHistory.{IsWriteIn, WasWanted, StandsInPart, IsPlaced, AreNumbered, IsFresh, IsInOrder, Given, WasMet, ids_asked, ids_told, AreDifferent, Dated, changes_in as changes_of}
+use Rattle.reply_model.specs.OneHistory.{IsWriteIn, WasWanted, StandsInPart, IsPlaced, AreNumbered, IsFresh, IsInOrder, WasMet, ids_asked, ids_told, AreDifferent}
 use Rattle.node_model.specs.Journal.{Kept, entries_kept, changes_kept}
 use Rattle.node_model.specs.Letters.{At, no_time, at_time, Statement, Body, table_ask, table_told, split_ask, split_done, write_ask, write_done, read_ask, half_ask, read_rows, stale, time_ask, time_told, Letter}
 use Rattle.node_model.specs.States.{Catalogue, Shard, Router, Work, writing, reading, sharding, splitting, Wait, for_time, Open, NodeState, catalogue_state, shard_state, router_state, time_of_node}
 use Rattle.node_model.specs.RouterRows.{id_of, statements_from, owner_of_statement, is_ahead, block_size}
 use Rattle.node_model.specs.World.{Held, World, journal_at}
-use Rattle.node_laws.proofs.Views.{Choice, Book, View, view_of, entries_in, changes_in, IsShardAt, history_in, HavePassed, IsWithin, MovesNothing}
+use Rattle.node_laws.proofs.Views.{Choice, Book, View, view_of, entries_in, changes_in, IsShardAt, history_in, HavePassed, IsWithin, MovesNothing, account_in}
 use Rattle.node_laws.proofs.Places.{EachAt}
 use Rattle.node_laws.proofs.SplitFacts.{IsSplitOf, IsSplitDone, WasMissing, IsMissing}
 use Rattle.node_laws.proofs.WriteFacts.{IsDoneAt, AreAnswers, OnlyLast, WasMade}
@@ -226,7 +227,7 @@ StateFits v asked answered at kept (router_state r) = RouterFits v asked answere
 
 -- a time that was met
 abbrev pub IsMet : View → List Given → ℕ → Type 0
-IsMet v given time = WasMet given (changes_in v) (history_in v) time
+IsMet v given time = WasMet (record (account_in v [] []) { given = given }) time
 
 -- CURSORS
 
@@ -265,31 +266,30 @@ pub record HeldFits (v : View) (asked : List Asked) (answered : List Answered) (
 abbrev pub IsFixed : View → Reading → ℕ → Type 0
 IsFixed v read time = HavePassed v time ⊎ NoneBegan v read.namespace time
 
-abbrev pub IsRefusalFixed : View → (changes : List Change) (history : List Entry) (answered : List Answered) (a : Asked) (t : Answered) (read : Reading)
-    → IsReadRefused changes history answered a t read → Type 0
-IsRefusalFixed v changes history answered a t read (refused_overflow time of may told) = IsFixed v read time
-IsRefusalFixed v changes history answered a t read (refused_excess time n of excess told) = IsFixed v read time
-IsRefusalFixed v changes history answered a t read (refused_ahead ahead told) = Unit {0}
+abbrev pub IsRefusalFixed : View → (account : Account) (a : Asked) (t : Answered) (read : Reading) → IsReadRefused account a t read → Type 0
+IsRefusalFixed v account a t read (refused_overflow time of may told) = IsFixed v read time
+IsRefusalFixed v account a t read (refused_excess time n of excess told) = IsFixed v read time
+IsRefusalFixed v account a t read (refused_ahead ahead told) = Unit {0}
 
-abbrev pub IsSettled : View → (changes : List Change) (history : List Entry) (asked : List Asked) (answered : List Answered) (cursors : List Cursor)
-    (a : Asked) (t : Answered) (next : List Cursor) → IsRight changes history asked answered cursors a t next → Type 0
-IsSettled v changes history asked answered cursors a t _ (right_write write dones c asks may whole begun name before told) = dones ≢ []
-IsSettled v changes history asked answered cursors a t _ (right_find find time documents batch next asks of may small name when shows told) = IsFixed v
+abbrev pub IsSettled : View → (account : Account) (cursors : List Cursor) (a : Asked) (t : Answered) (next : List Cursor)
+    → IsRight account cursors a t next → Type 0
+IsSettled v account cursors a t _ (right_write write dones c asks may whole begun name before told) = dones ≢ []
+IsSettled v account cursors a t _ (right_find find time documents batch next asks of may small name when shows told) = IsFixed v
     find.reading time
-IsSettled v changes history asked answered cursors a t _ (right_count read time n asks of may told) = IsFixed v read time
-IsSettled v changes history asked answered cursors a t _ (right_refused_read read reads refused) = IsRefusalFixed v changes history answered a t read
+IsSettled v account cursors a t _ (right_count read time n asks of may told) = IsFixed v read time
+IsSettled v account cursors a t _ (right_refused_read read reads refused) = IsRefusalFixed v account a t read
     refused
-IsSettled v changes history asked answered cursors a t _ (right_more more c batch next asks found shows told) = Unit {0}
-IsSettled v changes history asked answered cursors a t _ (right_no_cursor more asks none told) = Unit {0}
-IsSettled v changes history asked answered cursors a t _ (right_kill kill killed missing next asks closed told) = Unit {0}
-IsSettled v changes history asked answered cursors a t _ (right_shard namespace asks created told) = Unit {0}
-IsSettled v changes history asked answered cursors a t _ (right_split split asks begins told) = Unit {0}
-IsSettled v changes history asked answered cursors a t _ (right_not_sharded split asks told) = Unit {0}
-IsSettled v changes history asked answered cursors a t _ (right_hello asks told) = Unit {0}
-IsSettled v changes history asked answered cursors a t _ (right_legacy legacy asks told) = Unit {0}
-IsSettled v changes history asked answered cursors a t _ (right_ping asks told) = Unit {0}
-IsSettled v changes history asked answered cursors a t _ (right_end_sessions asks told) = Unit {0}
-IsSettled v changes history asked answered cursors a t _ (right_refusal refusal asks told) = Unit {0}
+IsSettled v account cursors a t _ (right_more more c batch next asks found shows told) = Unit {0}
+IsSettled v account cursors a t _ (right_no_cursor more asks none told) = Unit {0}
+IsSettled v account cursors a t _ (right_kill kill killed missing next asks closed told) = Unit {0}
+IsSettled v account cursors a t _ (right_shard namespace asks created told) = Unit {0}
+IsSettled v account cursors a t _ (right_split split asks begins told) = Unit {0}
+IsSettled v account cursors a t _ (right_not_sharded split asks told) = Unit {0}
+IsSettled v account cursors a t _ (right_hello asks told) = Unit {0}
+IsSettled v account cursors a t _ (right_legacy legacy asks told) = Unit {0}
+IsSettled v account cursors a t _ (right_ping asks told) = Unit {0}
+IsSettled v account cursors a t _ (right_end_sessions asks told) = Unit {0}
+IsSettled v account cursors a t _ (right_refusal refusal asks told) = Unit {0}
 
 -- an answer to a request that was taken, where it is right
 pub record AnswerFits (v : View) (asked : List Asked) (answered : List Answered) (cursors : List Cursor) (t : Answered) (next : List Cursor) : Type 0 where
@@ -301,8 +301,8 @@ pub record AnswerFits (v : View) (asked : List Asked) (answered : List Answered)
   pub same : request.request ≡ t.request
   pub came : request.came ≤ t.step
   pub risen : request.time ≤ t.time
-  pub right : IsRight (changes_in v) (history_in v) asked answered cursors request t next
-  pub settled : IsSettled v (changes_in v) (history_in v) asked answered cursors request t next right
+  pub right : IsRight (account_in v asked answered) cursors request t next
+  pub settled : IsSettled v (account_in v asked answered) cursors request t next right
 
 -- all replies, in order, from these cursors to those
 pub data AnswersFit (v : View) (asked : List Asked) (answered : List Answered) : List Cursor → List Answered → List Cursor → Type 0 where

@@ -13,8 +13,9 @@ use Rattle.command_model.specs.Writes.{WriteCommand}
 use Rattle.history_model.specs.History.{StatementNumber, Entry, IsIn}
 use Rattle.base_model.specs.Identities.{RequestId}
 use Rattle.reply_model.specs.Exchanges.{Asked, number_for, is_session_of, entries_by}
+use Rattle.reply_model.specs.Accounts.{Given}
 use Rattle.reply_model.specs.Outcomes.{StatementOutcome, Done}
-use Rattle.reply_model.specs.OneHistory.{WasWanted, IsPlaced, Given}
+use Rattle.reply_model.specs.OneHistory.{WasWanted, IsPlaced}
 use Rattle.node_model.specs.Letters.{At, no_time, at_time, Statement, HalfFault, half_overflow, half_excess, Body, table_ask, table_told, split_ask, split_done, write_ask, write_done, read_ask, half_ask, read_rows, stale, time_ask, time_told, Letter}
 use Rattle.node_model.specs.States.{Work, writing, reading, sharding, splitting}
 use Rattle.reply_model.specs.Right.{WasSplit}

@@ -9,34 +9,28 @@ use Rattle.chunk_model.specs.Tables.{first_shard}
 use Rattle.history_model.specs.Documents.{Rows, row_written, rows_after, documents_at}
 use Rattle.history_model.specs.History.{Entry, IsIn, key_written}
 use Rattle.history_model.proofs.Lists.{all_weaken, all_at, in_first, in_later, in_cons}
+use Rattle.history_laws.specs.Extended.{Extends, extends_none, entry_kept, entry_comes}
+use Rattle.history_laws.proofs.Extended.{stays}
 use Rattle.reply_model.specs.OneHistory.{KeepsNumbers, AreNumbered}
 use Rattle.node_laws.proofs.Views.{View, entries_in, history_in, IsShardAt, HavePassed, IsWithin, IsBeyond, Later}
 use Rattle.node_laws.proofs.LongerJournals.{IsNewAt, more_entries}
 use Rattle.node_laws.proofs.KeptDocuments.{Counts, up_to, one_uncounted}
 
--- What one history keeps of an earlier one: what is stored stays, in its order; and each new entry is above the bound of its shard, after all that this shard
--- had stored.
-pub data Extends (bound : ℕ → ℕ) : (old new : List Entry) → Type 0 where
-  extends_none : Extends bound [] []
-  entry_kept : (e : Entry) (old new : List Entry) → Extends bound old new → Extends bound (e ∷ old) (e ∷ new)
-  entry_comes : (e : Entry) (old new : List Entry) → IsBeyond bound e → AllByRecursion (λ (d : Entry). d.shard ≢ e.shard) old → Extends bound old new
-      → Extends bound old (e ∷ new)
-
 -- A LATER HISTORY
 
-only_new : (bound : ℕ → ℕ) (more : List Entry) → AllByRecursion (IsBeyond bound) more → Extends bound [] more
+only_new : (bound : ℕ → ℕ) (more : List Entry) → AllByRecursion (IsBeyond bound) more → Extends (IsBeyond bound) [] more
 only_new bound [] all = extends_none
 only_new bound (e ∷ more) all = entry_comes e [] more all.0 tt (only_new bound more all.1)
 
-extends_after : (bound : ℕ → ℕ) (old more : List Entry) → AllByRecursion (IsBeyond bound) more → Extends bound old (old ++ more)
+extends_after : (bound : ℕ → ℕ) (old more : List Entry) → AllByRecursion (IsBeyond bound) more → Extends (IsBeyond bound) old (old ++ more)
 extends_after bound [] more all = only_new bound more all
 extends_after bound (e ∷ old) more all = entry_kept e old (old ++ more) (extends_after bound old more all)
 
 -- the history of a later view
-pub history_extends : (v w : View) → Later v w → Extends v.bound (history_in v) (history_in w)
+pub history_extends : (v w : View) → Later v w → Extends (IsBeyond v.bound) (history_in v) (history_in w)
 history_extends v w later =
     let m = more_entries v w first_shard later in
-    subst (λ l. Extends v.bound (history_in v) l) (sym m.same)
+    subst (λ l. Extends (IsBeyond v.bound) (history_in v) l) (sym m.same)
     (extends_after v.bound (history_in v) m.more
     (all_weaken (IsNewAt first_shard (v.bound first_shard)) (IsBeyond v.bound) m.more
     (λ e h. (h.0, subst (λ n. v.bound n < e.time) (sym h.0) h.1)) m.above))
@@ -77,15 +71,6 @@ stored_passed v e is = passed_by v e.shard e.time is.0 is.1
 -- WHAT STAYS
 
 module _ (bound : ℕ → ℕ) where
-  pub stays : (old new : List Entry) (e : Entry) → Extends bound old new → IsIn e old → IsIn e new
-  stays _ _ e extends_none i = i
-  stays _ _ e (entry_kept d old new more) i = by_first (in_cons e d old i) (λ j. stays old new e more j)
-    where
-      by_first : (e ≡ d) ⊎ IsIn e old → (IsIn e old → IsIn e new) → IsIn e (d ∷ new)
-      by_first (inl same) later = subst (λ (x : Entry). IsIn x (d ∷ new)) (sym same) (in_first d new)
-      by_first (inr j) later = in_later e d new (later j)
-  stays _ _ e (entry_comes d old new is none more) i = in_later e d new (stays old new e more i)
-
   -- an entry is stored already; or it is new, and keeps the numbers of those that are stored
   abbrev pub IsStoredOrNew : List Entry → Entry → Type 0
   IsStoredOrNew old e = IsIn e old ⊎ (IsBeyond bound e × ((d : Entry) → IsIn d old → KeepsNumbers d e))
@@ -98,7 +83,7 @@ module _ (bound : ℕ → ℕ) where
       by_first d (inl same) = subst (λ (x : Entry). KeepsNumbers x e) (sym same) (keeps new)
       by_first d (inr i) = of_old d i
 
-  pub stored_or_new : (old new : List Entry) (e : Entry) → Extends bound old new → AreNumbered new → IsIn e new → IsStoredOrNew old e
+  pub stored_or_new : (old new : List Entry) (e : Entry) → Extends (IsBeyond bound) old new → AreNumbered new → IsIn e new → IsStoredOrNew old e
   stored_or_new _ _ e extends_none numbered i = inl i
   stored_or_new _ _ e (entry_kept c old new more) numbered i = by_first (in_cons e c new i) (λ j. stored_or_new old new e more numbered.1 j)
     where
@@ -119,7 +104,7 @@ module _ (bound : ℕ → ℕ) where
       by_first (inr j) later = later j
 
   -- the documents of a collection at a time for which no new entry counts
-  rows_extended : (namespace : List ℕ) (time : ℕ) (old new : List Entry) (rows : Rows) → Extends bound old new
+  rows_extended : (namespace : List ℕ) (time : ℕ) (old new : List Entry) (rows : Rows) → Extends (IsBeyond bound) old new
       → ((e : Entry) → IsIn e new → IsBeyond bound e → ¬ Counts namespace time e)
       → rows_after namespace rows (up_to time new) ≡ rows_after namespace rows (up_to time old)
   rows_extended namespace time _ _ rows extends_none none = refl
@@ -135,11 +120,11 @@ module _ (bound : ℕ → ℕ) where
       one_uncounted namespace time rows e new (none e (in_first e new) is)
       ∙ rows_extended namespace time old new rows more (λ d i more_is. none d (in_later d e new i) more_is)
 
-  pub documents_extended : (namespace : List ℕ) (time : ℕ) (old new : List Entry) → Extends bound old new
+  pub documents_extended : (namespace : List ℕ) (time : ℕ) (old new : List Entry) → Extends (IsBeyond bound) old new
       → ((e : Entry) → IsIn e new → IsBeyond bound e → ¬ Counts namespace time e)
       → documents_at new namespace time ≡ documents_at old namespace time
   documents_extended namespace time old new more none = ap (λ l. values_of l) (rows_extended namespace time old new [] more none)
 
 -- an entry stays in a later history
 pub history_stays : (v w : View) (e : Entry) → Later v w → IsIn e (history_in v) → IsIn e (history_in w)
-history_stays v w e later i = stays v.bound (history_in v) (history_in w) e (history_extends v w later) i
+history_stays v w e later i = stays (IsBeyond v.bound) (history_in v) (history_in w) e (history_extends v w later) i

@@ -8,7 +8,8 @@ use Rattle.chunk_model.specs.Changes.{known_table}
 use Rattle.chunk_model.specs.Tables.{first_shard}
 use Rattle.history_model.specs.History.{Entry, IsIn}
 use Rattle.reply_model.specs.Exchanges.{Asked, Answered}
-use Rattle.reply_model.specs.OneHistory.{WasWanted, StandsInPart, IsPlaced, AreNumbered, IsFresh, IsInOrder, Given, ids_asked, ids_told, AreDifferent, Dated, changes_in as changes_of}
+use Rattle.reply_model.specs.Accounts.{Given, Dated, changes_in as changes_of}
+use Rattle.reply_model.specs.OneHistory.{WasWanted, StandsInPart, IsPlaced, AreNumbered, IsFresh, IsInOrder, ids_asked, ids_told, AreDifferent}
 use Rattle.node_model.specs.Journal.{Kept, entries_kept, changes_kept}
 use Rattle.node_model.specs.Letters.{Body, table_ask, table_told, split_ask, split_done, write_ask, write_done, read_ask, half_ask, read_rows, stale, time_ask, time_told, Letter, Effect}
 use Rattle.node_model.specs.States.{Shard, NodeState, catalogue_state, shard_state, router_state, time_of_node}
@@ -260,7 +261,7 @@ good_parts w book at old f new v good here owes is later dated owed =
     (slice_set w.nodes at (with_more old f.written new)) order nodes
     (λ p. ap (λ (x : View). x.journal p) is) (λ p. ap (λ (x : View). x.bound p) is) owes.one in
     let g : Grows u v w.asked more w.answered news w.now = record { later = later; before = before; after = after; came = good.came; steps = steps } in
-    let closed : AllByRecursion (IsClosed u v) w.answered = all_closed u v w.asked more later before after w.answered [] book.cursors w.answered good.answers in
+    let closed : AllByRecursion (IsClosed u v) w.answered = all_closed u v w.asked more w.answered later before after [] book.cursors w.answered good.answers in
     record {
       order = order;
       nodes = nodes;

@@ -6,7 +6,8 @@ use Rattle.history_model.proofs.Lists.{all_weaken, all_append, in_prefix}
 use Rattle.history_model.specs.History.{IsIn}
 use Rattle.base_model.specs.Identities.{RequestId}
 use Rattle.reply_model.specs.Exchanges.{Asked, Answered}
-use Rattle.reply_model.specs.OneHistory.{WasWanted, IsPlaced, Given, ids_asked, ids_told, AreDifferent}
+use Rattle.reply_model.specs.Accounts.{Given}
+use Rattle.reply_model.specs.OneHistory.{WasWanted, IsPlaced, ids_asked, ids_told, AreDifferent}
 use Rattle.node_model.specs.Journal.{Kept}
 use Rattle.node_model.specs.Letters.{Letter}
 use Rattle.reply_model.specs.Cursors.{Cursor}

@@ -5,8 +5,9 @@ use Rattle.std.specs.List.{AllByRecursion}
 use Rattle.base_model.specs.Times.{time_of_moment}
 use Rattle.reply_model.specs.Cursors.{Cursor}
 use Rattle.reply_model.specs.Exchanges.{Asked, Answered}
+use Rattle.reply_model.specs.Accounts.{Given, Dated}
 use Rattle.history_model.specs.History.{IsIn}
-use Rattle.reply_model.specs.OneHistory.{IsFresh, IsInOrder, Given, ids_asked, ids_told, AreDifferent, Dated}
+use Rattle.reply_model.specs.OneHistory.{IsFresh, IsInOrder, ids_asked, ids_told, AreDifferent}
 use Rattle.node_model.specs.Letters.{Letter, Input, client_input, letter_input, moment_input, opened_input, Taken, Reply, Effect}
 use Rattle.node_model.specs.States.{NodeState, time_of_node}
 use Rattle.node_model.specs.World.{Held, World, asked_by, answered_by, dated_onto, journal_at}

@@ -36,7 +36,7 @@ use Rattle.node_model.specs.States.{Telling, in_batches, as_number, Open}
 use Rattle.node_model.specs.RouterRows.{too_much, empty_answer}
 use Rattle.node_model.specs.ShardRows.{IsTold}
 use Rattle.reply_facts.proofs.Requests.{one_asked}
-use Rattle.node_laws.proofs.Views.{View, entries_in, changes_in, chosen_time, history_in, HavePassed}
+use Rattle.node_laws.proofs.Views.{View, entries_in, changes_in, chosen_time, history_in, HavePassed, account_in}
 use Rattle.node_laws.proofs.ReadFacts.{NoneBegan, IsTelling, tells_find, tells_count, IsReading, IsMade}
 use Rattle.node_laws.proofs.Facts.{IsFixed, NeighboursFit}
 use Rattle.node_laws.proofs.KeptDocuments.{owned_by_first}
@@ -103,9 +103,9 @@ rows_give v read at time rows out small m merged =
     }
 
 -- rows that are too much are too much of what the shard owned
-pub rows_exceed : (v : View) (asked : List Asked) (read : Reading) (at time n : ℕ) (rows : Rows) → NeighboursFit v asked → MadeFor v read at time rows
-    → excess_of_half rows ≡ Some n → IsExcess (history_in v) (changes_in v) read at n
-rows_exceed v asked read at time n rows around m much =
+pub rows_exceed : (v : View) (asked : List Asked) (answered : List Answered) (read : Reading) (at time n : ℕ) (rows : Rows) → NeighboursFit v asked → MadeFor v read at time rows
+    → excess_of_half rows ≡ Some n → IsExcess (account_in v asked answered) read at n
+rows_exceed v asked answered read at time n rows around m much =
     let docs : List Fields = documents_at (history_in v) read.namespace at in
     excess_half first_shard docs rows
     (subst (λ l. IsPermutation l docs) (sym (owned_by_first (changes_in v) (history_in v) read.namespace at around.begun.still around.placed))
@@ -140,7 +140,7 @@ module _ (v : View) (asked : List Asked) (told : List Answered) (cursors : List 
 
   pub excess_right : (namespace : List ℕ) (named : Bool) (at n : ℕ) (stages : List Stage) (telling : Telling)
       (w : IsReading a namespace named at stages telling)
-      → IsExcess (history_in v) (changes_in v) w.read at n → IsFixed v w.read at → at ≤ t.time
+      → IsExcess (account_in v asked told) w.read at n → IsFixed v w.read at → at ≤ t.time
       → t.document ≡ answer_document (refusal_answer (too_much n)) → StaysRight v asked told cursors a t cursors
   excess_right namespace named at n stages telling w much fixed past document = record {
     right = right_refused_read w.read (reads_of a w.read telling w.tells) (refused_excess at n (read_time a t w.read at named w.time past) much document);

@@ -18,7 +18,7 @@ use Rattle.node_model.specs.Letters.{Statement, Reply}
 use Rattle.node_model.specs.States.{writing, Open, Router}
 use Rattle.node_model.specs.RouterRows.{statements_from, noted, is_answered, at_once, plan_of, reply_to}
 use Rattle.reply_facts.proofs.Requests.{number_same, one_asked}
-use Rattle.node_laws.proofs.Views.{View, entries_in, history_in, IsShardAt}
+use Rattle.node_laws.proofs.Views.{View, entries_in, history_in, IsShardAt, account_in}
 use Rattle.node_laws.proofs.ReadFacts.{IsAwaited}
 use Rattle.node_laws.proofs.WriteFacts.{IsAnswerOf, by_entry, by_older, IsDoneAt, AreAnswers, OnlyLast, WasMade}
 use Rattle.node_laws.proofs.Facts.{HasBegun, IsDoneOf, WorkFits, AreSeen, IsOpenOf, AnswerFits, IsToldOf, IsPast, NeighboursFit}
@@ -96,7 +96,7 @@ pub record IsTelling (v : View) (asked : List Asked) (a : Asked) (write : WriteC
   pub own : a.id ≡ t.id
   pub came : AllByRecursion (λ (b : Asked). b.came ≤ t.step) asked
 
-module _ (v : View) (asked : List Asked) (a : Asked) (write : WriteCommand) (t : Answered) (x : IsTelling v asked a write t) where
+module _ (v : View) (asked : List Asked) (answered : List Answered) (a : Asked) (write : WriteCommand) (t : Answered) (x : IsTelling v asked a write t) where
   made : (e : Entry) → IsIn e (history_in v) → WasMade (history_in v) asked e
   made e i = all_at (WasMade (history_in v) asked) e (history_in v) x.around.sent i
 
@@ -132,12 +132,12 @@ module _ (v : View) (asked : List Asked) (a : Asked) (write : WriteCommand) (t :
   may_tell : (prefix : List Operation) (operation : Operation) (back : List Operation) (answer : StatementOutcome)
       → write.operations ≡ prefix ++ operation ∷ back
       → IsAnswerOf (history_in v) t.time (number_for write.number t.id (length prefix)) answer
-      → MayBeTold (history_in v) asked t write.number (number_for write.number t.id (length prefix)) write.namespace operation answer
+      → MayBeTold (account_in v asked answered) t write.number (number_for write.number t.id (length prefix)) write.namespace operation answer
   may_tell prefix operation back answer both is = by_number write.number refl answer is
     where
       of_own : (number : StatementNumber) → number ≡ number_for write.number t.id (length prefix) → write.number ≡ None → (answer : StatementOutcome)
           → IsAnswerOf (history_in v) t.time number answer
-          → MayBeTold (history_in v) asked t write.number (number_for write.number t.id (length prefix)) write.namespace operation answer
+          → MayBeTold (account_in v asked answered) t write.number (number_for write.number t.id (length prefix)) write.namespace operation answer
       of_own number same none _ (by_entry e i numbered past) = told_own e i (own_statement e prefix operation back none both i (numbered ∙ same)) past
       of_own number same none _ (by_older e i session less past) =
           let zero : number ≡ number_for None t.id (length prefix) = same ∙ ap (λ g. number_for g t.id (length prefix)) none in
@@ -148,13 +148,13 @@ module _ (v : View) (asked : List Asked) (a : Asked) (write : WriteCommand) (t :
 
       of_client : (by : ClientNumber) → write.number ≡ Some by → (answer : StatementOutcome)
           → IsAnswerOf (history_in v) t.time (number_for write.number t.id (length prefix)) answer
-          → MayBeTold (history_in v) asked t write.number (number_for write.number t.id (length prefix)) write.namespace operation answer
+          → MayBeTold (account_in v asked answered) t write.number (number_for write.number t.id (length prefix)) write.namespace operation answer
       of_client by some _ (by_entry e i numbered past) = told_other e by i some numbered past (had e i)
       of_client by some _ (by_older e i session less past) = told_older e by i some session less past (had e i)
 
       by_number : (given : Option ClientNumber) → write.number ≡ given → (answer : StatementOutcome)
           → IsAnswerOf (history_in v) t.time (number_for write.number t.id (length prefix)) answer
-          → MayBeTold (history_in v) asked t write.number (number_for write.number t.id (length prefix)) write.namespace operation answer
+          → MayBeTold (account_in v asked answered) t write.number (number_for write.number t.id (length prefix)) write.namespace operation answer
       by_number None none answer is = of_own (number_for write.number t.id (length prefix)) refl none answer is
       by_number (Some by) some answer is = of_client by some answer is
 
@@ -162,7 +162,7 @@ module _ (v : View) (asked : List Asked) (a : Asked) (write : WriteCommand) (t :
   are_told : (given : Option ClientNumber) (prefix operations : List Operation) (dones : List Done) → write.operations ≡ prefix ++ operations
       → AreAnswers (history_in v) t.time write t.id (length prefix) dones → OnlyLast write.ordered dones
       → is_answered write.ordered (statements_from given t.id (length prefix) operations) dones ≡ true
-      → AreTold (history_in v) asked t write (length prefix) operations dones
+      → AreTold (account_in v asked answered) t write (length prefix) operations dones
   are_told given prefix [] [] both all last whole = refl
   are_told given prefix [] (d ∷ dones) both all last whole =
       let none : length write.operations ≡ length prefix = ap (λ (l : List Operation). length l) (both ∙ append-nil prefix) in
@@ -176,7 +176,7 @@ module _ (v : View) (asked : List Asked) (a : Asked) (write : WriteCommand) (t :
         may_tell prefix operation operations d.answer both
             (subst (λ n. IsAnswerOf (history_in v) t.time (number_for write.number t.id n) d.answer) all.0 all.1.answer),
         by_end (ends write.ordered d) refl whole
-            (λ rest. subst (λ n. AreTold (history_in v) asked t write n operations dones) longer
+            (λ rest. subst (λ n. AreTold (account_in v asked answered) t write n operations dones) longer
             (are_told given (prefix ++ operation ∷ []) operations dones (both ∙ sym (append_assoc prefix (operation ∷ []) operations))
             (subst (λ n. AreAnswers (history_in v) t.time write t.id n dones) (sym longer) all.2) last.1
             (subst (λ n. is_answered write.ordered (statements_from given t.id n operations) dones ≡ true) (sym longer) rest))),
@@ -189,10 +189,10 @@ module _ (v : View) (asked : List Asked) (a : Asked) (write : WriteCommand) (t :
       by_end : (b : Bool) → ends write.ordered d ≡ b
           → (if b then true else is_answered write.ordered (statements_from given t.id (length prefix + 1) operations) dones) ≡ true
           → (is_answered write.ordered (statements_from given t.id (length prefix + 1) operations) dones ≡ true
-          → AreTold (history_in v) asked t write (length prefix + 1) operations dones)
+          → AreTold (account_in v asked answered) t write (length prefix + 1) operations dones)
           → (elim b as (λ z. Type 0) [
             | true ↦ dones ≡ []
-            | false ↦ AreTold (history_in v) asked t write (length prefix + 1) operations dones
+            | false ↦ AreTold (account_in v asked answered) t write (length prefix + 1) operations dones
           ])
       by_end true h w more = last.0 h
       by_end false h w more = more w
@@ -250,7 +250,7 @@ wrote_right v asked old cursors a t namespace kind ordered statements told n x w
     ap (λ l. is_answered n.write.ordered l told) (sym n.all) ∙ ap (λ b. is_answered b statements told) (sym n.order) ∙ whole in
     record {
       right = right_write n.write told n.begun.creation n.asks
-          (are_told v asked a n.write t x n.write.number [] n.write.operations told refl
+          (are_told v asked old a n.write t x n.write.number [] n.write.operations told refl
           (subst (λ i. AreAnswers (history_in v) t.time n.write i 0 told) x.own n.answers) n.last
           (subst (λ i. is_answered n.write.ordered (statements_from n.write.number i 0 n.write.operations) told ≡ true) x.own every))
           (λ own.

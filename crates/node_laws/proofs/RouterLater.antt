@@ -7,7 +7,8 @@ use Rattle.chunk_model.specs.Tables.{Table}
 use Rattle.history_model.specs.History.{IsIn}
 use Rattle.base_model.specs.Identities.{RequestId}
 use Rattle.reply_model.specs.Exchanges.{Asked, Answered}
-use Rattle.reply_model.specs.OneHistory.{Given, ids_asked, ids_told, AreDifferent}
+use Rattle.reply_model.specs.Accounts.{Given}
+use Rattle.reply_model.specs.OneHistory.{ids_asked, ids_told, AreDifferent}
 use Rattle.node_model.specs.Journal.{Kept}
 use Rattle.node_model.specs.Letters.{Letter, Reply, Effect}
 use Rattle.node_model.specs.States.{Open, Router, router_state}

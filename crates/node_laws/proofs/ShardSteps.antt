@@ -11,8 +11,9 @@ use Rattle.command_model.specs.Writes.{WriteCommand}
 use Rattle.command_model.specs.Command.{write_command, command_of}
 use Rattle.base_model.specs.Identities.{RequestId}
 use Rattle.reply_model.specs.Exchanges.{Asked}
+use Rattle.reply_model.specs.Accounts.{Given}
 use Rattle.reply_model.specs.Outcomes.{Done}
-use Rattle.reply_model.specs.OneHistory.{IsPlaced, Given, ids_asked, ids_told, AreDifferent}
+use Rattle.reply_model.specs.OneHistory.{IsPlaced, ids_asked, ids_told, AreDifferent}
 use Rattle.node_model.specs.Journal.{Kept}
 use Rattle.node_model.specs.Letters.{Statement, Body, table_ask, table_told, split_ask, split_done, write_ask, write_done, read_ask, half_ask, read_rows, stale, time_ask, time_told, Letter}
 use Rattle.node_model.specs.States.{Shard, NodeState, time_of_node}

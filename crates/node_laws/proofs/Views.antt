@@ -10,6 +10,7 @@ use Rattle.reply_model.specs.Cursors.{Cursor}
 use Rattle.node_model.specs.Journal.{Kept, kept_table, kept_entry, kept_change, kept_life, kept_block, entries_kept, changes_kept}
 use Rattle.node_model.specs.States.{time_of_node}
 use Rattle.node_model.specs.World.{Held, journal_at}
+use Rattle.reply_model.specs.Accounts.{Account, nothing_stored}
 
 -- the time that a request reads at
 pub record Choice : Type 0 where
@@ -57,6 +58,18 @@ IsShardAt at = at ≡ first_shard
 -- the entries of all shards
 abbrev pub history_in : View → List Entry
 history_in v = entries_in v first_shard
+
+-- What is judged of a view with these requests and replies. The steps of the changes, and the moments, are noted elsewhere.
+abbrev pub account_in : View → List Asked → List Answered → Account
+account_in v asked answered = record {
+  changes = changes_in v;
+  dated = [];
+  history = history_in v;
+  asked = asked;
+  answered = answered;
+  given = [];
+  stored = nothing_stored;
+}
 
 -- all shards have passed the time
 abbrev pub HavePassed : View → ℕ → Type 0

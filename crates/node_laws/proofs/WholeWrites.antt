@@ -8,7 +8,7 @@ use Rattle.command_model.specs.Writes.{WriteCommand}
 use Rattle.reply_model.specs.Exchanges.{is_session_of, entries_by}
 use Rattle.reply_model.specs.Outcomes.{done_of}
 use Rattle.reply_model.specs.Right.{ends, AreStatements, AreAll, IsPart, IsWhole}
-use Rattle.node_laws.proofs.Histories.{Extends, extends_none, entry_kept, entry_comes}
+use Rattle.history_laws.specs.Extended.{Extends, extends_none, entry_kept, entry_comes}
 
 -- the entries of one list, with others among them
 data IsAmong : (some all : List Entry) → Type 0 where
@@ -26,15 +26,15 @@ among_in _ _ e (among_kept d some all more) i = by_first (in_cons e d some i) (�
 among_in _ _ e (among_more d some all more) i = in_later e d all (among_in some all e more i)
 
 -- of the entries of a request those that were stored are among those that are stored later
-among_by : (bound : ℕ → ℕ) (id : RequestId) (old new : List Entry) → Extends bound old new → IsAmong (entries_by id old) (entries_by id new)
-among_by bound id _ _ extends_none = among_none
-among_by bound id _ _ (entry_kept e old new more) = by_test (is_session_of id e.number.session) (among_by bound id old new more)
+among_by : (New : Entry → Type 0) (id : RequestId) (old new : List Entry) → Extends New old new → IsAmong (entries_by id old) (entries_by id new)
+among_by New id _ _ extends_none = among_none
+among_by New id _ _ (entry_kept e old new more) = by_test (is_session_of id e.number.session) (among_by New id old new more)
   where
     by_test : (b : Bool) → IsAmong (entries_by id old) (entries_by id new)
         → IsAmong (if b then e ∷ entries_by id old else entries_by id old) (if b then e ∷ entries_by id new else entries_by id new)
     by_test true later = among_kept e (entries_by id old) (entries_by id new) later
     by_test false later = later
-among_by bound id _ _ (entry_comes e old new is none more) = by_test (is_session_of id e.number.session) (among_by bound id old new more)
+among_by New id _ _ (entry_comes e old new is none more) = by_test (is_session_of id e.number.session) (among_by New id old new more)
   where
     by_test : (b : Bool) → IsAmong (entries_by id old) (entries_by id new)
         → IsAmong (entries_by id old) (if b then e ∷ entries_by id new else entries_by id new)
@@ -79,8 +79,8 @@ module _ (id : RequestId) (namespace : List ℕ) (ordered : Bool) where
       absurd (omega (arith, at, le))
 
 -- where a write was stored as a whole, and a part of it is stored later, it is the same
-pub whole_extended : (bound : ℕ → ℕ) (old new : List Entry) (id : RequestId) (write : WriteCommand) → Extends bound old new → IsPart new id write
+pub whole_extended : (New : Entry → Type 0) (old new : List Entry) (id : RequestId) (write : WriteCommand) → Extends New old new → IsPart new id write
     → IsWhole old id write → entries_by id new ≡ entries_by id old
-whole_extended bound old new id write more part whole =
-    same_statements id write.namespace write.ordered 0 write.operations (entries_by id old) (entries_by id new) (among_by bound id old new more) whole.part part
+whole_extended New old new id write more part whole =
+    same_statements id write.namespace write.ordered 0 write.operations (entries_by id old) (entries_by id new) (among_by New id old new more) whole.part part
     whole.all

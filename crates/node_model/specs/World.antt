@@ -5,8 +5,8 @@ use Rattle.chunk_model.specs.Tables.{first_shard}
 use Rattle.history_model.specs.History.{Entry}
 use Rattle.reply_model.specs.Requests.{Request}
 use Rattle.reply_model.specs.Exchanges.{Asked, Answered}
-use Rattle.reply_model.specs.OneHistory.{Given, Dated}
-use Rattle.node_model.specs.Journal.{Kept, kept_table, kept_entry, kept_change, kept_life, kept_block, entries_kept}
+use Rattle.reply_model.specs.Accounts.{Dated, Given, nothing_stored, Account}
+use Rattle.node_model.specs.Journal.{Kept, kept_table, kept_entry, kept_change, kept_life, kept_block, entries_kept, changes_kept}
 use Rattle.node_model.specs.Letters.{Letter, Input, client_input, letter_input, moment_input, opened_input, Taken, Reply, Effect}
 use Rattle.node_model.specs.States.{Router, NodeState, catalogue_state, shard_state, router_state, new_catalogue, new_shard, new_router}
 use Rattle.node_model.specs.Steps.{Step}
@@ -129,3 +129,15 @@ entries_at nodes at = entries_kept (journal_at nodes at)
 -- The history: the entries that all shards store. Currently there is one shard, the first, and these are its journal's.
 abbrev pub history_of : List Held → List Entry
 history_of nodes = entries_at nodes first_shard
+
+-- what is judged of a world; currently each journal is empty at the start
+abbrev pub account_of : World → Account
+account_of w = record {
+  changes = changes_kept (journal_at w.nodes 0);
+  dated = w.changed;
+  history = history_of w.nodes;
+  asked = w.asked;
+  answered = w.answered;
+  given = w.given;
+  stored = nothing_stored;
+}

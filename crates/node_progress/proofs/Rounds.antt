@@ -4,15 +4,13 @@ use Rattle.std.specs.Prelude.{Ok}
 use Rattle.std.specs.List.{AllByRecursion}
 use Rattle.std.proofs.lemmas.Option.{slice_get_within}
 use Rattle.history_model.proofs.Lists.{in_first, in_later, in_cons, in_none, in_prefix}
-use Rattle.chunk_model.specs.Tables.{first_shard}
 use Rattle.command_model.specs.Command.{write_command, command_of}
 use Rattle.reply_model.specs.Right.{IsWhole}
 use Rattle.history_model.specs.History.{Entry, IsIn}
 use Rattle.base_model.specs.Identities.{RequestId}
 use Rattle.reply_model.specs.Exchanges.{Asked, Answered}
 use Rattle.reply_model.specs.OneHistory.{ids_told}
-use Rattle.node_model.specs.Journal.{entries_kept}
-use Rattle.node_model.specs.World.{World, asked_by, answered_by, Moves, Event, client_event, deliver_event, Happens, comes, delivers, passes, begins as was_opened, Run, stands, goes, start, journal_at, history_of}
+use Rattle.node_model.specs.World.{World, asked_by, answered_by, Moves, Event, client_event, deliver_event, Happens, comes, delivers, passes, begins as was_opened, Run, stands, goes, start, history_of, account_of}
 use Rattle.node_model.specs.Letters.{Input}
 use Rattle.node_model.specs.Schedule.{openings, moments_given, Delivers, delivers_none, delivers_next, Round, IsRound, Pipes, opens, serves}
 use Rattle.reply_facts.proofs.Requests.{one_asked}
@@ -83,16 +81,16 @@ told_in id (t ∷ answered) there = by_place (in_cons id t.id (ids_told answered
 
 -- a write that was answered was served whole
 answered_served : (w : World) → StaysTrue w → (a : Asked) → IsIn a w.asked → IsAnswered w.answered a
-    → IsServed (history_of w.nodes) w.asked w.answered a
+    → IsServed (account_of w) a
 answered_served w good a taken done = λ write asks.
     let history : List Entry = history_of w.nodes in
     let one = makes_one_history w good in
     let told = told_in a.id w.answered done in
-    let to = told_to w.given w.changed history w.asked w.answered one told.0 told.1 in
+    let to = told_to (account_of w) one told.0 told.1 in
     let same : to.request ≡ a = one_asked to.request a w.asked one.one to.is.taken taken (to.is.own ∙ told.2) in
     let its : command_of told.0.request ≡ Ok (write_command write) = ap (λ q. command_of q) (sym to.same) ∙ ap (λ (b : Asked). command_of b.request) same
     ∙ asks in
-    let x = told_write w.given w.changed history w.asked w.answered one told.0 write told.1 its in
+    let x = told_write (account_of w) one told.0 write told.1 its in
     record {
       whole = λ none. subst (λ id. IsWhole history id write) told.2 (x.whole none);
       tells = record { answer = told.0; told = told.1; own = told.2; dones = x.dones; tells = x.tells };
@@ -104,7 +102,7 @@ piped_requests_are_answered routers rounds events w next pipes =
     let there = pipes_idle routers rounds events w next pipes in
     record {
       answered = there.1.asked;
-      served = all_within (IsAnswered w.answered) (IsServed (history_of w.nodes) w.asked w.answered) w.asked
+      served = all_within (IsAnswered w.answered) (IsServed (account_of w)) w.asked
           (λ a taken done. answered_served w there.0 a taken done) there.1.asked;
       quiet = there.1.nodes;
     }
@@ -133,13 +131,13 @@ run_stays _ _ _ a was (goes u v w e es h run) = run_stays v es w a (happens_stay
 
 pub earlier_requests_stay_answered : (routers : ℕ) (rounds : List Round) (events : List Event) (u : World) (next : ℕ) → Pipes routers rounds events u next
     → (more : List Event) (w : World) → Run u more w
-    → AllByRecursion (IsAnswered w.answered) u.asked × AllByRecursion (IsServed (history_of w.nodes) w.asked w.answered) u.asked
+    → AllByRecursion (IsAnswered w.answered) u.asked × AllByRecursion (IsServed (account_of w)) u.asked
 earlier_requests_stay_answered routers rounds events u next pipes more w run =
     let there = pipes_idle routers rounds events u next pipes in
     let good = run_keeps u w more there.0 run in (
       all_within (IsAnswered u.answered) (IsAnswered w.answered) u.asked
           (λ a taken done. (run_stays u more w a (record { taken = taken; done = done }) run).done) there.1.asked,
-      all_within (IsAnswered u.answered) (IsServed (history_of w.nodes) w.asked w.answered) u.asked
+      all_within (IsAnswered u.answered) (IsServed (account_of w)) u.asked
           (λ a taken done.
           let now = run_stays u more w a (record { taken = taken; done = done }) run in
           answered_served w good a now.taken now.done) there.1.asked,

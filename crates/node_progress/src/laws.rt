@@ -2,7 +2,7 @@
 
 ghost use Rattle.std.specs.Prelude.{ℕ, List};
 ghost use Rattle.std.specs.List.{AllByRecursion};
-ghost use Rattle.node_model.specs.World.{Event, Run, World, start, history_of};
+ghost use Rattle.node_model.specs.World.{Event, Run, World, start, account_of};
 ghost use Rattle.node_model.specs.Schedule.{Pipes, Round};
 ghost use Rattle.node_progress.specs.Completion.{AreAnswered, IsAnswered, IsServed};
 
@@ -17,7 +17,7 @@ pub fn piped_requests_are_answered()
 #[tactic(auto, using(crate::proofs::Rounds::earlier_requests_stay_answered))]
 pub fn earlier_requests_stay_answered()
     ensures answered { (routers : ℕ) (rounds : List Round) (events more : List Event) (u w : World) (next : ℕ) → Pipes routers rounds events u next → Run u more w → AllByRecursion (IsAnswered w.answered) u.asked }
-    ensures served { (routers : ℕ) (rounds : List Round) (events more : List Event) (u w : World) (next : ℕ) → Pipes routers rounds events u next → Run u more w → AllByRecursion (IsServed (history_of w.nodes) w.asked w.answered) u.asked }
+    ensures served { (routers : ℕ) (rounds : List Round) (events more : List Event) (u w : World) (next : ℕ) → Pipes routers rounds events u next → Run u more w → AllByRecursion (IsServed (account_of w)) u.asked }
 {}
 
 /// The events of the schedule are a run, so what is true of each run is true after each round.
