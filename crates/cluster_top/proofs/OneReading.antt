@@ -10,7 +10,7 @@ use Rattle.journal_frames.specs.Files.{Stands}
 use Rattle.journal_frames.proofs.Unique as unique
 use Rattle.node_model.specs.Journal.{Kept, kept_table, kept_entry, kept_change, kept_life, kept_block, record_kept, entries_kept, changes_onto, changes_kept}
 use Rattle.node_model.specs.OneHistory.{IsPlaced}
-use Rattle.node_model.specs.World.{Held, journal_at}
+use Rattle.node_model.specs.World.{Held, journal_at, history_of}
 use Rattle.node_traits.specs.Effects.{AreSound, spellings}
 use Rattle.record_model.specs.RecordContents.{IsKnown, KeepEntries}
 use Rattle.record_model.specs.Records.{EntryWords, Record, create_record, split_record, commit_record, entry_record, record_of}

@@ -10,6 +10,7 @@ use Rattle.reply_model.specs.Cursors.{Cursor}
 use Rattle.node_model.specs.Journal.{Kept, kept_table, kept_entry, kept_change, kept_life, kept_block, entries_kept, changes_kept}
 use Rattle.node_model.specs.States.{time_of_node}
 use Rattle.node_model.specs.World.{Held, journal_at}
+use Rattle.reply_model.specs.Exchanges.{Asked, Answered}
 use Rattle.reply_model.specs.Accounts.{Account, nothing_stored}
 
 -- the time that a request reads at

@@ -1,5 +1,5 @@
 -- A cursor is there for good, if only with no documents.
-use Rattle.std.proofs.Common.{[], ◌∷◌, ◌++◌}
+use Rattle.std.proofs.Common.{subst, [], ◌∷◌, ◌++◌}
 use Rattle.reply_laws.proofs.CursorBatches.{behind, unrolled, opened, there_still}
 use Rattle.reply_laws.proofs.StandingCursors.{another_number}
 use Rattle.reply_laws.proofs.cursor_laws.numbers_are_apart.Goals as goal

@@ -1,4 +1,5 @@
 -- Their numbers differ.
+use Rattle.std.proofs.Common.{subst}
 use Rattle.reply_facts.proofs.Requests.{one_asked, once_told}
 use Rattle.reply_laws.proofs.laws.one_answer.Goals as goal
 use Rattle.reply_model.specs.OneHistory.{ids_told, AreDifferent}

@@ -1,7 +1,9 @@
 -- What is stored at a time is what the last entry of then left.
+use Rattle.std.proofs.Common.{subst}
 use Rattle.reply_laws.proofs.SpanReads.{runs_last, runs_none}
 use Rattle.reply_laws.proofs.read_laws.reads_miss_nothing.Goals as goal
 use Rattle.history_model.specs.History.{Legal}
+use Rattle.reply_model.specs.Reads.{MayGive}
 
 pub returns-clause-last : goal.returns-clause-last
 returns-clause-last c account earlier later e reading key time out one all at gives early hits none =
