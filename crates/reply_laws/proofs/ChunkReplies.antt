@@ -63,7 +63,8 @@ module _ (changes : List Change) (t : Answered) (never : NeverBegins t.time chan
 
   pub wrongly_split : (next : List Cursor) → t.document ≢ not_sharded → IsRight (account_with changes [] [] []) [] splitting t next → ⊥
   wrongly_split next told right =
-      by_told (right_of (account_with changes [] [] []) [] splitting t (Ok (split_command (record { namespace = codes "d.c"; middle = five }))) next refl right).0
+      by_told (right_of (account_with changes [] [] []) [] splitting t (Ok (split_command (record { namespace = codes "d.c"; middle = five }))) next refl
+      right).0
     where
       by_told : TellsSplit changes [] [] [] [] splitting t (record { namespace = codes "d.c"; middle = five }) ⊎ (t.document ≡ not_sharded) → ⊥
       by_told (inl changed) = unsplit changed.begins

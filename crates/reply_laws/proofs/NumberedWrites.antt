@@ -106,7 +106,8 @@ module _ (history : List Entry) (asked : List Asked) (a : Asked) (step counter :
   AreJust index [] answers = answers ≡ []
   AreJust index (operation ∷ operations) [] = ⊥
   AreJust index (operation ∷ operations) (answer ∷ answers) =
-      ((document : Fields) → MayBeTold (account_of history asked []) (tells a step counter document) (Some by) (number_for (Some by) a.id index) (codes "d.c") operation answer)
+      ((document : Fields) → MayBeTold (account_of history asked []) (tells a step counter document) (Some by) (number_for (Some by) a.id index)
+      (codes "d.c") operation answer)
       × ((document : Fields) → AllByRecursion
       (Gives asked (tells a step counter document) (number_for (Some by) a.id index) (codes "d.c") operation (λ x. x ≡ answer)) history)
       × elim (ordered && fails (record { index = index; answer = answer })) [ true ↦ answers ≡ [] | false ↦ AreJust (index + 1) operations answers ]
@@ -180,8 +181,10 @@ module _ (history : List Entry) (asked : List Asked) (a : Asked) (step counter :
       (Ok (write_command (command_with (operation ∷ rest)))) next asks right).0 in
       no_first told.dones told.tells
     where
-      no_first : (dones : List Done) → AreTold (account_of history asked []) (tells a step counter other) (command_with (operation ∷ rest)) 0 (operation ∷ rest) dones → ⊥
+      no_first : (dones : List Done)
+          → AreTold (account_of history asked []) (tells a step counter other) (command_with (operation ∷ rest)) 0 (operation ∷ rest) dones → ⊥
       no_first [] told = told
       no_first (d ∷ dones) told =
-          told_by_entries (account_of history asked []) (tells a step counter other) (Some by) (number_for (Some by) a.id 0) (codes "d.c") operation (λ x. ⊥) d.answer
+          told_by_entries (account_of history asked []) (tells a step counter other) (Some by) (number_for (Some by) a.id 0) (codes "d.c") operation
+          (λ x. ⊥) d.answer
           (none other) told.1

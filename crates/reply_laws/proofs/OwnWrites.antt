@@ -37,7 +37,8 @@ module _ (history : List Entry) (asked : List Asked) (t : Answered) (write : Wri
   own_told index (operation ∷ operations) [] are all stand = absurd all
   own_told index (operation ∷ operations) (e ∷ entries) are all stand = (
     ap (λ (n : StatementNumber). n.index) are.0.same_number,
-    subst (λ (given : Option ClientNumber). MayBeTold (account_of history asked answered) t given (number_for given t.id index) write.namespace operation (answer_by e)) (sym none)
+    subst (λ (given : Option ClientNumber). MayBeTold (account_of history asked answered) t given (number_for given t.id index) write.namespace operation
+        (answer_by e)) (sym none)
         (told_own e here.0 are.0 here.1),
     by_end (ends write.ordered (done_of e)) all (λ every. own_told (index + 1) operations entries are.2 every (λ x i. stand x (in_later x e entries i))),
   )
@@ -46,7 +47,8 @@ module _ (history : List Entry) (asked : List Asked) (t : Answered) (write : Wri
       here = stand e (in_first e entries)
 
       by_end : (b : Bool) → UnlessEnded b (map done_of entries) (AreAll write.ordered operations (map done_of entries))
-          → (AreAll write.ordered operations (map done_of entries) → AreTold (account_of history asked answered) t write (index + 1) operations (map done_of entries))
+          → (AreAll write.ordered operations (map done_of entries)
+          → AreTold (account_of history asked answered) t write (index + 1) operations (map done_of entries))
           → UnlessEnded b (map done_of entries) (AreTold (account_of history asked answered) t write (index + 1) operations (map done_of entries))
       by_end true nothing more = nothing
       by_end false every more = more every

@@ -31,7 +31,8 @@ pub fn finds_are_answered()
     ensures { (account : Account) (a : Asked)
         (t : Answered) (find : Find) → OneHistory account → IsTold account.asked account.answered a t
         → command_of a.request ≡ Ok (find_command find)
-        → ((documents : List Fields) × (batch : Batch) × IsTimeRead a t find.reading batch.time × MayGive account.history find.reading batch.time (listed documents)
+        → ((documents : List Fields) × (batch : Batch) × IsTimeRead a t find.reading batch.time
+        × MayGive account.history find.reading batch.time (listed documents)
         × IsBatch (Some (unwrap_or find.batches.size usual_size)) documents batch.documents × (batch.namespace ≡ find.reading.namespace)
         × (t.document ≡ answer_document (first_answer batch)))
         ⊎ IsReadRefused account a t find.reading }
@@ -102,7 +103,8 @@ pub fn told_times_are_never_ahead()
     ensures { (account : Account) (a : Asked)
         (s t : Answered) (write : WriteCommand) (index : ℕ) (e : Entry) (reading : Reading) (greatest : ℕ)
         → OneHistory account → IsTold account.asked account.answered a t
-        → IsIn s account.answered → s.step < a.came → command_of s.request ≡ Ok (write_command write) → IsIn e account.history → e.number ≡ number_for write.number s.id index
+        → IsIn s account.answered → s.step < a.came → command_of s.request ≡ Ok (write_command write) → IsIn e account.history
+        → e.number ≡ number_for write.number s.id index
         → operation_time (Some s.document) ≡ Some e.time → Reads (command_of a.request) reading
         → (reading.at ≡ Some e.time) ⊎ ((reading.at ≡ None) × (reading.after ≡ Some e.time))
         → t.document ≡ answer_document (refusal_answer (time_ahead greatest)) → ⊥ }

@@ -90,7 +90,8 @@ pub fn reached_statements()
 
 /// Of two statements without order the first may return what was done, and the second that it is too old; the time is that of the first.
 pub fn answered_together()
-    ensures { IsRight (account_of (put_five ∷ entry_under sevens 3 (pos 5) 0 (insert_operation (with_id six)) done ∷ []) (sent_two ∷ six_as (pos 5) ∷ []) []) [] sent_two (tells sent_two 7 4 (errors_reply 1 2 (older_error (pos 5) 1 ∷ []))) [] }
+    ensures { IsRight (account_of (put_five ∷ entry_under sevens 3 (pos 5) 0 (insert_operation (with_id six)) done ∷ []) (sent_two ∷ six_as (pos 5) ∷ [])
+        []) [] sent_two (tells sent_two 7 4 (errors_reply 1 2 (older_error (pos 5) 1 ∷ []))) [] }
 {}
 
 /// A time that any router returned to a write with a number is not ahead; and an entry is not earlier than what its maker's router had returned, though
@@ -98,7 +99,8 @@ pub fn answered_together()
 pub fn told_before()
     ensures ahead { (next : List Cursor)
         → IsRight (account_of (put_five ∷ []) (sent_first ∷ finding_two ∷ []) (first_answer ∷ [])) [] finding_two told_ahead next → ⊥ }
-    ensures ended { WasSent (account_of (first_entry ∷ failed ∷ second_done 50 ∷ []) (two_sent 2 2 4 true ∷ unordered_later ∷ []) (ended ∷ [])) (second_done 50) → ⊥ }
+    ensures ended { WasSent (account_of (first_entry ∷ failed ∷ second_done 50 ∷ []) (two_sent 2 2 4 true ∷ unordered_later ∷ []) (ended ∷ []))
+        (second_done 50) → ⊥ }
 {}
 
 /// Three statements that are sent twice, as a field or as a sequence: they are done once, and the two replies are alike but for the number of

@@ -15,8 +15,11 @@ returns-clause-prefix c account before later back s find first shown one all ope
     let step = unrolled account front.0 (s ∷ (later ++ back)) front.1 in
     let first_shown = opened account s find first front.0 step.0 opens step.1 in
     let last = shown_there account s find first later shown
-    back step.0 first_shown.rest opens.opens first_shown.some shows step.2 first_shown.there in
-    (last.left, last.some, subst (λ (l : List Fields). MayGive account.history find.reading first.time (listed (first.documents ++ l))) last.split first_shown.gives)
+    back step.0 first_shown.rest opens.opens first_shown.some shows step.2 first_shown.there in (
+      last.left,
+      last.some,
+      subst (λ (l : List Fields). MayGive account.history find.reading first.time (listed (first.documents ++ l))) last.split first_shown.gives,
+    )
 
 told_number : (first next : Batch) (left : List Fields) → next.cursor ≡ number_left first.cursor left → ((left ≡ []) × (next.cursor ≡ pos 0))
     ⊎ ((left ≢ []) × (next.cursor ≡ first.cursor))

@@ -40,7 +40,8 @@ newer_sent = record {
 }
 
 may : (ordered : Bool) (index : ℕ) (operation : Operation) (document : Fields)
-    → MayBeTold (account_of (newer_entry ∷ []) (newer ∷ late_two ordered ∷ []) []) (tells (late_two ordered) 5 4 document) (Some four) (number_in sevens (pos 4) index)
+    → MayBeTold (account_of (newer_entry ∷ []) (newer ∷ late_two ordered ∷ []) []) (tells (late_two ordered) 5 4 document) (Some four)
+    (number_in sevens (pos 4) index)
     (codes "d.c") operation (is_older (pos 5))
 may ordered index operation document =
     told_older newer_entry four (in_first newer_entry []) refl refl refl (omega arith)

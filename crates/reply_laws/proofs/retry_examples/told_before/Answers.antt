@@ -21,7 +21,8 @@ use Rattle.reply_laws.proofs.retry_examples.told_before.Goals as goal
 
 pub returns-clause-ahead : goal.returns-clause-ahead
 returns-clause-ahead c next right =
-    let ahead : IsAhead (account_of (put_five ∷ []) (sent_first ∷ finding_two ∷ []) (first_answer ∷ [])) finding_two told_ahead (find_of five (Some (timestamp 1000 2))).reading =
+    let ahead : IsAhead (account_of (put_five ∷ []) (sent_first ∷ finding_two ∷ []) (first_answer ∷ [])) finding_two told_ahead
+    (find_of five (Some (timestamp 1000 2))).reading =
     is_ahead (account_of (put_five ∷ []) (sent_first ∷ finding_two ∷ []) (first_answer ∷ [])) [] finding_two told_ahead next
     (find_of five (Some (timestamp 1000 2))).reading (timestamp 1000 0) (find_reads (find_of five (Some (timestamp 1000 2)))) right refl in
     let same : timestamp 1000 2 ≡ ahead.wanted = wanted ahead.wanted ahead.wants in
@@ -64,7 +65,8 @@ told_one = (
 -- an entry may be made for it after all its outcomes
 abbrev GoesOn : (a : Asked) → Sends a early → Type 0
 GoesOn a sends =
-    (t : Answered) (dones : List Done) → IsIn t (ended ∷ []) → t.id ≡ a.id → AreTold (account_of entries sent (ended ∷ [])) t sends.write 0 sends.write.operations dones
+    (t : Answered) (dones : List Done) → IsIn t (ended ∷ []) → t.id ≡ a.id
+    → AreTold (account_of entries sent (ended ∷ [])) t sends.write 0 sends.write.operations dones
     → t.document ≡ answer_document (answer_of sends.write.kind t.time dones) → ¬ EndsBefore sends.index sends.write dones
 
 index_of : (given : Option ClientNumber) (id : RequestId) (index : ℕ) → (number_for given id index).index ≡ index
