@@ -235,6 +235,7 @@ returns-clause-whole c = record {
   );
   wanted = (wanted, tt);
   fitting = (record { later = tt; fits = record { absent = refl; next = refl } }, tt);
+  steps = refl;
   caused = (
     all_caused first_told refl (omega arith),
     (all_caused second_told refl (omega arith), (all_caused third_told refl (omega arith), tt)),
@@ -269,6 +270,7 @@ returns-clause-whole c = record {
     ),
   );
   known = (first_known, (second_known, (third_known, tt)));
+  anew = refl;
 }
 
 -- WHAT IS NONE

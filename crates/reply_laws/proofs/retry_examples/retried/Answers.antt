@@ -143,6 +143,7 @@ returns-clause-whole c = record {
   parts = (no_part sent_first refl, (no_part sent_again refl, tt));
   wanted = (record { request = sent_first; taken = first_taken; asks = inl (record { write = inserts; asks = refl; name = refl }); later = omega arith }, tt);
   fitting = (record { later = tt; fits = record { absent = refl; next = refl } }, tt);
+  steps = refl;
   caused = (both_caused first_answer refl (omega arith), (both_caused answer_again refl (omega arith), tt));
   right = then_told [] [] first_answer (answer_again ∷ []) first_right (then_told [] [] answer_again [] again_right (nothing_told []));
   one = different;
@@ -159,6 +160,7 @@ returns-clause-whole c = record {
     (((λ router life before. omega arith), ((λ router life before. omega arith), tt)), tt),
   );
   known = (first_known, (again_known, tt));
+  anew = refl;
 }
 
 pub returns-clause-same : goal.returns-clause-same
