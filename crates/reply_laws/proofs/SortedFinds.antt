@@ -102,7 +102,7 @@ module _ (asked : List Asked) (answered : List Answered) (cursors : List Cursor)
       right_find (finds_sorted size single) (timestamp 1000 4) all_three b next asks
       (subst (λ n. IsTimeRead a t reading_all n) time (own_time refl tt)) gives_three refl name when shows says
 
-  not_refused : IsReadRefused (account_of kept [] answered) a t reading_all → ⊥
+  not_refused : IsReadRefused (account_of kept asked answered) a t reading_all → ⊥
   not_refused (refused_overflow when read gives told) = let e = sym told ∙ says in cc
   not_refused (refused_excess when n read excess told) = let e = sym told ∙ says in cc
   not_refused (refused_ahead ahead told) = let e = sym told ∙ says in cc
