@@ -10,7 +10,7 @@ use Rattle.journal_frames.specs.Files.{Stands}
 use Rattle.journal_frames.proofs.Unique as unique
 use Rattle.node_model.specs.Journal.{Kept, kept_table, kept_entry, kept_change, kept_life, kept_block, record_kept, entries_kept, changes_onto, changes_kept}
 use Rattle.node_model.specs.OneHistory.{IsPlaced}
-use Rattle.node_model.specs.World.{Held, journal_at}
+use Rattle.node_model.specs.World.{Held, journal_at, history_of}
 use Rattle.node_traits.specs.Effects.{AreSound, spellings}
 use Rattle.record_model.specs.RecordContents.{IsKnown, KeepEntries}
 use Rattle.record_model.specs.Records.{EntryWords, Record, create_record, split_record, commit_record, entry_record, record_of}
@@ -115,13 +115,13 @@ same_entries changes earlier before (e ∷ a) (d ∷ b) legal right p q same =
     λ i. first i ∷ rest i
 
 pub one_history : (files : List (List ℕ)) (nodes others : List Held) → AreJournals files nodes → AreJournals files others → IsHistory nodes → IsHistory others
-    → (changes_kept (journal_at nodes 0) ≡ changes_kept (journal_at others 0)) × (entries_kept (journal_at nodes 1) ≡ entries_kept (journal_at others 1))
+    → (changes_kept (journal_at nodes 0) ≡ changes_kept (journal_at others 0)) × (history_of nodes ≡ history_of others)
 one_history files nodes others p q a b =
     let changes : changes_kept (journal_at nodes 0) ≡ changes_kept (journal_at others 0) =
     begun [] (journal_at nodes 0) ∙ ap (λ (rs : List Record). changes_among [] rs) (one_at files nodes others 0 p q) ∙ sym (begun [] (journal_at others 0)) in
-    let records : map record_of (entries_kept (journal_at nodes 1)) ≡ map record_of (entries_kept (journal_at others 1)) =
+    let records : map record_of (history_of nodes) ≡ map record_of (history_of others) =
     sym (written (journal_at nodes 1)) ∙ ap (λ (rs : List Record). entries_among rs) (one_at files nodes others 1 p q) ∙ written (journal_at others 1) in (
       changes,
-      same_entries (changes_kept (journal_at others 0)) [] [] (entries_kept (journal_at nodes 1)) (entries_kept (journal_at others 1)) a.legal b.legal
-          (subst (λ (xs : List Change). AllByRecursion (IsPlaced xs) (entries_kept (journal_at nodes 1))) changes a.placed) b.placed records,
+      same_entries (changes_kept (journal_at others 0)) [] [] (history_of nodes) (history_of others) a.legal b.legal
+          (subst (λ (xs : List Change). AllByRecursion (IsPlaced xs) (history_of nodes)) changes a.placed) b.placed records,
     )

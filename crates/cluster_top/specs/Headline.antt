@@ -1,10 +1,10 @@
 -- What one call says of the bytes that it took and put, and of the disks that it hands back.
 use Rattle.std.specs.Prelude.{◌≡◌, ℕ, Bool, IsTrue, List}
 use Rattle.outside.specs.Devices.{SourceCall, SinkCall}
-use Rattle.node_model.specs.Journal.{changes_kept, entries_kept}
-use Rattle.node_model.specs.OneHistory.{OneHistory, changes_in}
-use Rattle.node_model.specs.Tables.{first_shard}
-use Rattle.node_model.specs.World.{World, journal_at}
+use Rattle.node_model.specs.Journal.{changes_kept}
+use Rattle.node_model.specs.OneHistory.{OneHistory}
+use Rattle.node_model.specs.Accounts.{changes_in}
+use Rattle.node_model.specs.World.{World, journal_at, account_of}
 use Rattle.pipe_driver.specs.Endings.{IsPiped, most_taken}
 use Rattle.pipe_driver.specs.Rounds.{first_router}
 use Rattle.pipe_driver.specs.declared.status.Status.{Status}
@@ -17,7 +17,7 @@ use Rattle.cluster_top.specs.declared.arguments.Command.TheVariants.{Pipe, Sim}
 abbrev pub MakesOneHistory : World → Type 0
 MakesOneHistory end =
     (changes_in end.changed ≡ changes_kept (journal_at end.nodes 0))
-    × OneHistory end.given end.changed (entries_kept (journal_at end.nodes first_shard)) end.asked end.answered
+    × OneHistory (account_of end)
 
 -- The bytes taken are requests and a rest, and the bytes put are the replies of a run of the nodes with one router, by the schedule, whose journals
 -- the disks store. For all inputs, what the catalogue and the shard store then is one legal history of an unsharded collection with each

@@ -3,10 +3,9 @@ use Rattle.std.specs.Prelude.{ℕ, List, [], ◌∷◌}
 use Rattle.std.specs.List.{AllByRecursion}
 use Rattle.journal_frames.specs.Files.{Stands}
 use Rattle.node_model.specs.History.{Legal}
-use Rattle.node_model.specs.Journal.{Kept, changes_kept, entries_kept}
+use Rattle.node_model.specs.Journal.{Kept, changes_kept}
 use Rattle.node_model.specs.OneHistory.{IsPlaced}
-use Rattle.node_model.specs.Tables.{first_shard}
-use Rattle.node_model.specs.World.{Held, journal_at}
+use Rattle.node_model.specs.World.{Held, journal_at, history_of}
 use Rattle.node_traits.specs.Effects.{AreSound, spellings}
 
 -- an opening of the file finds the encoding of each record that is stored, and nothing else
@@ -22,5 +21,5 @@ AreJournals files nodes = ⊥
 
 -- what the shard stores is a legal history, of collections that the catalogue stores
 pub record IsHistory (nodes : List Held) : Type 0 where
-  pub legal : Legal (entries_kept (journal_at nodes first_shard))
-  pub placed : AllByRecursion (IsPlaced (changes_kept (journal_at nodes 0))) (entries_kept (journal_at nodes first_shard))
+  pub legal : Legal (history_of nodes)
+  pub placed : AllByRecursion (IsPlaced (changes_kept (journal_at nodes 0))) (history_of nodes)

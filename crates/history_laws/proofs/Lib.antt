@@ -1,5 +1,6 @@
 pub mod Placed
 pub mod Merging
+pub mod Extended
 pub mod Documents
 pub mod Growth
 pub mod MergedLegal

@@ -19,7 +19,7 @@ pub all_merged : (P : Entry → Type 0) (journals : List (List Entry)) → AllBy
 all_merged P [] all = tt
 all_merged P (journal ∷ journals) all = all_with P journal (merged journals) all.0 (all_merged P journals all.1)
 
-rising_with : (journal entries : List Entry) → IsRising journal → IsRising entries →
+pub rising_with : (journal entries : List Entry) → IsRising journal → IsRising entries →
     AllByRecursion (λ d. AllByRecursion (λ e. AreOrdered d e) entries) journal → IsRising (merged_with journal entries)
 rising_with [] entries own rising ordered = rising
 rising_with (d ∷ journal) entries own rising ordered =

@@ -67,7 +67,7 @@ two_shards d e other = by_tests (nat_lt d.time e.time) refl (nat_lt e.time d.tim
     by_tests false p false q false r =
         inr (inr (omega (arith, ltb-false d.time e.time p, ltb-false e.time d.time q), omega (arith, other, ltb-false d.shard e.shard r)))
 
-after_it : (d e : Entry) → precedes d e ≡ false → AreOrdered e d → IsBefore e d
+pub after_it : (d e : Entry) → precedes d e ≡ false → AreOrdered e d → IsBefore e d
 after_it d e is (inl less) = less
 after_it d e is (inr more) = absurd (differ (precedes d e) is (before_precedes d e more))
   where

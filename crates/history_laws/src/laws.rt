@@ -5,6 +5,7 @@ ghost use Rattle.std.specs.List.{AllByRecursion, flat_map};
 ghost use Rattle.std.specs.List.Sorted.{IsPermutation};
 ghost use Rattle.bson_model.specs.Tree.{Datum};
 ghost use Rattle.history_model.specs.History.{Entry, IsIn, Legal, document_at, key_written, writes_to};
+ghost use Rattle.history_laws.specs.Extended.{Extends, GoOn};
 ghost use Rattle.history_laws.specs.Merged.{AreApart, AreJournalsOf, IsJournalOf, IsOneMore, IsRising, ShareNoKey, WriteNone, merged};
 
 /// Legal journals of shards that differ, where no key of a namespace is written in two of them, merge to a legal history.
@@ -67,6 +68,13 @@ pub fn grows()
         → AreJournalsOf shards journals → AreJournalsOf more later
         → map (λ journal. filter (λ e. nat_le e.time time) journal) journals ≡ map (λ journal. filter (λ e. nat_le e.time time) journal) later
         → document_at (merged journals) namespace key time ≡ document_at (merged later) namespace key time }
+{}
+
+/// Where each journal goes on with entries above a bound of its shard, the merged list keeps what it had, in its order; and each new entry comes after all that
+/// its shard had stored.
+pub fn journals_go_on()
+    ensures { (bound : ℕ → ℕ) (shards : List ℕ) (journals laters : List (List Entry)) → GoOn (λ e. bound e.shard < e.time) journals laters
+        → AreJournalsOf shards laters → Extends (λ e. bound e.shard < e.time) (merged journals) (merged laters) }
 {}
 
 /// A legal history of entries of one shard is a journal of that shard.

@@ -1,9 +1,9 @@
 -- Replies that were returned stay right, whatever is written later.
-use Rattle.std.proofs.Common.{◌≡◌, ◌≢◌, ◌⊎◌, inl, inr, ℕ, ◌+◌, ◌<◌, ◌≤◌, List, [], ◌∷◌, ◌++◌, refl, sym, ap, subst, ◌∙◌, arith, append-nil, Bool}
+use Rattle.std.proofs.Common.{◌≡◌, ◌≢◌, ◌⊎◌, inl, inr, ℕ, ◌+◌, ◌<◌, ◌≤◌, List, [], ◌∷◌, ◌++◌, refl, sym, ap, subst, ◌∙◌, arith, Bool}
 use Rattle.std.specs.Prelude.{Option, Some, None, Result, Ok, true, false, map, int_lt, IsPermutation}
 use Rattle.std.specs.List.{AllByRecursion}
 use Rattle.std.specs.Option.{unwrap_or}
-use Rattle.history_model.proofs.Lists.{all_at, in_prefix, in_append, in_back, in_cons, in_none}
+use Rattle.history_model.proofs.Lists.{all_weaken, all_at, in_prefix, in_append}
 use Rattle.chunk_model.specs.Changes.{create_change}
 use Rattle.command_model.specs.Writes.{ClientNumber, WriteCommand}
 use Rattle.base_model.specs.Refusals.{Refusal}
@@ -18,46 +18,22 @@ use Rattle.pipeline_model.specs.Runs.{Outcome, Allows}
 use Rattle.history_model.specs.History.{StatementNumber, Operation, Entry, IsIn}
 use Rattle.base_model.specs.Identities.{RequestId}
 use Rattle.reply_model.specs.Exchanges.{Asked, Answered, number_for, entries_by}
+use Rattle.reply_facts.proofs.Statements.{told_stays}
+use Rattle.reply_model.specs.Accounts.{Account}
 use Rattle.reply_model.specs.Outcomes.{StatementOutcome, was_done, was_refused, Done, done_of, time_of, answer_of, later as greatest}
 use Rattle.reply_model.specs.Reads.{MayGive, IsExcess, excess_answer, excess_half, IsAhead, owned_by}
-use Rattle.reply_model.specs.Right.{ends, MayBeTold, told_own, told_other, told_older, AreTold, AreStatements, AreAll, IsPart, IsWhole, Reads, find_reads, count_reads, IsReadRefused, refused_overflow, refused_excess, refused_ahead, IsRight, right_write, right_find, right_count, right_refused_read, right_more, right_no_cursor, right_kill, right_shard, right_split, right_not_sharded, right_hello, right_legacy, right_ping, right_end_sessions, right_refusal}
-use Rattle.reply_model.specs.OneHistory.{StandsInPart, IsPlaced, KeepsNumbers, AreNumbered}
-use Rattle.node_laws.proofs.Views.{View, entries_in, changes_in, Later}
+use Rattle.reply_model.specs.Right.{ends, MayBeTold, told_own, told_other, told_older, AreTold, AreAll, IsWhole, Reads, find_reads, count_reads, IsReadRefused, refused_overflow, refused_excess, refused_ahead, IsRight, right_write, right_find, right_count, right_refused_read, right_more, right_no_cursor, right_kill, right_shard, right_split, right_not_sharded, right_hello, right_legacy, right_ping, right_end_sessions, right_refusal}
+use Rattle.reply_model.specs.OneHistory.{StandsInPart, IsPlaced, KeepsNumbers}
+use Rattle.node_laws.proofs.Views.{View, changes_in, IsShardAt, history_in, IsWithin, IsBeyond, Later, account_in}
 use Rattle.node_laws.proofs.Facts.{IsFixed, IsRefusalFixed, IsSettled, AnswersFit, no_answer, one_answer, IsToldOf, NeighboursFit}
 use Rattle.node_laws.proofs.CatalogueTables.{placed_first}
 use Rattle.node_laws.proofs.KeptDocuments.{AreOwned, all_owned, owned_same}
 use Rattle.node_laws.proofs.SeenStatements.{true_false}
-use Rattle.node_laws.proofs.LongerJournals.{MoreOf, more_entries, entry_stays, change_stays}
-use Rattle.node_laws.proofs.Growth.{entries_by_longer, begun_grows, begins_grows, began_grows, documents_stay}
+use Rattle.node_laws.proofs.LongerJournals.{change_stays}
+use Rattle.node_laws.proofs.Histories.{history_extends, passed_of, passed_later, stored_passed, IsStoredOrNew, stored_or_new, history_stays}
+use Rattle.node_laws.proofs.WholeWrites.{whole_extended}
+use Rattle.node_laws.proofs.Growth.{begun_grows, begins_grows, began_grows, documents_stay}
 use Rattle.node_laws.proofs.AnswerTimes.{IsBelow, AreBelow, greatest_below, time_shown}
-
--- after all statements no entry of them follows
-nothing_follows : (id : RequestId) (namespace : List ℕ) (ordered : Bool) (index : ℕ) (operations : List Operation) (es more : List Entry)
-    → AreStatements id namespace ordered index operations (es ++ more) → AreAll ordered operations (map done_of es) → more ≡ []
-nothing_follows id namespace ordered index [] [] [] each all = refl
-nothing_follows id namespace ordered index [] [] (e ∷ more) each all = absurd each
-nothing_follows id namespace ordered index [] (e ∷ es) more each all = absurd each
-nothing_follows id namespace ordered index (d ∷ operations) [] more each all = absurd all
-nothing_follows id namespace ordered index (d ∷ operations) (e ∷ es) more each all = by_end (ends ordered (done_of e)) refl all
-    (λ others. nothing_follows id namespace ordered (index + 1) operations es more each.2 others)
-  where
-    no_front : (xs ys : List Entry) → xs ++ ys ≡ [] → ys ≡ []
-    no_front [] ys h = h
-    no_front (x ∷ xs) ys h = absurd (cc)
-
-    by_end : (t : Bool) → ends ordered (done_of e) ≡ t
-        → (elim t as (λ b. Type 0) [ true ↦ map done_of es ≡ [] | false ↦ AreAll ordered operations (map done_of es) ])
-        → (AreAll ordered operations (map done_of es) → more ≡ []) → more ≡ []
-    by_end true h last later = no_front es more (each.1 h)
-    by_end false h others later = later others
-
-whole_stays : (history more : List Entry) (id : RequestId) (write : WriteCommand) → IsPart (history ++ more) id write → IsWhole history id write
-    → entries_by id (history ++ more) ≡ entries_by id history
-whole_stays history more id write part whole =
-    let longer = entries_by_longer id history more in
-    let none : entries_by id more ≡ [] = nothing_follows id write.namespace write.ordered 0 write.operations (entries_by id history) (entries_by id more)
-    (subst (λ l. AreStatements id write.namespace write.ordered 0 write.operations l) longer part) whole.all in
-    longer ∙ ap (λ l. entries_by id history ++ l) none ∙ append-nil (entries_by id history)
 
 pub some_none : {X : Type 0} {x : X} → Some x ≡ None → ⊥
 some_none e = cc
@@ -88,67 +64,33 @@ pub record Grows (v w : View) (asked more : List Asked) (answered news : List An
 
 -- the entries of a write whose reply was whole are all that it makes
 closed_write : (v w : View) (asked more : List Asked) (a : Asked) (write : WriteCommand) → Later v w → NeighboursFit w (asked ++ more) → IsIn a asked
-    → command_of a.request ≡ Ok (write_command write) → write.number ≡ None → IsWhole (entries_in v first_shard) a.id write
-    → entries_by a.id (entries_in w first_shard) ≡ entries_by a.id (entries_in v first_shard)
+    → command_of a.request ≡ Ok (write_command write) → write.number ≡ None → IsWhole (history_in v) a.id write
+    → entries_by a.id (history_in w) ≡ entries_by a.id (history_in v)
 closed_write v w asked more a write later after taken asks own whole =
-    let m = more_entries v w first_shard later in
-    let part = all_at (StandsInPart (entries_in w first_shard)) a (asked ++ more) after.parts (in_prefix a asked more taken) write asks own in
-    ap (λ l. entries_by a.id l) m.same ∙ whole_stays (entries_in v first_shard) m.more a.id write (subst (λ l. IsPart l a.id write) m.same part) whole
-
-module _ (old new : List Entry) (asked more : List Asked) (t : Answered) (stays : (d : Entry) → IsIn d old → IsIn d new) where
-  -- an outcome that a statement may have it may have with more entries and requests
-  may_grow : (given : Option ClientNumber) (number : StatementNumber) (namespace : List ℕ) (operation : Operation) (answer : StatementOutcome)
-      → MayBeTold old asked t given number namespace operation answer → MayBeTold new (asked ++ more) t given number namespace operation answer
-  may_grow given number namespace operation _ (told_own e i is past) = told_own e (stays e i) is past
-  may_grow given number namespace operation _ (told_other e by i some is past had) =
-      told_other e by (stays e i) some is past (record {
-        request = had.request;
-        taken = in_prefix had.request asked more had.taken;
-        sends = had.sends;
-        came = had.came;
-      })
-  may_grow given number namespace operation _ (told_older e by i some is less past had) =
-      told_older e by (stays e i) some is less past
-      (record { request = had.request; taken = in_prefix had.request asked more had.taken; sends = had.sends; came = had.came })
-
-  told_grow : (write : WriteCommand) (index : ℕ) (operations : List Operation) (dones : List Done) → AreTold old asked t write index operations dones
-      → AreTold new (asked ++ more) t write index operations dones
-  told_grow write index [] dones told = told
-  told_grow write index (operation ∷ operations) [] told = absurd told
-  told_grow write index (operation ∷ operations) (d ∷ dones) told = (
-    told.0,
-    may_grow write.number (number_for write.number t.id index) write.namespace operation d.answer told.1,
-    by_end (ends write.ordered d) told.2 (λ rest. told_grow write (index + 1) operations dones rest),
-  )
-    where
-      by_end : (b : Bool)
-          → (elim b as (λ x. Type 0) [ true ↦ dones ≡ [] | false ↦ AreTold old asked t write (index + 1) operations dones ])
-          → (AreTold old asked t write (index + 1) operations dones → AreTold new (asked ++ more) t write (index + 1) operations dones)
-          → (elim b as (λ x. Type 0) [ true ↦ dones ≡ [] | false ↦ AreTold new (asked ++ more) t write (index + 1) operations dones ])
-      by_end true none later = none
-      by_end false rest later = later rest
+    whole_extended (IsBeyond v.bound) (history_in v) (history_in w) a.id write (history_extends v w later)
+    (all_at (StandsInPart (history_in w)) a (asked ++ more) after.parts (in_prefix a asked more taken) write asks own) whole
 
 -- TIMES THAT WERE RETURNED
 
-may_below : (history : List Entry) (asked : List Asked) (t : Answered) (bound : ℕ) (given : Option ClientNumber) (number : StatementNumber)
-    (namespace : List ℕ) (operation : Operation) (answer : StatementOutcome) → AllByRecursion (λ (e : Entry). e.time ≤ bound) history
-    → MayBeTold history asked t given number namespace operation answer → IsBelow bound answer
-may_below history asked t bound given number namespace operation _ past (told_own e i is at) = all_at (λ (d : Entry). d.time ≤ bound) e history past i
-may_below history asked t bound given number namespace operation _ past (told_other e by i some is at had) =
-    all_at (λ (d : Entry). d.time ≤ bound) e history past i
-may_below history asked t bound given number namespace operation _ past (told_older e by i some is less at had) = tt
+may_below : (account : Account) (t : Answered) (bound : ℕ) (given : Option ClientNumber) (number : StatementNumber)
+    (namespace : List ℕ) (operation : Operation) (answer : StatementOutcome) → AllByRecursion (λ (e : Entry). e.time ≤ bound) account.history
+    → MayBeTold account t given number namespace operation answer → IsBelow bound answer
+may_below account t bound given number namespace operation _ past (told_own e i is at) = all_at (λ (d : Entry). d.time ≤ bound) e account.history past i
+may_below account t bound given number namespace operation _ past (told_other e by i some is at had) =
+    all_at (λ (d : Entry). d.time ≤ bound) e account.history past i
+may_below account t bound given number namespace operation _ past (told_older e by i some is less at had) = tt
 
-told_below : (history : List Entry) (asked : List Asked) (t : Answered) (bound : ℕ) (write : WriteCommand) (index : ℕ) (operations : List Operation)
-    (dones : List Done) → AllByRecursion (λ (e : Entry). e.time ≤ bound) history → AreTold history asked t write index operations dones → AreBelow bound dones
-told_below history asked t bound write index [] dones past told = subst (λ l. AreBelow bound l) (sym told) tt
-told_below history asked t bound write index (operation ∷ operations) [] past told = absurd told
-told_below history asked t bound write index (operation ∷ operations) (d ∷ dones) past told = (
-  may_below history asked t bound write.number (number_for write.number t.id index) write.namespace operation d.answer past told.1,
-  by_end (ends write.ordered d) told.2 (λ rest. told_below history asked t bound write (index + 1) operations dones past rest),
+told_below : (account : Account) (t : Answered) (bound : ℕ) (write : WriteCommand) (index : ℕ) (operations : List Operation)
+    (dones : List Done) → AllByRecursion (λ (e : Entry). e.time ≤ bound) account.history → AreTold account t write index operations dones → AreBelow bound dones
+told_below account t bound write index [] dones past told = subst (λ l. AreBelow bound l) (sym told) tt
+told_below account t bound write index (operation ∷ operations) [] past told = absurd told
+told_below account t bound write index (operation ∷ operations) (d ∷ dones) past told = (
+  may_below account t bound write.number (number_for write.number t.id index) write.namespace operation d.answer past told.1,
+  by_end (ends write.ordered d) told.2 (λ rest. told_below account t bound write (index + 1) operations dones past rest),
 )
   where
-    by_end : (b : Bool) → (elim b as (λ x. Type 0) [ true ↦ dones ≡ [] | false ↦ AreTold history asked t write (index + 1) operations dones ])
-        → (AreTold history asked t write (index + 1) operations dones → AreBelow bound dones) → AreBelow bound dones
+    by_end : (b : Bool) → (elim b as (λ x. Type 0) [ true ↦ dones ≡ [] | false ↦ AreTold account t write (index + 1) operations dones ])
+        → (AreTold account t write (index + 1) operations dones → AreBelow bound dones) → AreBelow bound dones
     by_end true none later = subst (λ l. AreBelow bound l) (sym none) tt
     by_end false rest later = later rest
 
@@ -158,52 +100,39 @@ numbers_beside : (given : Option ClientNumber) (id : RequestId) (i j : ℕ)
 numbers_beside None id i j = (refl, refl)
 numbers_beside (Some by) id i j = (refl, refl)
 
--- of entries after one another the later keeps the numbers
-kept_apart : (old more : List Entry) (d e : Entry) → AreNumbered (old ++ more) → IsIn d old → IsIn e more → KeepsNumbers d e
-kept_apart [] more d e numbered i j = absurd (in_none d i)
-kept_apart (c ∷ old) more d e numbered i j = by_place (in_cons d c old i) (λ k. kept_apart old more d e numbered.1 k j)
-  where
-    by_place : (d ≡ c) ⊎ IsIn d old → (IsIn d old → KeepsNumbers d e) → KeepsNumbers d e
-    by_place (inl same) later = subst (λ (x : Entry). KeepsNumbers x e) (sym same) (all_at (KeepsNumbers c) e (old ++ more) numbered.0 (in_back e old more j))
-    by_place (inr k) later = later k
-
 -- replies that were returned have outcomes of entries that were stored then
 abbrev pub IsClosed : View → View → Answered → Type 0
-IsClosed v w s = (write : WriteCommand) (index : ℕ) (e : Entry) → IsIn e (entries_in w first_shard) → IsToldOf s write index e
-    → IsIn e (entries_in v first_shard)
+IsClosed v w s = (write : WriteCommand) (index : ℕ) (e : Entry) → IsIn e (history_in w) → IsToldOf s write index e
+    → IsIn e (history_in v)
 
 write_is : (a b : WriteCommand) (command : Result Command Refusal) → command ≡ Ok (write_command a) → command ≡ Ok (write_command b) → a ≡ b
 write_is a b command e f = cc
 
-module _ (v w : View) (asked more : List Asked) (later : Later v w) (before : NeighboursFit v asked) (after : NeighboursFit w (asked ++ more)) where
+module _ (v w : View) (asked more : List Asked) (answered : List Answered) (later : Later v w) (before : NeighboursFit v asked)
+    (after : NeighboursFit w (asked ++ more)) where
   -- an entry that comes later is of no statement that was answered with an older one
   none_later : (t : Answered) (write : WriteCommand) (index : ℕ) (operations : List Operation) (dones : List Done) (e : Entry) (j : ℕ)
-      → AreTold (entries_in v first_shard) asked t write index operations dones → dones ≢ [] → time_of dones ≡ None
-      → IsIn e (entries_in w first_shard) → IsIn e (more_entries v w first_shard later).more → e.number ≡ number_for write.number t.id j → ⊥
-  none_later t write index [] dones e j told some none stands new number = some told
-  none_later t write index (operation ∷ operations) [] e j told some none stands new number = some refl
-  none_later t write index (operation ∷ operations) (d ∷ dones) e j told some none stands new number = by_answer d.answer told.1 none
+      → AreTold (account_in v asked answered) t write index operations dones → dones ≢ [] → time_of dones ≡ None
+      → IsIn e (history_in w) → ((x : Entry) → IsIn x (history_in v) → KeepsNumbers x e) → e.number ≡ number_for write.number t.id j → ⊥
+  none_later t write index [] dones e j told some none stands keeps number = some told
+  none_later t write index (operation ∷ operations) [] e j told some none stands keeps number = some refl
+  none_later t write index (operation ∷ operations) (d ∷ dones) e j told some none stands keeps number = by_answer d.answer told.1 none
     where
-      first : (x : Entry) → IsIn x (entries_in w first_shard) → x.shard ≡ first_shard
-      first x i = placed_first (changes_in w) after.begun.still x (all_at (IsPlaced (changes_in w)) x (entries_in w first_shard) after.placed i)
+      first : (x : Entry) → IsIn x (history_in w) → x.shard ≡ first_shard
+      first x i = placed_first (changes_in w) after.begun.still x (all_at (IsPlaced (changes_in w)) x (history_in w) after.placed i)
 
-      kept : (x : Entry) → IsIn x (entries_in v first_shard) → KeepsNumbers x e
-      kept x i =
-          kept_apart (entries_in v first_shard) (more_entries v w first_shard later).more x e
-          (subst (λ l. AreNumbered l) (more_entries v w first_shard later).same after.numbers) i new
-
-      by_older : (x : Entry) → IsIn x (entries_in v first_shard) → x.number.session ≡ (number_for write.number t.id index).session
+      by_older : (x : Entry) → IsIn x (history_in v) → x.number.session ≡ (number_for write.number t.id index).session
           → int_lt (number_for write.number t.id index).transaction x.number.transaction ≡ true → ⊥
       by_older x i session less =
           let same = numbers_beside write.number t.id index j in
           let at : e.number.transaction ≡ (number_for write.number t.id index).transaction = ap (λ (n : StatementNumber). n.transaction) number ∙ sym same.1 in
           let of : x.number.session ≡ e.number.session = session ∙ same.0 ∙ sym (ap (λ (n : StatementNumber). n.session) number) in
           let not_less : int_lt e.number.transaction x.number.transaction ≡ false =
-          (kept x i).rises (first x (entry_stays v w first_shard x later i) ∙ sym (first e stands)) of in
+          (keeps x i).rises (first x (history_stays v w x later i) ∙ sym (first e stands)) of in
           true_false (sym less ∙ ap (λ n. int_lt n x.number.transaction) (sym at) ∙ not_less)
 
       by_answer : (answer : StatementOutcome)
-          → MayBeTold (entries_in v first_shard) asked t write.number (number_for write.number t.id index) write.namespace operation answer
+          → MayBeTold (account_in v asked answered) t write.number (number_for write.number t.id index) write.namespace operation answer
           → (elim answer as (λ (x : StatementOutcome). Option ℕ) [
             | was_done at outcome ↦ Some (greatest at (time_of dones))
             | was_refused refusal ↦ time_of
@@ -214,103 +143,109 @@ module _ (v w : View) (asked more : List Asked) (later : Later v w) (before : Ne
       by_answer _ (told_other x by i some is past had) none = absurd (cc)
       by_answer _ (told_older x by i some session less past had) none = by_older x i session less
 
-  told_closed : (t : Answered) (write : WriteCommand) (dones : List Done) → AreTold (entries_in v first_shard) asked t write 0 write.operations dones
+  told_closed : (t : Answered) (write : WriteCommand) (dones : List Done) → AreTold (account_in v asked answered) t write 0 write.operations dones
       → dones ≢ [] → t.document ≡ answer_document (answer_of write.kind t.time dones) → command_of t.request ≡ Ok (write_command write) → IsClosed v w t
   told_closed t write dones told some document asks other index e stands (same, number, shows) =
-      by_place (in_append e (entries_in v first_shard) m.more (subst (λ l. IsIn e l) m.same stands))
+      by_place (stored_or_new v.bound (history_in v) (history_in w) e (history_extends v w later) after.numbers stands)
     where
-      m : MoreOf (λ (x : Entry). x.time) (v.bound first_shard) (entries_in v first_shard) (entries_in w first_shard)
-      m = more_entries v w first_shard later
-
       one : other ≡ write
       one = write_is other write (command_of t.request) same asks
 
       at : Some (unwrap_or (time_of dones) t.time) ≡ Some e.time
       at = sym (time_shown write.kind t.time dones) ∙ ap (λ d. operation_time (Some d)) (sym document) ∙ shows
 
-      by_time : (time : Option ℕ) → time_of dones ≡ time → Some (unwrap_or time t.time) ≡ Some e.time → IsIn e m.more → ⊥
-      by_time None none shown new =
-          none_later t write 0 write.operations dones e index told some none stands new (number ∙ ap (λ (x : WriteCommand). number_for x.number t.id index) one)
-      by_time (Some time) is shown new =
-          let above : v.bound first_shard < e.time = all_at (λ (x : Entry). v.bound first_shard < x.time) e m.more m.above new in
-          let below : time ≤ v.bound first_shard = greatest_below (v.bound first_shard) dones
-          (told_below (entries_in v first_shard) asked t (v.bound first_shard) write 0 write.operations dones before.past told) time is in
+      passed : AllByRecursion (λ (x : Entry). x.time ≤ v.bound e.shard) (history_in v)
+      passed = all_weaken (IsWithin v.bound) (λ (x : Entry). x.time ≤ v.bound e.shard) (history_in v)
+          (λ x within. passed_of v e.shard x.time of_shard (stored_passed v x within)) before.past
+        where
+          of_shard : IsShardAt e.shard
+          of_shard = placed_first (changes_in w) after.begun.still e (all_at (IsPlaced (changes_in w)) e (history_in w) after.placed stands)
+
+      by_time : (time : Option ℕ) → time_of dones ≡ time → Some (unwrap_or time t.time) ≡ Some e.time → IsBeyond v.bound e
+          → ((x : Entry) → IsIn x (history_in v) → KeepsNumbers x e) → ⊥
+      by_time None none shown new keeps =
+          none_later t write 0 write.operations dones e index told some none stands keeps
+          (number ∙ ap (λ (x : WriteCommand). number_for x.number t.id index) one)
+      by_time (Some time) is shown new keeps =
+          let above : v.bound e.shard < e.time = new.1 in
+          let below : time ≤ v.bound e.shard = greatest_below (v.bound e.shard) dones
+          (told_below (account_in v asked answered) t (v.bound e.shard) write 0 write.operations dones passed told) time is in
           let exact : time ≡ e.time = cc in
           omega arith
 
-      by_place : IsIn e (entries_in v first_shard) ⊎ IsIn e m.more → IsIn e (entries_in v first_shard)
+      by_place : IsStoredOrNew v.bound (history_in v) e → IsIn e (history_in v)
       by_place (inl i) = i
-      by_place (inr j) = absurd (by_time (time_of dones) refl at j)
+      by_place (inr (new, keeps)) = absurd (by_time (time_of dones) refl at new keeps)
 
   -- a reply to a request that does not write has no entry
   other_closed : (t : Answered) → IsNoWrite (command_of t.request) → IsClosed v w t
   other_closed t not write index e stands told = absurd (not write told.0)
 
-  closed_right : (answered : List Answered) (cursors next : List Cursor) (a : Asked) (t : Answered) → a.request ≡ t.request
-      → (r : IsRight (changes_in v) (entries_in v first_shard) asked answered cursors a t next)
-      → IsSettled v (changes_in v) (entries_in v first_shard) asked answered cursors a t next r → IsClosed v w t
-  closed_right answered cursors _ a t same (right_write write dones c asks may whole begun name past told) settled =
+  closed_right : (cursors next : List Cursor) (a : Asked) (t : Answered) → a.request ≡ t.request
+      → (r : IsRight (account_in v asked answered) cursors a t next)
+      → IsSettled v (account_in v asked answered) cursors a t next r → IsClosed v w t
+  closed_right cursors _ a t same (right_write write dones c asks may whole begun name past told) settled =
       told_closed t write dones may settled told (ap (λ q. command_of q) (sym same) ∙ asks)
-  closed_right answered cursors _ a t same (right_find find time documents batch next asks of may small name when shows told) settled =
+  closed_right cursors _ a t same (right_find find time documents batch next asks of may small name when shows told) settled =
       other_closed t (other_command _ _ (ap (λ q. command_of q) (sym same) ∙ asks) (λ write e. cc))
-  closed_right answered cursors _ a t same (right_count read time n asks of may told) settled =
+  closed_right cursors _ a t same (right_count read time n asks of may told) settled =
       other_closed t (other_command _ _ (ap (λ q. command_of q) (sym same) ∙ asks) (λ write e. cc))
-  closed_right answered cursors _ a t same (right_more get c batch next asks found shows told) settled =
+  closed_right cursors _ a t same (right_more get c batch next asks found shows told) settled =
       other_closed t (other_command _ _ (ap (λ q. command_of q) (sym same) ∙ asks) (λ write e. cc))
-  closed_right answered cursors _ a t same (right_no_cursor get asks none told) settled =
+  closed_right cursors _ a t same (right_no_cursor get asks none told) settled =
       other_closed t (other_command _ _ (ap (λ q. command_of q) (sym same) ∙ asks) (λ write e. cc))
-  closed_right answered cursors _ a t same (right_kill kill killed missing next asks closed told) settled =
+  closed_right cursors _ a t same (right_kill kill killed missing next asks closed told) settled =
       other_closed t (other_command _ _ (ap (λ q. command_of q) (sym same) ∙ asks) (λ write e. cc))
-  closed_right answered cursors _ a t same (right_shard namespace asks created told) settled =
+  closed_right cursors _ a t same (right_shard namespace asks created told) settled =
       other_closed t (other_command _ _ (ap (λ q. command_of q) (sym same) ∙ asks) (λ write e. cc))
-  closed_right answered cursors _ a t same (right_split split asks begins told) settled =
+  closed_right cursors _ a t same (right_split split asks begins told) settled =
       other_closed t (other_command _ _ (ap (λ q. command_of q) (sym same) ∙ asks) (λ write e. cc))
-  closed_right answered cursors _ a t same (right_not_sharded split asks told) settled =
+  closed_right cursors _ a t same (right_not_sharded split asks told) settled =
       other_closed t (other_command _ _ (ap (λ q. command_of q) (sym same) ∙ asks) (λ write e. cc))
-  closed_right answered cursors _ a t same (right_hello asks told) settled =
+  closed_right cursors _ a t same (right_hello asks told) settled =
       other_closed t (other_command _ _ (ap (λ q. command_of q) (sym same) ∙ asks) (λ write e. cc))
-  closed_right answered cursors _ a t same (right_legacy legacy asks told) settled =
+  closed_right cursors _ a t same (right_legacy legacy asks told) settled =
       other_closed t (other_command _ _ (ap (λ q. command_of q) (sym same) ∙ asks) (λ write e. cc))
-  closed_right answered cursors _ a t same (right_ping asks told) settled =
+  closed_right cursors _ a t same (right_ping asks told) settled =
       other_closed t (other_command _ _ (ap (λ q. command_of q) (sym same) ∙ asks) (λ write e. cc))
-  closed_right answered cursors _ a t same (right_end_sessions asks told) settled =
+  closed_right cursors _ a t same (right_end_sessions asks told) settled =
       other_closed t (other_command _ _ (ap (λ q. command_of q) (sym same) ∙ asks) (λ write e. cc))
-  closed_right answered cursors _ a t same (right_refusal refusal asks told) settled =
+  closed_right cursors _ a t same (right_refusal refusal asks told) settled =
       other_closed t (other_command _ _ (ap (λ q. command_of q) (sym same) ∙ asks) (λ write e. cc))
-  closed_right answered cursors _ a t same (right_refused_read read reads refused) settled =
+  closed_right cursors _ a t same (right_refused_read read reads refused) settled =
       other_closed t (reads_not (command_of t.request) read (subst (λ q. Reads (command_of q) read) same reads))
 
-  pub all_closed : (answered : List Answered) (cursors last : List Cursor) (told : List Answered) → AnswersFit v asked answered cursors told last
+  pub all_closed : (cursors last : List Cursor) (told : List Answered) → AnswersFit v asked answered cursors told last
       → AllByRecursion (IsClosed v w) told
-  all_closed answered _ _ _ (no_answer cursors) = tt
-  all_closed answered _ _ _ (one_answer cursors next last t rest f others) =
-      (closed_right answered cursors next f.request t f.same f.right f.settled, all_closed answered next last rest others)
+  all_closed _ _ _ (no_answer cursors) = tt
+  all_closed _ _ _ (one_answer cursors next last t rest f others) =
+      (closed_right cursors next f.request t f.same f.right f.settled, all_closed next last rest others)
 
 -- REPLIES TO READS
 
 give_stays : (v w : View) (read : Reading) (time : ℕ) (out : Outcome) → Later v w → IsFixed v read time
-    → AllByRecursion (IsPlaced (changes_in w)) (entries_in w first_shard)
-    → MayGive (entries_in v first_shard) read time out → MayGive (entries_in w first_shard) read time out
+    → AllByRecursion (IsPlaced (changes_in w)) (history_in w)
+    → MayGive (history_in v) read time out → MayGive (history_in w) read time out
 give_stays v w read time out later fixed placed may =
     subst (λ l. Allows read.stages l out) (sym (documents_stay v w read.namespace time later fixed placed)) may
 
 fixed_grows : (v w : View) (read : Reading) (time : ℕ) → Later v w → IsFixed v read time → IsFixed w read time
-fixed_grows v w read time later (inl h) = inl (let le : v.bound first_shard ≤ w.bound first_shard = later.times first_shard in omega arith)
+fixed_grows v w read time later (inl h) = inl (passed_later v w time later h)
 fixed_grows v w read time later (inr h) = inr (began_grows v w read.namespace time later h)
 
-excess_stays : (v w : View) (asked more : List Asked) (read : Reading) (time n : ℕ) → Later v w → NeighboursFit v asked → NeighboursFit w (asked ++ more)
+excess_stays : (v w : View) (asked more : List Asked) (answered news : List Answered) (read : Reading) (time n : ℕ) → Later v w → NeighboursFit v asked → NeighboursFit w (asked ++ more)
     → IsFixed v read time
-    → IsExcess (entries_in v first_shard) (changes_in v) read time n → IsExcess (entries_in w first_shard) (changes_in w) read time n
-excess_stays v w asked more read time n later before after fixed (excess_answer answer may much) =
+    → IsExcess (account_in v asked answered) read time n → IsExcess (account_in w (asked ++ more) (answered ++ news)) read time n
+excess_stays v w asked more answered news read time n later before after fixed (excess_answer answer may much) =
     excess_answer answer (give_stays v w read time _ later fixed after.placed may) much
-excess_stays v w asked more read time n later before after fixed (excess_half shard ordered rows permutes makes much) =
+excess_stays v w asked more answered news read time n later before after fixed (excess_half shard ordered rows permutes makes much) =
     let same = documents_stay v w read.namespace time later fixed after.placed in
-    let old = all_owned (changes_in v) (entries_in v first_shard) read.namespace shard time before.begun.still before.placed in
-    let new = all_owned (changes_in w) (entries_in w first_shard) read.namespace shard time after.begun.still after.placed in
-    let owned : owned_by (changes_in w) read.namespace shard time (documents_at (entries_in w first_shard) read.namespace time)
-    ≡ owned_by (changes_in v) read.namespace shard time (documents_at (entries_in v first_shard) read.namespace time) =
+    let old = all_owned (changes_in v) (history_in v) read.namespace shard time before.begun.still before.placed in
+    let new = all_owned (changes_in w) (history_in w) read.namespace shard time after.begun.still after.placed in
+    let owned : owned_by (changes_in w) read.namespace shard time (documents_at (history_in w) read.namespace time)
+    ≡ owned_by (changes_in v) read.namespace shard time (documents_at (history_in v) read.namespace time) =
     ap (λ l. owned_by (changes_in w) read.namespace shard time l) same
-    ∙ owned_same (changes_in v) (changes_in w) read.namespace shard time (documents_at (entries_in v first_shard) read.namespace time) old
+    ∙ owned_same (changes_in v) (changes_in w) read.namespace shard time (documents_at (history_in v) read.namespace time) old
     (subst (λ l. AreOwned (changes_in w) read.namespace shard time l) same new) in
     excess_half shard ordered rows (subst (λ l. IsPermutation l ordered) (sym owned) permutes) makes much
 
@@ -319,16 +254,16 @@ excess_stays v w asked more read time n later before after fixed (excess_half sh
 -- an answer, with that its read stays
 pub record StaysRight (w : View) (asked : List Asked) (answered : List Answered) (cursors : List Cursor) (a : Asked) (t : Answered)
     (next : List Cursor) : Type 0 where
-  pub right : IsRight (changes_in w) (entries_in w first_shard) asked answered cursors a t next
-  pub settled : IsSettled w (changes_in w) (entries_in w first_shard) asked answered cursors a t next right
+  pub right : IsRight (account_in w asked answered) cursors a t next
+  pub settled : IsSettled w (account_in w asked answered) cursors a t next right
 
 module _ (v w : View) (asked more : List Asked) (answered news : List Answered) (now : ℕ) (g : Grows v w asked more answered news now)
     (closed : AllByRecursion (IsClosed v w) answered) where
   abbrev After : List Cursor → Asked → Answered → List Cursor → Type 0
   After cursors a t next = StaysRight w (asked ++ more) (answered ++ news) cursors a t next
 
-  ahead_stays : (a : Asked) (t : Answered) (read : Reading) → a.came < now + 1 → IsAhead (entries_in v first_shard) answered a t read
-      → IsAhead (entries_in w first_shard) (answered ++ news) a t read
+  ahead_stays : (a : Asked) (t : Answered) (read : Reading) → a.came < now + 1 → IsAhead (account_in v asked answered) a t read
+      → IsAhead (account_in w (asked ++ more) (answered ++ news)) a t read
   ahead_stays a t read came h = record {
     wanted = h.wanted;
     wants = h.wants;
@@ -336,7 +271,7 @@ module _ (v w : View) (asked more : List Asked) (answered news : List Answered) 
     of_all = λ s write index e i before asks stands number shows. by_place s write index e before stands (asks, number, shows) (in_append s answered news i);
   }
     where
-      by_place : (s : Answered) (write : WriteCommand) (index : ℕ) (e : Entry) → s.step < a.came → IsIn e (entries_in w first_shard) → IsToldOf s write index e
+      by_place : (s : Answered) (write : WriteCommand) (index : ℕ) (e : Entry) → s.step < a.came → IsIn e (history_in w) → IsToldOf s write index e
           → IsIn s answered ⊎ IsIn s news → e.time < h.wanted
       by_place s write index e before stands told (inl i) =
           h.of_all s write index e i before told.0 (all_at (IsClosed v w) s answered closed i write index e stands told) told.1 told.2
@@ -344,30 +279,30 @@ module _ (v w : View) (asked more : List Asked) (answered news : List Answered) 
           let at : s.step ≡ now = all_at (λ (x : Answered). x.step ≡ now) s news g.steps i in absurd (omega arith)
 
   refused_stays : (a : Asked) (t : Answered) (read : Reading) (cursors : List Cursor) → a.came < now + 1 → Reads (command_of a.request) read
-      → (r : IsReadRefused (changes_in v) (entries_in v first_shard) answered a t read)
-      → IsRefusalFixed v (changes_in v) (entries_in v first_shard) answered a t read r → After cursors a t cursors
+      → (r : IsReadRefused (account_in v asked answered) a t read)
+      → IsRefusalFixed v (account_in v asked answered) a t read r → After cursors a t cursors
   refused_stays a t read cursors came reads (refused_overflow time of may told) fixed = record {
     right = right_refused_read read reads (refused_overflow time of (give_stays v w read time _ g.later fixed g.after.placed may) told);
     settled = fixed_grows v w read time g.later fixed;
   }
   refused_stays a t read cursors came reads (refused_excess time n of much told) fixed = record {
-    right = right_refused_read read reads (refused_excess time n of (excess_stays v w asked more read time n g.later g.before g.after fixed much) told);
+    right = right_refused_read read reads (refused_excess time n of (excess_stays v w asked more answered news read time n g.later g.before g.after fixed much) told);
     settled = fixed_grows v w read time g.later fixed;
   }
   refused_stays a t read cursors came reads (refused_ahead ahead told) fixed =
       record { right = right_refused_read read reads (refused_ahead (ahead_stays a t read came ahead) told); settled = tt }
 
   right_stays : (cursors next : List Cursor) (a : Asked) (t : Answered) → IsIn a asked
-      → (r : IsRight (changes_in v) (entries_in v first_shard) asked answered cursors a t next)
-      → IsSettled v (changes_in v) (entries_in v first_shard) asked answered cursors a t next r → After cursors a t next
+      → (r : IsRight (account_in v asked answered) cursors a t next)
+      → IsSettled v (account_in v asked answered) cursors a t next r → After cursors a t next
   right_stays cursors _ a t taken (right_write write dones c asks may whole begun name past told) settled = record {
     right = right_write write dones c asks
-        (told_grow (entries_in v first_shard) (entries_in w first_shard) asked more t (λ d i. entry_stays v w first_shard d g.later i) write 0 write.operations
-        dones may)
+        (told_stays (account_in v asked answered) (account_in w (asked ++ more) (answered ++ news)) t (λ d i. history_stays v w d g.later i)
+        (λ b i. in_prefix b asked more i) write 0 write.operations dones may)
         (λ own.
         let same = closed_write v w asked more a write g.later g.after taken asks own (whole own) in
         record {
-          part = all_at (StandsInPart (entries_in w first_shard)) a (asked ++ more) g.after.parts (in_prefix a asked more taken) write asks own;
+          part = all_at (StandsInPart (history_in w)) a (asked ++ more) g.after.parts (in_prefix a asked more taken) write asks own;
           all = subst (λ l. AreAll write.ordered write.operations (map done_of l)) (sym same) (whole own).all;
         })
         (change_stays v w (create_change c) g.later begun) name past told;

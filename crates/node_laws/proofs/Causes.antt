@@ -19,7 +19,8 @@ use Rattle.chunk_model.specs.Tables.{Table}
 use Rattle.chunk_model.specs.Changes.{known_table}
 use Rattle.opmsg_model.specs.Requests.{Request}
 use Rattle.reply_model.specs.Exchanges.{Asked, Answered}
-use Rattle.reply_model.specs.OneHistory.{Dated, changes_before, WasAbsent, IsReplyTo, IsCaused, ids_asked, AreDifferent}
+use Rattle.reply_model.specs.Accounts.{Dated, Account}
+use Rattle.reply_model.specs.OneHistory.{changes_before, WasAbsent, IsReplyTo, IsCaused, ids_asked, AreDifferent}
 use Rattle.reply_model.specs.Right.{not_sharded}
 use Rattle.reply_model.specs.Cursors.{Cursor}
 use Rattle.reply_facts.proofs.Requests.{one_asked}
@@ -302,7 +303,7 @@ works_of v asked answered r all =
 -- an input says so truly
 pub input_truly : (w : World) (book : Book) (i : Input) → InputFits w book i → TellsTruly w.changed w.asked i
 input_truly w book (letter_input m) fits = λ id says.
-    subst (λ b. TimeFits (view_of w.nodes book) w.changed w.asked w.answered m.time b) says fits.2
+    subst (λ b. TimeFits (view_of w.nodes book) w.changed w.asked w.answered m.sender m.time b) says fits.2
 input_truly w book (client_input link number request) fits = tt
 input_truly w book (moment_input moment) fits = tt
 input_truly w book opened_input fits = tt
@@ -332,37 +333,38 @@ same_split : (a b : SplitCommand) (command : Result Command Refusal) → command
 same_split a b command e f = cc
 
 -- so what it says was so by the reply, or else there was none in a step from the request to the reply
-pub is_caused : (v : View) (now : ℕ) (dated : List Dated) (asked : List Asked) (answered : List Answered) (cursors last : List Cursor)
-    (told : List Answered) → AreDifferent (ids_asked asked) → AnswersFit v asked answered cursors told last → AllByRecursion (IsTrueAnswer dated asked) told
-    → AllByRecursion (IsBased now dated) told → AllByRecursion (IsCaused dated asked) told
-is_caused v now dated asked answered _ _ _ different (no_answer cursors) all based = tt
-is_caused v now dated asked answered _ _ _ different (one_answer cursors next last t rest f others) all based = (
+pub is_caused : (account : Account) (v : View) (now : ℕ) (answered : List Answered) (cursors last : List Cursor) (told : List Answered)
+    → AreDifferent (ids_asked account.asked) → AnswersFit v account.asked answered cursors told last
+    → AllByRecursion (IsTrueAnswer account.dated account.asked) told → AllByRecursion (IsBased now account.dated) told
+    → AllByRecursion (IsCaused account) told
+is_caused account v now answered _ _ _ different (no_answer cursors) all based = tt
+is_caused account v now answered _ _ _ different (one_answer cursors next last t rest f others) all based = (
   record {
     written = λ a write to. based.0.rests.written write (its a (write_command write) to);
     created = λ a namespace to says. based.0.rests.created namespace (its a (shard_collection_command namespace) to);
     begins = λ a split to says. based.0.rests.begins split (its a (split_command split) to) says;
     absent = absent;
   },
-  is_caused v now dated asked answered next last rest different others all.1 based.1,
+  is_caused account v now answered next last rest different others all.1 based.1,
 )
   where
-    its : (a : Asked) (command : Command) → IsReplyTo asked a command t → command_of t.request ≡ Ok command
+    its : (a : Asked) (command : Command) → IsReplyTo account.asked a command t → command_of t.request ≡ Ok command
     its a command to =
-        let first : f.request ≡ a = one_asked f.request a asked different f.taken to.taken (f.own ∙ sym to.own) in
+        let first : f.request ≡ a = one_asked f.request a account.asked different f.taken to.taken (f.own ∙ sym to.own) in
         ap (λ r. command_of r) (sym f.same) ∙ ap (λ (b : Asked). command_of b.request) first ∙ to.asks
 
-    absent : (a : Asked) (split : SplitCommand) → IsReplyTo asked a (split_command split) t → t.document ≡ not_sharded
-        → WasAbsent dated split.namespace a.came t.step
+    absent : (a : Asked) (split : SplitCommand) → IsReplyTo account.asked a (split_command split) t → t.document ≡ not_sharded
+        → WasAbsent account.dated split.namespace a.came t.step
     absent a split to none =
-        let first : f.request ≡ a = one_asked f.request a asked different f.taken to.taken (f.own ∙ sym to.own) in
-        let m : WasMissing dated asked t.id = all.0 split (its a (split_command split) to) none in
-        let same : m.request ≡ a = one_asked m.request a asked different m.taken to.taken (m.own ∙ sym to.own) in
+        let first : f.request ≡ a = one_asked f.request a account.asked different f.taken to.taken (f.own ∙ sym to.own) in
+        let m : WasMissing account.dated account.asked t.id = all.0 split (its a (split_command split) to) none in
+        let same : m.request ≡ a = one_asked m.request a account.asked different m.taken to.taken (m.own ∙ sym to.own) in
         let one : m.split ≡ split = same_split m.split split (command_of a.request) (ap (λ (b : Asked). command_of b.request) (sym same) ∙ m.asks) to.asks in
         let came : a.came ≤ t.step = subst (λ (b : Asked). b.came ≤ t.step) first f.came in
         record {
           step = a.came;
           after = omega arith;
           before = came;
-          none = ap (λ (s : SplitCommand). known_table s.namespace (changes_before a.came dated)) (sym one)
-              ∙ ap (λ (b : Asked). known_table m.split.namespace (changes_before b.came dated)) (sym same) ∙ m.none;
+          none = ap (λ (s : SplitCommand). known_table s.namespace (changes_before a.came account.dated)) (sym one)
+              ∙ ap (λ (b : Asked). known_table m.split.namespace (changes_before b.came account.dated)) (sym same) ∙ m.none;
         }

@@ -7,7 +7,8 @@ use Rattle.chunk_model.specs.Changes.{Change, known_table}
 use Rattle.history_model.proofs.Lists.{all_at, in_prefix}
 use Rattle.base_model.specs.Identities.{RequestId}
 use Rattle.reply_model.specs.Exchanges.{Asked}
-use Rattle.reply_model.specs.OneHistory.{Dated, changes_before, changes_in as changes_of}
+use Rattle.reply_model.specs.Accounts.{Dated, changes_in as changes_of}
+use Rattle.reply_model.specs.OneHistory.{changes_before}
 use Rattle.node_model.specs.Journal.{Kept, kept_table, kept_entry, kept_change, kept_life, kept_block, changes_onto, changes_kept}
 use Rattle.node_model.specs.States.{NodeState}
 use Rattle.node_model.specs.World.{Held, dated_onto, journal_at}

@@ -13,15 +13,16 @@ use Rattle.chunk_model.specs.Tables.{Table, first_shard}
 use Rattle.history_model.specs.History.{Entry, Legal, IsIn}
 use Rattle.base_model.specs.Identities.{RequestId}
 use Rattle.reply_model.specs.Exchanges.{Asked, Answered, number_for}
+use Rattle.reply_model.specs.Accounts.{Given, Dated, Account, changes_in as changes_of}
 use Rattle.reply_model.specs.Outcomes.{Done}
 use Rattle.reply_model.specs.Right.{ends, IsReadRefused, refused_overflow, refused_excess, refused_ahead, WasCreated, IsRight, right_write, right_find, right_count, right_refused_read, right_more, right_no_cursor, right_kill, right_shard, right_split, right_not_sharded, right_hello, right_legacy, right_ping, right_end_sessions, right_refusal}
-use Rattle.reply_model.specs.OneHistory.{IsWriteIn, WasWanted, StandsInPart, IsPlaced, AreNumbered, IsFresh, IsInOrder, Given, WasMet, ids_asked, ids_told, AreDifferent, Dated, changes_in as changes_of}
+use Rattle.reply_model.specs.OneHistory.{IsWriteIn, WasWanted, StandsInPart, IsPlaced, AreNumbered, IsFresh, IsInOrder, WasMet, ids_asked, ids_told, AreDifferent}
 use Rattle.node_model.specs.Journal.{Kept, entries_kept, changes_kept}
 use Rattle.node_model.specs.Letters.{At, no_time, at_time, Statement, Body, table_ask, table_told, split_ask, split_done, write_ask, write_done, read_ask, half_ask, read_rows, stale, time_ask, time_told, Letter}
 use Rattle.node_model.specs.States.{Catalogue, Shard, Router, Work, writing, reading, sharding, splitting, Wait, for_time, Open, NodeState, catalogue_state, shard_state, router_state, time_of_node}
 use Rattle.node_model.specs.RouterRows.{id_of, statements_from, owner_of_statement, is_ahead, block_size}
 use Rattle.node_model.specs.World.{Held, World, journal_at}
-use Rattle.node_laws.proofs.Views.{Choice, Book, View, view_of, entries_in, changes_in, MovesNothing}
+use Rattle.node_laws.proofs.Views.{Choice, Book, View, view_of, entries_in, changes_in, IsShardAt, history_in, HavePassed, IsWithin, MovesNothing, account_in}
 use Rattle.node_laws.proofs.Places.{EachAt}
 use Rattle.node_laws.proofs.SplitFacts.{IsSplitOf, IsSplitDone, WasMissing, IsMissing}
 use Rattle.node_laws.proofs.WriteFacts.{IsDoneAt, AreAnswers, OnlyLast, WasMade}
@@ -61,7 +62,7 @@ pub record IsWriteOf (v : View) (asked : List Asked) (receiver time : ℕ) (id :
   pub asks : command_of request.request ≡ Ok (write_command write)
   pub order : ordered ≡ write.ordered
   pub name : namespace ≡ write.namespace
-  pub answered : AreAnswers (entries_in v first_shard) time write id 0 front
+  pub answered : AreAnswers (history_in v) time write id 0 front
   pub goes_on : AllByRecursion (λ d. ends ordered d ≡ false) front
   pub next : drop (length front) (statements_from write.number id 0 write.operations) ≡ statements ++ back
   pub owned : AllByRecursion (IsOwned v time namespace receiver) statements
@@ -115,13 +116,13 @@ BodyFits v asked sender receiver time (split_ask id namespace middle) = IsSplitO
 BodyFits v asked sender receiver time (split_done id true) = IsSplitDone v asked id time
 BodyFits v asked sender receiver time (split_done id false) = Unit {0}
 BodyFits v asked sender receiver time (write_ask id turn ordered namespace statements sent) = IsWriteOf v asked receiver time id ordered namespace statements
-BodyFits v asked sender receiver time (write_done id dones) = (sender ≡ first_shard) × IsDoneOf v asked sender time id dones
-BodyFits v asked sender receiver time (read_ask id turn namespace at half sent) = IsReadOf v asked id namespace at half × (at ≤ time) × (receiver ≡ first_shard)
+BodyFits v asked sender receiver time (write_done id dones) = IsShardAt sender × IsDoneOf v asked sender time id dones
+BodyFits v asked sender receiver time (read_ask id turn namespace at half sent) = IsReadOf v asked id namespace at half × (at ≤ time) × IsShardAt receiver
 BodyFits v asked sender receiver time (half_ask id turn namespace at half documents) = IsShown v asked sender time id namespace at half documents
 BodyFits v asked sender receiver time (read_rows id turn rows) = RowsFit v asked sender time id rows
 BodyFits v asked sender receiver time (stale id turn met) = Unit {0}
 BodyFits v asked sender receiver time (time_ask id) = IsOfRequest asked id
-BodyFits v asked sender receiver time (time_told id) = IsOfRequest asked id
+BodyFits v asked sender receiver time (time_told id) = IsShardAt sender × IsOfRequest asked id
 
 abbrev pub LetterFits : View → List Asked → Letter → Type 0
 LetterFits v asked m = BodyFits v asked m.sender m.receiver m.time m.body
@@ -138,15 +139,15 @@ pub record CatalogueFits (asked : List Asked) (at : ℕ) (kept : List Kept) (c :
 
 -- a request that waits for a table: it fits as the message that it came in, which is not of a later time than the shard's
 abbrev pub ParkedFits : View → List Asked → ℕ → Letter → Type 0
-ParkedFits v asked time m = LetterFits v asked m × (m.time ≤ time) × (m.receiver ≡ first_shard)
+ParkedFits v asked time m = LetterFits v asked m × (m.time ≤ time) × IsShardAt m.receiver
 
 pub record ShardFits (v : View) (asked : List Asked) (at : ℕ) (kept : List Kept) (s : Shard) : Type 0 where
   pub own : s.me ≡ at
-  pub place : at ≡ first_shard
+  pub place : IsShardAt at
   pub entries : s.entries ≡ entries_kept kept
   pub past : AllByRecursion (λ (e : Entry). e.time ≤ s.time) s.entries
   pub legal : Legal s.entries
-  pub sent : AllByRecursion (WasMade s.entries asked) s.entries
+  pub sent : AllByRecursion (WasMade (history_in v) asked) s.entries
   pub numbers : AreNumbered s.entries
   pub placed : AllByRecursion (IsPlaced (changes_in v)) s.entries
   pub parts : AllByRecursion (StandsInPart s.entries) asked
@@ -166,7 +167,7 @@ WorkFits a namespace (splitting middle) = command_of a.request ≡ Ok (split_com
 -- the outcomes of a write that arrived, of entries that are not above a time
 abbrev pub AreSeen : View → ℕ → Asked → Work → Type 0
 AreSeen v time a (writing kind ordered statements answers) =
-    (write : WriteCommand) → command_of a.request ≡ Ok (write_command write) → AreAnswers (entries_in v first_shard) time write a.id 0 answers
+    (write : WriteCommand) → command_of a.request ≡ Ok (write_command write) → AreAnswers (history_in v) time write a.id 0 answers
 AreSeen v time a (reading named at stages telling) = Unit {0}
 AreSeen v time a sharding = Unit {0}
 AreSeen v time a (splitting middle) = Unit {0}
@@ -226,7 +227,7 @@ StateFits v asked answered at kept (router_state r) = RouterFits v asked answere
 
 -- a time that was met
 abbrev pub IsMet : View → List Given → ℕ → Type 0
-IsMet v given time = WasMet given (changes_in v) (entries_in v first_shard) time
+IsMet v given time = WasMet (record (account_in v [] []) { given = given }) time
 
 -- CURSORS
 
@@ -261,35 +262,34 @@ pub record HeldFits (v : View) (asked : List Asked) (answered : List Answered) (
 
 -- ANSWERS
 
--- the reply to a read stays right: its time is one that the shard has passed, or the collection is created after it
+-- the reply to a read stays right: its time is one that the shards have passed, or the collection is created after it
 abbrev pub IsFixed : View → Reading → ℕ → Type 0
-IsFixed v read time = (time ≤ v.bound first_shard) ⊎ NoneBegan v read.namespace time
+IsFixed v read time = HavePassed v time ⊎ NoneBegan v read.namespace time
 
-abbrev pub IsRefusalFixed : View → (changes : List Change) (history : List Entry) (answered : List Answered) (a : Asked) (t : Answered) (read : Reading)
-    → IsReadRefused changes history answered a t read → Type 0
-IsRefusalFixed v changes history answered a t read (refused_overflow time of may told) = IsFixed v read time
-IsRefusalFixed v changes history answered a t read (refused_excess time n of excess told) = IsFixed v read time
-IsRefusalFixed v changes history answered a t read (refused_ahead ahead told) = Unit {0}
+abbrev pub IsRefusalFixed : View → (account : Account) (a : Asked) (t : Answered) (read : Reading) → IsReadRefused account a t read → Type 0
+IsRefusalFixed v account a t read (refused_overflow time of may told) = IsFixed v read time
+IsRefusalFixed v account a t read (refused_excess time n of excess told) = IsFixed v read time
+IsRefusalFixed v account a t read (refused_ahead ahead told) = Unit {0}
 
-abbrev pub IsSettled : View → (changes : List Change) (history : List Entry) (asked : List Asked) (answered : List Answered) (cursors : List Cursor)
-    (a : Asked) (t : Answered) (next : List Cursor) → IsRight changes history asked answered cursors a t next → Type 0
-IsSettled v changes history asked answered cursors a t _ (right_write write dones c asks may whole begun name before told) = dones ≢ []
-IsSettled v changes history asked answered cursors a t _ (right_find find time documents batch next asks of may small name when shows told) = IsFixed v
+abbrev pub IsSettled : View → (account : Account) (cursors : List Cursor) (a : Asked) (t : Answered) (next : List Cursor)
+    → IsRight account cursors a t next → Type 0
+IsSettled v account cursors a t _ (right_write write dones c asks may whole begun name before told) = dones ≢ []
+IsSettled v account cursors a t _ (right_find find time documents batch next asks of may small name when shows told) = IsFixed v
     find.reading time
-IsSettled v changes history asked answered cursors a t _ (right_count read time n asks of may told) = IsFixed v read time
-IsSettled v changes history asked answered cursors a t _ (right_refused_read read reads refused) = IsRefusalFixed v changes history answered a t read
+IsSettled v account cursors a t _ (right_count read time n asks of may told) = IsFixed v read time
+IsSettled v account cursors a t _ (right_refused_read read reads refused) = IsRefusalFixed v account a t read
     refused
-IsSettled v changes history asked answered cursors a t _ (right_more more c batch next asks found shows told) = Unit {0}
-IsSettled v changes history asked answered cursors a t _ (right_no_cursor more asks none told) = Unit {0}
-IsSettled v changes history asked answered cursors a t _ (right_kill kill killed missing next asks closed told) = Unit {0}
-IsSettled v changes history asked answered cursors a t _ (right_shard namespace asks created told) = Unit {0}
-IsSettled v changes history asked answered cursors a t _ (right_split split asks begins told) = Unit {0}
-IsSettled v changes history asked answered cursors a t _ (right_not_sharded split asks told) = Unit {0}
-IsSettled v changes history asked answered cursors a t _ (right_hello asks told) = Unit {0}
-IsSettled v changes history asked answered cursors a t _ (right_legacy legacy asks told) = Unit {0}
-IsSettled v changes history asked answered cursors a t _ (right_ping asks told) = Unit {0}
-IsSettled v changes history asked answered cursors a t _ (right_end_sessions asks told) = Unit {0}
-IsSettled v changes history asked answered cursors a t _ (right_refusal refusal asks told) = Unit {0}
+IsSettled v account cursors a t _ (right_more more c batch next asks found shows told) = Unit {0}
+IsSettled v account cursors a t _ (right_no_cursor more asks none told) = Unit {0}
+IsSettled v account cursors a t _ (right_kill kill killed missing next asks closed told) = Unit {0}
+IsSettled v account cursors a t _ (right_shard namespace asks created told) = Unit {0}
+IsSettled v account cursors a t _ (right_split split asks begins told) = Unit {0}
+IsSettled v account cursors a t _ (right_not_sharded split asks told) = Unit {0}
+IsSettled v account cursors a t _ (right_hello asks told) = Unit {0}
+IsSettled v account cursors a t _ (right_legacy legacy asks told) = Unit {0}
+IsSettled v account cursors a t _ (right_ping asks told) = Unit {0}
+IsSettled v account cursors a t _ (right_end_sessions asks told) = Unit {0}
+IsSettled v account cursors a t _ (right_refusal refusal asks told) = Unit {0}
 
 -- an answer to a request that was taken, where it is right
 pub record AnswerFits (v : View) (asked : List Asked) (answered : List Answered) (cursors : List Cursor) (t : Answered) (next : List Cursor) : Type 0 where
@@ -301,8 +301,8 @@ pub record AnswerFits (v : View) (asked : List Asked) (answered : List Answered)
   pub same : request.request ≡ t.request
   pub came : request.came ≤ t.step
   pub risen : request.time ≤ t.time
-  pub right : IsRight (changes_in v) (entries_in v first_shard) asked answered cursors request t next
-  pub settled : IsSettled v (changes_in v) (entries_in v first_shard) asked answered cursors request t next right
+  pub right : IsRight (account_in v asked answered) cursors request t next
+  pub settled : IsSettled v (account_in v asked answered) cursors request t next right
 
 -- all replies, in order, from these cursors to those
 pub data AnswersFit (v : View) (asked : List Asked) (answered : List Answered) : List Cursor → List Answered → List Cursor → Type 0 where
@@ -317,23 +317,23 @@ abbrev pub IsToldOf : (s : Answered) (write : WriteCommand) (index : ℕ) (e : E
 IsToldOf s write index e = (command_of s.request ≡ Ok (write_command write)) × (e.number ≡ number_for write.number s.id index)
     × (operation_time (Some s.document) ≡ Some e.time)
 
--- no entry whose time any router had returned before the request came is above the time
-abbrev pub IsPast : View → List Answered → Asked → ℕ → Type 0
-IsPast v answered a time = (s : Answered) (write : WriteCommand) (index : ℕ) (e : Entry) → IsIn s answered → s.step < a.came
-    → IsIn e (entries_in v first_shard) → IsToldOf s write index e → e.time ≤ time
+-- no entry of a shard whose time any router had returned before the request came is above the time
+abbrev pub IsPast : View → (shard : ℕ) → List Answered → Asked → ℕ → Type 0
+IsPast v shard answered a time = (s : Answered) (write : WriteCommand) (index : ℕ) (e : Entry) → IsIn s answered → s.step < a.came
+    → IsIn e (entries_in v shard) → IsToldOf s write index e → e.time ≤ time
 
-abbrev pub TimeFits : View → List Dated → List Asked → List Answered → ℕ → Body → Type 0
-TimeFits v dated asked answered time (time_told id) = (a : Asked) × IsIn a asked × (a.id ≡ id) × IsPast v answered a time
-TimeFits v dated asked answered time (split_done id false) = WasMissing dated asked id
-TimeFits v dated asked answered time body = Unit {0}
+abbrev pub TimeFits : View → List Dated → List Asked → List Answered → (sender time : ℕ) → Body → Type 0
+TimeFits v dated asked answered sender time (time_told id) = (a : Asked) × IsIn a asked × (a.id ≡ id) × IsPast v sender answered a time
+TimeFits v dated asked answered sender time (split_done id false) = WasMissing dated asked id
+TimeFits v dated asked answered sender time body = Unit {0}
 
--- no entry is above the time that is sent; and a collection that is not found was not created
-abbrev pub TellsAll : View → List Asked → ℕ → Body → Type 0
-TellsAll v asked time (time_told id) = AllByRecursion (λ (e : Entry). e.time ≤ time) (entries_in v first_shard)
-TellsAll v asked time (split_done id false) = IsMissing v asked id
-TellsAll v asked time body = Unit {0}
+-- no entry of the sender is above the time that it sends; and a collection that is not found was not created
+abbrev pub TellsAll : View → List Asked → (sender time : ℕ) → Body → Type 0
+TellsAll v asked sender time (time_told id) = AllByRecursion (λ (e : Entry). e.time ≤ time) (entries_in v sender)
+TellsAll v asked sender time (split_done id false) = IsMissing v asked id
+TellsAll v asked sender time body = Unit {0}
 
--- WHAT THE CATALOGUE AND THE SHARD KEEP
+-- WHAT THE CATALOGUE AND THE SHARDS KEEP
 
 -- what changes the catalogue made
 pub record AreMade (time : ℕ) (changes : List Change) : Type 0 where
@@ -344,11 +344,11 @@ pub record AreMade (time : ℕ) (changes : List Change) : Type 0 where
 pub record NeighboursFit (v : View) (asked : List Asked) : Type 0 where
   pub begun : AreMade (v.bound 0) (changes_in v)
   pub one : AreDifferent (ids_asked asked)
-  pub past : AllByRecursion (λ (e : Entry). e.time ≤ v.bound first_shard) (entries_in v first_shard)
-  pub sent : AllByRecursion (WasMade (entries_in v first_shard) asked) (entries_in v first_shard)
-  pub numbers : AreNumbered (entries_in v first_shard)
-  pub parts : AllByRecursion (StandsInPart (entries_in v first_shard)) asked
-  pub placed : AllByRecursion (IsPlaced (changes_in v)) (entries_in v first_shard)
+  pub past : AllByRecursion (IsWithin v.bound) (history_in v)
+  pub sent : AllByRecursion (WasMade (history_in v) asked) (history_in v)
+  pub numbers : AreNumbered (history_in v)
+  pub parts : AllByRecursion (StandsInPart (history_in v)) asked
+  pub placed : AllByRecursion (IsPlaced (changes_in v)) (history_in v)
 
 -- THE WORLD
 
@@ -368,7 +368,7 @@ InOrder nodes = (c : Held) × (s : Held) × (routers : List Held) × (nodes ≡ 
 
 -- what is true of a message that was ever sent
 abbrev pub SentFits : View → List Dated → List Asked → List Answered → List Given → Letter → Type 0
-SentFits v dated asked answered given m = LetterFits v asked m × IsMet v given m.time × TimeFits v dated asked answered m.time m.body
+SentFits v dated asked answered given m = LetterFits v asked m × IsMet v given m.time × TimeFits v dated asked answered m.sender m.time m.body
 
 pub record Good (w : World) (book : Book) : Type 0 where
   pub order : InOrder w.nodes

@@ -6,20 +6,21 @@ use Rattle.std.proofs.lemmas.Bool.{leb-true, leb-false}
 use Rattle.history_model.proofs.Lists.{all_weaken, all_append, all_at, in_prefix}
 use Rattle.bson_model.specs.Tree.{Datum, Fields}
 use Rattle.chunk_model.specs.Changes.{Change, create_change, split_change, commit_change, time_of}
-use Rattle.chunk_model.specs.Tables.{Table, first_shard}
+use Rattle.chunk_model.specs.Tables.{Table}
 use Rattle.history_model.specs.Documents.{documents_at}
 use Rattle.pipeline_model.specs.Halves.{Half, Rows, kept_at_head, may_stand_in}
 use Rattle.command_model.specs.Writes.{WriteCommand}
 use Rattle.history_model.specs.History.{StatementNumber, Entry, IsIn}
 use Rattle.base_model.specs.Identities.{RequestId}
 use Rattle.reply_model.specs.Exchanges.{Asked, number_for, is_session_of, entries_by}
+use Rattle.reply_model.specs.Accounts.{Given}
 use Rattle.reply_model.specs.Outcomes.{StatementOutcome, Done}
-use Rattle.reply_model.specs.OneHistory.{WasWanted, IsPlaced, Given}
+use Rattle.reply_model.specs.OneHistory.{WasWanted, IsPlaced}
 use Rattle.node_model.specs.Letters.{At, no_time, at_time, Statement, HalfFault, half_overflow, half_excess, Body, table_ask, table_told, split_ask, split_done, write_ask, write_done, read_ask, half_ask, read_rows, stale, time_ask, time_told, Letter}
 use Rattle.node_model.specs.States.{Work, writing, reading, sharding, splitting}
 use Rattle.reply_model.specs.Right.{WasSplit}
-use Rattle.node_laws.proofs.Views.{View, entries_in, changes_in, MovesNothing, Later}
-use Rattle.node_laws.proofs.LongerJournals.{IsNewChange, more_entries, more_changes, entry_stays, change_stays, still_grows}
+use Rattle.node_laws.proofs.Views.{View, entries_in, changes_in, history_in, HavePassed, IsBeyond, MovesNothing, Later}
+use Rattle.node_laws.proofs.LongerJournals.{IsNewAt, IsNewChange, more_entries, more_changes, entry_stays, change_stays, still_grows}
 use Rattle.node_laws.proofs.CatalogueTables.{unmoved, owned_from}
 use Rattle.node_laws.proofs.ReadFacts.{BeginsAfter, NoneBegan, IsReadOf, IsShown, IsMade, RowsFit}
 use Rattle.node_laws.proofs.WriteFacts.{IsAnswerOf, by_entry, by_older, IsDoneAt, AreAnswers, WasMade}
@@ -27,7 +28,7 @@ use Rattle.node_laws.proofs.SplitFacts.{IsSplitOf, IsSplitDone}
 use Rattle.node_laws.proofs.Facts.{IsKnownTable, IsOwned, IsWriteOf, HasBegun, IsDoneOf, TableFits, IsWanted, IsOfRequest, BodyFits, LetterFits, AreSeen, IsMet}
 use Rattle.node_laws.proofs.Choices.{decided_stays}
 use Rattle.node_laws.proofs.KeptDocuments.{Counts, documents_unchanged}
-use Rattle.node_laws.proofs.Lists.{all_behind}
+use Rattle.node_laws.proofs.Histories.{history_extends, passed_of, documents_extended, history_stays}
 
 -- WHAT A HISTORY SAYS OF A TIME
 
@@ -89,44 +90,39 @@ owned_grows v w a b namespace shard s later le o =
 
 -- FACTS ON READS AND WRITES
 
--- where the time of a read is past, or its collection begins after it, no later entry counts for it
-none_counts : (v w : View) (namespace : List ℕ) (time : ℕ) (more : List Entry) → Later v w → (time ≤ v.bound first_shard) ⊎ NoneBegan v namespace time
-    → AllByRecursion (λ (e : Entry). v.bound first_shard < e.time) more → AllByRecursion (IsPlaced (changes_in w)) more
-    → AllByRecursion (λ e. ¬ Counts namespace time e) more
-none_counts v w namespace time more later (inl settled) above placed =
-    all_weaken (λ (e : Entry). v.bound first_shard < e.time) (λ e. ¬ Counts namespace time e) more
-    (λ e h counts. let l = counts.0 in absurd (omega arith)) above
-none_counts v w namespace time more later (inr none) above placed =
-    let began : NoneBegan w namespace time = began_grows v w namespace time later none in
-    all_weaken (IsPlaced (changes_in w)) (λ e. ¬ Counts namespace time e) more (λ e p counts. before_all w namespace time e began p counts) placed
-
-pub documents_stay : (v w : View) (namespace : List ℕ) (time : ℕ) → Later v w → (time ≤ v.bound first_shard) ⊎ NoneBegan v namespace time
-    → AllByRecursion (IsPlaced (changes_in w)) (entries_in w first_shard)
-    → documents_at (entries_in w first_shard) namespace time ≡ documents_at (entries_in v first_shard) namespace time
+-- where the time of a read is past, or its collection begins after it, the documents stay in a later history
+pub documents_stay : (v w : View) (namespace : List ℕ) (time : ℕ) → Later v w → HavePassed v time ⊎ NoneBegan v namespace time
+    → AllByRecursion (IsPlaced (changes_in w)) (history_in w)
+    → documents_at (history_in w) namespace time ≡ documents_at (history_in v) namespace time
 documents_stay v w namespace time later fixed placed =
-    let m = more_entries v w first_shard later in
-    let behind : AllByRecursion (IsPlaced (changes_in w)) m.more = all_behind (IsPlaced (changes_in w)) (entries_in v first_shard) m.more
-    (subst (λ l. AllByRecursion (IsPlaced (changes_in w)) l) m.same placed) in
-    ap (λ l. documents_at l namespace time) m.same
-    ∙ documents_unchanged namespace time (entries_in v first_shard) m.more (none_counts v w namespace time m.more later fixed m.above behind)
+    documents_extended v.bound namespace time (history_in v) (history_in w) (history_extends v w later) (λ e i new counts. not_counted fixed e i new counts)
+  where
+    not_counted : HavePassed v time ⊎ NoneBegan v namespace time → (e : Entry) → IsIn e (history_in w) → IsBeyond v.bound e → ¬ Counts namespace time e
+    not_counted (inl passed) e i new counts =
+        let below : time ≤ v.bound e.shard = passed_of v e.shard time new.0 passed in
+        let above = new.1 in
+        let early = counts.0 in
+        absurd (omega (arith, below, above, early))
+    not_counted (inr none) e i new counts =
+        before_all w namespace time e (began_grows v w namespace time later none) (all_at (IsPlaced (changes_in w)) e (history_in w) placed i) counts
 
--- the same where the shard has passed the time
-settled_stay : (v w : View) (namespace : List ℕ) (time : ℕ) → Later v w → time ≤ v.bound first_shard
-    → documents_at (entries_in w first_shard) namespace time ≡ documents_at (entries_in v first_shard) namespace time
-settled_stay v w namespace time later settled =
-    let m = more_entries v w first_shard later in
+-- so do those of a shard that has passed the time
+settled_stay : (v w : View) (at : ℕ) (namespace : List ℕ) (time : ℕ) → Later v w → time ≤ v.bound at
+    → documents_at (entries_in w at) namespace time ≡ documents_at (entries_in v at) namespace time
+settled_stay v w at namespace time later settled =
+    let m = more_entries v w at later in
     ap (λ l. documents_at l namespace time) m.same
-    ∙ documents_unchanged namespace time (entries_in v first_shard) m.more
-    (all_weaken (λ (e : Entry). v.bound first_shard < e.time) (λ e. ¬ Counts namespace time e) m.more
-    (λ e h counts. let l = counts.0 in absurd (omega arith)) m.above)
+    ∙ documents_unchanged namespace time (entries_in v at) m.more
+    (all_weaken (IsNewAt at (v.bound at)) (λ e. ¬ Counts namespace time e) m.more
+    (λ e h counts. let above = h.1 in let early = counts.0 in absurd (omega (arith, above, early))) m.above)
 
 -- nothing is stored in a collection that was not created
 pub nothing_stands : (v : View) (namespace : List ℕ) (time : ℕ) → NoneBegan v namespace time
-    → AllByRecursion (IsPlaced (changes_in v)) (entries_in v first_shard)
-    → documents_at (entries_in v first_shard) namespace time ≡ []
+    → AllByRecursion (IsPlaced (changes_in v)) (history_in v)
+    → documents_at (history_in v) namespace time ≡ []
 nothing_stands v namespace time none placed =
-    documents_unchanged namespace time [] (entries_in v first_shard)
-    (all_weaken (IsPlaced (changes_in v)) (λ e. ¬ Counts namespace time e) (entries_in v first_shard)
+    documents_unchanged namespace time [] (history_in v)
+    (all_weaken (IsPlaced (changes_in v)) (λ e. ¬ Counts namespace time e) (history_in v)
     (λ e p counts. before_all v namespace time e none p counts) placed)
 
 abbrev pub read_grows : (v w : View) (asked more : List Asked) (id : RequestId) (namespace : List ℕ) (at : ℕ) (half : Half) → Later v w
@@ -146,13 +142,13 @@ pub shown_grows : (v w : View) (asked more : List Asked) (sender early late : �
     (documents : List Fields) → Later v w
     → early ≤ late → IsShown v asked sender early id namespace at half documents → IsShown w (asked ++ more) sender late id namespace at half documents
 shown_grows v w asked more sender early late id namespace at half documents later le s =
-    let risen : v.bound first_shard ≤ w.bound first_shard = later.times first_shard in
+    let risen : v.bound sender ≤ w.bound sender = later.times sender in
     let settled = s.settled in
     let past = s.past in
     record {
       read = read_grows v w asked more id namespace at half later s.read;
       owner = s.owner;
-      documents_are = s.documents_are ∙ ap (λ l. kept_at_head half.stages (filter (may_stand_in half.span) l)) (sym (settled_stay v w namespace at later s.settled));
+      documents_are = s.documents_are ∙ ap (λ l. kept_at_head half.stages (filter (may_stand_in half.span) l)) (sym (settled_stay v w sender namespace at later s.settled));
       settled = omega arith;
       past = omega arith;
     }
@@ -181,28 +177,22 @@ rows_grow v w asked more sender time id (Err (half_excess n)) later f = record {
 }
 
 -- outcomes of statements are those of more entries, at a later time
-answer_grows : (old more : List Entry) (early late : ℕ) (number : StatementNumber) (answer : StatementOutcome) → early ≤ late
-    → IsAnswerOf old early number answer → IsAnswerOf (old ++ more) late number answer
-answer_grows old more early late number _ le (by_entry e i numbered past) = by_entry e (in_prefix e old more i) numbered (omega arith)
-answer_grows old more early late number _ le (by_older e i session less past) = by_older e (in_prefix e old more i) session less (omega arith)
+answer_grows : (old new : List Entry) (early late : ℕ) (number : StatementNumber) (answer : StatementOutcome) → ((e : Entry) → IsIn e old → IsIn e new)
+    → early ≤ late → IsAnswerOf old early number answer → IsAnswerOf new late number answer
+answer_grows old new early late number _ more le (by_entry e i numbered past) = by_entry e (more e i) numbered (omega arith)
+answer_grows old new early late number _ more le (by_older e i session less past) = by_older e (more e i) session less (omega arith)
 
-done_at_grows : (old more : List Entry) (early late : ℕ) (write : WriteCommand) (id : RequestId) (d : Done) → early ≤ late
-    → IsDoneAt old early write id d → IsDoneAt (old ++ more) late write id d
-done_at_grows old more early late write id d le a =
-    record { within = a.within; answer = answer_grows old more early late (number_for write.number id d.index) d.answer le a.answer }
-
-pub done_at_later : (v w : View) (at early late : ℕ) (write : WriteCommand) (id : RequestId) (d : Done) → Later v w → early ≤ late
-    → IsDoneAt (entries_in v at) early write id d → IsDoneAt (entries_in w at) late write id d
-done_at_later v w at early late write id d later le a =
-    let m = more_entries v w at later in
-    subst (λ l. IsDoneAt l late write id d) (sym m.same) (done_at_grows (entries_in v at) m.more early late write id d le a)
+pub done_at_grows : (old new : List Entry) (early late : ℕ) (write : WriteCommand) (id : RequestId) (d : Done) → ((e : Entry) → IsIn e old → IsIn e new)
+    → early ≤ late → IsDoneAt old early write id d → IsDoneAt new late write id d
+done_at_grows old new early late write id d more le a =
+    record { within = a.within; answer = answer_grows old new early late (number_for write.number id d.index) d.answer more le a.answer }
 
 pub answers_later : (v w : View) (early late : ℕ) (write : WriteCommand) (id : RequestId) (index : ℕ) (dones : List Done) → Later v w → early ≤ late
-    → AreAnswers (entries_in v first_shard) early write id index dones → AreAnswers (entries_in w first_shard) late write id index dones
+    → AreAnswers (history_in v) early write id index dones → AreAnswers (history_in w) late write id index dones
 answers_later v w early late write id index [] later le all = tt
 answers_later v w early late write id index (d ∷ dones) later le all = (
   all.0,
-  done_at_later v w first_shard early late write id d later le all.1,
+  done_at_grows (history_in v) (history_in w) early late write id d (λ e i. history_stays v w e later i) le all.1,
   answers_later v w early late write id (index + 1) dones later le all.2,
 )
 
@@ -241,7 +231,8 @@ done_grows v w asked more sender time id dones later b = record {
   own = b.own;
   asks = b.asks;
   each = all_weaken (IsDoneAt (entries_in v sender) time b.write id) (IsDoneAt (entries_in w sender) time b.write id) dones
-      (λ d a. done_at_later v w sender time time b.write id d later (omega arith) a) b.each;
+      (λ d a. done_at_grows (entries_in v sender) (entries_in w sender) time time b.write id d (λ e i. entry_stays v w sender e later i) (omega arith) a)
+      b.each;
   last = b.last;
   begun = begun_grows v w time b.write.namespace later b.begun;
 }
@@ -316,7 +307,7 @@ body_grows v w asked more sender receiver time (half_ask id turn namespace at ha
 body_grows v w asked more sender receiver time (read_rows id turn rows) later f = rows_grow v w asked more sender time id rows later f
 body_grows v w asked more sender receiver time (stale id turn met) later f = f
 body_grows v w asked more sender receiver time (time_ask id) later f = request_grows asked more id f
-body_grows v w asked more sender receiver time (time_told id) later f = request_grows asked more id f
+body_grows v w asked more sender receiver time (time_told id) later f = (f.0, request_grows asked more id f.1)
 
 pub letter_grows : (v w : View) (asked more : List Asked) (m : Letter) → Later v w → LetterFits v asked m → LetterFits w (asked ++ more) m
 letter_grows v w asked more m later f = body_grows v w asked more m.sender m.receiver m.time m.body later f
@@ -341,6 +332,12 @@ entry_grows old new asked more e stays m = record {
   reached = λ ordered i before. let r = m.reached ordered i before in (r.0, stays r.0 r.1, r.2, r.3, r.4);
 }
 
+-- also where only journals are longer
+pub made_later : (v w : View) (asked : List Asked) (e : Entry) → Later v w → WasMade (history_in v) asked e → WasMade (history_in w) asked e
+made_later v w asked e later m =
+    subst (λ l. WasMade (history_in w) l e) (append-nil asked)
+    (entry_grows (history_in v) (history_in w) asked [] e (λ d i. history_stays v w d later i) m)
+
 pub change_wanted_grows : (asked more : List Asked) (x : Change) → WasWanted asked x → WasWanted (asked ++ more) x
 change_wanted_grows asked more x s = record { request = s.request; taken = in_prefix s.request asked more s.taken; asks = s.asks; later = s.later }
 
@@ -364,7 +361,7 @@ pub met_grows : (v w : View) (given more : List Given) (time : ℕ) → Later v 
 met_grows v w given more time later (inl z) = inl z
 met_grows v w given more time later (inr (inl (g, i, e))) = inr (inl (g, in_prefix g given more i, e))
 met_grows v w given more time later (inr (inr (inl (x, i, e)))) = inr (inr (inl (x, change_stays v w x later i, e)))
-met_grows v w given more time later (inr (inr (inr (d, i, e)))) = inr (inr (inr (d, entry_stays v w first_shard d later i, e)))
+met_grows v w given more time later (inr (inr (inr (d, i, e)))) = inr (inr (inr (d, history_stays v w d later i, e)))
 
 pub met_later : (v w : View) (given : List Given) (time : ℕ) → Later v w → IsMet v given time → IsMet w given time
 met_later v w given time later m = subst (λ l. IsMet w l time) (append-nil given) (met_grows v w given [] time later m)

@@ -8,14 +8,15 @@ use Rattle.chunk_model.specs.Changes.{known_table}
 use Rattle.chunk_model.specs.Tables.{first_shard}
 use Rattle.history_model.specs.History.{Entry, IsIn}
 use Rattle.reply_model.specs.Exchanges.{Asked, Answered}
-use Rattle.reply_model.specs.OneHistory.{WasWanted, StandsInPart, IsPlaced, AreNumbered, IsFresh, IsInOrder, Given, ids_asked, ids_told, AreDifferent, Dated, changes_in as changes_of}
+use Rattle.reply_model.specs.Accounts.{Given, Dated, changes_in as changes_of}
+use Rattle.reply_model.specs.OneHistory.{WasWanted, StandsInPart, IsPlaced, AreNumbered, IsFresh, IsInOrder, ids_asked, ids_told, AreDifferent}
 use Rattle.node_model.specs.Journal.{Kept, entries_kept, changes_kept}
 use Rattle.node_model.specs.Letters.{Body, table_ask, table_told, split_ask, split_done, write_ask, write_done, read_ask, half_ask, read_rows, stale, time_ask, time_told, Letter, Effect}
 use Rattle.node_model.specs.States.{Shard, NodeState, catalogue_state, shard_state, router_state, time_of_node}
 use Rattle.node_model.specs.World.{Held, World, asked_by, answered_by, dated_onto, after, journal_at}
 use Rattle.node_model.proofs.Journals.{journal_here}
-use Rattle.node_laws.proofs.Views.{Choice, Book, View, view_of, time_at, entries_in, changes_in, MovesNothing, Later}
-use Rattle.node_laws.proofs.CatalogueTables.{wanted_still}
+use Rattle.node_laws.proofs.Views.{Choice, Book, View, view_of, time_at, entries_in, changes_in, IsShardAt, history_in, IsWithin, MovesNothing, Later}
+use Rattle.node_laws.proofs.CatalogueTables.{wanted_still, placed_first}
 use Rattle.node_laws.proofs.Places.{EachAt, each_set}
 use Rattle.node_laws.proofs.WriteFacts.{WasMade}
 use Rattle.node_laws.proofs.Facts.{BodyFits, ShardFits, StateFits, is_of, HeldFits, IsMet, AnswersFit, IsPast, IsToldOf, TimeFits, TellsAll, AreMade, NeighboursFit, IsCatalogue, IsShard, InOrder, SentFits, Good, SameKind}
@@ -23,6 +24,7 @@ use Rattle.node_laws.proofs.Dates.{IsNoChange, none_before, missing_grows, dated
 use Rattle.node_laws.proofs.Owes.{asked_after, answered_after, dated_after, IsSaid, OwesIn, Owes}
 use Rattle.node_laws.proofs.Lists.{map_longer}
 use Rattle.node_laws.proofs.Growth.{letter_grows, met_later}
+use Rattle.node_laws.proofs.Histories.{entry_of_shard, stored_before}
 use Rattle.node_laws.proofs.Journals.{with_more, with_news, views_later, journal_else, time_here}
 use Rattle.node_laws.proofs.Requests.{answered_now, answered_here, asked_now, asked_here, still_fresh}
 use Rattle.node_laws.proofs.Others.{Decided, other_fits}
@@ -112,13 +114,17 @@ nodes_keep v asked answered given nodes order all journals bounds different =
     let s = the_shard v asked answered given nodes order all in
     let b = the_begun v asked answered given nodes order all in
     let changes : changes_in v ≡ changes_kept (journal_at nodes 0) = ap (λ k. changes_kept k) (journals 0) in
-    let entries : s.shard.entries ≡ entries_in v first_shard = s.fits.entries ∙ sym (ap (λ k. entries_kept k) (journals first_shard ∙ s.journal)) in
+    let entries : s.shard.entries ≡ history_in v = s.fits.entries ∙ sym (ap (λ k. entries_kept k) (journals first_shard ∙ s.journal)) in
     record {
       begun = subst (λ l. AreMade (v.bound 0) l) (sym changes) (subst (λ t. AreMade t (changes_kept (journal_at nodes 0))) (sym (bounds 0)) b);
       one = different;
-      past = subst (λ l. AllByRecursion (λ (e : Entry). e.time ≤ v.bound first_shard) l) entries
-          (subst (λ n. AllByRecursion (λ (e : Entry). e.time ≤ n) s.shard.entries) (sym (bounds first_shard ∙ s.time)) s.fits.past);
-      sent = subst (λ l. AllByRecursion (WasMade l asked) l) entries s.fits.sent;
+      past = subst (λ l. AllByRecursion (IsWithin v.bound) l) entries
+          (all_both (λ (e : Entry). e.time ≤ s.shard.time) (IsPlaced (changes_in v)) (IsWithin v.bound) s.shard.entries
+          (λ e le placed.
+          let of_first : e.shard ≡ first_shard = placed_first (changes_in v) s.fits.still e placed in
+          (of_first, subst (λ n. e.time ≤ n) (sym (bounds e.shard ∙ ap (λ n. time_at nodes n) of_first ∙ s.time)) le))
+          s.fits.past s.fits.placed);
+      sent = subst (λ l. AllByRecursion (WasMade (history_in v) asked) l) entries s.fits.sent;
       numbers = subst (λ l. AreNumbered l) entries s.fits.numbers;
       parts = subst (λ l. AllByRecursion (StandsInPart l) asked) entries s.fits.parts;
       placed = subst (λ l. AllByRecursion (IsPlaced (changes_in v)) l) entries s.fits.placed;
@@ -139,8 +145,8 @@ order_stays asked more now a came news order =
 -- what is sent fits
 times_told : (v : View) (dated : List Dated) (asked : List Asked) (answered : List Answered) (sender receiver time : ℕ) (b : Body)
     → changes_of dated ≡ changes_in v → BodyFits v asked sender receiver time b
-    → TellsAll v asked time b
-    → TimeFits v dated asked answered time b
+    → TellsAll v asked sender time b
+    → TimeFits v dated asked answered sender time b
 times_told v dated asked answered sender receiver time (split_done id false) same fits none = record {
   request = none.request;
   taken = none.taken;
@@ -152,10 +158,10 @@ times_told v dated asked answered sender receiver time (split_done id false) sam
 times_told v dated asked answered sender receiver time (split_done id true) same fits all = tt
 times_told v dated asked answered sender receiver time (split_ask id namespace middle) same fits all = tt
 times_told v dated asked answered sender receiver time (time_told id) same fits all = (
-  fits.request,
-  fits.taken,
-  fits.own,
-  λ s write index e i before stands told. all_at (λ (d : Entry). d.time ≤ time) e (entries_in v first_shard) all stands,
+  fits.1.request,
+  fits.1.taken,
+  fits.1.own,
+  λ s write index e i before stands told. all_at (λ (d : Entry). d.time ≤ time) e (entries_in v sender) all stands,
 )
 times_told v dated asked answered sender receiver time (table_ask namespace create at) same fits all = tt
 times_told v dated asked answered sender receiver time (table_told namespace create at table) same fits all = tt
@@ -171,37 +177,40 @@ times_told v dated asked answered sender receiver time (time_ask id) same fits a
 module _ (v w : View) (dated : List Dated) (written : List Kept) (asked more : List Asked) (answered news : List Answered) (now : ℕ)
     (g : Grows v w asked more answered news now)
     (closed : AllByRecursion (IsClosed v w) answered) where
-  past_grows : (a : Asked) (time : ℕ) → IsIn a asked → IsPast v answered a time → IsPast w (answered ++ news) a time
-  past_grows a time taken past = λ s write index e i before stands told. by_place s write index e before stands told (in_append s answered news i)
+  past_grows : (a : Asked) (shard time : ℕ) → IsShardAt shard → IsIn a asked → IsPast v shard answered a time → IsPast w shard (answered ++ news) a time
+  past_grows a shard time is taken past = λ s write index e i before stands told.
+      by_place s write index e before stands told (in_append s answered news i)
     where
-      by_place : (s : Answered) (write : WriteCommand) (index : ℕ) (e : Entry) → s.step < a.came → IsIn e (entries_in w first_shard)
+      by_place : (s : Answered) (write : WriteCommand) (index : ℕ) (e : Entry) → s.step < a.came → IsIn e (entries_in w shard)
           → IsToldOf s write index e → IsIn s answered ⊎ IsIn s news → e.time ≤ time
       by_place s write index e before stands told (inl j) =
-          past s write index e j before (all_at (IsClosed v w) s answered closed j write index e stands told) told
+          past s write index e j before
+          (stored_before v w shard e is stands (all_at (IsClosed v w) s answered closed j write index e (entry_of_shard w shard e is stands) told)) told
       by_place s write index e before stands told (inr j) =
           let at : s.step ≡ now = all_at (λ (x : Answered). x.step ≡ now) s news g.steps j in
           let came : a.came < now + 1 = all_at (λ (x : Asked). x.came < now + 1) a asked g.came taken in
           absurd (omega arith)
 
-  times_grow : (time : ℕ) (b : Body) → TimeFits v dated asked answered time b
-      → TimeFits w (dated_onto now dated written) (asked ++ more) (answered ++ news) time b
-  times_grow time (split_done id false) f = missing_grows now dated written asked more g.came id f
-  times_grow time (split_done id true) f = tt
-  times_grow time (split_ask id namespace middle) f = tt
-  times_grow time (time_told id) (a, taken, own, past) = (a, in_prefix a asked more taken, own, past_grows a time taken past)
-  times_grow time (table_ask namespace create at) f = tt
-  times_grow time (table_told namespace create at table) f = tt
-  times_grow time (write_ask id turn ordered namespace statements sent) f = tt
-  times_grow time (write_done id dones) f = tt
-  times_grow time (read_ask id turn namespace at half sent) f = tt
-  times_grow time (half_ask id turn namespace at half documents) f = tt
-  times_grow time (read_rows id turn rows) f = tt
-  times_grow time (stale id turn met) f = tt
-  times_grow time (time_ask id) f = tt
+  times_grow : (sender receiver time : ℕ) (b : Body) → BodyFits v asked sender receiver time b → TimeFits v dated asked answered sender time b
+      → TimeFits w (dated_onto now dated written) (asked ++ more) (answered ++ news) sender time b
+  times_grow sender receiver time (split_done id false) fits f = missing_grows now dated written asked more g.came id f
+  times_grow sender receiver time (split_done id true) fits f = tt
+  times_grow sender receiver time (split_ask id namespace middle) fits f = tt
+  times_grow sender receiver time (time_told id) fits (a, taken, own, past) =
+      (a, in_prefix a asked more taken, own, past_grows a sender time fits.0 taken past)
+  times_grow sender receiver time (table_ask namespace create at) fits f = tt
+  times_grow sender receiver time (table_told namespace create at table) fits f = tt
+  times_grow sender receiver time (write_ask id turn ordered namespace statements sent) fits f = tt
+  times_grow sender receiver time (write_done id dones) fits f = tt
+  times_grow sender receiver time (read_ask id turn namespace at half sent) fits f = tt
+  times_grow sender receiver time (half_ask id turn namespace at half documents) fits f = tt
+  times_grow sender receiver time (read_rows id turn rows) fits f = tt
+  times_grow sender receiver time (stale id turn met) fits f = tt
+  times_grow sender receiver time (time_ask id) fits f = tt
 
   letters_grow : (given : List Given) (m : Letter) → SentFits v dated asked answered given m
       → SentFits w (dated_onto now dated written) (asked ++ more) (answered ++ news) given m
-  letters_grow given m f = (letter_grows v w asked more m g.later f.0, met_later v w given m.time g.later f.1, times_grow m.time m.body f.2)
+  letters_grow given m f = (letter_grows v w asked more m g.later f.0, met_later v w given m.time g.later f.1, times_grow m.sender m.receiver m.time m.body f.0 f.2)
 
 -- A STEP
 
@@ -252,7 +261,7 @@ good_parts w book at old f new v good here owes is later dated owed =
     (slice_set w.nodes at (with_more old f.written new)) order nodes
     (λ p. ap (λ (x : View). x.journal p) is) (λ p. ap (λ (x : View). x.bound p) is) owes.one in
     let g : Grows u v w.asked more w.answered news w.now = record { later = later; before = before; after = after; came = good.came; steps = steps } in
-    let closed : AllByRecursion (IsClosed u v) w.answered = all_closed u v w.asked more later before after w.answered [] book.cursors w.answered good.answers in
+    let closed : AllByRecursion (IsClosed u v) w.answered = all_closed u v w.asked more w.answered later before after [] book.cursors w.answered good.answers in
     record {
       order = order;
       nodes = nodes;

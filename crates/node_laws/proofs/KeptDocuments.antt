@@ -42,22 +42,29 @@ not_own : (e : Entry) (written : Option Datum) (rows : List (Datum × Fields)) �
 not_own e None rows = refl
 not_own e (Some key) rows = refl
 
-none_count : (namespace : List ℕ) (time : ℕ) (rows : List (Datum × Fields)) (more : List Entry) → AllByRecursion (λ e. ¬ Counts namespace time e) more
-    → rows_after namespace rows (filter (λ (e : Entry). nat_le e.time time) more) ≡ rows
-none_count namespace time rows [] all = refl
-none_count namespace time rows (e ∷ more) all = by_time (nat_le e.time time) refl (none_count namespace time rows more all.1)
+-- the entries that are not above a time
+abbrev pub up_to : ℕ → List Entry → List Entry
+up_to time entries = filter (λ (e : Entry). nat_le e.time time) entries
+
+-- an entry that does not count changes nothing
+pub one_uncounted : (namespace : List ℕ) (time : ℕ) (rows : List (Datum × Fields)) (e : Entry) (more : List Entry) → ¬ Counts namespace time e
+    → rows_after namespace rows (up_to time (e ∷ more)) ≡ rows_after namespace rows (up_to time more)
+one_uncounted namespace time rows e more not_it = by_time (nat_le e.time time) refl
   where
     by_name : (b : Bool) → bytes_eq e.namespace namespace ≡ b → nat_le e.time time ≡ true
-        → rows_after namespace rows (filter (λ (d : Entry). nat_le d.time time) more) ≡ rows
-        → rows_after namespace (row_written b e (key_written e.operation) rows) (filter (λ (d : Entry). nat_le d.time time) more) ≡ rows
-    by_name true h g later = absurd (all.0 (leb-true _ _ g, (bytes_eq-Decides e.namespace namespace).0 h))
-    by_name false h g later = ap (λ l. rows_after namespace l (filter (λ (d : Entry). nat_le d.time time) more))
-        (not_own e (key_written e.operation) rows) ∙ later
+        → rows_after namespace (row_written b e (key_written e.operation) rows) (up_to time more) ≡ rows_after namespace rows (up_to time more)
+    by_name true h g = absurd (not_it (leb-true _ _ g, (bytes_eq-Decides e.namespace namespace).0 h))
+    by_name false h g = ap (λ l. rows_after namespace l (up_to time more)) (not_own e (key_written e.operation) rows)
 
-    by_time : (b : Bool) → nat_le e.time time ≡ b → rows_after namespace rows (filter (λ (d : Entry). nat_le d.time time) more) ≡ rows
-        → rows_after namespace rows (if b then e ∷ filter (λ (d : Entry). nat_le d.time time) more else filter (λ (d : Entry). nat_le d.time time) more) ≡ rows
-    by_time true g later = by_name (bytes_eq e.namespace namespace) refl g later
-    by_time false g later = later
+    by_time : (b : Bool) → nat_le e.time time ≡ b
+        → rows_after namespace rows (if b then e ∷ up_to time more else up_to time more) ≡ rows_after namespace rows (up_to time more)
+    by_time true g = by_name (bytes_eq e.namespace namespace) refl g
+    by_time false g = refl
+
+none_count : (namespace : List ℕ) (time : ℕ) (rows : List (Datum × Fields)) (more : List Entry) → AllByRecursion (λ e. ¬ Counts namespace time e) more
+    → rows_after namespace rows (up_to time more) ≡ rows
+none_count namespace time rows [] all = refl
+none_count namespace time rows (e ∷ more) all = one_uncounted namespace time rows e more all.0 ∙ none_count namespace time rows more all.1
 
 rows_joined : (namespace : List ℕ) (rows : List (Datum × Fields)) (xs ys : List Entry)
     → rows_after namespace rows (xs ++ ys) ≡ rows_after namespace (rows_after namespace rows xs) ys

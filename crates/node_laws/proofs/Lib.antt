@@ -14,6 +14,8 @@ pub mod Choices
 pub mod KeptDocuments
 pub mod OwnCursors
 pub mod LongerJournals
+pub mod Histories
+pub mod WholeWrites
 pub mod Growth
 pub mod Journals
 pub mod Dates

@@ -38,38 +38,42 @@ changes_ahead older (kept_block n ∷ kept) = changes_ahead older kept
 pub changes_longer : (old more : List Kept) → changes_kept (old ++ more) ≡ changes_kept more ++ changes_kept old
 changes_longer old more = changes_after [] old more ∙ changes_ahead (changes_onto [] old) more
 
-pub entries_above : (time : ℕ) (kept : List Kept) → AllByRecursion (IsAbove time) kept → AllByRecursion (λ (e : Entry). time < e.time) (entries_kept kept)
-entries_above time [] all = tt
-entries_above time (kept_entry e ∷ kept) all = (all.0, entries_above time kept all.1)
-entries_above time (kept_table t ∷ kept) all = entries_above time kept all.1
-entries_above time (kept_change x ∷ kept) all = entries_above time kept all.1
-entries_above time (kept_life n ∷ kept) all = entries_above time kept all.1
-entries_above time (kept_block n ∷ kept) all = entries_above time kept all.1
+-- an entry of the shard at a place that comes after a time
+abbrev pub IsNewAt : (at time : ℕ) → Entry → Type 0
+IsNewAt at time e = (e.shard ≡ at) × (time < e.time)
+
+pub entries_above : (at time : ℕ) (kept : List Kept) → AllByRecursion (IsAbove at time) kept → AllByRecursion (IsNewAt at time) (entries_kept kept)
+entries_above at time [] all = tt
+entries_above at time (kept_entry e ∷ kept) all = (all.0, entries_above at time kept all.1)
+entries_above at time (kept_table t ∷ kept) all = entries_above at time kept all.1
+entries_above at time (kept_change x ∷ kept) all = entries_above at time kept all.1
+entries_above at time (kept_life n ∷ kept) all = entries_above at time kept all.1
+entries_above at time (kept_block n ∷ kept) all = entries_above at time kept all.1
 
 -- a change that comes after a time
 abbrev pub IsNewChange : ℕ → Change → Type 0
 IsNewChange time x = (time < time_of x) × MovesNothing x
 
-changes_above : (time : ℕ) (older : List Change) (kept : List Kept) → AllByRecursion (IsNewChange time) older → AllByRecursion (IsAbove time) kept
+changes_above : (at time : ℕ) (older : List Change) (kept : List Kept) → AllByRecursion (IsNewChange time) older → AllByRecursion (IsAbove at time) kept
     → AllByRecursion (IsNewChange time) (changes_onto older kept)
-changes_above time older [] before all = before
-changes_above time older (kept_change x ∷ kept) before all = changes_above time (x ∷ older) kept (all.0, before) all.1
-changes_above time older (kept_entry e ∷ kept) before all = changes_above time older kept before all.1
-changes_above time older (kept_table t ∷ kept) before all = changes_above time older kept before all.1
-changes_above time older (kept_life n ∷ kept) before all = changes_above time older kept before all.1
-changes_above time older (kept_block n ∷ kept) before all = changes_above time older kept before all.1
+changes_above at time older [] before all = before
+changes_above at time older (kept_change x ∷ kept) before all = changes_above at time (x ∷ older) kept (all.0, before) all.1
+changes_above at time older (kept_entry e ∷ kept) before all = changes_above at time older kept before all.1
+changes_above at time older (kept_table t ∷ kept) before all = changes_above at time older kept before all.1
+changes_above at time older (kept_life n ∷ kept) before all = changes_above at time older kept before all.1
+changes_above at time older (kept_block n ∷ kept) before all = changes_above at time older kept before all.1
 
--- one journal in a later view: the same entries, and more above its time
-pub record MoreOf {X : Type 0} (time_of : X → ℕ) (bound : ℕ) (old new : List X) : Type 0 where
-  pub more : List X
+-- one journal in a later view: the same entries, and more of its shard above its time
+pub record MoreEntries (at bound : ℕ) (old new : List Entry) : Type 0 where
+  pub more : List Entry
   pub same : new ≡ old ++ more
-  pub above : AllByRecursion (λ x. bound < time_of x) more
+  pub above : AllByRecursion (IsNewAt at bound) more
 
-pub more_entries : (v w : View) (at : ℕ) → Later v w → MoreOf (λ (e : Entry). e.time) (v.bound at) (entries_in v at) (entries_in w at)
+pub more_entries : (v w : View) (at : ℕ) → Later v w → MoreEntries at (v.bound at) (entries_in v at) (entries_in w at)
 more_entries v w at later = record {
   more = entries_kept (later.longer at).written;
   same = ap (λ k. entries_kept k) (later.longer at).same ∙ entries_longer (v.journal at) (later.longer at).written;
-  above = entries_above (v.bound at) (later.longer at).written (later.longer at).rises;
+  above = entries_above at (v.bound at) (later.longer at).written (later.longer at).rises;
 }
 
 -- more changes, above a time
@@ -82,7 +86,7 @@ pub more_changes : (v w : View) → Later v w → MoreChanges (v.bound 0) (chang
 more_changes v w later = record {
   more = changes_kept (later.longer 0).written;
   same = ap (λ k. changes_kept k) (later.longer 0).same ∙ changes_longer (v.journal 0) (later.longer 0).written;
-  above = changes_above (v.bound 0) [] (later.longer 0).written tt (later.longer 0).rises;
+  above = changes_above 0 (v.bound 0) [] (later.longer 0).written tt (later.longer 0).rises;
 }
 
 pub entry_stays : (v w : View) (at : ℕ) (e : Entry) → Later v w → IsIn e (entries_in v at) → IsIn e (entries_in w at)

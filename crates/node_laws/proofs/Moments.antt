@@ -6,7 +6,8 @@ use Rattle.std.proofs.lemmas.Bool.{ltb-true, ltb-false, eqb-true, eqb-false}
 use Rattle.history_model.proofs.Lists.{all_weaken, all_append}
 use Rattle.base_model.specs.Times.{time_of_moment}
 use Rattle.reply_model.specs.Exchanges.{Asked}
-use Rattle.reply_model.specs.OneHistory.{Given, last_from, last_given}
+use Rattle.reply_model.specs.Accounts.{Given}
+use Rattle.reply_model.specs.OneHistory.{last_from, last_given}
 use Rattle.node_model.specs.Letters.{Letter, Input, client_input, letter_input, moment_input, opened_input, Taken, Effect, nothing}
 use Rattle.node_model.specs.States.{Catalogue, Shard, Router, NodeState, catalogue_state, shard_state, router_state}
 use Rattle.node_model.specs.CatalogueRows.{CatalogueRow, catalogue_create, catalogue_tell, catalogue_split, catalogue_bound, catalogue_none, catalogue_skip, catalogue_moment, catalogue_opened, catalogue_client}

@@ -5,11 +5,10 @@ use Rattle.history_model.proofs.Lists.{all_weaken}
 use Rattle.chunk_model.specs.Changes.{time_of}
 use Rattle.chunk_model.specs.Placement.{AreFitting}
 use Rattle.chunk_model.specs.Tables.{first_shard}
-use Rattle.history_model.specs.History.{Entry}
 use Rattle.reply_model.specs.OneHistory.{StandsInPart, IsPlaced, AreNumbered}
 use Rattle.node_model.specs.Journal.{entries_kept, changes_kept}
 use Rattle.node_model.specs.World.{World, journal_at}
-use Rattle.node_laws.proofs.Views.{Book, View, view_of, time_at, entries_in, changes_in, MovesNothing, Later}
+use Rattle.node_laws.proofs.Views.{Book, View, view_of, time_at, changes_in, MovesNothing, Later, history_in, IsWithin}
 use Rattle.node_laws.proofs.WriteFacts.{WasMade}
 use Rattle.node_laws.proofs.Facts.{NeighboursFit, Good}
 use Rattle.node_laws.proofs.Growth.{placed_grows}
@@ -24,9 +23,8 @@ neighbours w book at v good place later others =
     let k : NeighboursFit u w.asked = nodes_keep (view_of w.nodes book) w.asked w.answered w.given w.nodes good.order good.nodes (λ p. refl)
     (λ p. refl) good.one in
     let rises : time_at w.nodes 0 ≤ v.bound 0 = later.times 0 in
-    let shard : time_at w.nodes first_shard ≤ v.bound first_shard = later.times first_shard in
     let changes : changes_in v ≡ changes_in u = ap (λ l. changes_kept l) (others 0 (λ e. omega arith)) in
-    let entries : entries_in v first_shard ≡ entries_in u first_shard = ap (λ l. entries_kept l) (others first_shard (λ e. omega arith)) in
+    let entries : history_in v ≡ history_in u = ap (λ l. entries_kept l) (others first_shard (λ e. omega arith)) in
     record {
       begun = record {
         fitting = subst (λ l. AreFitting l) (sym changes) k.begun.fitting;
@@ -35,12 +33,12 @@ neighbours w book at v good place later others =
         still = subst (λ l. AllByRecursion MovesNothing l) (sym changes) k.begun.still;
       };
       one = k.one;
-      past = subst (λ l. AllByRecursion (λ (e : Entry). e.time ≤ v.bound first_shard) l) (sym entries)
-          (all_weaken (λ (e : Entry). e.time ≤ time_at w.nodes first_shard) (λ (e : Entry). e.time ≤ v.bound first_shard) (entries_in u first_shard)
-          (λ e l. omega (arith, shard)) k.past);
+      past = subst (λ l. AllByRecursion (IsWithin v.bound) l) (sym entries)
+          (all_weaken (IsWithin u.bound) (IsWithin v.bound) (history_in u)
+          (λ e h. (h.0, (let within = h.1 in let risen : u.bound e.shard ≤ v.bound e.shard = later.times e.shard in omega (arith, within, risen)))) k.past);
       sent = subst (λ l. AllByRecursion (WasMade l w.asked) l) (sym entries) k.sent;
       numbers = subst (λ l. AreNumbered l) (sym entries) k.numbers;
       parts = subst (λ l. AllByRecursion (StandsInPart l) w.asked) (sym entries) k.parts;
       placed = subst (λ l. AllByRecursion (IsPlaced (changes_in v)) l) (sym entries)
-          (all_weaken (IsPlaced (changes_in u)) (IsPlaced (changes_in v)) (entries_in u first_shard) (λ e p. placed_grows u v e later k.begun.still p) k.placed);
+          (all_weaken (IsPlaced (changes_in u)) (IsPlaced (changes_in v)) (history_in u) (λ e p. placed_grows u v e later k.begun.still p) k.placed);
     }

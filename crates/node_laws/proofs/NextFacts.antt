@@ -13,7 +13,7 @@ use Rattle.command_model.specs.Answers.{sharded_answer}
 use Rattle.command_model.specs.Command.{shard_collection_command, command_of}
 use Rattle.reply_model.specs.Right.{WasCreated, right_shard}
 use Rattle.reply_model.specs.Exchanges.{Asked, Answered}
-use Rattle.reply_model.specs.OneHistory.{Given}
+use Rattle.reply_model.specs.Accounts.{Given}
 use Rattle.node_model.specs.Letters.{At, Reply}
 use Rattle.node_model.specs.States.{Telling, in_batches, as_number, Work, writing, reading, sharding, splitting, Wait, for_time, for_catalogue, for_shards, Open, Router}
 use Rattle.node_model.specs.RouterRows.{id_of, table_for, is_ahead, reply_to, empty_answer, is_for, is_for_catalogue, adopted, was_created, Next, stays, is_told, next_without, next_waiting, next_of}

@@ -6,14 +6,15 @@ use Rattle.history_model.proofs.Lists.{all_weaken, all_append, in_prefix}
 use Rattle.history_model.specs.History.{IsIn}
 use Rattle.base_model.specs.Identities.{RequestId}
 use Rattle.reply_model.specs.Exchanges.{Asked, Answered}
-use Rattle.reply_model.specs.OneHistory.{WasWanted, IsPlaced, Given, ids_asked, ids_told, AreDifferent}
+use Rattle.reply_model.specs.Accounts.{Given}
+use Rattle.reply_model.specs.OneHistory.{WasWanted, IsPlaced, ids_asked, ids_told, AreDifferent}
 use Rattle.node_model.specs.Journal.{Kept}
 use Rattle.node_model.specs.Letters.{Letter}
 use Rattle.reply_model.specs.Cursors.{Cursor}
 use Rattle.node_model.specs.States.{Router, Work, writing, reading, sharding, splitting, Open, NodeState, catalogue_state, shard_state, router_state, time_of_node}
 use Rattle.node_model.specs.RouterRows.{id_of}
 use Rattle.node_model.specs.World.{Held}
-use Rattle.node_laws.proofs.Views.{Choice, View, changes_in, chosen_time, Later}
+use Rattle.node_laws.proofs.Views.{Choice, View, chosen_time, changes_in, history_in, Later}
 use Rattle.node_laws.proofs.ReadFacts.{WaitsFor, IsDecided}
 use Rattle.node_laws.proofs.WriteFacts.{WasMade}
 use Rattle.node_laws.proofs.Facts.{IsKnownTable, ParkedFits, HasTime, IsOpenOf, IsBy, ToldBelow, IsClosedOrOpen, RouterFits, StateFits, IsGiven, is_of, OwnCursors, HeldFits}
@@ -21,6 +22,7 @@ use Rattle.node_laws.proofs.Choices.{none_longer, none_of_others, decided_stays}
 use Rattle.node_laws.proofs.OwnCursors.{same_lives}
 use Rattle.node_laws.proofs.Lists.{map_longer}
 use Rattle.node_laws.proofs.LongerJournals.{still_grows}
+use Rattle.node_laws.proofs.Histories.{history_stays}
 use Rattle.node_laws.proofs.Growth.{known_grows, letter_grows, seen_grows, entry_grows, change_wanted_grows, placed_grows, met_later}
 use Rattle.node_laws.proofs.Requests.{parts_grow}
 
@@ -143,11 +145,11 @@ other_state v w asked more answered news j at kept (shard_state s) other later d
   entries = fits.entries;
   past = fits.past;
   legal = fits.legal;
-  sent = all_weaken (WasMade s.entries asked) (WasMade s.entries (asked ++ more)) s.entries
-      (λ e h. entry_grows s.entries s.entries asked more e (λ d i. i) h) fits.sent;
+  sent = all_weaken (WasMade (history_in v) asked) (WasMade (history_in w) (asked ++ more)) s.entries
+      (λ e h. entry_grows (history_in v) (history_in w) asked more e (λ d i. history_stays v w d later i) h) fits.sent;
   numbers = fits.numbers;
   placed = all_weaken (IsPlaced (changes_in v)) (IsPlaced (changes_in w)) s.entries (λ e h. placed_grows v w e later fits.still h) fits.placed;
-  parts = parts_grow asked more s.entries different fits.sent fits.parts;
+  parts = parts_grow asked more (history_in v) s.entries different fits.sent fits.parts;
   still = still_grows v w later fits.still;
   tables = all_weaken (IsKnownTable v s.time) (IsKnownTable w s.time) s.tables (λ t k. known_grows v w s.time s.time t later (omega arith) k) fits.tables;
   parked = all_weaken (ParkedFits v asked s.time) (ParkedFits w (asked ++ more) s.time) s.parked

@@ -5,8 +5,9 @@ use Rattle.std.specs.List.{AllByRecursion}
 use Rattle.base_model.specs.Times.{time_of_moment}
 use Rattle.reply_model.specs.Cursors.{Cursor}
 use Rattle.reply_model.specs.Exchanges.{Asked, Answered}
+use Rattle.reply_model.specs.Accounts.{Given, Dated}
 use Rattle.history_model.specs.History.{IsIn}
-use Rattle.reply_model.specs.OneHistory.{IsFresh, IsInOrder, Given, ids_asked, ids_told, AreDifferent, Dated}
+use Rattle.reply_model.specs.OneHistory.{IsFresh, IsInOrder, ids_asked, ids_told, AreDifferent}
 use Rattle.node_model.specs.Letters.{Letter, Input, client_input, letter_input, moment_input, opened_input, Taken, Reply, Effect}
 use Rattle.node_model.specs.States.{NodeState, time_of_node}
 use Rattle.node_model.specs.World.{Held, World, asked_by, answered_by, dated_onto, journal_at}
@@ -29,9 +30,9 @@ answered_after w f = w.answered ++ answered_by w.now f.replies
 abbrev pub dated_after : World → Effect → List Dated
 dated_after w f = dated_onto w.now w.changed f.written
 
--- a message that is sent: it fits, its time was met, and if it has a time, no entry is later
+-- a message that is sent: it fits, its time was met, and if a shard sends its time, no entry of it is later
 abbrev pub IsSaid : View → List Asked → List Given → Letter → Type 0
-IsSaid v asked given m = LetterFits v asked m × IsMet v given m.time × TellsAll v asked m.time m.body
+IsSaid v asked given m = LetterFits v asked m × IsMet v given m.time × TellsAll v asked m.sender m.time m.body
 
 -- what the node at a place owes in a view of the world after the step
 pub record OwesIn (v : View) (w : World) (book : Book) (at : ℕ) (old : Held) (f : Effect) (new : NodeState) : Type 0 where
@@ -43,8 +44,8 @@ pub record OwesIn (v : View) (w : World) (book : Book) (at : ℕ) (old : Held) (
 
 pub record Owes (w : World) (book : Book) (at : ℕ) (old : Held) (f : Effect) (new : NodeState) : Type 0 where
   pub kind : SameKind old.state new
-  -- what it writes is above its time, which does not fall
-  pub rises : AllByRecursion (IsAbove (time_of_node old.state)) f.written
+  -- what it writes is above its time, which does not fall, and its entries are its own
+  pub rises : AllByRecursion (IsAbove at (time_of_node old.state)) f.written
   pub later : time_of_node old.state ≤ time_of_node new
   -- what it takes and replies is its own, and new
   pub taken : AllByRecursion (λ (x : Taken). x.id.router ≡ at) f.taken

@@ -36,20 +36,21 @@ use Rattle.node_model.specs.States.{Telling, in_batches, as_number, Open}
 use Rattle.node_model.specs.RouterRows.{too_much, empty_answer}
 use Rattle.node_model.specs.ShardRows.{IsTold}
 use Rattle.reply_facts.proofs.Requests.{one_asked}
-use Rattle.node_laws.proofs.Views.{View, entries_in, changes_in, chosen_time}
+use Rattle.node_laws.proofs.Views.{View, entries_in, changes_in, chosen_time, history_in, HavePassed, account_in}
 use Rattle.node_laws.proofs.ReadFacts.{NoneBegan, IsTelling, tells_find, tells_count, IsReading, IsMade}
 use Rattle.node_laws.proofs.Facts.{IsFixed, NeighboursFit}
 use Rattle.node_laws.proofs.KeptDocuments.{owned_by_first}
+use Rattle.node_laws.proofs.Histories.{shard_documents, passed_by}
 use Rattle.node_laws.proofs.Growth.{nothing_stands}
 use Rattle.node_laws.proofs.Answers.{StaysRight}
 use Rattle.node_laws.proofs.ReadTimes.{reads_of, reads_same, read_time}
 
 -- WHAT A SHARD MADE FOR A READ
 
--- the rows are those of the read's half, of a time that the shard has passed
+-- the rows are those of the read's half, of a time that the shards have passed
 pub record MadeFor (v : View) (read : Reading) (at time : ℕ) (rows : Rows) : Type 0 where
-  pub makes : IsHalf (split read.stages).0 (filter (may_stand_in (split read.stages).0.span) (documents_at (entries_in v first_shard) read.namespace at)) rows
-  pub settled : at ≤ v.bound first_shard
+  pub makes : IsHalf (split read.stages).0 (filter (may_stand_in (split read.stages).0.span) (documents_at (history_in v) read.namespace at)) rows
+  pub settled : HavePassed v at
   pub past : at ≤ time
 
 same_time : (id : RequestId) (v : View) (a b : ℕ) → chosen_time id v.chosen ≡ Some a → chosen_time id v.chosen ≡ Some b → a ≡ b
@@ -68,18 +69,18 @@ made_for v asked a sender time id namespace named at stages telling rows differe
     let times : m.at ≡ at = same_time id v m.at at r.decided decided in
     let half : m.half ≡ (split w.read.stages).0 = r.shows ∙ ap (λ (x : Reading). (split x.stages).0) read in
     let name : m.namespace ≡ w.read.namespace = r.name ∙ ap (λ (x : Reading). x.namespace) read in
-    let here : IsHalf m.half (filter (may_stand_in m.half.span) (documents_at (entries_in v first_shard) m.namespace m.at)) rows =
-    (half_of_kept m.half (filter (may_stand_in m.half.span) (documents_at (entries_in v first_shard) m.namespace m.at)) rows).0
+    let stored : IsHalf m.half (filter (may_stand_in m.half.span) (documents_at (entries_in v sender) m.namespace m.at)) rows =
+    (half_of_kept m.half (filter (may_stand_in m.half.span) (documents_at (entries_in v sender) m.namespace m.at)) rows).0
     (subst (λ l. IsHalf m.half l rows) s.documents_are m.makes) in
-    let settled = s.settled in
-    let past = s.past in
+    let here : IsHalf m.half (filter (may_stand_in m.half.span) (documents_at (history_in v) m.namespace m.at)) rows =
+    subst (λ l. IsHalf m.half (filter (may_stand_in m.half.span) l) rows) (shard_documents v sender m.namespace m.at s.owner) stored in
     record {
       makes = subst (λ n. IsHalf (split w.read.stages).0
-          (filter (may_stand_in (split w.read.stages).0.span) (documents_at (entries_in v first_shard) w.read.namespace n)) rows) times
+          (filter (may_stand_in (split w.read.stages).0.span) (documents_at (history_in v) w.read.namespace n)) rows) times
           (subst (λ n. IsHalf (split w.read.stages).0
-          (filter (may_stand_in (split w.read.stages).0.span) (documents_at (entries_in v first_shard) n m.at)) rows) name
-          (subst (λ (h : Half). IsHalf h (filter (may_stand_in h.span) (documents_at (entries_in v first_shard) m.namespace m.at)) rows) half here));
-      settled = subst (λ n. n ≤ v.bound first_shard) times s.settled;
+          (filter (may_stand_in (split w.read.stages).0.span) (documents_at (history_in v) n m.at)) rows) name
+          (subst (λ (h : Half). IsHalf h (filter (may_stand_in h.span) (documents_at (history_in v) m.namespace m.at)) rows) half here));
+      settled = subst (λ n. HavePassed v n) times (passed_by v sender m.at s.owner s.settled);
       past = subst (λ n. n ≤ time) times s.past;
     }
 
@@ -88,9 +89,9 @@ one_part docs = append-nil docs
 
 -- what the rows are merged to is what the read may give
 pub rows_give : (v : View) (read : Reading) (at time : ℕ) (rows : Rows) (out : Outcome) → list_all has_int64 read.stages ≡ true → MadeFor v read at time rows
-    → MergesInTurn (split read.stages).1 (rows ∷ []) out → MayGive (entries_in v first_shard) read at out
+    → MergesInTurn (split read.stages).1 (rows ∷ []) out → MayGive (history_in v) read at out
 rows_give v read at time rows out small m merged =
-    let docs : List Fields = documents_at (entries_in v first_shard) read.namespace at in
+    let docs : List Fields = documents_at (history_in v) read.namespace at in
     let shown : List Fields = filter (may_stand_in (split read.stages).0.span) docs in
     let whole : Runs read.stages (flat_map (λ (p : List Fields). p) (shown ∷ [])) out =
     halves_merge read.stages (split read.stages).0 (split read.stages).1 (shown ∷ []) (rows ∷ []) out (inr small) refl (m.makes, tt) merged.merges in
@@ -102,12 +103,12 @@ rows_give v read at time rows out small m merged =
     }
 
 -- rows that are too much are too much of what the shard owned
-pub rows_exceed : (v : View) (asked : List Asked) (read : Reading) (at time n : ℕ) (rows : Rows) → NeighboursFit v asked → MadeFor v read at time rows
-    → excess_of_half rows ≡ Some n → IsExcess (entries_in v first_shard) (changes_in v) read at n
-rows_exceed v asked read at time n rows around m much =
-    let docs : List Fields = documents_at (entries_in v first_shard) read.namespace at in
+pub rows_exceed : (v : View) (asked : List Asked) (answered : List Answered) (read : Reading) (at time n : ℕ) (rows : Rows) → NeighboursFit v asked → MadeFor v read at time rows
+    → excess_of_half rows ≡ Some n → IsExcess (account_in v asked answered) read at n
+rows_exceed v asked answered read at time n rows around m much =
+    let docs : List Fields = documents_at (history_in v) read.namespace at in
     excess_half first_shard docs rows
-    (subst (λ l. IsPermutation l docs) (sym (owned_by_first (changes_in v) (entries_in v first_shard) read.namespace at around.begun.still around.placed))
+    (subst (λ l. IsPermutation l docs) (sym (owned_by_first (changes_in v) (history_in v) read.namespace at around.begun.still around.placed))
     (IsPermutation-refl docs))
     ((split_half_outside read.stages (split read.stages).0 (split read.stages).1 docs rows refl).0 m.makes) much
 
@@ -130,7 +131,7 @@ told_alike length n (inr (a, b)) = rw (shown_alike length n a b) refl
 module _ (v : View) (asked : List Asked) (told : List Answered) (cursors : List Cursor) (a : Asked) (t : Answered) where
   pub overflow_right : (namespace : List ℕ) (named : Bool) (at : ℕ) (stages : List Stage) (telling : Telling)
       (w : IsReading a namespace named at stages telling)
-      → MayGive (entries_in v first_shard) w.read at overflowed → IsFixed v w.read at → at ≤ t.time
+      → MayGive (history_in v) w.read at overflowed → IsFixed v w.read at → at ≤ t.time
       → t.document ≡ answer_document (refusal_answer (without_evidence overflow)) → StaysRight v asked told cursors a t cursors
   overflow_right namespace named at stages telling w may fixed past document = record {
     right = right_refused_read w.read (reads_of a w.read telling w.tells) (refused_overflow at (read_time a t w.read at named w.time past) may document);
@@ -139,7 +140,7 @@ module _ (v : View) (asked : List Asked) (told : List Answered) (cursors : List 
 
   pub excess_right : (namespace : List ℕ) (named : Bool) (at n : ℕ) (stages : List Stage) (telling : Telling)
       (w : IsReading a namespace named at stages telling)
-      → IsExcess (entries_in v first_shard) (changes_in v) w.read at n → IsFixed v w.read at → at ≤ t.time
+      → IsExcess (account_in v asked told) w.read at n → IsFixed v w.read at → at ≤ t.time
       → t.document ≡ answer_document (refusal_answer (too_much n)) → StaysRight v asked told cursors a t cursors
   excess_right namespace named at n stages telling w much fixed past document = record {
     right = right_refused_read w.read (reads_of a w.read telling w.tells) (refused_excess at n (read_time a t w.read at named w.time past) much document);
@@ -147,20 +148,20 @@ module _ (v : View) (asked : List Asked) (told : List Answered) (cursors : List 
   }
 
   number_told : (read : Reading) (telling : Telling) (at n : ℕ) → IsTelling a read telling → telling ≡ as_number → IsTimeRead a t read at
-      → MayGive (entries_in v first_shard) read at (listed (count_documents (codes "n") n)) → IsFixed v read at
+      → MayGive (history_in v) read at (listed (count_documents (codes "n") n)) → IsFixed v read at
       → t.document ≡ answer_document (count_answer n at) → StaysRight v asked told cursors a t cursors
   number_told _ _ at n (tells_find find asks) same of may fixed document = absurd (cc)
   number_told _ _ at n (tells_count read asks) same of may fixed document = record { right = right_count read at n asks of may document; settled = fixed }
 
   pub number_right : (namespace : List ℕ) (named : Bool) (at n : ℕ) (stages : List Stage) (w : IsReading a namespace named at stages as_number)
-      → MayGive (entries_in v first_shard) w.read at (listed (count_documents (codes "n") n)) → IsFixed v w.read at → at ≤ t.time
+      → MayGive (history_in v) w.read at (listed (count_documents (codes "n") n)) → IsFixed v w.read at → at ≤ t.time
       → t.document ≡ answer_document (count_answer n at) → StaysRight v asked told cursors a t cursors
   number_right namespace named at n stages w may fixed past document =
       number_told w.read as_number at n w.tells refl (read_time a t w.read at named w.time past) may fixed document
 
   batch_told : (read : Reading) (telling : Telling) (size : ℕ) (single : Bool) (at : ℕ) (documents : List Fields) (batch : Batch) (next : List Cursor)
       → IsTelling a read telling
-      → telling ≡ in_batches size single → IsTimeRead a t read at → MayGive (entries_in v first_shard) read at (listed documents)
+      → telling ≡ in_batches size single → IsTimeRead a t read at → MayGive (history_in v) read at (listed documents)
       → excess_of_answer documents ≡ None → IsBatch (Some size) documents batch.documents → batch.namespace ≡ read.namespace → batch.time ≡ at
       → Opens a.id single batch.namespace batch.time cursors (drop (length batch.documents) documents) batch.cursor next → IsFixed v read at
       → t.document ≡ answer_document (first_answer batch) → StaysRight v asked told cursors a t next
@@ -178,7 +179,7 @@ module _ (v : View) (asked : List Asked) (told : List Answered) (cursors : List 
 
   pub batch_right : (namespace : List ℕ) (named : Bool) (at : ℕ) (stages : List Stage) (size : ℕ) (single : Bool) (documents : List Fields) (batch : Batch)
       (next : List Cursor)
-      → (w : IsReading a namespace named at stages (in_batches size single)) → MayGive (entries_in v first_shard) w.read at (listed documents)
+      → (w : IsReading a namespace named at stages (in_batches size single)) → MayGive (history_in v) w.read at (listed documents)
       → excess_of_answer documents ≡ None → IsBatch (Some size) documents batch.documents → batch.namespace ≡ namespace → batch.time ≡ at
       → Opens a.id single batch.namespace batch.time cursors (drop (length batch.documents) documents) batch.cursor next → IsFixed v w.read at → at ≤ t.time
       → t.document ≡ answer_document (first_answer batch) → StaysRight v asked told cursors a t next
@@ -229,9 +230,9 @@ pub empty_right : (v : View) (asked : List Asked) (told : List Answered) (cursor
     → t.document ≡ answer_document (empty_answer q at telling) → StaysRight v asked told cursors a t cursors
 empty_right v asked told cursors a t q named at stages telling around none w past document = by_telling telling w document
   where
-    may : (read : Reading) → q.namespace ≡ read.namespace → MayGive (entries_in v first_shard) read at (listed [])
+    may : (read : Reading) → q.namespace ≡ read.namespace → MayGive (history_in v) read at (listed [])
     may read name =
-        let empty : documents_at (entries_in v first_shard) read.namespace at ≡ [] =
+        let empty : documents_at (history_in v) read.namespace at ≡ [] =
         nothing_stands v read.namespace at (subst (λ n. NoneBegan v n at) name none) around.placed in
         record {
           ordered = [];

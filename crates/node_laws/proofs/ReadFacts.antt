@@ -5,7 +5,6 @@ use Rattle.std.specs.List.{AllByRecursion}
 use Rattle.std.specs.Option.{unwrap_or}
 use Rattle.bson_model.specs.Tree.{Fields}
 use Rattle.chunk_model.specs.Changes.{Change, create_change, split_change, commit_change}
-use Rattle.chunk_model.specs.Tables.{first_shard}
 use Rattle.command_model.specs.Command.{find_command, count_command, command_of}
 use Rattle.command_model.specs.Find.{Find}
 use Rattle.command_model.specs.Reading.{Reading}
@@ -22,7 +21,7 @@ use Rattle.node_model.specs.Letters.{HalfFault, half_overflow, half_excess}
 use Rattle.node_model.specs.States.{Telling, in_batches, as_number, Work, writing, reading, sharding, splitting}
 use Rattle.node_model.specs.Service.{documents_at}
 use Rattle.node_model.specs.ShardRows.{IsTold}
-use Rattle.node_laws.proofs.Views.{View, entries_in, changes_in, chosen_time}
+use Rattle.node_laws.proofs.Views.{View, chosen_time, entries_in, changes_in, IsShardAt}
 
 -- where the change creates a collection of this name, it is later than a time
 abbrev pub BeginsAfter : (namespace : List ℕ) → ℕ → Change → Type 0
@@ -90,13 +89,13 @@ pub record IsReadOf (v : View) (asked : List Asked) (id : RequestId) (namespace 
   pub shows : half ≡ (split read.stages).0
   pub decided : chosen_time id v.chosen ≡ Some at
 
--- the documents of its half, now and later
+-- the documents of its half that the sender stores, now and later
 pub record IsShown (v : View) (asked : List Asked) (sender time : ℕ) (id : RequestId) (namespace : List ℕ) (at : ℕ) (half : Half)
     (documents : List Fields) : Type 0 where
   pub read : IsReadOf v asked id namespace at half
-  pub owner : sender ≡ first_shard
-  pub documents_are : documents ≡ documents_at (entries_in v first_shard) namespace at half
-  pub settled : at ≤ v.bound first_shard
+  pub owner : IsShardAt sender
+  pub documents_are : documents ≡ documents_at (entries_in v sender) namespace at half
+  pub settled : at ≤ v.bound sender
   pub past : at ≤ time
 
 -- rows that the half makes of them

@@ -3,7 +3,6 @@ use Rattle.std.proofs.Common.{◌≡◌, ◌⊎◌, inl, inr, ℕ, ◌+◌, ◌<
 use Rattle.std.specs.Prelude.{Some, None, Result, Ok, true, false, nat_lt, if◌then◌else◌}
 use Rattle.std.specs.List.{AllByRecursion}
 use Rattle.std.proofs.lemmas.Bool.Decides.{nat_tests}
-use Rattle.history_model.specs.History.{Entry}
 use Rattle.history_model.proofs.Lists.{all_weaken, all_append}
 use Rattle.bson_model.specs.Tree.{Fields}
 use Rattle.base_model.specs.Errors.{namespace_not_sharded}
@@ -16,16 +15,16 @@ use Rattle.command_model.specs.Command.{Command, write_command, shard_collection
 use Rattle.command_model.specs.Answers.{changed_answer, answer_document}
 use Rattle.command_model.proofs.AnswerTimes.{time_of_changed, time_refused}
 use Rattle.chunk_model.specs.Changes.{Change}
-use Rattle.chunk_model.specs.Tables.{first_shard}
 use Rattle.reply_model.specs.Exchanges.{Asked, Answered}
+use Rattle.reply_model.specs.Accounts.{Dated, Account, changes_in as changes_of}
 use Rattle.reply_model.specs.Cursors.{Cursor}
 use Rattle.reply_model.specs.Right.{Reads, find_reads, count_reads, WasCreated, WasSplit, not_sharded, IsRight, right_write, right_find, right_count, right_refused_read, right_more, right_no_cursor, right_kill, right_shard, right_split, right_not_sharded, right_hello, right_legacy, right_ping, right_end_sessions, right_refusal}
-use Rattle.reply_model.specs.OneHistory.{Dated, changes_before, changes_by, changes_in as changes_of}
+use Rattle.reply_model.specs.OneHistory.{changes_before, changes_by}
 use Rattle.reply_facts.proofs.RightAnswers.{TellsSplit, right_of}
 use Rattle.node_model.specs.Journal.{Kept, kept_table, kept_entry, kept_change, kept_life, kept_block}
 use Rattle.node_model.specs.Letters.{Input, Reply}
 use Rattle.node_model.specs.World.{World, answered_by, dated_onto, after, is_given, tick, Moves}
-use Rattle.node_laws.proofs.Views.{Book, View, view_of, entries_in, changes_in}
+use Rattle.node_laws.proofs.Views.{Book, View, view_of, changes_in, account_in}
 use Rattle.node_laws.proofs.Facts.{AnswersFit, no_answer, one_answer, Good}
 use Rattle.node_laws.proofs.Dates.{before_stays}
 
@@ -59,10 +58,9 @@ reads_not _ _ (count_reads read) write e = cc
 other_not : (command other : Result Command Refusal) (write : WriteCommand) → command ≡ other → command ≡ Ok (write_command write) → IsNoWrite other → ⊥
 other_not command other write is asks not = not write (sym is ∙ asks)
 
-module _ (changes : List Change) (history : List Entry) (asked : List Asked) (answered : List Answered) (cursors : List Cursor) (a : Asked)
-    (t : Answered) where
+module _ (account : Account) (cursors : List Cursor) (a : Asked) (t : Answered) where
   write_rests : (next : List Cursor) (write : WriteCommand) → command_of a.request ≡ Ok (write_command write)
-      → IsRight changes history asked answered cursors a t next → WasCreated changes write.namespace t.time
+      → IsRight account cursors a t next → WasCreated account.changes write.namespace t.time
   write_rests _ write asks (right_write other dones c wants tells whole begun name at says) = record {
     creation = c;
     begun = begun;
@@ -86,22 +84,22 @@ module _ (changes : List Change) (history : List Entry) (asked : List Asked) (an
   write_rests _ write asks (right_refusal refusal wants says) = absurd (other_not _ _ write wants asks (λ w e. cc))
 
   split_rests : (next : List Cursor) (split : SplitCommand) → command_of a.request ≡ Ok (split_command split)
-      → IsRight changes history asked answered cursors a t next → t.document ≡ answer_document (changed_answer t.time)
-      → WasSplit changes split.namespace split.middle t.time
+      → IsRight account cursors a t next → t.document ≡ answer_document (changed_answer t.time)
+      → WasSplit account.changes split.namespace split.middle t.time
   split_rests next split asks right says =
-      by_told (right_of changes history asked answered cursors a t (Ok (split_command split)) next asks right).0
+      by_told (right_of account cursors a t (Ok (split_command split)) next asks right).0
     where
-      by_told : TellsSplit changes history asked answered cursors a t split ⊎ (t.document ≡ not_sharded)
-          → WasSplit changes split.namespace split.middle t.time
+      by_told : TellsSplit account cursors a t split ⊎ (t.document ≡ not_sharded)
+          → WasSplit account.changes split.namespace split.middle t.time
       by_told (inl changed) = changed.begins
       by_told (inr none) = absurd (changed_differs t.time (sym says ∙ none))
 
   -- a right reply rests on the changes that it is right by
-  right_rests : (next : List Cursor) → a.request ≡ t.request → IsRight changes history asked answered cursors a t next → RestsOn changes t
+  right_rests : (next : List Cursor) → a.request ≡ t.request → IsRight account cursors a t next → RestsOn account.changes t
   right_rests next same right = record {
     written = λ write asks. write_rests next write (ap (λ r. command_of r) same ∙ asks) right;
     created = λ namespace asks.
-        (right_of changes history asked answered cursors a t (Ok (shard_collection_command namespace)) next (ap (λ r. command_of r) same ∙ asks) right).0.created;
+        (right_of account cursors a t (Ok (shard_collection_command namespace)) next (ap (λ r. command_of r) same ∙ asks) right).0.created;
     begins = λ split asks says. split_rests next split (ap (λ r. command_of r) same ∙ asks) right says;
   }
 
@@ -109,7 +107,7 @@ all_rest : (v : View) (asked : List Asked) (answered : List Answered) (cursors l
     → AnswersFit v asked answered cursors told last → AllByRecursion (RestsOn (changes_in v)) told
 all_rest v asked answered _ _ _ (no_answer cursors) = tt
 all_rest v asked answered _ _ _ (one_answer cursors next last t rest f others) = (
-  right_rests (changes_in v) (entries_in v first_shard) asked answered cursors f.request t next f.same f.right,
+  right_rests (account_in v asked answered) cursors f.request t next f.same f.right,
   all_rest v asked answered next last rest others,
 )
 

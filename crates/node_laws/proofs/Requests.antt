@@ -65,13 +65,14 @@ none_by entries asked a (e ∷ history) new sent =
     ∙ none_by entries asked a history new sent.1
 
 -- so of each request a prefix is stored, also of new ones
-pub parts_grow : (asked more : List Asked) (history : List Entry) → AreDifferent (ids_asked (asked ++ more)) → AllByRecursion (WasMade history asked) history
-    → AllByRecursion (StandsInPart history) asked → AllByRecursion (StandsInPart history) (asked ++ more)
-parts_grow asked more history different sent parts =
-    all_append (StandsInPart history) asked more parts
-    (all_weaken (IsNew asked) (StandsInPart history) more
+pub parts_grow : (asked more : List Asked) (history entries : List Entry) → AreDifferent (ids_asked (asked ++ more))
+    → AllByRecursion (WasMade history asked) entries
+    → AllByRecursion (StandsInPart entries) asked → AllByRecursion (StandsInPart entries) (asked ++ more)
+parts_grow asked more history entries different sent parts =
+    all_append (StandsInPart entries) asked more parts
+    (all_weaken (IsNew asked) (StandsInPart entries) more
     (λ a new write asks own. subst (λ l. AreStatements a.id write.namespace write.ordered 0 write.operations l)
-    (sym (none_by history asked a history new sent)) tt)
+    (sym (none_by history asked a entries new sent)) tt)
     (new_ones asked more different))
 
 -- what is answered in this step is answered in it, by this router

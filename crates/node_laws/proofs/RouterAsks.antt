@@ -14,8 +14,8 @@ use Rattle.command_model.specs.Writes.{WriteKind}
 use Rattle.history_model.specs.History.{IsIn}
 use Rattle.base_model.specs.Identities.{RequestId}
 use Rattle.reply_model.specs.Exchanges.{Asked, Answered}
+use Rattle.reply_model.specs.Accounts.{Given}
 use Rattle.reply_model.specs.Outcomes.{Done}
-use Rattle.reply_model.specs.OneHistory.{Given}
 use Rattle.node_model.specs.Letters.{Statement, write_ask, read_ask, Letter}
 use Rattle.node_model.specs.States.{Telling, Work, writing, reading, sharding, splitting, Wait, for_time, for_catalogue, for_shards, Open, Router}
 use Rattle.node_model.specs.RouterRows.{id_of, owner_of_statement, owner_of_span, is_on, run_to, unanswered, asks_to_write, asks_to_read, asks_shards}

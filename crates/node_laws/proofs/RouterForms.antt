@@ -219,7 +219,7 @@ module _ (w : World) (book : Book) (at : ℕ) (kept : List Kept) (r : Router) (g
   -- an open request is answered
   pub told_owes : (q : Open) (answer : Answer) (time : ℕ) (f : Opened) (next : List Cursor) → IsIn q r.requests → r.time ≤ time
       → IsMet (view_of w.nodes book) w.given time
-      → AllByRecursion (IsAbove r.time) f.written → Turns book.cursors next at (goes_to r time r.moment r.tables (without q.count r.requests) f)
+      → AllByRecursion (IsAbove at r.time) f.written → Turns book.cursors next at (goes_to r time r.moment r.tables (without q.count r.requests) f)
       → ((v : View) → IsBehind v → (o : IsOpenOf v w.asked w.answered r q) → NeighboursFit v w.asked
       → AnswerFits v w.asked (w.answered ++ as_answered w.now (reply_to r time q answer) ∷ []) book.cursors (as_answered w.now (reply_to r time q answer)) next
       × ToldBelow time (as_answered w.now (reply_to r time q answer)))

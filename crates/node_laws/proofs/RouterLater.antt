@@ -7,7 +7,8 @@ use Rattle.chunk_model.specs.Tables.{Table}
 use Rattle.history_model.specs.History.{IsIn}
 use Rattle.base_model.specs.Identities.{RequestId}
 use Rattle.reply_model.specs.Exchanges.{Asked, Answered}
-use Rattle.reply_model.specs.OneHistory.{Given, ids_asked, ids_told, AreDifferent}
+use Rattle.reply_model.specs.Accounts.{Given}
+use Rattle.reply_model.specs.OneHistory.{ids_asked, ids_told, AreDifferent}
 use Rattle.node_model.specs.Journal.{Kept}
 use Rattle.node_model.specs.Letters.{Letter, Reply, Effect}
 use Rattle.node_model.specs.States.{Open, Router, router_state}
@@ -58,7 +59,7 @@ pub record Leaves (w : World) (book : Book) (at : ℕ) (r s : Router) (f : Opene
   pub chose : AllByRecursion (λ (c : Choice). (c.id.router ≡ at) × IsIn c.id (ids_asked w.asked)) news
   pub cursors : List Cursor
   pub turns : Turns book.cursors cursors at s
-  pub rises : AllByRecursion (IsAbove r.time) f.written
+  pub rises : AllByRecursion (IsAbove at r.time) f.written
 
 -- LISTS
 

@@ -7,7 +7,7 @@ use Rattle.base_model.specs.Refusals.{time_ahead}
 use Rattle.command_model.specs.Answers.{refusal_answer}
 use Rattle.reply_model.specs.Cursors.{Cursor}
 use Rattle.pipeline_model.specs.Stages.{Stage}
-use Rattle.chunk_model.specs.Tables.{Table, first_shard}
+use Rattle.chunk_model.specs.Tables.{Table}
 use Rattle.command_model.specs.Writes.{WriteCommand, WriteKind}
 use Rattle.command_model.specs.Command.{command_of}
 use Rattle.history_model.specs.History.{IsIn}
@@ -21,7 +21,7 @@ use Rattle.node_model.specs.States.{Telling, writing, reading, for_time, Open, R
 use Rattle.node_model.specs.RouterRows.{id_of, heard, as_before, reached, asks_for, going_on, noted, is_answered, reply_to, adopted, next_of, was_created, Next}
 use Rattle.node_model.specs.World.{World, answered_by}
 use Rattle.reply_facts.proofs.Requests.{one_asked}
-use Rattle.node_laws.proofs.Views.{Book, View, view_of, entries_in, chosen_time}
+use Rattle.node_laws.proofs.Views.{Book, View, view_of, entries_in, chosen_time, history_in, IsShardAt}
 use Rattle.node_laws.proofs.WriteFacts.{AreAnswers}
 use Rattle.node_laws.proofs.ReadFacts.{IsAwaited, WaitsFor}
 use Rattle.node_laws.proofs.Facts.{IsKnownTable, TableFits, IsDoneOf, BodyFits, WorkFits, AreSeen, HasTime, IsOpenOf, ToldBelow, HeldFits, IsMet, AnswerFits, AnswersFit, no_answer, one_answer, IsPast, TimeFits, SentFits, Good}
@@ -66,7 +66,7 @@ in_ids a asked (front, back, e) =
 seen_of : (v : View) (a : Asked) {time : ℕ} {namespace : List ℕ} {kind : WriteKind} {ordered : Bool} {statements : List Statement} {told : List Done}
     → NotedFits v a time namespace kind ordered statements told → AreSeen v time a (writing kind ordered statements told)
 seen_of v a {time = time} {told = told} f = λ write asks.
-    subst (λ (c : WriteCommand). AreAnswers (entries_in v first_shard) time c a.id 0 told) (same_write f.write write (command_of a.request) f.asks asks)
+    subst (λ (c : WriteCommand). AreAnswers (history_in v) time c a.id 0 told) (same_write f.write write (command_of a.request) f.asks asks)
     f.answers
 
 -- a time that is decided for one request is for no other of its router's life
@@ -204,14 +204,15 @@ module _ (w : World) (book : Book) (at : ℕ) (kept : List Kept) (r : Router) (g
           }
 
   -- the shard's time came after the request, so that of no write that was answered before is an entry later
-  told_before : (v : View) → Behind v → (id : RequestId) → m.body ≡ time_told id → (a : Asked) → IsIn a w.asked → a.id ≡ id → IsPast v w.answered a m.time
+  told_before : (v : View) → Behind v → (id : RequestId) → m.body ≡ time_told id → (a : Asked) → IsIn a w.asked → a.id ≡ id → IsPast v m.sender w.answered a m.time
   told_before v behind id says a taken own =
-      let t : TimeFits (view_of w.nodes book) w.changed w.asked w.answered m.time (time_told id) = subst
-      (λ b. TimeFits (view_of w.nodes book) w.changed w.asked w.answered m.time b) says comes.2 in
+      let t : TimeFits (view_of w.nodes book) w.changed w.asked w.answered m.sender m.time (time_told id) = subst
+      (λ b. TimeFits (view_of w.nodes book) w.changed w.asked w.answered m.sender m.time b) says comes.2 in
       let same : t.0 ≡ a = one_asked t.0 a w.asked good.one t.1 taken (t.2 ∙ sym own) in
-      let entries : entries_in v first_shard ≡ entries_in (view_of w.nodes book) first_shard =
-      ap (λ l. entries_kept l) (behind.1 first_shard (λ e. let place = h.state.place in omega (arith, e, place))) in
-      subst (λ b. IsPast v w.answered b m.time) same
+      let is : IsShardAt m.sender = (body_in v behind (time_told id) says).0 in
+      let entries : entries_in v m.sender ≡ entries_in (view_of w.nodes book) m.sender =
+      ap (λ l. entries_kept l) (behind.1 m.sender (λ e. let place = h.state.place in omega (arith, e, is, place))) in
+      subst (λ b. IsPast v m.sender w.answered b m.time) same
       (λ s write index e i before stands shown. t.3 s write index e i before (subst (λ l. IsIn e l) entries stands) shown)
 
   pub ahead_owes : (id : RequestId) (q : Open) (named : Bool) (time : ℕ) (stages : List Stage) (telling : Telling) → m.body ≡ time_told id → IsOpenWith r id q
@@ -228,8 +229,9 @@ module _ (w : World) (book : Book) (at : ℕ) (kept : List Kept) (r : Router) (g
             (came_by w book at kept r good h o.request o.taken)
             (ahead_right v w.asked (w.answered ++ as_answered w.now (reply_to r (heard r m) q (refusal_answer (time_ahead (heard r m)))) ∷ []) book.cursors
             o.request
-            (as_answered w.now (reply_to r (heard r m) q (refusal_answer (time_ahead (heard r m))))) (id_of r q.count) time m.time w.now w.answered
+            (as_answered w.now (reply_to r (heard r m) q (refusal_answer (time_ahead (heard r m))))) (id_of r q.count) time m.sender m.time w.now w.answered
             (awaited v q o.request named time stages telling work wait o.reached) (told_before v behind id says o.request o.taken (o.own ∙ sym found.own))
+            (body_in v behind (time_told id) says).0
             (omega arith) ahead
             (came_by w book at kept r good h o.request o.taken) refl refl refl),
         refusal_below (heard r m) (time_ahead (heard r m)),
@@ -244,7 +246,7 @@ module _ (w : World) (book : Book) (at : ℕ) (kept : List Kept) (r : Router) (g
       → id ≡ id_of r q.count → q.work ≡ writing kind ordered statements answers → (o : IsOpenOf v w.asked w.answered r q)
       → NotedFits v o.request (heard r m) q.namespace kind ordered statements (noted answers dones)
   noted_in v behind id dones q kind ordered statements answers says own work o =
-      let done : (m.sender ≡ first_shard) × IsDoneOf v w.asked m.sender m.time id dones = body_in v behind (write_done id dones) says in
+      let done : IsShardAt m.sender × IsDoneOf v w.asked m.sender m.time id dones = body_in v behind (write_done id dones) says in
       let seen : AreSeen v (heard r m) o.request (writing kind ordered statements answers) = subst (λ x. AreSeen v (heard r m) o.request x) work
       (seen_grows v v r.time (heard r m) o.request q.work (later_self v) later o.seen) in
       noted_fits v w.asked o.request m.sender m.time (heard r m) id q.namespace kind ordered statements answers dones good.one o.taken (o.own ∙ sym own)
@@ -299,5 +301,5 @@ module _ (w : World) (book : Book) (at : ℕ) (kept : List Kept) (r : Router) (g
               came = all_weaken (λ (a : Asked). a.came < w.now + 1) (λ (a : Asked). a.came ≤ w.now) w.asked (λ a l. omega arith) good.came;
             }) whole (noted_some answers dones news) refl),
         write_below (heard r m) kind (heard r m) (noted answers dones) (omega arith)
-            (answers_below (entries_in v first_shard) (heard r m) f.write o.request.id 0 (noted answers dones) f.answers),
+            (answers_below (history_in v) (heard r m) f.write o.request.id 0 (noted answers dones) f.answers),
       ))

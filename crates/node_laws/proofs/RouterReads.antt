@@ -13,7 +13,6 @@ use Rattle.base_model.specs.Refusals.{without_evidence}
 use Rattle.command_model.specs.Answers.{Answer, first_answer, count_answer, refusal_answer}
 use Rattle.reply_model.specs.Cursors.{Cursor, Opens, opens_none, opens_one, IsNewNumber}
 use Rattle.pipeline_model.specs.Stages.{Stage}
-use Rattle.chunk_model.specs.Tables.{first_shard}
 use Rattle.history_model.proofs.Lists.{all_at}
 use Rattle.history_model.specs.History.{IsIn}
 use Rattle.base_model.specs.Identities.{RequestId}
@@ -24,7 +23,7 @@ use Rattle.node_model.specs.Letters.{half_overflow, half_excess, read_rows, Lett
 use Rattle.node_model.specs.States.{Telling, in_batches, as_number, reading, Open, Router, router_state, without}
 use Rattle.node_model.specs.RouterRows.{id_of, heard, Opened, as_before, too_much, block_size, gives_number, next_number, new_cursor, batch_of, reply_to, Tells, tells_overflow, tells_excess, tells_number, tells_batch, tells_cursor}
 use Rattle.node_model.specs.World.{World}
-use Rattle.node_laws.proofs.Views.{Book, View, view_of, entries_in, chosen_time, IsAbove}
+use Rattle.node_laws.proofs.Views.{Book, View, view_of, chosen_time, IsAbove, history_in}
 use Rattle.node_laws.proofs.ReadFacts.{WaitsFor, IsDecided, IsReading, IsMade, IsTooMuch}
 use Rattle.node_laws.proofs.Facts.{WorkFits, HasTime, IsOpenOf, CursorsFit, HeldFits, NeighboursFit, SentFits, Good}
 use Rattle.node_laws.proofs.Owes.{Owes}
@@ -41,10 +40,10 @@ use Rattle.node_laws.proofs.RouterLater.{goes_to, tells}
 use Rattle.node_laws.proofs.RouterForms.{IsBehind, came_by, turns_stay, told_owes}
 use Rattle.node_laws.proofs.RouterMessages.{body_in, later, heard_met}
 
-none_above : (time : ℕ) (r : Router) (cursors : List Cursor) → AllByRecursion (IsAbove time) (gives_number r cursors).written
-none_above time r cursors = by_test (nat_lt r.gave (block_size * r.blocks)) refl
+none_above : (at time : ℕ) (r : Router) (cursors : List Cursor) → AllByRecursion (IsAbove at time) (gives_number r cursors).written
+none_above at time r cursors = by_test (nat_lt r.gave (block_size * r.blocks)) refl
   where
-    by_test : (b : Bool) → nat_lt r.gave (block_size * r.blocks) ≡ b → AllByRecursion (IsAbove time) (gives_number r cursors).written
+    by_test : (b : Bool) → nat_lt r.gave (block_size * r.blocks) ≡ b → AllByRecursion (IsAbove at time) (gives_number r cursors).written
     by_test true h = rw h tt
     by_test false h = rw h (tt, tt)
 
@@ -113,7 +112,7 @@ module _ (w : World) (book : Book) (at : ℕ) (kept : List Kept) (r : Router) (g
 
     gives : (v : View) (a : Asked) (out : Outcome) → (x : ReadIn v a q.namespace named time stages telling m.time rows)
         → MergesInTurn (split stages).1 (rows ∷ []) out
-        → MayGive (entries_in v first_shard) x.does.read time out
+        → MayGive (history_in v) x.does.read time out
     gives v a out x merged =
         rows_give v x.does.read time m.time rows out (read_int64 a x.does.read telling x.does.tells) x.made
         (subst (λ (l : List Stage). MergesInTurn (split l).1 (rows ∷ []) out) x.does.words merged)
@@ -136,7 +135,7 @@ module _ (w : World) (book : Book) (at : ℕ) (kept : List Kept) (r : Router) (g
       let now : Answered = as_answered w.now (reply_to r (heard r m) q (first_answer (batch_of q time (pos (next_number r)) batch))) in
       let up = later w book at kept r good h m comes in
       told_owes w book at kept r good h q shown (heard r m) (gives_number r (r.cursors ++ c ∷ [])) (book.cursors ++ c ∷ []) found.stands up
-      (heard_met w book at kept r good h m comes) (none_above r.time r (r.cursors ++ c ∷ [])) (turns reached_now up)
+      (heard_met w book at kept r good h m comes) (none_above at r.time r (r.cursors ++ c ∷ [])) (turns reached_now up)
       (λ v behind o n.
       let x = read_now id rows q named time stages (in_batches size false) says found work v behind o in
       let reached = past id rows q named time stages (in_batches size false) says found work v o.request x in (
@@ -251,7 +250,7 @@ module _ (w : World) (book : Book) (at : ℕ) (kept : List Kept) (r : Router) (g
       let past = x.made.past in (
         excess_right v w.asked (Told q (refusal_answer (too_much n))) book.cursors o.request
             (as_answered w.now (reply_to r (heard r m) q (refusal_answer (too_much n)))) q.namespace named time much.length stages telling x.does
-            (rows_exceed v w.asked x.does.read time m.time much.length much.rows k x.made much.excess) (inl x.made.settled) (omega arith)
+            (rows_exceed v w.asked (Told q (refusal_answer (too_much n))) x.does.read time m.time much.length much.rows k x.made much.excess) (inl x.made.settled) (omega arith)
             (told_alike much.length n much.told),
         refusal_below (heard r m) (too_much n),
       ))

@@ -6,12 +6,14 @@ use Rattle.chunk_model.specs.Placement.{AreFitting}
 use Rattle.chunk_model.specs.Tables.{first_shard}
 use Rattle.history_model.specs.History.{Entry, IsIn, Legal}
 use Rattle.reply_model.specs.Exchanges.{Asked, Answered}
-use Rattle.reply_model.specs.OneHistory.{WasSent, AreNumbered, IsReached, WasWanted, StandsInPart, IsPlaced, AreRight, nothing_told, then_told, Given, IsKnown, OneHistory, changes_in as changes_of}
+use Rattle.reply_facts.proofs.SameAccounts.{right_so}
+use Rattle.reply_model.specs.Accounts.{Given, Dated, nothing_stored, changes_in as changes_of}
+use Rattle.reply_model.specs.OneHistory.{WasSent, AreNumbered, IsReached, WasWanted, StandsInPart, IsPlaced, AreRight, nothing_told, then_told, IsKnown, OneHistory}
 use Rattle.reply_model.specs.Cursors.{Cursor}
 use Rattle.node_model.specs.Journal.{Kept, entries_kept, changes_kept}
 use Rattle.node_model.specs.States.{Catalogue, NodeState, catalogue_state, shard_state, router_state, new_router}
-use Rattle.node_model.specs.World.{Held, World, Event, Run, routers_from, start, journal_at}
-use Rattle.node_laws.proofs.Views.{View, view_of, entries_in, changes_in}
+use Rattle.node_model.specs.World.{Held, World, Event, Run, routers_from, start, journal_at, history_of, account_of}
+use Rattle.node_laws.proofs.Views.{View, view_of, changes_in, account_in}
 use Rattle.node_laws.proofs.Places.{EachAt}
 use Rattle.node_laws.proofs.WriteFacts.{WasMade}
 use Rattle.node_laws.proofs.SentEntries.{was_sent, is_reached}
@@ -116,11 +118,11 @@ the_catalogue w asked answered given nodes (c, s, routers, same, is_c, is_s) all
     record { catalogue = t.catalogue; kept = t.kept; fits = t.fits; journal = ap (λ l. journal_at l 0) same ∙ t.journal }
 
 -- all replies are right, at times that were met
-all_right : (v : View) (given : List Given) (asked : List Asked) (answered : List Answered) (cursors last : List Cursor) (told : List Answered)
-    → AnswersFit v asked answered cursors told last → AllByRecursion (λ (t : Answered). IsMet v given t.time) told
-    → AreRight given (changes_in v) (entries_in v first_shard) asked answered cursors told
-all_right v given asked answered _ _ _ (no_answer cursors) met = nothing_told cursors
-all_right v given asked answered _ _ _ (one_answer cursors next last t rest f others) met = then_told cursors next t rest (record {
+all_right : (v : View) (dated : List Dated) (given : List Given) (asked : List Asked) (answered : List Answered) (cursors last : List Cursor)
+    (told : List Answered) → AnswersFit v asked answered cursors told last → AllByRecursion (λ (t : Answered). IsMet v given t.time) told
+    → AreRight (record (account_in v asked answered) { dated = dated; given = given }) cursors told
+all_right v dated given asked answered _ _ _ (no_answer cursors) met = nothing_told cursors
+all_right v dated given asked answered _ _ _ (one_answer cursors next last t rest f others) met = then_told cursors next t rest (record {
   request = f.request;
   taken = f.taken;
   own = f.own;
@@ -130,49 +132,45 @@ all_right v given asked answered _ _ _ (one_answer cursors next last t rest f ot
   came = f.came;
   risen = f.risen;
   met = met.0;
-  right = f.right;
-}) (all_right v given asked answered next last rest others met.1)
+  right = right_so (account_in v asked answered) dated given nothing_stored cursors next f.request t f.right;
+}) (all_right v dated given asked answered next last rest others met.1)
 
-pub makes_one_history : (w : World) → StaysTrue w
-    → OneHistory w.given w.changed (entries_kept (journal_at w.nodes first_shard)) w.asked w.answered
+pub makes_one_history : (w : World) → StaysTrue w → OneHistory (account_of w)
 makes_one_history w (known, moments, told, based) =
     let good = known.good in
     let v : View = view_of w.nodes known.book in
     let s = the_shard v w.asked w.answered w.given w.nodes good.order good.nodes in
     let c = the_catalogue v w.asked w.answered w.given w.nodes good.order good.nodes in
     let n = nodes_keep v w.asked w.answered w.given w.nodes good.order good.nodes (λ p. refl) (λ p. refl) good.one in
-    let entries : s.shard.entries ≡ entries_kept (journal_at w.nodes first_shard) = s.fits.entries ∙ sym (ap (λ k. entries_kept k) s.journal) in
-    let changes : changes_kept c.kept ≡ changes_of w.changed = sym (ap (λ k. changes_kept k) c.journal) ∙ sym good.dated in
-    let history : List Entry = entries_kept (journal_at w.nodes first_shard) in
+    let entries : s.shard.entries ≡ history_of w.nodes = s.fits.entries ∙ sym (ap (λ k. entries_kept k) s.journal) in
+    let changes : changes_kept c.kept ≡ changes_kept (journal_at w.nodes 0) = sym (ap (λ k. changes_kept k) c.journal) in
+    let history : List Entry = history_of w.nodes in
     let numbers : AreNumbered history = subst (λ l. AreNumbered l) entries s.fits.numbers in
-    let made : AllByRecursion (WasMade history w.asked) history = subst (λ l. AllByRecursion (WasMade l w.asked) l) entries s.fits.sent in
+    let made : AllByRecursion (WasMade history w.asked) history = subst (λ l. AllByRecursion (WasMade history w.asked) l) entries s.fits.sent in
     let first : (e : Entry) → IsIn e history → e.shard ≡ first_shard =
     λ e i. placed_first (changes_in v) n.begun.still e (all_at (IsPlaced (changes_in v)) e history n.placed i) in
     record {
       legal = subst (λ l. Legal l) entries s.fits.legal;
-      sent = all_weaken (WasMade history w.asked) (WasSent history w.asked w.answered) history (λ e m. was_sent history w.asked numbers first w.answered e m)
-          made;
+      sent = all_weaken (WasMade history w.asked) (WasSent (account_of w)) history (λ e m. was_sent (account_of w) numbers first e m) made;
       numbers = numbers;
-      reached = all_weaken (WasMade history w.asked) (IsReached history w.asked) history (λ e m. is_reached history w.asked numbers first e m) made;
-      placed = subst (λ l. AllByRecursion (IsPlaced l) history) (sym good.dated) n.placed;
+      reached = all_weaken (WasMade history w.asked) (IsReached (account_of w)) history (λ e m. is_reached (account_of w) numbers first e m) made;
+      placed = n.placed;
       parts = subst (λ l. AllByRecursion (StandsInPart l) w.asked) entries s.fits.parts;
       wanted = subst (λ l. AllByRecursion (WasWanted w.asked) l) changes c.fits.wanted;
       fitting = subst (λ l. AreFitting l) changes c.fits.fitting;
-      caused = is_caused v w.now w.changed w.asked w.answered [] known.book.cursors w.answered good.one good.answers told based.replies;
-      right = subst (λ l. AreRight w.given l history w.asked w.answered [] w.answered) (sym good.dated)
-          (all_right v w.given w.asked w.answered [] known.book.cursors w.answered good.answers good.met);
+      steps = good.dated;
+      caused = is_caused (account_of w) v w.now w.answered [] known.book.cursors w.answered good.one good.answers told based.replies;
+      right = all_right v w.changed w.given w.asked w.answered [] known.book.cursors w.answered good.answers good.met;
       one = good.one;
       once = good.once;
       fresh = good.fresh;
       order = good.in_order;
-      known = subst (λ l. AllByRecursion (IsKnown w.given l history) w.asked) (sym good.dated)
-          (all_both (λ (a : Asked). IsMet v w.given a.time) (λ a. HadMoment w.given a × (a.came < w.now + 1))
-          (IsKnown w.given (changes_in v) history) w.asked
-          (λ a met had. record { moment = had.0.0; time = met; reached = had.0.1 }) good.known moments.asked);
+      known = all_both (λ (a : Asked). IsMet v w.given a.time) (λ a. HadMoment w.given a × (a.came < w.now + 1)) (IsKnown (account_of w)) w.asked
+          (λ a met had. record { moment = had.0.0; time = met; reached = had.0.1 }) good.known moments.asked;
+      anew = refl;
     }
 
-pub run_makes_one_history : (routers : ℕ) (events : List Event) (w : World) → Run (start routers) events w
-    → OneHistory w.given w.changed (entries_kept (journal_at w.nodes first_shard)) w.asked w.answered
+pub run_makes_one_history : (routers : ℕ) (events : List Event) (w : World) → Run (start routers) events w → OneHistory (account_of w)
 run_makes_one_history routers events w run = makes_one_history w (run_keeps (start routers) w events (start_true routers) run)
 
 -- THE CHANGES OF THE CATALOGUE

@@ -10,6 +10,7 @@ use Rattle.chunk_model.specs.Tables.{first_shard}
 use Rattle.history_model.specs.History.{StatementNumber, Operation, Entry, IsIn}
 use Rattle.base_model.specs.Identities.{RequestId}
 use Rattle.reply_model.specs.Exchanges.{Asked, Answered, number_for}
+use Rattle.reply_model.specs.Accounts.{Account}
 use Rattle.reply_model.specs.Outcomes.{StatementOutcome, WasDone, Done, answer_by}
 use Rattle.reply_model.specs.Right.{ends, Sends, MayBeTold, told_own, told_other, told_older, AreTold}
 use Rattle.reply_model.specs.OneHistory.{EndsBefore, WasSent, IsReached, AreNumbered}
@@ -36,25 +37,25 @@ number_at : (given : Option ClientNumber) (id : RequestId) (i k : ℕ)
 number_at None id i k = refl
 number_at (Some by) id i k = refl
 
-module _ (history : List Entry) (asked : List Asked) (numbered : AreNumbered history) (first : (e : Entry) → IsIn e history → e.shard ≡ first_shard) where
-  module _ (t : Answered) (write : WriteCommand) (time index : ℕ) (reached : write.ordered ≡ true → AreDoneBefore history time write t.id index) where
+module _ (account : Account) (numbered : AreNumbered account.history) (first : (e : Entry) → IsIn e account.history → e.shard ≡ first_shard) where
+  module _ (t : Answered) (write : WriteCommand) (time index : ℕ) (reached : write.ordered ≡ true → AreDoneBefore account.history time write t.id index) where
     -- an entry before it ends nothing
-    entry_goes : (i : ℕ) (d : Done) (e : Entry) → i < index → IsIn e history → e.number ≡ number_for write.number t.id i → d.answer ≡ answer_by e
+    entry_goes : (i : ℕ) (d : Done) (e : Entry) → i < index → IsIn e account.history → e.number ≡ number_for write.number t.id i → d.answer ≡ answer_by e
         → ends write.ordered d ≡ true → ⊥
     entry_goes i d e below stands number is over =
         let r = reached (in_order write.ordered d over) i below in
-        let one : r.0 ≡ e = one_number history numbered first r.0 e r.1 stands (r.2 ∙ sym number) in
+        let one : r.0 ≡ e = one_number account.history numbered first r.0 e r.1 stands (r.2 ∙ sym number) in
         not_over e d.index write.ordered (ap (λ (x : Entry). x.outcome.error) (sym one) ∙ r.3)
         (ap (λ a. ends write.ordered (record { index = d.index; answer = a })) (sym is) ∙ over)
 
     answer_goes : (i : ℕ) (d : Done) (namespace : List ℕ) (operation : Operation) (answer : StatementOutcome) → i < index → d.answer ≡ answer
-        → MayBeTold history asked t write.number (number_for write.number t.id i) namespace operation answer → WasDone answer → ends write.ordered d ≡ true → ⊥
+        → MayBeTold account t write.number (number_for write.number t.id i) namespace operation answer → WasDone answer → ends write.ordered d ≡ true → ⊥
     answer_goes i d namespace operation _ below is (told_own e stands own past) done over = entry_goes i d e below stands own.same_number is over
     answer_goes i d namespace operation _ below is (told_other e by stands some own past had) done over = entry_goes i d e below stands own is over
     answer_goes i d namespace operation _ below is (told_older e by stands some session less past had) done over = done
 
     -- so no answer ends there
-    none_ends : (i : ℕ) (operations : List Operation) (dones : List Done) → AreTold history asked t write i operations dones → EndsBefore index write dones → ⊥
+    none_ends : (i : ℕ) (operations : List Operation) (dones : List Done) → AreTold account t write i operations dones → EndsBefore index write dones → ⊥
     none_ends i [] dones told over = subst (λ l. EndsBefore index write l) told over
     none_ends i (operation ∷ operations) [] told over = over
     none_ends i (operation ∷ operations) (d ∷ dones) told (inl (below, over, done)) =
@@ -63,27 +64,27 @@ module _ (history : List Entry) (asked : List Asked) (numbered : AreNumbered his
     none_ends i (operation ∷ operations) (d ∷ dones) told (inr rest) =
         by_end (ends write.ordered d) told.2 rest (λ more. none_ends (i + 1) operations dones more rest)
       where
-        by_end : (b : Bool) → (elim b as (λ x. Type 0) [ true ↦ dones ≡ [] | false ↦ AreTold history asked t write (i + 1) operations dones ])
-            → EndsBefore index write dones → (AreTold history asked t write (i + 1) operations dones → ⊥) → ⊥
+        by_end : (b : Bool) → (elim b as (λ x. Type 0) [ true ↦ dones ≡ [] | false ↦ AreTold account t write (i + 1) operations dones ])
+            → EndsBefore index write dones → (AreTold account t write (i + 1) operations dones → ⊥) → ⊥
         by_end true none rest later = subst (λ l. EndsBefore index write l) none rest
         by_end false more rest later = later more
 
-  pub was_sent : (answered : List Answered) (e : Entry) → WasMade history asked e → WasSent history asked answered e
-  was_sent answered e m = record {
+  pub was_sent : (e : Entry) → WasMade account.history account.asked e → WasSent account e
+  was_sent e m = record {
     request = m.request;
     taken = m.taken;
     sends = m.sends;
     later = m.later;
     goes_on = λ t dones i own told document over.
         none_ends t m.sends.write e.time m.sends.index
-        (λ ordered. subst (λ id. AreDoneBefore history e.time m.sends.write id m.sends.index) (sym own) (m.reached ordered)) 0 m.sends.write.operations dones
+        (λ ordered. subst (λ id. AreDoneBefore account.history e.time m.sends.write id m.sends.index) (sym own) (m.reached ordered)) 0 m.sends.write.operations dones
         told over;
   }
 
-  pub is_reached : (e : Entry) → WasMade history asked e → IsReached history asked e
+  pub is_reached : (e : Entry) → WasMade account.history account.asked e → IsReached account e
   is_reached e m = λ all i below.
       let ordered : m.sends.write.ordered ≡ true =
-      all_at (λ (b : Asked). (sends : Sends b e) → sends.write.ordered ≡ true) m.request asked all m.taken m.sends in
+      all_at (λ (b : Asked). (sends : Sends b e) → sends.write.ordered ≡ true) m.request account.asked all m.taken m.sends in
       let number = m.sends.entry.statement.same_number in
       let at : m.sends.index ≡ e.number.index = index_at m.sends.write.number m.request.id m.sends.index ∙ ap (λ (n : StatementNumber). n.index) (sym number) in
       let r = m.reached ordered i (omega (arith, at, below)) in (

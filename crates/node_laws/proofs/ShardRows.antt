@@ -9,7 +9,7 @@ use Rattle.pipeline_model.specs.Halves.{Half, Rows, IsHalf}
 use Rattle.pipeline_model.specs.Runs.{Runs, overflowed}
 use Rattle.pipeline_model.specs.Split.{split}
 use Rattle.pipeline_laws.proofs.OutsideSpan.{split_half_lists}
-use Rattle.chunk_model.specs.Tables.{Table, first_shard, with_table}
+use Rattle.chunk_model.specs.Tables.{Table, with_table}
 use Rattle.history_model.specs.History.{Entry}
 use Rattle.chunk_model.specs.Verdicts.{Sent}
 use Rattle.base_model.specs.Identities.{RequestId}
@@ -164,11 +164,11 @@ takes_documents : (w : World) (book : Book) (at : ℕ) (kept : List Kept) (s : S
 takes_documents w book at kept s m id turn namespace moment half sent is comes asks =
     let f = body_is w book at m (read_ask id turn namespace moment half sent) asks comes in
     let early : moment ≤ m.time = f.1 in
-    let place : first_shard ≡ at = sym is.fits.place in
+    let own : at ≡ s.me = sym is.fits.own in
     heard_back w book at kept s m _ is comes
     (λ v grows met entries bound.
-    let here : entries_in v first_shard ≡ s.entries = ap (λ n. entries_in v n) place ∙ entries in
-    let past : heard s m ≤ v.bound first_shard = subst (λ n. heard s m ≤ v.bound n) (sym place) (omega (arith, bound)) in (
+    let here : entries_in v s.me ≡ s.entries = subst (λ n. entries_in v n ≡ s.entries) own entries in
+    let past : heard s m ≤ v.bound s.me = subst (λ n. heard s m ≤ v.bound n) own (omega (arith, bound)) in (
       (
         record {
           read = subst (λ l. IsReadOf v l id namespace moment half) (append-nil w.asked)
@@ -265,7 +265,7 @@ learns w book at kept s m namespace create moment t is comes told =
           (λ l h. (
             retried_fits v w.asked s (heard s m) (heard s m) t.namespace l (is.fits.own ∙ is.fits.place) (omega arith) h.0 h.1,
             met,
-            tells_none v w.asked
+            tells_none v w.asked s.me
                 (heard s m) t.namespace l.body h.1,
           ))
           (all_filtered (ParkedFits v w.asked (heard s m)) (wants_table t.namespace) s.parked f.parked));
@@ -315,9 +315,9 @@ owes_row w book at kept _ _ _ _ is comes (shard_overflow s m id turn namespace m
 owes_row w book at kept _ _ _ _ is comes (shard_time s m id asks) =
     heard_back w book at kept s m _ is comes
     (λ v grows met entries bound.
-    let here : s.entries ≡ entries_in v first_shard = sym (ap (λ n. entries_in v n) (sym is.fits.place) ∙ entries) in (
+    let here : s.entries ≡ entries_in v s.me = sym (subst (λ n. entries_in v n ≡ s.entries) (sym is.fits.own) entries) in (
       (
-        body_is w book at m (time_ask id) asks comes,
+        (is.fits.own ∙ is.fits.place, body_is w book at m (time_ask id) asks comes),
         met,
         subst (λ l. AllByRecursion (λ (e : Entry). e.time ≤ heard s m) l) here (up_to_later s.time (heard s m) s.entries (heard_later s m) is.fits.past),
       ),

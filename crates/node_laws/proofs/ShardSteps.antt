@@ -5,28 +5,28 @@ use Rattle.std.specs.List.{AllByRecursion}
 use Rattle.std.specs.Str.{bytes_eq}
 use Rattle.history_model.proofs.Lists.{all_weaken}
 use Rattle.bson_model.specs.Tree.{Fields}
-use Rattle.chunk_model.specs.Tables.{first_shard}
 use Rattle.pipeline_model.specs.Halves.{Half}
 use Rattle.history_model.specs.History.{Entry, IsIn}
 use Rattle.command_model.specs.Writes.{WriteCommand}
 use Rattle.command_model.specs.Command.{write_command, command_of}
 use Rattle.base_model.specs.Identities.{RequestId}
 use Rattle.reply_model.specs.Exchanges.{Asked}
+use Rattle.reply_model.specs.Accounts.{Given}
 use Rattle.reply_model.specs.Outcomes.{Done}
-use Rattle.reply_model.specs.OneHistory.{IsPlaced, Given, ids_asked, ids_told, AreDifferent}
+use Rattle.reply_model.specs.OneHistory.{IsPlaced, ids_asked, ids_told, AreDifferent}
 use Rattle.node_model.specs.Journal.{Kept}
 use Rattle.node_model.specs.Letters.{Statement, Body, table_ask, table_told, split_ask, split_done, write_ask, write_done, read_ask, half_ask, read_rows, stale, time_ask, time_told, Letter}
 use Rattle.node_model.specs.States.{Shard, NodeState, time_of_node}
 use Rattle.node_model.specs.ShardRows.{at_later, says, Ask, ask_in, wants_table, asks_table, asks_again}
 use Rattle.node_model.specs.World.{Held, World}
-use Rattle.node_laws.proofs.Views.{Book, View, view_of, entries_in, changes_in, IsAbove, Later}
+use Rattle.node_laws.proofs.Views.{Book, View, view_of, entries_in, changes_in, IsShardAt, history_in, IsAbove, Later}
 use Rattle.node_laws.proofs.ReadFacts.{IsShown}
-use Rattle.node_laws.proofs.WriteFacts.{IsDoneAt, OnlyLast}
+use Rattle.node_laws.proofs.WriteFacts.{IsDoneAt, OnlyLast, WasMade}
 use Rattle.node_laws.proofs.Facts.{IsKnownTable, IsOwned, HasBegun, IsDoneOf, BodyFits, LetterFits, ParkedFits, ShardFits, StateFits, OwnCursors, IsMet, TellsAll, SameKind, Good}
 use Rattle.node_laws.proofs.Owes.{IsSaid, Owes}
 use Rattle.node_laws.proofs.CatalogueRows.{no_answers}
 use Rattle.node_laws.proofs.LongerJournals.{still_grows}
-use Rattle.node_laws.proofs.Growth.{answers_later, begun_grows, known_grows, owned_grows, shown_grows, letter_grows, placed_grows}
+use Rattle.node_laws.proofs.Growth.{answers_later, begun_grows, made_later, known_grows, owned_grows, shown_grows, letter_grows, placed_grows}
 use Rattle.node_laws.proofs.Journals.{later_self}
 use Rattle.node_laws.proofs.ServedStatements.{up_to_later}
 use Rattle.node_laws.proofs.KnownTables.{table_created}
@@ -42,7 +42,7 @@ pub record Leaves (v : View) (w : World) (at : ℕ) (kept : List Kept) (mail : L
   pub letters : AllByRecursion (IsSaid v w.asked w.given) mail
 
 pub wrote : (w : World) (book : Book) (at : ℕ) (old : Held) (written : List Kept) (mail : List Letter) (new : NodeState) → Good w book → SameKind old.state new
-    → AllByRecursion (IsAbove (time_of_node old.state)) written → time_of_node old.state ≤ time_of_node new
+    → AllByRecursion (IsAbove at (time_of_node old.state)) written → time_of_node old.state ≤ time_of_node new
     → ((v : View) → Later (view_of w.nodes book) v → v.journal at ≡ old.kept ++ written → v.bound at ≡ time_of_node new
     → Leaves v w at (old.kept ++ written) mail new)
     → Owes w book at old (record { written = written; mail = mail; taken = []; replies = [] }) new
@@ -103,7 +103,7 @@ shard_later u v asked at time kept s later le f = record {
   entries = f.entries;
   past = up_to_later s.time time s.entries le f.past;
   legal = f.legal;
-  sent = f.sent;
+  sent = all_weaken (WasMade (history_in u) asked) (WasMade (history_in v) asked) s.entries (λ e m. made_later u v asked e later m) f.sent;
   numbers = f.numbers;
   placed = all_weaken (IsPlaced (changes_in u)) (IsPlaced (changes_in v)) s.entries (λ e p. placed_grows u v e later f.still p) f.placed;
   parts = f.parts;
@@ -117,9 +117,9 @@ shard_later u v asked at time kept s later le f = record {
 no_ask : {X : Type 0} {x : X} → None ≡ Some x → ⊥
 no_ask e = cc
 
--- a request is for the first shard
+-- a request is for a shard
 pub ask_receiver : (v : View) (asked : List Asked) (sender receiver time : ℕ) (b : Body) (a : Ask) → ask_in b ≡ Some a
-    → BodyFits v asked sender receiver time b → receiver ≡ first_shard
+    → BodyFits v asked sender receiver time b → IsShardAt receiver
 ask_receiver v asked sender receiver time (write_ask id turn ordered namespace [] sent) a is f = absurd (no_ask is)
 ask_receiver v asked sender receiver time (write_ask id turn ordered namespace (s ∷ statements) sent) a is f =
     owned_by_first v time namespace receiver s f.owned.0
@@ -166,7 +166,7 @@ ask_retried v asked sender other receiver early late (half_ask id turn namespace
 ask_retried v asked sender other receiver early late (read_rows id turn rows) a is le f = absurd (no_ask is)
 ask_retried v asked sender other receiver early late (stale id turn met) a is le f = f
 ask_retried v asked sender other receiver early late (time_ask id) a is le f = f
-ask_retried v asked sender other receiver early late (time_told id) a is le f = f
+ask_retried v asked sender other receiver early late (time_told id) a is le f = absurd (no_ask is)
 
 wants_by : (namespace : List ℕ) (o : Option Ask) → (elim o as (λ (x : Option Ask). Bool) [ None ↦ false | Some a ↦ bytes_eq a.namespace namespace ]) ≡ true
     → (a : Ask) × (o ≡ Some a)
@@ -174,7 +174,7 @@ wants_by namespace None h = absurd (cc)
 wants_by namespace (Some a) h = (a, refl)
 
 -- what waited fits as it is tried again
-pub retried_fits : (v : View) (asked : List Asked) (s : Shard) (early time : ℕ) (namespace : List ℕ) (m : Letter) → s.me ≡ first_shard → early ≤ time
+pub retried_fits : (v : View) (asked : List Asked) (s : Shard) (early time : ℕ) (namespace : List ℕ) (m : Letter) → IsShardAt s.me → early ≤ time
     → ParkedFits v asked early m → wants_table namespace m ≡ true → LetterFits v asked (says s s.me time m.body)
 retried_fits v asked s early time namespace m own le p wants =
     let a = wants_by namespace (ask_in m.body) wants in
@@ -229,18 +229,18 @@ begun_owned v early time namespace other receiver s le name o =
     record { creation = c.creation; begun = c.begun; name = c.name ∙ o.name ∙ name; before = let h = c.before in omega arith }
 
 -- what waited has no time
-pub tells_none : (v : View) (asked : List Asked) (time : ℕ) (namespace : List ℕ) (b : Body)
-    → (elim (ask_in b) as (λ (x : Option Ask). Bool) [ None ↦ false | Some a ↦ bytes_eq a.namespace namespace ]) ≡ true → TellsAll v asked time b
-tells_none v asked time namespace (time_told id) h = absurd (cc)
-tells_none v asked time namespace (table_ask name create moment) h = tt
-tells_none v asked time namespace (table_told name create moment table) h = tt
-tells_none v asked time namespace (write_ask id turn ordered name statements sent) h = tt
-tells_none v asked time namespace (split_ask id name middle) h = tt
-tells_none v asked time namespace (split_done id true) h = tt
-tells_none v asked time namespace (split_done id false) h = absurd (cc)
-tells_none v asked time namespace (write_done id dones) h = tt
-tells_none v asked time namespace (read_ask id turn name moment half sent) h = tt
-tells_none v asked time namespace (half_ask id turn name moment half documents) h = tt
-tells_none v asked time namespace (read_rows id turn rows) h = tt
-tells_none v asked time namespace (stale id turn met) h = tt
-tells_none v asked time namespace (time_ask id) h = tt
+pub tells_none : (v : View) (asked : List Asked) (sender time : ℕ) (namespace : List ℕ) (b : Body)
+    → (elim (ask_in b) as (λ (x : Option Ask). Bool) [ None ↦ false | Some a ↦ bytes_eq a.namespace namespace ]) ≡ true → TellsAll v asked sender time b
+tells_none v asked sender time namespace (time_told id) h = absurd (cc)
+tells_none v asked sender time namespace (table_ask name create moment) h = tt
+tells_none v asked sender time namespace (table_told name create moment table) h = tt
+tells_none v asked sender time namespace (write_ask id turn ordered name statements sent) h = tt
+tells_none v asked sender time namespace (split_ask id name middle) h = tt
+tells_none v asked sender time namespace (split_done id true) h = tt
+tells_none v asked sender time namespace (split_done id false) h = absurd (cc)
+tells_none v asked sender time namespace (write_done id dones) h = tt
+tells_none v asked sender time namespace (read_ask id turn name moment half sent) h = tt
+tells_none v asked sender time namespace (half_ask id turn name moment half documents) h = tt
+tells_none v asked sender time namespace (read_rows id turn rows) h = tt
+tells_none v asked sender time namespace (stale id turn met) h = tt
+tells_none v asked sender time namespace (time_ask id) h = tt

@@ -2,7 +2,7 @@
 use Rattle.std.proofs.Common.{◌≡◌, ◌⊎◌, inl, inr, ℕ, ◌+◌, ◌<◌, ◌≤◌, List, [], ◌∷◌, ◌++◌, refl, sym, ap, subst, ◌∙◌, arith, append-nil, Bool}
 use Rattle.std.specs.Prelude.{Some, None, true, map, length, drop}
 use Rattle.std.specs.List.{AllByRecursion, slice_get}
-use Rattle.history_model.proofs.Lists.{all_weaken, all_both, all_append, all_at, in_back, in_prefix}
+use Rattle.history_model.proofs.Lists.{all_weaken, all_both, all_append, all_at, in_back}
 use Rattle.chunk_model.specs.Tables.{first_shard}
 use Rattle.history_model.specs.History.{Operation, Entry, IsIn, Legal}
 use Rattle.base_model.specs.Identities.{RequestId}
@@ -16,15 +16,16 @@ use Rattle.node_model.specs.States.{Shard, shard_state}
 use Rattle.node_model.specs.Service.{Serves, serves_no_more, serves_again, serves_new, ends_again, ends_new}
 use Rattle.node_model.specs.RouterRows.{statements_from}
 use Rattle.node_model.specs.ShardRows.{heard, says}
-use Rattle.node_model.specs.World.{Held, World, journal_at}
+use Rattle.node_model.specs.World.{Held, World}
 use Rattle.node_model.proofs.Journals.{journal_got}
-use Rattle.node_laws.proofs.Views.{Book, View, view_of, entries_in, changes_in, IsAbove}
+use Rattle.node_laws.proofs.Views.{Book, View, view_of, entries_in, changes_in, IsShardAt, history_in, IsAbove}
 use Rattle.node_laws.proofs.WriteFacts.{AreAnswers, OnlyLast, AreDoneBefore, WasMade}
 use Rattle.node_laws.proofs.Facts.{IsKnownTable, IsOwned, IsWriteOf, HasBegun, IsDoneOf, ParkedFits, ShardFits, IsMet, Good}
 use Rattle.node_laws.proofs.Owes.{Owes}
 use Rattle.node_laws.proofs.Lists.{all_mapped}
-use Rattle.node_laws.proofs.LongerJournals.{entries_longer, still_grows}
-use Rattle.node_laws.proofs.Growth.{entry_grows, known_grows, placed_grows, met_later}
+use Rattle.node_laws.proofs.LongerJournals.{entries_longer, IsNewAt, still_grows}
+use Rattle.node_laws.proofs.Histories.{shard_entries, entry_of_shard}
+use Rattle.node_laws.proofs.Growth.{entry_grows, made_later, known_grows, placed_grows, met_later}
 use Rattle.node_laws.proofs.NotedOutcomes.{HasNoOther, made_no_other, answers_stand}
 use Rattle.node_laws.proofs.ServedStatements.{AreUpTo, Rises, IsEntryOf, up_to_later, serves_rises, serves_legal, serves_numbered, legal_joined, serves_entries, serves_told, serves_last}
 use Rattle.node_laws.proofs.MadeEntries.{drop_statements, parted, few_answers, front_done, IsMadeAt, serves_made}
@@ -48,8 +49,8 @@ entries_only : (made : List Entry) → entries_kept (map kept_entry made) ≡ ma
 entries_only [] = refl
 entries_only (e ∷ made) = ap (λ l. e ∷ l) (entries_only made)
 
-kept_above : (time : ℕ) (made : List Entry) → AllByRecursion (λ (e : Entry). time < e.time) made → AllByRecursion (IsAbove time) (map kept_entry made)
-kept_above time made all = all_mapped (IsAbove time) kept_entry made all
+kept_above : (at time : ℕ) (made : List Entry) → AllByRecursion (IsNewAt at time) made → AllByRecursion (IsAbove at time) (map kept_entry made)
+kept_above at time made all = all_mapped (IsAbove at time) kept_entry made all
 
 -- what is served of a request that fits
 pub record Served (w : World) (book : Book) (at : ℕ) (s : Shard) (time : ℕ) (id : RequestId) (dones : List Done) (made : List Entry) (last : ℕ) : Type 0 where
@@ -60,12 +61,13 @@ pub record Served (w : World) (book : Book) (at : ℕ) (s : Shard) (time : ℕ) 
   pub numbers : AreNumbered (s.entries ++ made)
   pub placed : AllByRecursion (IsPlaced (changes_in (view_of w.nodes book))) made
   pub parts : AllByRecursion (StandsInPart (s.entries ++ made)) w.asked
+  pub own : AllByRecursion (λ (e : Entry). e.shard ≡ s.me) made
   pub told : AreToldBy (view_of w.nodes book) w.asked (s.entries ++ made) last id dones
 
--- the journal at the shard's place has its entries
-shard_entries : (w : World) (book : Book) (at : ℕ) (kept : List Kept) (s : Shard) → Stood w book at kept s
-    → entries_in (view_of w.nodes book) first_shard ≡ s.entries
-shard_entries w book at kept s is = ap (λ n. entries_kept (journal_at w.nodes n)) (sym is.fits.place)
+-- the journal at the shard's place has its entries, which are the history's
+own_entries : (w : World) (book : Book) (at : ℕ) (kept : List Kept) (s : Shard) → Stood w book at kept s
+    → history_in (view_of w.nodes book) ≡ s.entries
+own_entries w book at kept s is = sym (shard_entries (view_of w.nodes book) at is.fits.place)
     ∙ ap (λ k. entries_kept k) (journal_got w.nodes at (held_shard s kept) is.here) ∙ sym is.fits.entries
 
 part_moved : (a : RequestId) (from into : List ℕ) (x y : Bool) (operations : List Operation) (entries : List Entry) → from ≡ into → x ≡ y
@@ -99,11 +101,11 @@ pub longer_made : (old new : List Entry) (asked : List Asked) (e : Entry) → ((
 longer_made old new asked e stays m = subst (λ l. WasMade new l e) (append-nil asked) (entry_grows old new asked [] e stays m)
 
 -- the last time is one that was met: that of the message, or of the last entry
-last_met : (w : World) (book : Book) (at : ℕ) (v : View) (time last : ℕ) (made entries : List Entry) → first_shard ≡ at → entries_in v at ≡ entries ++ made
+last_met : (w : World) (book : Book) (at : ℕ) (v : View) (time last : ℕ) (made entries : List Entry) → IsShardAt at → entries_in v at ≡ entries ++ made
     → IsMet v w.given time → (last ≡ time) ⊎ ((e : Entry) × IsIn e made × (last ≡ e.time)) → IsMet v w.given last
 last_met w book at v time last made entries place same met (inl e) = subst (λ t. IsMet v w.given t) (sym e) met
 last_met w book at v time last made entries place same met (inr (e, i, t)) =
-    inr (inr (inr (e, subst (λ l. IsIn e l) (sym (ap (λ n. entries_in v n) place ∙ same)) (in_back e entries made i), t)))
+    inr (inr (inr (e, entry_of_shard v at e place (subst (λ l. IsIn e l) (sym same) (in_back e entries made i)), t)))
 
 module _ (w : World) (book : Book) (at : ℕ) (kept : List Kept) (s : Shard) (is : Stood w book at kept s)
     (receiver early now : ℕ) (id : RequestId) (ordered : Bool) (namespace : List ℕ) (statements : List Statement) (dones : List Done) (made : List Entry)
@@ -119,7 +121,7 @@ module _ (w : World) (book : Book) (at : ℕ) (kept : List Kept) (s : Shard) (is
   before : AreAnswers s.entries early ask.write Own.id 0 ask.front
   before =
       subst (λ i. AreAnswers s.entries early ask.write i 0 ask.front) (sym ask.own)
-      (subst (λ l. AreAnswers l early ask.write id 0 ask.front) (shard_entries w book at kept s is) ask.answered)
+      (subst (λ l. AreAnswers l early ask.write id 0 ask.front) (own_entries w book at kept s is) ask.answered)
 
   next : drop (length ask.front) (statements_from ask.write.number Own.id 0 ask.write.operations) ≡ statements ++ ask.back
   next = subst (λ i. drop (length ask.front) (statements_from ask.write.number i 0 ask.write.operations) ≡ statements ++ ask.back) (sym ask.own) ask.next
@@ -144,8 +146,9 @@ module _ (w : World) (book : Book) (at : ℕ) (kept : List Kept) (s : Shard) (is
   part_stands : ask.write.number ≡ None → IsPart (s.entries ++ made) Own.id ask.write
   part_stands none =
       let part : IsPart s.entries Own.id ask.write = all_at (StandsInPart s.entries) Own w.asked is.fits.parts ask.taken ask.write ask.asks none in
-      let zero : AllByRecursion HasNoOther s.entries = all_weaken (WasMade s.entries w.asked) HasNoOther s.entries
-      (λ e m. made_no_other s.entries w.asked e m) is.fits.sent in
+      let u : View = view_of w.nodes book in
+      let zero : AllByRecursion HasNoOther s.entries = all_weaken (WasMade (history_in u) w.asked) HasNoOther s.entries
+      (λ e m. made_no_other (history_in u) w.asked e m) is.fits.sent in
       let told = answers_stand s.entries early ask.write Own.id ask.front none zero part before in
       part_moved Own.id namespace ask.write.namespace ordered ask.write.ordered ask.write.operations (s.entries ++ made) ask.name ask.order
       (request_part Own.id s.me namespace ordered ask.write.operations s.entries now statements dones made last serves ask.front told.0 ask.back told.1
@@ -178,6 +181,7 @@ module _ (w : World) (book : Book) (at : ℕ) (kept : List Kept) (s : Shard) (is
             (all_weaken (IsMadeAt Own ask.write ordered (s.entries ++ made)) (IsBy ask.write.number Own.id) made
             (λ e h. (h.index, h.entry.statement.same_number)) made_at)
             part_stands is.fits.parts;
+        own = all_weaken (IsEntryOf s.me namespace (IsOwned u early namespace receiver)) (λ (e : Entry). e.shard ≡ s.me) made (λ e h. h.0) owned;
         told = record {
           request = Own;
           write = ask.write;
@@ -218,10 +222,11 @@ writes_all w book at kept s m id dones made last is met h =
     let longer : entries_kept (kept ++ map kept_entry made) ≡ s.entries ++ made = entries_longer kept (map kept_entry made)
     ∙ ap (λ l. l ++ entries_kept (map kept_entry made)) (sym is.fits.entries) ∙ ap (λ l. s.entries ++ l) (entries_only made) in
     wrote w book at (held_shard s kept) (map kept_entry made) (says s id.router last (write_done id dones) ∷ []) _ is.good tt
-    (kept_above s.time made (all_weaken (λ (e : Entry). heard s m < e.time) (λ (e : Entry). s.time < e.time) made (λ e l. omega arith) h.rises.above)) le
+    (kept_above at s.time made (all_both (λ (e : Entry). heard s m < e.time) (λ (e : Entry). e.shard ≡ s.me) (IsNewAt at s.time) made
+    (λ e l own. (own ∙ is.fits.own, omega arith)) h.rises.above h.own)) le
     (λ v grows journal bound.
     let entries : entries_in v at ≡ s.entries ++ made = ap (λ k. entries_kept k) journal ∙ longer in
-    let reached : IsMet v w.given last = last_met w book at v (heard s m) last made s.entries (sym is.fits.place) entries
+    let reached : IsMet v w.given last = last_met w book at v (heard s m) last made s.entries is.fits.place entries
     (met_later u v w.given (heard s m) grows met) h.rises.reached in
     record {
       node = record {
@@ -230,9 +235,12 @@ writes_all w book at kept s m id dones made last is met h =
         entries = sym longer;
         past = h.past;
         legal = h.legal;
-        sent = all_append (WasMade (s.entries ++ made) w.asked) s.entries made
-            (all_weaken (WasMade s.entries w.asked) (WasMade (s.entries ++ made) w.asked) s.entries
-            (λ e m. longer_made s.entries (s.entries ++ made) w.asked e (λ d i. in_prefix d s.entries made i) m) is.fits.sent) h.sent;
+        sent = all_append (WasMade (history_in v) w.asked) s.entries made
+            (all_weaken (WasMade (history_in u) w.asked) (WasMade (history_in v) w.asked) s.entries
+            (λ e m. made_later u v w.asked e grows m) is.fits.sent)
+            (all_weaken (WasMade (s.entries ++ made) w.asked) (WasMade (history_in v) w.asked) made
+            (λ e m. longer_made (s.entries ++ made) (history_in v) w.asked e
+            (λ d i. entry_of_shard v at d is.fits.place (subst (λ l. IsIn d l) (sym entries) i)) m) h.sent);
         numbers = h.numbers;
         placed = all_weaken (IsPlaced (changes_in u)) (IsPlaced (changes_in v)) (s.entries ++ made) (λ e p. placed_grows u v e grows is.fits.still p)
             (all_append (IsPlaced (changes_in u)) s.entries made is.fits.placed h.placed);

@@ -9,7 +9,8 @@ use Rattle.command_model.specs.Command.{split_command, command_of}
 use Rattle.chunk_model.specs.Changes.{known_table}
 use Rattle.history_model.specs.History.{IsIn}
 use Rattle.reply_model.specs.Exchanges.{Asked}
-use Rattle.reply_model.specs.OneHistory.{Dated, changes_before}
+use Rattle.reply_model.specs.Accounts.{Dated}
+use Rattle.reply_model.specs.OneHistory.{changes_before}
 use Rattle.reply_model.specs.Right.{WasSplit}
 use Rattle.node_laws.proofs.Views.{View, changes_in}
 

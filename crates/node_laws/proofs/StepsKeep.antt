@@ -6,7 +6,7 @@ use Rattle.history_model.proofs.Lists.{all_weaken, all_at, in_back, in_first}
 use Rattle.base_model.specs.Times.{time_of_moment}
 use Rattle.history_model.specs.History.{IsIn}
 use Rattle.reply_model.specs.Exchanges.{Asked, Answered}
-use Rattle.reply_model.specs.OneHistory.{Given}
+use Rattle.reply_model.specs.Accounts.{Given}
 use Rattle.node_model.specs.Journal.{Kept, kept_life}
 use Rattle.node_model.specs.Letters.{Input, client_input, letter_input, moment_input, opened_input, Taken, Reply, Effect, nothing, writes, both}
 use Rattle.node_model.specs.States.{NodeState, router_state, time_of_node}

@@ -3,12 +3,15 @@ use Rattle.std.proofs.Common.{◌≡◌, ℕ, zero, suc, ◌<◌, ◌≤◌, Lis
 use Rattle.std.specs.Prelude.{Option, Some, None, if◌then◌else◌}
 use Rattle.std.specs.List.{AllByRecursion}
 use Rattle.chunk_model.specs.Changes.{Change, create_change, split_change, commit_change, time_of}
+use Rattle.chunk_model.specs.Tables.{first_shard}
 use Rattle.history_model.specs.History.{Entry}
 use Rattle.base_model.specs.Identities.{RequestId, same_request}
 use Rattle.reply_model.specs.Cursors.{Cursor}
 use Rattle.node_model.specs.Journal.{Kept, kept_table, kept_entry, kept_change, kept_life, kept_block, entries_kept, changes_kept}
 use Rattle.node_model.specs.States.{time_of_node}
 use Rattle.node_model.specs.World.{Held, journal_at}
+use Rattle.reply_model.specs.Exchanges.{Asked, Answered}
+use Rattle.reply_model.specs.Accounts.{Account, nothing_stored}
 
 -- the time that a request reads at
 pub record Choice : Type 0 where
@@ -47,25 +50,60 @@ entries_in v at = entries_kept (v.journal at)
 abbrev pub changes_in : View → List Change
 changes_in v = changes_kept (v.journal 0)
 
+-- SHARDS AND THE HISTORY
+
+-- the node at this place is a shard: currently it is the first
+abbrev pub IsShardAt : ℕ → Type 0
+IsShardAt at = at ≡ first_shard
+
+-- the entries of all shards
+abbrev pub history_in : View → List Entry
+history_in v = entries_in v first_shard
+
+-- What is judged of a view with these requests and replies. The steps of the changes, and the moments, are noted elsewhere.
+abbrev pub account_in : View → List Asked → List Answered → Account
+account_in v asked answered = record {
+  changes = changes_in v;
+  dated = [];
+  history = history_in v;
+  asked = asked;
+  answered = answered;
+  given = [];
+  stored = nothing_stored;
+}
+
+-- all shards have passed the time
+abbrev pub HavePassed : View → ℕ → Type 0
+HavePassed v time = time ≤ v.bound first_shard
+
+-- an entry of a shard that is not above the bound of it, and one that is
+abbrev pub IsWithin : (bound : ℕ → ℕ) → Entry → Type 0
+IsWithin bound e = IsShardAt e.shard × (e.time ≤ bound e.shard)
+
+abbrev pub IsBeyond : (bound : ℕ → ℕ) → Entry → Type 0
+IsBeyond bound e = IsShardAt e.shard × (bound e.shard < e.time)
+
+-- LATER VIEWS
+
 -- currently no change moves a chunk
 abbrev pub MovesNothing : Change → Type 0
 MovesNothing (create_change c) = Unit {0}
 MovesNothing (split_change s) = Unit {0}
 MovesNothing (commit_change c) = ⊥
 
--- an entry and a change of the catalogue come after a time
-abbrev pub IsAbove : ℕ → Kept → Type 0
-IsAbove time (kept_entry e) = time < e.time
-IsAbove time (kept_change x) = (time < time_of x) × MovesNothing x
-IsAbove time (kept_table t) = Unit {0}
-IsAbove time (kept_life n) = Unit {0}
-IsAbove time (kept_block n) = Unit {0}
+-- An entry and a change of the catalogue come after a time, and the entry is of the shard at this place.
+abbrev pub IsAbove : (at time : ℕ) → Kept → Type 0
+IsAbove at time (kept_entry e) = (e.shard ≡ at) × (time < e.time)
+IsAbove at time (kept_change x) = (time < time_of x) × MovesNothing x
+IsAbove at time (kept_table t) = Unit {0}
+IsAbove at time (kept_life n) = Unit {0}
+IsAbove at time (kept_block n) = Unit {0}
 
--- a journal with more after it, above a time
-pub record Longer (time : ℕ) (old new : List Kept) : Type 0 where
+-- the journal at a place with more after it, above a time
+pub record Longer (at time : ℕ) (old new : List Kept) : Type 0 where
   pub written : List Kept
   pub same : new ≡ old ++ written
-  pub rises : AllByRecursion (IsAbove time) written
+  pub rises : AllByRecursion (IsAbove at time) written
 
 -- more times are decided
 pub record More (old new : List Choice) : Type 0 where
@@ -74,6 +112,6 @@ pub record More (old new : List Choice) : Type 0 where
 
 -- each journal is longer, no time falls, and what was decided stays so
 pub record Later (v w : View) : Type 0 where
-  pub longer : (at : ℕ) → Longer (v.bound at) (v.journal at) (w.journal at)
+  pub longer : (at : ℕ) → Longer at (v.bound at) (v.journal at) (w.journal at)
   pub times : (at : ℕ) → v.bound at ≤ w.bound at
   pub decided : More v.chosen w.chosen

@@ -9,6 +9,7 @@ pub mod Steps
 pub mod World
 pub mod Schedule
 pub use Rattle.reply_model.specs.Answers
+pub use Rattle.reply_model.specs.Accounts
 pub use Rattle.reply_model.specs.Exchanges
 pub use Rattle.reply_model.specs.Catalogue
 pub use Rattle.reply_model.specs.Command

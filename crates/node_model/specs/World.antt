@@ -1,10 +1,12 @@
 -- All nodes with their journals, and every message that was ever sent: any of these may be delivered, again, late or never.
 use Rattle.std.specs.Prelude.{◌≡◌, ℕ, ℤ, zero, suc, ◌+◌, List, [], ◌∷◌, ◌++◌, map, Some}
 use Rattle.std.specs.List.{slice_get, slice_set}
+use Rattle.chunk_model.specs.Tables.{first_shard}
+use Rattle.history_model.specs.History.{Entry}
 use Rattle.reply_model.specs.Requests.{Request}
 use Rattle.reply_model.specs.Exchanges.{Asked, Answered}
-use Rattle.reply_model.specs.OneHistory.{Given, Dated}
-use Rattle.node_model.specs.Journal.{Kept, kept_table, kept_entry, kept_change, kept_life, kept_block}
+use Rattle.reply_model.specs.Accounts.{Dated, Given, nothing_stored, Account}
+use Rattle.node_model.specs.Journal.{Kept, kept_table, kept_entry, kept_change, kept_life, kept_block, entries_kept, changes_kept}
 use Rattle.node_model.specs.Letters.{Letter, Input, client_input, letter_input, moment_input, opened_input, Taken, Reply, Effect}
 use Rattle.node_model.specs.States.{Router, NodeState, catalogue_state, shard_state, router_state, new_catalogue, new_shard, new_router}
 use Rattle.node_model.specs.Steps.{Step}
@@ -119,3 +121,23 @@ abbrev pub journal_at : List Held → ℕ → List Kept
 journal_at [] at = []
 journal_at (h ∷ nodes) zero = h.kept
 journal_at (h ∷ nodes) (suc at) = journal_at nodes at
+
+-- the entries that the journal at a place stores, in order
+abbrev pub entries_at : List Held → ℕ → List Entry
+entries_at nodes at = entries_kept (journal_at nodes at)
+
+-- The history: the entries that all shards store. Currently there is one shard, the first, and these are its journal's.
+abbrev pub history_of : List Held → List Entry
+history_of nodes = entries_at nodes first_shard
+
+-- what is judged of a world; currently each journal is empty at the start
+abbrev pub account_of : World → Account
+account_of w = record {
+  changes = changes_kept (journal_at w.nodes 0);
+  dated = w.changed;
+  history = history_of w.nodes;
+  asked = w.asked;
+  answered = w.answered;
+  given = w.given;
+  stored = nothing_stored;
+}

@@ -3,16 +3,14 @@ use Rattle.std.proofs.Common.{◌≡◌, ◌⊎◌, inl, inr, ℕ, ◌<◌, List
 use Rattle.std.specs.Prelude.{Ok}
 use Rattle.std.specs.List.{AllByRecursion}
 use Rattle.history_model.proofs.Lists.{all_weaken, in_first, in_later, in_cons, in_none, in_prefix}
-use Rattle.chunk_model.specs.Tables.{first_shard}
 use Rattle.command_model.specs.Command.{write_command, command_of}
 use Rattle.reply_model.specs.Right.{IsWhole}
 use Rattle.history_model.specs.History.{Entry, IsIn}
 use Rattle.base_model.specs.Identities.{RequestId}
 use Rattle.reply_model.specs.Exchanges.{Asked, Answered}
 use Rattle.reply_model.specs.OneHistory.{ids_told}
-use Rattle.node_model.specs.Journal.{entries_kept}
 use Rattle.node_model.specs.Letters.{Input, Letter}
-use Rattle.node_model.specs.World.{World, asked_by, answered_by, Moves, Event, Happens, comes, delivers, passes, begins as was_opened, Run, stands, goes, start, journal_at}
+use Rattle.node_model.specs.World.{World, asked_by, answered_by, Moves, Event, Happens, comes, delivers, passes, begins as was_opened, Run, stands, goes, start, history_of, account_of}
 use Rattle.reply_facts.proofs.Requests.{one_asked}
 use Rattle.reply_facts.proofs.Freshness.{told_to, told_write}
 use Rattle.node_laws.proofs.Lists.{all_within}
@@ -39,16 +37,16 @@ told_in id (t ∷ answered) there = by_place (in_cons id t.id (ids_told answered
 
 -- a write that was answered was served whole
 answered_served : (w : World) → StaysTrue w → (a : Asked) → IsIn a w.asked → IsAnswered w.answered a
-    → IsServed (entries_kept (journal_at w.nodes first_shard)) w.asked w.answered a
+    → IsServed (account_of w) a
 answered_served w good a taken done = λ write asks.
-    let history : List Entry = entries_kept (journal_at w.nodes first_shard) in
+    let history : List Entry = history_of w.nodes in
     let one = makes_one_history w good in
     let told = told_in a.id w.answered done in
-    let to = told_to w.given w.changed history w.asked w.answered one told.0 told.1 in
+    let to = told_to (account_of w) one told.0 told.1 in
     let same : to.request ≡ a = one_asked to.request a w.asked one.one to.is.taken taken (to.is.own ∙ told.2) in
     let its : command_of told.0.request ≡ Ok (write_command write) = ap (λ q. command_of q) (sym to.same) ∙ ap (λ (b : Asked). command_of b.request) same
     ∙ asks in
-    let x = told_write w.given w.changed history w.asked w.answered one told.0 write told.1 its in
+    let x = told_write (account_of w) one told.0 write told.1 its in
     record {
       whole = λ none. subst (λ id. IsWhole history id write) told.2 (x.whole none);
       tells = record { answer = told.0; told = told.1; own = told.2; dones = x.dones; tells = x.tells };
@@ -62,7 +60,7 @@ are_answered left w good bag none =
     let all = all_answered left w none under in
     record {
       answered = all;
-      served = all_within (IsAnswered w.answered) (IsServed (entries_kept (journal_at w.nodes first_shard)) w.asked w.answered) w.asked
+      served = all_within (IsAnswered w.answered) (IsServed (account_of w)) w.asked
           (λ a taken done. answered_served w good a taken done) all;
       quiet = all_quiet left w none under;
     }
@@ -107,11 +105,11 @@ run_stays _ _ _ a was (stands w) = was
 run_stays _ _ _ a was (goes u v w e es h run) = run_stays v es w a (happens_stays u v e a was h) run
 
 pub stay_answered : (u : World) (es : List Event) (w : World) → StaysTrue w → Run u es w → AllByRecursion (IsAnswered u.answered) u.asked
-    → AllByRecursion (IsAnswered w.answered) u.asked × AllByRecursion (IsServed (entries_kept (journal_at w.nodes first_shard)) w.asked w.answered) u.asked
+    → AllByRecursion (IsAnswered w.answered) u.asked × AllByRecursion (IsServed (account_of w)) u.asked
 stay_answered u es w good run all = (
   all_within (IsAnswered u.answered) (IsAnswered w.answered) u.asked
       (λ a taken done. (run_stays u es w a (record { taken = taken; done = done }) run).done) all,
-  all_within (IsAnswered u.answered) (IsServed (entries_kept (journal_at w.nodes first_shard)) w.asked w.answered) u.asked
+  all_within (IsAnswered u.answered) (IsServed (account_of w)) u.asked
       (λ a taken done.
       let now = run_stays u es w a (record { taken = taken; done = done }) run in
       answered_served w good a now.taken now.done) all,

@@ -2,15 +2,13 @@
 use Rattle.std.proofs.Common.{◌≡◌, ◌≢◌, ◌⊎◌, inl, inr, ℕ, zero, suc, ◌+◌, ◌<◌, ◌≤◌, List, [], ◌++◌, length, refl, ap, subst, ◌∙◌, arith, append-nil}
 use Rattle.std.specs.List.{AllByRecursion}
 use Rattle.std.proofs.lemmas.Option.{slice_get_within}
-use Rattle.chunk_model.specs.Tables.{first_shard}
-use Rattle.node_model.specs.Journal.{entries_kept}
 use Rattle.node_model.specs.Letters.{Letter, opened_input, Effect}
 use Rattle.node_model.specs.States.{NodeState}
 use Rattle.node_model.specs.CatalogueRows.{catalogue_opened}
 use Rattle.node_model.specs.ShardRows.{shard_opened}
 use Rattle.node_model.specs.RouterRows.{router_begin, router_opened}
 use Rattle.node_model.specs.Steps.{Step, catalogue_step, shard_step, router_step, begin_step}
-use Rattle.node_model.specs.World.{World, Event, client_event, deliver_event, opened_event, Happens, delivers, begins as was_opened, Run, stands, goes, start, journal_at}
+use Rattle.node_model.specs.World.{World, Event, client_event, deliver_event, opened_event, Happens, delivers, begins as was_opened, Run, stands, goes, start, account_of}
 use Rattle.node_model.specs.Schedule.{openings, moments_given, Delivers, delivers_none, delivers_next, Round, Pipes, opens, serves}
 use Rattle.node_laws.proofs.StepsKeep.{run_keeps}
 use Rattle.node_laws.proofs.Runs.{start_true}
@@ -109,7 +107,7 @@ piped_requests_are_answered routers rounds events w next pipes =
 
 pub earlier_requests_stay_answered : (routers : ℕ) (rounds : List Round) (events : List Event) (u : World) (next : ℕ) → Pipes routers rounds events u next
     → (more : List Event) (w : World) → Run u more w
-    → AllByRecursion (IsAnswered w.answered) u.asked × AllByRecursion (IsServed (entries_kept (journal_at w.nodes first_shard)) w.asked w.answered) u.asked
+    → AllByRecursion (IsAnswered w.answered) u.asked × AllByRecursion (IsServed (account_of w)) u.asked
 earlier_requests_stay_answered routers rounds events u next pipes more w run =
     stay_answered u more w (run_keeps u w more (pipes_bag routers rounds events u next pipes).true_there run) run
     (piped_requests_are_answered routers rounds events u next pipes).answered

@@ -3,15 +3,14 @@ use Rattle.std.specs.Prelude.{◌≡◌, List, [], None, Ok}
 use Rattle.std.specs.List.{AllByRecursion}
 use Rattle.command_model.specs.Writes.{WriteCommand}
 use Rattle.command_model.specs.Command.{write_command, command_of}
-use Rattle.chunk_model.specs.Tables.{first_shard}
-use Rattle.history_model.specs.History.{Entry, IsIn}
+use Rattle.history_model.specs.History.{IsIn}
 use Rattle.reply_model.specs.Exchanges.{Asked, Answered}
+use Rattle.reply_model.specs.Accounts.{Account}
 use Rattle.reply_model.specs.Right.{AreTold, IsWhole}
 use Rattle.reply_model.specs.Outcomes.{Done}
 use Rattle.reply_model.specs.OneHistory.{ids_told}
-use Rattle.node_model.specs.Journal.{entries_kept}
 use Rattle.node_model.specs.States.{NodeState, catalogue_state, shard_state, router_state}
-use Rattle.node_model.specs.World.{Held, World, journal_at}
+use Rattle.node_model.specs.World.{Held, World, account_of}
 
 -- no request is open, and none waits for a table
 abbrev pub IsQuiet : NodeState → Type 0
@@ -24,24 +23,24 @@ abbrev pub IsAnswered : List Answered → Asked → Type 0
 IsAnswered answered a = IsIn a.id (ids_told answered)
 
 -- the outcomes of its statements, or of those up to the error that ends it, are those of entries that are stored
-pub record HasToldAll (history : List Entry) (asked : List Asked) (answered : List Answered) (a : Asked) (write : WriteCommand) : Type 0 where
+pub record HasToldAll (account : Account) (a : Asked) (write : WriteCommand) : Type 0 where
   pub answer : Answered
-  pub told : IsIn answer answered
+  pub told : IsIn answer account.answered
   pub own : answer.id ≡ a.id
   pub dones : List Done
-  pub tells : AreTold history asked answer write 0 write.operations dones
+  pub tells : AreTold account answer write 0 write.operations dones
 
 -- Of a write without a client's number the entries of all statements are stored, up to the error that ends an ordered one. Of each write the outcomes of the
 -- statements are those of entries that are stored, under their numbers or of a greater transaction. Both also where no reply is put.
-pub record IsServedAs (history : List Entry) (asked : List Asked) (answered : List Answered) (a : Asked) (write : WriteCommand) : Type 0 where
-  pub whole : write.number ≡ None → IsWhole history a.id write
-  pub tells : HasToldAll history asked answered a write
+pub record IsServedAs (account : Account) (a : Asked) (write : WriteCommand) : Type 0 where
+  pub whole : write.number ≡ None → IsWhole account.history a.id write
+  pub tells : HasToldAll account a write
 
-abbrev pub IsServed : List Entry → List Asked → List Answered → Asked → Type 0
-IsServed history asked answered a = (write : WriteCommand) → command_of a.request ≡ Ok (write_command write) → IsServedAs history asked answered a write
+abbrev pub IsServed : Account → Asked → Type 0
+IsServed account a = (write : WriteCommand) → command_of a.request ≡ Ok (write_command write) → IsServedAs account a write
 
 -- Every request that was taken is answered, every write among them is served, and nothing is under way.
 pub record AreAnswered (w : World) : Type 0 where
   pub answered : AllByRecursion (IsAnswered w.answered) w.asked
-  pub served : AllByRecursion (IsServed (entries_kept (journal_at w.nodes first_shard)) w.asked w.answered) w.asked
+  pub served : AllByRecursion (IsServed (account_of w)) w.asked
   pub quiet : AllByRecursion (λ (h : Held). IsQuiet h.state) w.nodes

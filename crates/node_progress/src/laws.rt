@@ -2,10 +2,8 @@
 
 ghost use Rattle.std.specs.Prelude.{ℕ, List, length, map, ◌<◌, ◌≡◌};
 ghost use Rattle.std.specs.List.{AllByRecursion};
-ghost use Rattle.chunk_model.specs.Tables.{first_shard};
-ghost use Rattle.node_model.specs.Journal.{entries_kept};
 ghost use Rattle.node_model.specs.Letters.{Letter};
-ghost use Rattle.node_model.specs.World.{Event, Run, World, journal_at, start};
+ghost use Rattle.node_model.specs.World.{Event, Run, World, start, account_of};
 ghost use Rattle.node_model.specs.Schedule.{Pipes, Round};
 ghost use Rattle.node_progress.specs.Arrivals.{arrival_of, arrivals};
 ghost use Rattle.node_progress.specs.Completion.{AreAnswered, IsAnswered, IsServed};
@@ -54,7 +52,7 @@ pub fn piped_requests_are_answered()
 #[tactic(auto, using(crate::proofs::Rounds::earlier_requests_stay_answered))]
 pub fn earlier_requests_stay_answered()
     ensures answered { (routers : ℕ) (rounds : List Round) (events more : List Event) (u w : World) (next : ℕ) → Pipes routers rounds events u next → Run u more w → AllByRecursion (IsAnswered w.answered) u.asked }
-    ensures served { (routers : ℕ) (rounds : List Round) (events more : List Event) (u w : World) (next : ℕ) → Pipes routers rounds events u next → Run u more w → AllByRecursion (IsServed (entries_kept (journal_at w.nodes first_shard)) w.asked w.answered) u.asked }
+    ensures served { (routers : ℕ) (rounds : List Round) (events more : List Event) (u w : World) (next : ℕ) → Pipes routers rounds events u next → Run u more w → AllByRecursion (IsServed (account_of w)) u.asked }
 {}
 
 /// The events of the schedule are a run, so what is true of each run is true after each round.

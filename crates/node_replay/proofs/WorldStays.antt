@@ -7,7 +7,8 @@ use Rattle.chunk_model.specs.Tables.{first_shard}
 use Rattle.history_model.proofs.Lists.{all_weaken, all_append, all_at, in_prefix}
 use Rattle.history_model.specs.History.{Entry, IsIn, Legal}
 use Rattle.reply_model.specs.Exchanges.{Asked, Answered}
-use Rattle.reply_model.specs.OneHistory.{Dated, ids_asked, AreDifferent, changes_in as changes_of}
+use Rattle.reply_model.specs.Accounts.{Dated, changes_in as changes_of}
+use Rattle.reply_model.specs.OneHistory.{ids_asked, AreDifferent}
 use Rattle.node_model.proofs.Journals.{journal_here}
 use Rattle.node_model.specs.Journal.{Kept, entries_kept, changes_kept}
 use Rattle.node_model.specs.Letters.{Letter, Input, client_input, letter_input, moment_input, opened_input, Effect, Reply}

@@ -10,7 +10,8 @@ use Rattle.chunk_model.specs.Placement.{AreFitting}
 use Rattle.chunk_model.specs.Tables.{first_shard}
 use Rattle.history_model.specs.History.{StatementNumber, Entry, Legal, IsIn}
 use Rattle.reply_model.specs.Exchanges.{Asked, Answered, number_for}
-use Rattle.reply_model.specs.OneHistory.{AreNumbered, ids_asked, AreDifferent, changes_in}
+use Rattle.reply_model.specs.Accounts.{changes_in}
+use Rattle.reply_model.specs.OneHistory.{AreNumbered, ids_asked, AreDifferent}
 use Rattle.reply_model.specs.Outcomes.{StatementOutcome, is_older, Done, answer_by, answer_of}
 use Rattle.reply_model.specs.Right.{Sends}
 use Rattle.node_model.specs.Journal.{Kept, entries_kept, changes_kept}

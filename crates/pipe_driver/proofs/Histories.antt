@@ -3,12 +3,12 @@ use Rattle.std.proofs.Common.{◌≡◌, ℕ, ◌+◌, List, [], ◌∷◌, ◌+
 use Rattle.std.specs.Prelude.{Option}
 use Rattle.outside.specs.Devices.{SourceCall, SinkCall}
 use Rattle.opmsg_frames.specs.Outline.{FrameFault}
-use Rattle.node_model.specs.Journal.{changes_kept, entries_kept}
-use Rattle.node_model.specs.OneHistory.{OneHistory, changes_in}
+use Rattle.node_model.specs.Journal.{changes_kept}
+use Rattle.node_model.specs.OneHistory.{OneHistory}
+use Rattle.node_model.specs.Accounts.{changes_in}
 use Rattle.node_model.specs.Requests.{Request}
 use Rattle.node_model.specs.Schedule.{Round, serves}
-use Rattle.node_model.specs.Tables.{first_shard}
-use Rattle.node_model.specs.World.{Held, World, Event, Run, journal_at, start}
+use Rattle.node_model.specs.World.{Held, World, Event, Run, journal_at, start, account_of}
 use Rattle.node_model.proofs.Schedules.{pipes_run, run_then}
 use Rattle.node_laws.proofs.Runs.{run_keeps_changes, run_makes_one_history}
 use Rattle.pipe_driver.specs.Schedules.{Came, came_whole, came_opening, came_part}
@@ -57,8 +57,7 @@ module _ (source : SourceCall) (sink : SinkCall) (gives : ℕ → Type 0) (route
   piped_run piped = cause_run routers limit gives router piped.put piped.requests piped.rounds piped.end _ piped.taken piped.fault status piped.cause
 
   pub piped_history : (piped : IsPiped source sink gives router kept leaves owed routers limit status rest)
-      → OneHistory piped.end.given piped.end.changed (entries_kept (journal_at piped.end.nodes first_shard))
-      piped.end.asked piped.end.answered
+      → OneHistory (account_of piped.end)
   piped_history piped = let run = piped_run piped in run_makes_one_history routers run.0 piped.end run.1
 
   -- its changes of the catalogue are those that the catalogue's journal stores

@@ -10,16 +10,16 @@ use Rattle.command_model.specs.Reading.{Reading}
 use Rattle.command_model.specs.Command.{write_command, command_of}
 use Rattle.command_model.specs.Answers.{refusal_answer, answer_document}
 use Rattle.command_model.proofs.Taken.{some_operations}
-use Rattle.chunk_model.specs.Changes.{Change}
 use Rattle.history_model.specs.History.{Operation, Outcome, Entry, IsIn}
 use Rattle.history_model.proofs.Lists.{all_at, in_cons, in_first, in_none}
 use Rattle.base_model.specs.Identities.{RequestId}
 use Rattle.reply_model.specs.Exchanges.{Asked, Answered, number_for, entries_by}
+use Rattle.reply_model.specs.Accounts.{Account}
 use Rattle.reply_model.specs.Outcomes.{StatementOutcome, was_done, WasDone, Done, answer_by, time_of, answer_of}
 use Rattle.reply_model.specs.Cursors.{Cursor}
 use Rattle.reply_model.specs.Reads.{IsTimeRead}
 use Rattle.reply_model.specs.Right.{Sends, MayBeTold, AreTold, told_by, IsRight, Reads}
-use Rattle.reply_model.specs.OneHistory.{WasSent, IsPlaced, IsRightOf, AreRight, nothing_told, then_told, IsNotBefore, IsFresh, IsInOrder, Given, OneHistory, Dated, changes_in}
+use Rattle.reply_model.specs.OneHistory.{WasSent, IsPlaced, IsRightOf, AreRight, nothing_told, then_told, IsNotBefore, IsFresh, IsInOrder, OneHistory}
 use Rattle.reply_facts.specs.Earlier.{IsTold, WasToldBefore, WasTakenBefore}
 use Rattle.reply_facts.proofs.Requests.{number_same, one_asked, by_in}
 use Rattle.reply_facts.proofs.RightAnswers.{TellsWrite, right_of, write_time, most}
@@ -27,93 +27,93 @@ use Rattle.reply_facts.proofs.Statements.{on_first, one_number, IsAnswerOf, answ
 use Rattle.reply_facts.proofs.ReadTimes.{shown_time, not_before, not_before_after, ahead_time, is_ahead, wanted_is}
 
 -- each of the answers is right, with some cursors before it and after it
-pub record IsRightIn (given : List Given) (changes : List Change) (history : List Entry) (asked : List Asked) (answered : List Answered)
+pub record IsRightIn (account : Account)
     (t : Answered) : Type 0 where
   pub cursors : List Cursor
   pub next : List Cursor
-  pub is : IsRightOf given changes history asked answered cursors t next
+  pub is : IsRightOf account cursors t next
 
-pub right_in : (given : List Given) (changes : List Change) (history : List Entry) (asked : List Asked) (answered : List Answered) (cursors : List Cursor)
+pub right_in : (account : Account) (cursors : List Cursor)
     (told : List Answered)
-    → AreRight given changes history asked answered cursors told → (t : Answered) → IsIn t told → IsRightIn given changes history asked answered t
-right_in given changes history asked answered cursors told (nothing_told c) t i = absurd (in_none t i)
-right_in given changes history asked answered cursors told (then_told c next s later right rest) t i =
-    by_place (in_cons t s later i) (λ j. right_in given changes history asked answered next later rest t j)
+    → AreRight account cursors told → (t : Answered) → IsIn t told → IsRightIn account t
+right_in account cursors told (nothing_told c) t i = absurd (in_none t i)
+right_in account cursors told (then_told c next s later right rest) t i =
+    by_place (in_cons t s later i) (λ j. right_in account next later rest t j)
   where
-    by_place : (t ≡ s) ⊎ IsIn t later → (IsIn t later → IsRightIn given changes history asked answered t) → IsRightIn given changes history asked answered t
+    by_place : (t ≡ s) ⊎ IsIn t later → (IsIn t later → IsRightIn account t) → IsRightIn account t
     by_place (inl same) more = record {
       cursors = c;
       next = next;
-      is = subst (λ (x : Answered). IsRightOf given changes history asked answered c x next) (sym same) right;
+      is = subst (λ (x : Answered). IsRightOf account c x next) (sym same) right;
     }
     by_place (inr j) more = more j
 
 -- one request's answer, with the cursors around it
-pub record IsRightFor (changes : List Change) (history : List Entry) (asked : List Asked) (answered : List Answered) (a : Asked)
+pub record IsRightFor (account : Account) (a : Asked)
     (t : Answered) : Type 0 where
   pub cursors : List Cursor
   pub next : List Cursor
-  pub right : IsRight changes history asked answered cursors a t next
+  pub right : IsRight account cursors a t next
   pub risen : a.time ≤ t.time
 
-module _ (given : List Given) (dated : List Dated) (history : List Entry) (asked : List Asked) (answered : List Answered)
-    (one : OneHistory given dated history asked answered) where
+module _ (account : Account)
+    (one : OneHistory account) where
   -- REQUESTS AND THEIR ANSWERS
 
-  right_told : (t : Answered) → IsIn t answered → IsRightIn given (changes_in dated) history asked answered t
-  right_told t i = right_in given (changes_in dated) history asked answered [] answered one.right t i
+  right_told : (t : Answered) → IsIn t account.answered → IsRightIn account t
+  right_told t i = right_in account [] account.answered one.right t i
 
   -- the reply to a request is right, and its router's time was not lower then
-  pub answer_right : (a : Asked) (t : Answered) → IsTold asked answered a t → IsRightFor (changes_in dated) history asked answered a t
+  pub answer_right : (a : Asked) (t : Answered) → IsTold account.asked account.answered a t → IsRightFor account a t
   answer_right a t told =
       let r = right_told t told.told in
-      let same : r.is.request ≡ a = one_asked r.is.request a asked one.one r.is.taken told.taken (r.is.own ∙ sym told.own) in
-      subst (λ (b : Asked). IsRightFor (changes_in dated) history asked answered b t) same
+      let same : r.is.request ≡ a = one_asked r.is.request a account.asked one.one r.is.taken told.taken (r.is.own ∙ sym told.own) in
+      subst (λ (b : Asked). IsRightFor account b t) same
       (record { cursors = r.cursors; next = r.next; right = r.is.right; risen = r.is.risen })
 
   -- each reply belongs to a request
   pub record HasRequest (t : Answered) : Type 0 where
     pub request : Asked
-    pub is : IsTold asked answered request t
+    pub is : IsTold account.asked account.answered request t
     pub same : request.request ≡ t.request
 
-  pub told_to : (t : Answered) → IsIn t answered → HasRequest t
+  pub told_to : (t : Answered) → IsIn t account.answered → HasRequest t
   told_to t i = let r = (right_told t i).is in record { request = r.request; is = record { taken = r.taken; told = i; own = r.own }; same = r.same }
 
-  tells_its_write : (a : Asked) (t : Answered) (write : WriteCommand) → IsTold asked answered a t → command_of a.request ≡ Ok (write_command write)
-      → TellsWrite history asked t.id t write
+  tells_its_write : (a : Asked) (t : Answered) (write : WriteCommand) → IsTold account.asked account.answered a t → command_of a.request ≡ Ok (write_command write)
+      → TellsWrite account t.id t write
   tells_its_write a t write told asks =
       let r = answer_right a t told in
-      subst (λ (id : RequestId). TellsWrite history asked id t write) told.own
-      (right_of (changes_in dated) history asked answered r.cursors a t (Ok (write_command write)) r.next asks r.right).0
+      subst (λ (id : RequestId). TellsWrite account id t write) told.own
+      (right_of account r.cursors a t (Ok (write_command write)) r.next asks r.right).0
 
   -- the reply to a write
-  pub told_write : (t : Answered) (write : WriteCommand) → IsIn t answered → command_of t.request ≡ Ok (write_command write)
-      → TellsWrite history asked t.id t write
+  pub told_write : (t : Answered) (write : WriteCommand) → IsIn t account.answered → command_of t.request ≡ Ok (write_command write)
+      → TellsWrite account t.id t write
   told_write t write i asks = let h = told_to t i in tells_its_write h.request t write h.is (ap command_of h.same ∙ asks)
 
   -- ENTRIES AND THEIR REQUESTS
 
-  pub one_entry : (d e : Entry) → IsIn d history → IsIn e history → d.number ≡ e.number → d ≡ e
+  pub one_entry : (d e : Entry) → IsIn d account.history → IsIn e account.history → d.number ≡ e.number → d ≡ e
   one_entry d e i j same =
-      one_number history one.numbers
-      (λ x k. on_first asked (changes_in dated) one.wanted x (all_at (IsPlaced (changes_in dated)) x history one.placed k)) d e i j same
+      one_number account.history one.numbers
+      (λ x k. on_first account.asked account.changes one.wanted x (all_at (IsPlaced account.changes) x account.history one.placed k)) d e i j same
 
   -- without a client's number the reply has the outcomes of the entries of all its statements
-  pub tells_all : (t : Answered) (write : WriteCommand) → IsIn t answered → command_of t.request ≡ Ok (write_command write) → write.number ≡ None
-      → t.document ≡ answer_document (answer_of write.kind t.time (told_by t.id history))
+  pub tells_all : (t : Answered) (write : WriteCommand) → IsIn t account.answered → command_of t.request ≡ Ok (write_command write) → write.number ≡ None
+      → t.document ≡ answer_document (answer_of write.kind t.time (told_by t.id account.history))
   tells_all t write i asks none =
       let told = told_write t write i asks in
       let whole = told.whole none in
-      let all : told.dones ≡ told_by t.id history =
-      all_told history asked t write none one_entry 0 write.operations told.dones (entries_by t.id history) told.tells whole.part whole.all
-      (λ e j. (by_in t.id history e j).0) in
+      let all : told.dones ≡ told_by t.id account.history =
+      all_told account t write none one_entry 0 write.operations told.dones (entries_by t.id account.history) told.tells whole.part whole.all
+      (λ e j. (by_in t.id account.history e j).0) in
       told.says ∙ ap (λ (dones : List Done). answer_document (answer_of write.kind t.time dones)) all
 
   -- the same statement of a session has the same entry
   pub told_again : (s t : Answered) (write again : WriteCommand) (by : ClientNumber) (first second : List Done) (d e : Done) (before now : ℕ)
       (outcome other : Outcome)
-      → AreTold history asked s write 0 write.operations first → AreTold history asked t again 0 again.operations second → write.number ≡ Some by
+      → AreTold account s write 0 write.operations first → AreTold account t again 0 again.operations second → write.number ≡ Some by
       → again.number ≡ Some by → IsIn d first → IsIn e second → d.index ≡ e.index → d.answer ≡ was_done before outcome → e.answer ≡ was_done now other
       → (before ≡ now) × (outcome ≡ other)
   told_again s t write again by first second d e before now outcome other told also own own_again i j index is is_again =
@@ -124,41 +124,41 @@ module _ (given : List Given) (dated : List Dated) (history : List Entry) (asked
       (cc, cc)
     where
       entry_of : (t : Answered) (write : WriteCommand) (by : ClientNumber) (dones : List Done) (d : Done) (before : ℕ) (outcome : Outcome)
-          → AreTold history asked t write 0 write.operations dones → write.number ≡ Some by → IsIn d dones → d.answer ≡ was_done before outcome
-          → IsAnswerOf history (number_for (Some by) t.id d.index) (was_done before outcome)
+          → AreTold account t write 0 write.operations dones → write.number ≡ Some by → IsIn d dones → d.answer ≡ was_done before outcome
+          → IsAnswerOf account.history (number_for (Some by) t.id d.index) (was_done before outcome)
       entry_of t write by dones d before outcome told own i is =
-          let so = told_in history asked t write 0 write.operations dones d told i in
-          subst (λ (answer : StatementOutcome). IsAnswerOf history (number_for (Some by) t.id d.index) answer) is
-          (subst (λ (given : Option ClientNumber). IsAnswerOf history (number_for given t.id d.index) d.answer) own
-          (answer_of_entry history asked t write.number (number_for write.number t.id d.index) write.namespace so.operation d.answer so.may
+          let so = told_in account t write 0 write.operations dones d told i in
+          subst (λ (answer : StatementOutcome). IsAnswerOf account.history (number_for (Some by) t.id d.index) answer) is
+          (subst (λ (given : Option ClientNumber). IsAnswerOf account.history (number_for given t.id d.index) d.answer) own
+          (answer_of_entry account t write.number (number_for write.number t.id d.index) write.namespace so.operation d.answer so.may
           (subst (λ (answer : StatementOutcome). WasDone answer) (sym is) tt)))
 
-  pub sent : (e : Entry) → IsIn e history → WasSent history asked answered e
-  sent e i = all_at (WasSent history asked answered) e history one.sent i
+  pub sent : (e : Entry) → IsIn e account.history → WasSent account e
+  sent e i = all_at (WasSent account) e account.history one.sent i
 
   -- an entry under a router's own number is later than what it knew as it took the request
-  above : (a : Asked) (e : Entry) (index : ℕ) → IsIn a asked → IsIn e history → e.number ≡ number_for None a.id index → a.time < e.time
+  above : (a : Asked) (e : Entry) (index : ℕ) → IsIn a account.asked → IsIn e account.history → e.number ≡ number_for None a.id index → a.time < e.time
   above a e index i j is =
       let s = sent e j in
-      let same : s.request ≡ a = one_asked s.request a asked one.one s.taken i
+      let same : s.request ≡ a = one_asked s.request a account.asked one.one s.taken i
       (sym (number_same a.id s.request.id s.sends.write.number index s.sends.index (sym is ∙ s.sends.entry.statement.same_number))) in
       subst (λ (b : Asked). b.time < e.time) same s.later
 
   -- WHAT CAME BEFORE
 
-  pub told_before : (a : Asked) (t : Answered) (time : ℕ) → IsIn a asked → WasToldBefore answered a t → operation_time (Some t.document) ≡ Some time
+  pub told_before : (a : Asked) (t : Answered) (time : ℕ) → IsIn a account.asked → WasToldBefore account.answered a t → operation_time (Some t.document) ≡ Some time
       → time ≤ a.time
-  told_before a t time i w shows = all_at (IsNotBefore a) t answered (all_at (IsFresh answered) a asked one.fresh i) w.told time w.router w.life w.before shows
+  told_before a t time i w shows = all_at (IsNotBefore a) t account.answered (all_at (IsFresh account.answered) a account.asked one.fresh i) w.told time w.router w.life w.before shows
 
-  pub taken_before : (a b : Asked) → IsIn a asked → WasTakenBefore asked a b → b.time ≤ a.time
-  taken_before a b i w = all_at (λ (c : Asked). c.id.router ≡ a.id.router → c.id.life ≡ a.id.life → c.came < a.came → c.time ≤ a.time) b asked
-      (all_at (IsInOrder asked) a asked one.order i) w.taken w.router w.life w.before
+  pub taken_before : (a b : Asked) → IsIn a account.asked → WasTakenBefore account.asked a b → b.time ≤ a.time
+  taken_before a b i w = all_at (λ (c : Asked). c.id.router ≡ a.id.router → c.id.life ≡ a.id.life → c.came < a.came → c.time ≤ a.time) b account.asked
+      (all_at (IsInOrder account.asked) a account.asked one.order i) w.taken w.router w.life w.before
 
   -- what an entry was made for, and what came before that
-  pub comes_later : (e : Entry) → IsIn e history
-      → (a : Asked) × IsIn a asked × Sends a e
-      × ((t : Answered) (time : ℕ) → WasToldBefore answered a t → operation_time (Some t.document) ≡ Some time → time < e.time)
-      × ((b : Asked) → WasTakenBefore asked a b → b.time < e.time)
+  pub comes_later : (e : Entry) → IsIn e account.history
+      → (a : Asked) × IsIn a account.asked × Sends a e
+      × ((t : Answered) (time : ℕ) → WasToldBefore account.answered a t → operation_time (Some t.document) ≡ Some time → time < e.time)
+      × ((b : Asked) → WasTakenBefore account.asked a b → b.time < e.time)
   comes_later e i =
       let s = sent e i in (
         s.request,
@@ -169,24 +169,24 @@ module _ (given : List Given) (dated : List Dated) (history : List Entry) (asked
       )
 
   -- the time that an answer to a read shows
-  pub read_at : (a : Asked) (t : Answered) (reading : Reading) (now : ℕ) → IsTold asked answered a t → Reads (command_of a.request) reading
+  pub read_at : (a : Asked) (t : Answered) (reading : Reading) (now : ℕ) → IsTold account.asked account.answered a t → Reads (command_of a.request) reading
       → operation_time (Some t.document) ≡ Some now → IsTimeRead a t reading now
   read_at a t reading now told asks shown =
       let r = answer_right a t told in
-      shown_time (changes_in dated) history asked answered r.cursors a t r.next reading now asks r.right shown
+      shown_time account r.cursors a t r.next reading now asks r.right shown
 
-  pub reads_at_least : (a : Asked) (s t : Answered) (reading : Reading) (before now : ℕ) → IsTold asked answered a t → WasToldBefore answered a s
+  pub reads_at_least : (a : Asked) (s t : Answered) (reading : Reading) (before now : ℕ) → IsTold account.asked account.answered a t → WasToldBefore account.answered a s
       → Reads (command_of a.request) reading → reading.at ≡ None → operation_time (Some s.document) ≡ Some before
       → operation_time (Some t.document) ≡ Some now → before ≤ now
   reads_at_least a s t reading before now told w asks none shows shown =
       omega (arith, not_before a t reading now (read_at a t reading now told asks shown) none, told_before a s before told.taken w shows)
 
-  pub reads_after : (a : Asked) (t : Answered) (reading : Reading) (after now : ℕ) → IsTold asked answered a t → Reads (command_of a.request) reading
+  pub reads_after : (a : Asked) (t : Answered) (reading : Reading) (after now : ℕ) → IsTold account.asked account.answered a t → Reads (command_of a.request) reading
       → reading.at ≡ None → reading.after ≡ Some after → operation_time (Some t.document) ≡ Some now → after ≤ now
   reads_after a t reading after now told asks none wants shown = not_before_after a t reading now after (read_at a t reading now told asks shown) none wants
 
   pub reaches : (a : Asked) (s t : Answered) (write : WriteCommand) (dones : List Done) (d : Done) (before time : ℕ) (outcome : Outcome) (reading : Reading)
-      → IsTold asked answered a t → WasToldBefore answered a s → s.document ≡ answer_document (answer_of write.kind s.time dones) → IsIn d dones
+      → IsTold account.asked account.answered a t → WasToldBefore account.answered a s → s.document ≡ answer_document (answer_of write.kind s.time dones) → IsIn d dones
       → d.answer ≡ was_done before outcome → Reads (command_of a.request) reading → reading.at ≡ None → operation_time (Some t.document) ≡ Some time
       → before ≤ time
   reaches a s t write dones d before time outcome reading told w says i is asks none shown =
@@ -199,13 +199,13 @@ module _ (given : List Given) (dated : List Dated) (history : List Entry) (asked
         not_before a t reading time (read_at a t reading time told asks shown) none,
       )
 
-  pub greatest_at_least : (a : Asked) (s t : Answered) (before greatest : ℕ) → IsTold asked answered a t → WasToldBefore answered a s
+  pub greatest_at_least : (a : Asked) (s t : Answered) (before greatest : ℕ) → IsTold account.asked account.answered a t → WasToldBefore account.answered a s
       → operation_time (Some s.document) ≡ Some before → t.document ≡ answer_document (refusal_answer (time_ahead greatest)) → before ≤ greatest
   greatest_at_least a s t before greatest told w shows says =
       let r = answer_right a t told in
       omega (
         arith,
-        ahead_time (changes_in dated) history asked answered r.cursors a t r.next greatest r.right says,
+        ahead_time account r.cursors a t r.next greatest r.right says,
         r.risen,
         told_before a s before told.taken w shows,
       )
@@ -213,23 +213,23 @@ module _ (given : List Given) (dated : List Dated) (history : List Entry) (asked
   -- WRITES THAT COME LATER
 
   first_told : (t : Answered) (write : WriteCommand) (operations : List Operation) (dones : List Done) → operations ≢ []
-      → AreTold history asked t write 0 operations dones
+      → AreTold account t write 0 operations dones
       → (d : Done) × IsIn d dones
   first_told t write [] dones some told = absurd (some refl)
   first_told t write (operation ∷ operations) [] some told = absurd told
   first_told t write (operation ∷ operations) (d ∷ dones) some told = (d, in_first d dones)
 
-  pub later_told : (a : Asked) (s t : Answered) (write : WriteCommand) (before now : ℕ) → IsTold asked answered a t → WasToldBefore answered a s
+  pub later_told : (a : Asked) (s t : Answered) (write : WriteCommand) (before now : ℕ) → IsTold account.asked account.answered a t → WasToldBefore account.answered a s
       → command_of a.request ≡ Ok (write_command write) → write.number ≡ None → operation_time (Some s.document) ≡ Some before
       → operation_time (Some t.document) ≡ Some now → before < now
   later_told a s t write before now told w asks none shows shown =
       let tells = tells_its_write a t write told asks in
       let first = first_told t write write.operations tells.dones (some_operations a.request write asks) tells.tells in
-      let so = told_in history asked t write 0 write.operations tells.dones first.0 tells.tells first.1 in
-      let may = subst (λ (given : Option ClientNumber). MayBeTold history asked t given
+      let so = told_in account t write 0 write.operations tells.dones first.0 tells.tells first.1 in
+      let may = subst (λ (given : Option ClientNumber). MayBeTold account t given
       (number_for given t.id first.0.index) write.namespace so.operation first.0.answer) none so.may in
-      let f = answer_of_entry history asked t None (number_for None t.id first.0.index) write.namespace so.operation first.0.answer may
-      (was_done_own history asked t (number_for None t.id first.0.index) write.namespace so.operation first.0.answer may) in
+      let f = answer_of_entry account t None (number_for None t.id first.0.index) write.namespace so.operation first.0.answer may
+      (was_done_own account t (number_for None t.id first.0.index) write.namespace so.operation first.0.answer may) in
       let times : Some now ≡ Some (unwrap_or (time_of tells.dones) t.time) = sym shown ∙ ap (λ (d : Fields). operation_time (Some d)) tells.says
       ∙ write_time write.kind t.time tells.dones in
       let same : now ≡ unwrap_or (time_of tells.dones) t.time = cc in
@@ -244,13 +244,13 @@ module _ (given : List Given) (dated : List Dated) (history : List Entry) (asked
   -- TIMES THAT ARE AHEAD
 
   pub never_ahead_of_told : (a : Asked) (s t : Answered) (write : WriteCommand) (index : ℕ) (e : Entry) (reading : Reading) (greatest : ℕ)
-      → IsTold asked answered a t
-      → IsIn s answered → s.step < a.came → command_of s.request ≡ Ok (write_command write) → IsIn e history → e.number ≡ number_for write.number s.id index
+      → IsTold account.asked account.answered a t
+      → IsIn s account.answered → s.step < a.came → command_of s.request ≡ Ok (write_command write) → IsIn e account.history → e.number ≡ number_for write.number s.id index
       → operation_time (Some s.document) ≡ Some e.time → Reads (command_of a.request) reading
       → (reading.at ≡ Some e.time) ⊎ ((reading.at ≡ None) × (reading.after ≡ Some e.time))
       → t.document ≡ answer_document (refusal_answer (time_ahead greatest)) → ⊥
   never_ahead_of_told a s t write index e reading greatest told i before writes j numbered shows asks wants says =
       let r = answer_right a t told in
-      let ahead = is_ahead (changes_in dated) history asked answered r.cursors a t r.next reading greatest asks r.right says in
+      let ahead = is_ahead account r.cursors a t r.next reading greatest asks r.right says in
       let same : ahead.wanted ≡ e.time = wanted_is reading ahead.wanted e.time ahead.wants wants in
       omega (arith, same, ahead.of_all s write index e i before writes j numbered shows)

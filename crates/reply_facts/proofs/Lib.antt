@@ -4,3 +4,4 @@ pub mod Statements
 pub mod ReadTimes
 pub mod Freshness
 pub mod ToldRefusals
+pub mod SameAccounts

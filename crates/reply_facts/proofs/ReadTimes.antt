@@ -12,9 +12,8 @@ use Rattle.command_model.specs.Command.{Command, hello_command, legacy_command, 
 use Rattle.command_model.specs.Answers.{first_answer, count_answer, refusal_answer, answer_document}
 use Rattle.command_model.proofs.AnswerTimes.{time_refused}
 use Rattle.reply_facts.proofs.ToldRefusals.{never_ahead}
-use Rattle.chunk_model.specs.Changes.{Change}
-use Rattle.history_model.specs.History.{Entry}
 use Rattle.reply_model.specs.Exchanges.{Asked, Answered}
+use Rattle.reply_model.specs.Accounts.{Account}
 use Rattle.reply_model.specs.Outcomes.{Done, answer_of}
 use Rattle.reply_model.specs.Cursors.{Cursor}
 use Rattle.reply_model.specs.Reads.{IsTimeRead, named_time, own_time, later_time, IfReached, IsAhead, time_wanted}
@@ -37,10 +36,10 @@ not_before_after a t reading time after (later_time later other at are less reac
     let same : other ≡ after = (let both : Some other ≡ Some after = sym are ∙ wants in cc) in
     omega (arith, same)
 
-module _ (changes : List Change) (history : List Entry) (asked : List Asked) (answered : List Answered) (cursors : List Cursor) (a : Asked)
+module _ (account : Account) (cursors : List Cursor) (a : Asked)
     (t : Answered) where
   -- a read that is refused shows no time
-  timeless : (reading : Reading) (now : ℕ) → IsReadRefused changes history answered a t reading → operation_time (Some t.document) ≡ Some now → ⊥
+  timeless : (reading : Reading) (now : ℕ) → IsReadRefused account a t reading → operation_time (Some t.document) ≡ Some now → ⊥
   timeless reading now (refused_overflow time read gives says) shown = none_shown (without_evidence overflow) says
     where
       none_shown : (refusal : Refusal) → t.document ≡ answer_document (refusal_answer refusal) → ⊥
@@ -52,7 +51,7 @@ module _ (changes : List Change) (history : List Entry) (asked : List Asked) (an
       let both : None ≡ Some now = sym (time_refused (time_ahead t.time)) ∙ ap (λ (d : Fields). operation_time (Some d)) (sym says) ∙ shown in cc
 
   shown_by : (r : Result Command Refusal) (next : List Cursor) (reading : Reading) (now : ℕ) → Reads r reading
-      → RightBy changes history asked answered cursors a t r next
+      → RightBy account cursors a t r next
       → operation_time (Some t.document) ≡ Some now → IsTimeRead a t reading now
   shown_by r next reading now (find_reads find) (inl first) shown =
       let both : Some first.batch.time ≡ Some now = ap (λ (d : Fields). operation_time (Some d)) (sym first.says) ∙ shown in
@@ -67,10 +66,10 @@ module _ (changes : List Change) (history : List Entry) (asked : List Asked) (an
 
   -- the time that an answer to a read shows is one that the read may be of
   pub shown_time : (next : List Cursor) (reading : Reading) (now : ℕ) → Reads (command_of a.request) reading
-      → IsRight changes history asked answered cursors a t next
+      → IsRight account cursors a t next
       → operation_time (Some t.document) ≡ Some now → IsTimeRead a t reading now
   shown_time next reading now asks right shown =
-      shown_by (command_of a.request) next reading now asks (right_by changes history asked answered cursors a t next right) shown
+      shown_by (command_of a.request) next reading now asks (right_by account cursors a t next right) shown
 
   -- A TIME THAT IS AHEAD
 
@@ -80,9 +79,9 @@ module _ (changes : List Change) (history : List Entry) (asked : List Asked) (an
   write_not_ahead update_kind dones s same = cc
   write_not_ahead delete_kind dones s same = cc
 
-  refused_so : (reading : Reading) (s : ℕ) → IsReadRefused changes history answered a t reading → t.document
+  refused_so : (reading : Reading) (s : ℕ) → IsReadRefused account a t reading → t.document
       ≡ answer_document (refusal_answer (time_ahead s))
-      → (s ≡ t.time) × IsAhead history answered a t reading
+      → (s ≡ t.time) × IsAhead account a t reading
   refused_so reading s (refused_overflow time read gives says) told = absurd (let e = sym says ∙ told in cc)
   refused_so reading s (refused_excess time n read excess says) told = absurd (let e = sym says ∙ told in cc)
   refused_so reading s (refused_ahead ahead says) told =
@@ -94,7 +93,7 @@ module _ (changes : List Change) (history : List Entry) (asked : List Asked) (an
   count_not_ahead : (n time s : ℕ) → answer_document (count_answer n time) ≡ answer_document (refusal_answer (time_ahead s)) → ⊥
   count_not_ahead n time s same = cc
 
-  ahead_by : (r : Result Command Refusal) (next : List Cursor) (s : ℕ) → command_of a.request ≡ r → RightBy changes history asked answered cursors a t r next
+  ahead_by : (r : Result Command Refusal) (next : List Cursor) (s : ℕ) → command_of a.request ≡ r → RightBy account cursors a t r next
       → t.document ≡ answer_document (refusal_answer (time_ahead s)) → s ≡ t.time
   ahead_by (Ok hello_command) next s asks right told = absurd (let e = sym right.0 ∙ told in cc)
   ahead_by (Ok (legacy_command legacy)) next s asks right told = absurd (let e = sym right.0 ∙ told in cc)
@@ -114,14 +113,14 @@ module _ (changes : List Change) (history : List Entry) (asked : List Asked) (an
   ahead_by (Err refusal) next s asks right told = absurd (never_ahead a.request refusal s asks (sym right.0 ∙ told))
 
   -- a greatest time that is returned is the router's
-  pub ahead_time : (next : List Cursor) (s : ℕ) → IsRight changes history asked answered cursors a t next
+  pub ahead_time : (next : List Cursor) (s : ℕ) → IsRight account cursors a t next
       → t.document ≡ answer_document (refusal_answer (time_ahead s))
       → s ≡ t.time
-  ahead_time next s right told = ahead_by (command_of a.request) next s refl (right_by changes history asked answered cursors a t next right) told
+  ahead_time next s right told = ahead_by (command_of a.request) next s refl (right_by account cursors a t next right) told
 
   read_ahead_by : (r : Result Command Refusal) (next : List Cursor) (reading : Reading) (s : ℕ) → Reads r reading
-      → RightBy changes history asked answered cursors a t r next
-      → t.document ≡ answer_document (refusal_answer (time_ahead s)) → IsAhead history answered a t reading
+      → RightBy account cursors a t r next
+      → t.document ≡ answer_document (refusal_answer (time_ahead s)) → IsAhead account a t reading
   read_ahead_by r next reading s (find_reads find) (inl first) told = absurd (first_not_ahead first.batch s (sym first.says ∙ told))
   read_ahead_by r next reading s (find_reads find) (inr refused) told = (refused_so find.reading s refused.0 told).1
   read_ahead_by r next reading s (count_reads other) (inl counted) told = absurd
@@ -130,10 +129,10 @@ module _ (changes : List Change) (history : List Entry) (asked : List Asked) (an
 
   -- a read that returns one is ahead
   pub is_ahead : (next : List Cursor) (reading : Reading) (s : ℕ) → Reads (command_of a.request) reading
-      → IsRight changes history asked answered cursors a t next
-      → t.document ≡ answer_document (refusal_answer (time_ahead s)) → IsAhead history answered a t reading
+      → IsRight account cursors a t next
+      → t.document ≡ answer_document (refusal_answer (time_ahead s)) → IsAhead account a t reading
   is_ahead next reading s asks right told =
-      read_ahead_by (command_of a.request) next reading s asks (right_by changes history asked answered cursors a t next right) told
+      read_ahead_by (command_of a.request) next reading s asks (right_by account cursors a t next right) told
 
 -- the time that is wanted
 pub wanted_is : (reading : Reading) (wanted time : ℕ) → time_wanted reading ≡ Some wanted → (reading.at ≡ Some time)

@@ -19,11 +19,11 @@ use Rattle.command_model.specs.Answers.{hello_answer, legacy_answer, done_answer
 use Rattle.command_model.proofs.AnswerTimes.{time_of_write}
 use Rattle.pipeline_model.specs.Runs.{listed, count_documents}
 use Rattle.pipeline_model.specs.Lengths.{excess_of_answer}
-use Rattle.chunk_model.specs.Changes.{Change}
-use Rattle.history_model.specs.History.{Entry, IsIn, Outcome}
+use Rattle.history_model.specs.History.{IsIn, Outcome}
 use Rattle.history_model.proofs.Lists.{in_cons, in_none}
 use Rattle.base_model.specs.Identities.{RequestId}
 use Rattle.reply_model.specs.Exchanges.{Asked, Answered}
+use Rattle.reply_model.specs.Accounts.{Account}
 use Rattle.reply_model.specs.Outcomes.{StatementOutcome, was_done, was_refused, Done, later, summary_of, time_of, answer_of}
 use Rattle.reply_model.specs.Cursors.{Cursor, open_cursor, ShowsFirst, ShowsNext, Kills}
 use Rattle.reply_model.specs.Reads.{IsTimeRead, MayGive}
@@ -32,19 +32,19 @@ use Rattle.reply_model.specs.Right.{AreTold, IsWhole, usual_size, asks_for_one, 
 -- BY THE COMMAND
 
 -- what is right of a write, by its request's number
-pub record TellsWrite (history : List Entry) (asked : List Asked) (id : RequestId) (t : Answered) (write : WriteCommand) : Type 0 where
+pub record TellsWrite (account : Account) (id : RequestId) (t : Answered) (write : WriteCommand) : Type 0 where
   pub dones : List Done
-  pub tells : AreTold history asked t write 0 write.operations dones
-  pub whole : write.number ≡ None → IsWhole history id write
+  pub tells : AreTold account t write 0 write.operations dones
+  pub whole : write.number ≡ None → IsWhole account.history id write
   pub says : t.document ≡ answer_document (answer_of write.kind t.time dones)
 
-module _ (changes : List Change) (history : List Entry) (asked : List Asked) (answered : List Answered) (cursors : List Cursor) (a : Asked)
+module _ (account : Account) (cursors : List Cursor) (a : Asked)
     (t : Answered) where
   pub record TellsFirst (find : Find) (next : List Cursor) : Type 0 where
     pub documents : List Fields
     pub batch : Batch
     pub time : IsTimeRead a t find.reading batch.time
-    pub gives : MayGive history find.reading batch.time (listed documents)
+    pub gives : MayGive account.history find.reading batch.time (listed documents)
     pub small : excess_of_answer documents ≡ None
     pub name : batch.namespace ≡ find.reading.namespace
     pub shows : ShowsFirst a.id (unwrap_or find.batches.size usual_size) (asks_for_one find.batches a.request) cursors documents batch next
@@ -54,7 +54,7 @@ module _ (changes : List Change) (history : List Entry) (asked : List Asked) (an
     pub time : ℕ
     pub number : ℕ
     pub read : IsTimeRead a t reading time
-    pub gives : MayGive history reading time (listed (count_documents (codes "n") number))
+    pub gives : MayGive account.history reading time (listed (count_documents (codes "n") number))
     pub says : t.document ≡ answer_document (count_answer number time)
 
   pub record TellsNext (more : GetMore) (next : List Cursor) : Type 0 where
@@ -77,15 +77,15 @@ module _ (changes : List Change) (history : List Entry) (asked : List Asked) (an
     pub says : t.document ≡ answer_document (killed_answer killed missing)
 
   pub record TellsSharded (namespace : List ℕ) : Type 0 where
-    pub created : WasCreated changes namespace t.time
+    pub created : WasCreated account.changes namespace t.time
     pub says : t.document ≡ answer_document (sharded_answer namespace t.time)
 
   pub record TellsSplit (split : SplitCommand) : Type 0 where
-    pub begins : WasSplit changes split.namespace split.middle t.time
+    pub begins : WasSplit account.changes split.namespace split.middle t.time
     pub says : t.document ≡ answer_document (changed_answer t.time)
 
   abbrev IsReadRefusedHere : Reading → List Cursor → Type 0
-  IsReadRefusedHere reading next = IsReadRefused changes history answered a t reading × (next ≡ cursors)
+  IsReadRefusedHere reading next = IsReadRefused account a t reading × (next ≡ cursors)
 
   -- what is right of a request that is read as this
   abbrev pub RightBy : Result Command Refusal → List Cursor → Type 0
@@ -93,7 +93,7 @@ module _ (changes : List Change) (history : List Entry) (asked : List Asked) (an
   RightBy (Ok (legacy_command legacy)) next = (t.document ≡ answer_document (legacy_answer a.moment legacy.shows_hello_ok)) × (next ≡ cursors)
   RightBy (Ok ping_command) next = (t.document ≡ answer_document done_answer) × (next ≡ cursors)
   RightBy (Ok end_sessions_command) next = (t.document ≡ answer_document done_answer) × (next ≡ cursors)
-  RightBy (Ok (write_command write)) next = TellsWrite history asked a.id t write × (next ≡ cursors)
+  RightBy (Ok (write_command write)) next = TellsWrite account a.id t write × (next ≡ cursors)
   RightBy (Ok (find_command find)) next = TellsFirst find next ⊎ IsReadRefusedHere find.reading next
   RightBy (Ok (count_command reading)) next = (TellsCount reading × (next ≡ cursors)) ⊎ IsReadRefusedHere reading next
   RightBy (Ok (more_command more)) next = TellsNext more next ⊎ (TellsNoCursor more × (next ≡ cursors))
@@ -102,12 +102,12 @@ module _ (changes : List Change) (history : List Entry) (asked : List Asked) (an
   RightBy (Ok (split_command split)) next = (TellsSplit split ⊎ (t.document ≡ not_sharded)) × (next ≡ cursors)
   RightBy (Err refusal) next = (t.document ≡ answer_document (refusal_answer refusal)) × (next ≡ cursors)
 
-  refused_by : (r : Result Command Refusal) (reading : Reading) → Reads r reading → IsReadRefused changes history answered a t reading → RightBy r cursors
+  refused_by : (r : Result Command Refusal) (reading : Reading) → Reads r reading → IsReadRefused account a t reading → RightBy r cursors
   refused_by r reading (find_reads find) refused = inr (refused, refl)
   refused_by r reading (count_reads other) refused = inr (refused, refl)
 
   -- a reply is right by what its request is
-  pub right_by : (next : List Cursor) → IsRight changes history asked answered cursors a t next → RightBy (command_of a.request) next
+  pub right_by : (next : List Cursor) → IsRight account cursors a t next → RightBy (command_of a.request) next
   right_by next (right_write write dones c wants tells whole begun name at says) =
       subst (λ r. RightBy r cursors) (sym wants) (record { dones = dones; tells = tells; whole = whole; says = says }, refl)
   right_by next (right_find find time documents batch after wants read gives small name at shows says) =
@@ -116,7 +116,7 @@ module _ (changes : List Change) (history : List Entry) (asked : List Asked) (an
         documents = documents;
         batch = batch;
         time = subst (λ n. IsTimeRead a t find.reading n) (sym at) read;
-        gives = subst (λ n. MayGive history find.reading n (listed documents)) (sym at) gives;
+        gives = subst (λ n. MayGive account.history find.reading n (listed documents)) (sym at) gives;
         small = small;
         name = name;
         shows = shows;
@@ -141,7 +141,7 @@ module _ (changes : List Change) (history : List Entry) (asked : List Asked) (an
   right_by next (right_end_sessions wants says) = subst (λ r. RightBy r cursors) (sym wants) (says, refl)
   right_by next (right_refusal refusal wants says) = subst (λ r. RightBy r cursors) (sym wants) (says, refl)
 
-  pub right_of : (r : Result Command Refusal) (next : List Cursor) → command_of a.request ≡ r → IsRight changes history asked answered cursors a t next
+  pub right_of : (r : Result Command Refusal) (next : List Cursor) → command_of a.request ≡ r → IsRight account cursors a t next
       → RightBy r next
   right_of r next asks right = subst (λ s. RightBy s next) asks (right_by next right)
 

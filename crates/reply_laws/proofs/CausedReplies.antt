@@ -13,8 +13,9 @@ use Rattle.chunk_model.specs.SampleCollections.{creation}
 use Rattle.history_model.specs.History.{IsIn}
 use Rattle.history_model.proofs.Lists.{all_at, in_first}
 use Rattle.reply_model.specs.Exchanges.{Asked, Answered}
+use Rattle.reply_model.specs.Accounts.{Dated, Account}
 use Rattle.reply_model.specs.Right.{WasCreated, WasSplit, not_sharded}
-use Rattle.reply_model.specs.OneHistory.{Dated, IsCaused, WasAbsent, changes_by}
+use Rattle.reply_model.specs.OneHistory.{IsCaused, WasAbsent, changes_by}
 use Rattle.reply_laws.specs.SampleExchanges.{created}
 
 -- what a reply to a request with this command says was so by its step
@@ -26,14 +27,17 @@ pub record IsCausedFor (dated : List Dated) (came : ℕ) (t : Answered) (command
   pub absent : (split : SplitCommand) → command ≡ Ok (split_command split) → t.document ≡ not_sharded → WasAbsent dated split.namespace came t.step
 
 -- of each of these requests
-pub caused_by : (dated : List Dated) (asked : List Asked) (t : Answered)
-    → AllByRecursion (λ (a : Asked). IsCausedFor dated a.came t (command_of a.request)) asked → IsCaused dated asked t
-caused_by dated asked t all = record {
-  written = λ a write to. (all_at (λ (b : Asked). IsCausedFor dated b.came t (command_of b.request)) a asked all to.taken).written write to.asks;
-  created = λ a namespace to says. (all_at (λ (b : Asked). IsCausedFor dated b.came t (command_of b.request)) a asked all to.taken).created namespace to.asks;
-  begins = λ a split to says. (all_at (λ (b : Asked). IsCausedFor dated b.came t (command_of b.request)) a asked all to.taken).begins split to.asks says;
-  absent = λ a split to says. (all_at (λ (b : Asked). IsCausedFor dated b.came t (command_of b.request)) a asked all to.taken).absent split to.asks says;
+pub caused_by : (account : Account) (t : Answered)
+    → AllByRecursion (λ (a : Asked). IsCausedFor account.dated a.came t (command_of a.request)) account.asked → IsCaused account t
+caused_by account t all = record {
+  written = λ a write to. (of_request a to.taken).written write to.asks;
+  created = λ a namespace to says. (of_request a to.taken).created namespace to.asks;
+  begins = λ a split to says. (of_request a to.taken).begins split to.asks says;
+  absent = λ a split to says. (of_request a to.taken).absent split to.asks says;
 }
+  where
+    of_request : (a : Asked) → IsIn a account.asked → IsCausedFor account.dated a.came t (command_of a.request)
+    of_request a i = all_at (λ (b : Asked). IsCausedFor account.dated b.came t (command_of b.request)) a account.asked all i
 
 -- BY THE COMMAND
 

@@ -14,6 +14,7 @@ use Rattle.chunk_model.specs.Tables.{Table}
 use Rattle.chunk_model.specs.Changes.{Change, create_change, split_change, commit_change, time_of, known_table, begins_at}
 use Rattle.history_model.proofs.Lists.{all_at}
 use Rattle.reply_model.specs.Exchanges.{Answered}
+use Rattle.reply_laws.specs.SampleExchanges.{account_with}
 use Rattle.reply_model.specs.Cursors.{Cursor}
 use Rattle.reply_model.specs.Right.{WasSplit, IsRight, not_sharded}
 use Rattle.reply_facts.proofs.RightAnswers.{TellsSplit, right_of}
@@ -26,9 +27,9 @@ Creates time (split_change s) = ⊥
 Creates time (commit_change c) = ⊥
 
 pub wrongly_sharded : (changes : List Change) (t : Answered) (next : List Cursor) → AllByRecursion (λ (x : Change). Creates t.time x → ⊥) changes
-    → IsRight changes [] [] [] [] sharding t next → ⊥
+    → IsRight (account_with changes [] [] []) [] sharding t next → ⊥
 wrongly_sharded changes t next none right =
-    let told = (right_of changes [] [] [] [] sharding t (Ok (shard_collection_command (codes "d.c"))) next refl right).0 in
+    let told = (right_of (account_with changes [] [] []) [] sharding t (Ok (shard_collection_command (codes "d.c"))) next refl right).0 in
     all_at (λ (x : Change). Creates t.time x → ⊥) (create_change told.created.creation) changes none told.created.begun
     (told.created.name, told.created.before)
 
@@ -60,9 +61,10 @@ module _ (changes : List Change) (t : Answered) (never : NeverBegins t.time chan
   pub unsplit : WasSplit changes (codes "d.c") five t.time → ⊥
   unsplit was = at_none was.later changes was.older t.time never was.all was.past (ap begins_in was.known ∙ was.bound)
 
-  pub wrongly_split : (next : List Cursor) → t.document ≢ not_sharded → IsRight changes [] [] [] [] splitting t next → ⊥
+  pub wrongly_split : (next : List Cursor) → t.document ≢ not_sharded → IsRight (account_with changes [] [] []) [] splitting t next → ⊥
   wrongly_split next told right =
-      by_told (right_of changes [] [] [] [] splitting t (Ok (split_command (record { namespace = codes "d.c"; middle = five }))) next refl right).0
+      by_told (right_of (account_with changes [] [] []) [] splitting t (Ok (split_command (record { namespace = codes "d.c"; middle = five }))) next refl
+      right).0
     where
       by_told : TellsSplit changes [] [] [] [] splitting t (record { namespace = codes "d.c"; middle = five }) ⊎ (t.document ≡ not_sharded) → ⊥
       by_told (inl changed) = unsplit changed.begins

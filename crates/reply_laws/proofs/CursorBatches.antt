@@ -14,15 +14,14 @@ use Rattle.command_model.specs.Cursors.{Batch}
 use Rattle.command_model.specs.GetMore.{GetMore}
 use Rattle.command_model.specs.Command.{Command, hello_command, legacy_command, ping_command, end_sessions_command, write_command, find_command, count_command, more_command, kill_command, shard_collection_command, split_command, command_of}
 use Rattle.command_model.specs.Answers.{next_answer, refusal_answer, answer_document}
-use Rattle.chunk_model.specs.Changes.{Change}
 use Rattle.pipeline_model.specs.Runs.{listed}
-use Rattle.history_model.specs.History.{Entry}
 use Rattle.base_model.specs.Identities.{RequestId}
 use Rattle.reply_model.specs.Exchanges.{Asked, Answered}
+use Rattle.reply_model.specs.Accounts.{Account}
 use Rattle.reply_model.specs.Cursors.{Cursor, has_number, open_cursor, with_remaining, IsNewNumber, Opens, opens_none, opens_one, ShowsFirst, ShowsNext, number_left}
 use Rattle.reply_model.specs.Reads.{MayGive}
 use Rattle.reply_model.specs.Right.{asks_for_one, usual_size, IsReadRefused, refused_overflow, refused_excess, refused_ahead, unless_silent}
-use Rattle.reply_model.specs.OneHistory.{Given, IsRightOf, AreRight, nothing_told, then_told}
+use Rattle.reply_model.specs.OneHistory.{IsRightOf, AreRight, nothing_told, then_told}
 use Rattle.reply_laws.specs.CursorReplies.{OpensCursor, AsksMore, AsksToClose, Shows, shows_nothing, shows_batch, shows_other, EndsCursor, shows_last, closes}
 use Rattle.reply_facts.proofs.RightAnswers.{RightBy, right_by, right_of, TellsNext, same_first, same_next}
 use Rattle.reply_laws.proofs.StandingCursors.{Stands, StandsStill, IsNamed, cursor_with, found_open, number_found, found_standing, none_found, itself, named, set_own, set_other, opens_stays, found_still, kills_still, kills_leave, kills_end}
@@ -37,19 +36,19 @@ unless_silent_is request before after e = ap (λ (b : Bool). if b then before el
 parts : (batch documents : List Fields) → batch ≡ take (length batch) documents → documents ≡ batch ++ drop (length batch) documents
 parts batch documents front = sym (take-append-drop (length batch) documents) ∙ ap (λ (l : List Fields). l ++ drop (length batch) documents) (sym front)
 
-module _ (given : List Given) (changes : List Change) (history : List Entry) (asked : List Asked) (answered : List Answered) where
+module _ (account : Account) where
   abbrev RestRight : List Cursor → List Answered → Type 0
   RestRight cursors [] = Unit {0}
-  RestRight cursors (t ∷ later) = (next : List Cursor) × IsRightOf given changes history asked answered cursors t next
-      × AreRight given changes history asked answered next later
+  RestRight cursors (t ∷ later) = (next : List Cursor) × IsRightOf account cursors t next
+      × AreRight account next later
 
-  pub unrolled : (cursors : List Cursor) (told : List Answered) → AreRight given changes history asked answered cursors told → RestRight cursors told
+  pub unrolled : (cursors : List Cursor) (told : List Answered) → AreRight account cursors told → RestRight cursors told
   unrolled cursors told (nothing_told c) = tt
   unrolled cursors told (then_told c next t later right rest) = (next, right, rest)
 
   -- the replies after a part, from the cursors that there are then
-  pub behind : (cursors : List Cursor) (front back : List Answered) → AreRight given changes history asked answered cursors (front ++ back)
-      → (found : List Cursor) × AreRight given changes history asked answered found back
+  pub behind : (cursors : List Cursor) (front back : List Answered) → AreRight account cursors (front ++ back)
+      → (found : List Cursor) × AreRight account found back
   behind cursors [] back right = (cursors, right)
   behind cursors (t ∷ front) back right = let r = unrolled cursors (t ∷ (front ++ back)) right in behind r.0 front back r.2
 
@@ -67,7 +66,7 @@ module _ (given : List Given) (changes : List Change) (history : List Entry) (as
     pub record IsOpened (cursors next : List Cursor) : Type 0 where
       pub rest : List Fields
       pub some : rest ≢ []
-      pub gives : MayGive history find.reading first.time (listed (first.documents ++ rest))
+      pub gives : MayGive account.history find.reading first.time (listed (first.documents ++ rest))
       pub there : IsThere rest next
       pub new : IsNewNumber s.id first.cursor cursors
 
@@ -101,7 +100,7 @@ module _ (given : List Given) (changes : List Change) (history : List Entry) (as
 
     opened_by : (id : RequestId) (single : Bool) (cursors : List Cursor) (rest : List Fields) (n : ℤ) (next : List Cursor) → n ≡ first.cursor
         → first.cursor ≢ pos 0 → id ≡ s.id
-        → MayGive history find.reading first.time (listed (first.documents ++ rest)) → Opens id single first.namespace first.time cursors rest n next
+        → MayGive account.history find.reading first.time (listed (first.documents ++ rest)) → Opens id single first.namespace first.time cursors rest n next
         → IsOpened cursors next
     opened_by id single cursors rest n next number_is some own gives (opens_none r why) = absurd (some (sym number_is))
     opened_by id single cursors rest n next number_is some own gives (opens_one r m more other new) = record {
@@ -113,10 +112,10 @@ module _ (given : List Given) (changes : List Change) (history : List Entry) (as
     }
 
     first_of : (a : Asked) (cursors next : List Cursor) → a.id ≡ s.id → OpensCursor s find first
-        → RightBy changes history asked answered cursors a s (Ok (find_command find)) next → IsOpened cursors next
+        → RightBy account cursors a s (Ok (find_command find)) next → IsOpened cursors next
     first_of a cursors next own opens (inr refused) = absurd (not_refused refused.0)
       where
-        not_refused : IsReadRefused changes history answered a s find.reading → ⊥
+        not_refused : IsReadRefused account a s find.reading → ⊥
         not_refused (refused_overflow time read gives says) = let e = sym says ∙ opens.told in cc
         not_refused (refused_excess time n read excess says) = let e = sym says ∙ opens.told in cc
         not_refused (refused_ahead ahead says) = let e = sym says ∙ opens.told in cc
@@ -124,18 +123,18 @@ module _ (given : List Given) (changes : List Change) (history : List Entry) (as
         let same : told.batch ≡ first = same_first told.batch first (sym told.says ∙ opens.told) in
         let shows = subst (λ (b : Batch). ShowsFirst a.id (unwrap_or find.batches.size usual_size)
         (asks_for_one find.batches a.request) cursors told.documents b next) same told.shows in
-        let gives = subst (λ (b : Batch). MayGive history find.reading b.time (listed told.documents)) same told.gives in
+        let gives = subst (λ (b : Batch). MayGive account.history find.reading b.time (listed told.documents)) same told.gives in
         let rest : List Fields = drop (length first.documents) told.documents in
         opened_by a.id (asks_for_one find.batches a.request) cursors rest first.cursor next refl opens.opens own
-        (subst (λ (l : List Fields). MayGive history find.reading first.time (listed l))
+        (subst (λ (l : List Fields). MayGive account.history find.reading first.time (listed l))
         (parts first.documents told.documents shows.batch_of.front) gives) shows.opens
 
     -- the find whose reply has the number opened a cursor
-    pub opened : (cursors next : List Cursor) → OpensCursor s find first → IsRightOf given changes history asked answered cursors s next
+    pub opened : (cursors next : List Cursor) → OpensCursor s find first → IsRightOf account cursors s next
         → IsOpened cursors next
     opened cursors next opens right =
         first_of right.request cursors next right.own opens
-        (right_of changes history asked answered cursors right.request s (Ok (find_command find)) next (ap command_of right.same ∙ opens.asks) right.right)
+        (right_of account cursors right.request s (Ok (find_command find)) next (ap command_of right.same ∙ opens.asks) right.right)
 
     -- EACH STEP
 
@@ -148,7 +147,7 @@ module _ (given : List Given) (changes : List Change) (history : List Entry) (as
     }
 
     shown_still : (a : Asked) (t : Answered) (more : GetMore) (cursors next : List Cursor) (remaining : List Fields)
-        (told : TellsNext changes history asked answered cursors a t more next)
+        (told : TellsNext account cursors a t more next)
         (silent : Bool) → a.request.more ≡ silent → IsThere remaining cursors
         → StandsStill s.id.router s.id.life first.cursor first.namespace first.time remaining next
     shown_still a t more cursors next remaining told true silent there = same_still remaining cursors next
@@ -164,7 +163,7 @@ module _ (given : List Given) (changes : List Change) (history : List Entry) (as
         told.found there)
 
     still_by : (r : Result Command Refusal) (a : Asked) (t : Answered) (cursors next : List Cursor) (remaining : List Fields)
-        → RightBy changes history asked answered cursors a t r next → IsThere remaining cursors
+        → RightBy account cursors a t r next → IsThere remaining cursors
         → StandsStill s.id.router s.id.life first.cursor first.namespace first.time remaining next
     still_by (Ok hello_command) a t cursors next remaining right there = same_still remaining cursors next right.1 there
     still_by (Ok (legacy_command legacy)) a t cursors next remaining right there = same_still remaining cursors next right.1 there
@@ -191,18 +190,18 @@ module _ (given : List Given) (changes : List Change) (history : List Entry) (as
     still_by (Err refusal) a t cursors next remaining right there = same_still remaining cursors next right.1 there
 
     -- whatever is replied, the cursor is there
-    pub still : (t : Answered) (cursors next : List Cursor) (remaining : List Fields) → IsRightOf given changes history asked answered cursors t next
+    pub still : (t : Answered) (cursors next : List Cursor) (remaining : List Fields) → IsRightOf account cursors t next
         → IsThere remaining cursors
         → StandsStill s.id.router s.id.life first.cursor first.namespace first.time remaining next
     still t cursors next remaining right there =
         still_by (command_of right.request.request) right.request t cursors next remaining
-        (right_by changes history asked answered cursors right.request t next right.right) there
+        (right_by account cursors right.request t next right.right) there
 
     -- A STEP THAT DOES NOT CONCERN IT
 
     leaves_shown : (a : Asked) (t : Answered) (more : GetMore) (cursors next : List Cursor) (remaining : List Fields) → a.id ≡ t.id → a.request ≡ t.request
         → command_of a.request ≡ Ok (more_command more) → ¬ (AsksMore s first t × (t.request.more ≡ false))
-        → TellsNext changes history asked answered cursors a t more next
+        → TellsNext account cursors a t more next
         → (silent : Bool) → a.request.more ≡ silent → IsThere remaining cursors → IsThere remaining next
     leaves_shown a t more cursors next remaining own same asks never told true silent there =
         subst (λ (l : List Cursor). IsThere remaining l) (sym (told.then ∙ unless_silent_is a.request cursors told.shown silent)) there
@@ -243,7 +242,7 @@ module _ (given : List Given) (changes : List Change) (history : List Entry) (as
     leaves_by : (r : Result Command Refusal) (a : Asked) (t : Answered) (cursors next : List Cursor) (remaining : List Fields) → a.id ≡ t.id → a.request
         ≡ t.request
         → command_of a.request ≡ r → ¬ (AsksMore s first t × (t.request.more ≡ false)) → ¬ AsksToClose s first t
-        → RightBy changes history asked answered cursors a t r next → IsThere remaining cursors → IsThere remaining next
+        → RightBy account cursors a t r next → IsThere remaining cursors → IsThere remaining next
     leaves_by (Ok hello_command) a t cursors next remaining own same asks never closed right there = same_there remaining cursors next right.1 there
     leaves_by (Ok (legacy_command legacy)) a t cursors next remaining own same asks never closed right there = same_there remaining cursors next right.1 there
     leaves_by (Ok ping_command) a t cursors next remaining own same asks never closed right there = same_there remaining cursors next right.1 there
@@ -280,10 +279,10 @@ module _ (given : List Given) (changes : List Change) (history : List Entry) (as
 
     pub leaves : (t : Answered) (cursors next : List Cursor) (remaining : List Fields) → ¬ (AsksMore s first t × (t.request.more ≡ false))
         → ¬ AsksToClose s first t
-        → IsRightOf given changes history asked answered cursors t next → IsThere remaining cursors → IsThere remaining next
+        → IsRightOf account cursors t next → IsThere remaining cursors → IsThere remaining next
     leaves t cursors next remaining never closed right there =
         leaves_by (command_of right.request.request) right.request t cursors next remaining right.own right.same refl never closed
-        (right_by changes history asked answered cursors right.request t next right.right) there
+        (right_by account cursors right.request t next right.right) there
 
     -- ITS NEXT BATCH
 
@@ -306,7 +305,7 @@ module _ (given : List Given) (changes : List Change) (history : List Entry) (as
 
     next_by : (a : Asked) (t : Answered) (cursors next : List Cursor) (remaining : List Fields) (more : AsksMore s first t) → a.id ≡ t.id
         → a.request ≡ t.request → remaining ≢ []
-        → RightBy changes history asked answered cursors a t (Ok (more_command more.more)) next → IsThere remaining cursors → NextShown t next remaining
+        → RightBy account cursors a t (Ok (more_command more.more)) next → IsThere remaining cursors → NextShown t next remaining
     next_by a t cursors next remaining more own same some (inr none) there =
         let found = found_standing s.id.router s.id.life first.cursor first.namespace first.time a.id more.more.cursor remaining cursors
         (owns a t more own) some there in
@@ -338,25 +337,25 @@ module _ (given : List Given) (changes : List Change) (history : List Entry) (as
 
     -- a request of the next batch of an open cursor gets it
     pub next_shown : (t : Answered) (cursors next : List Cursor) (remaining : List Fields) → AsksMore s first t → remaining ≢ []
-        → IsRightOf given changes history asked answered cursors t next → IsThere remaining cursors → NextShown t next remaining
+        → IsRightOf account cursors t next → IsThere remaining cursors → NextShown t next remaining
     next_shown t cursors next remaining more some right there =
         next_by right.request t cursors next remaining more right.own right.same some
-        (right_of changes history asked answered cursors right.request t (Ok (more_command more.more)) next
+        (right_of account cursors right.request t (Ok (more_command more.more)) next
         (ap command_of right.same ∙ more.asks) right.right) there
 
     -- and one that has ended is not found
-    pub gone : (t : Answered) (cursors next : List Cursor) → AsksMore s first t → IsRightOf given changes history asked answered cursors t next
+    pub gone : (t : Answered) (cursors next : List Cursor) → AsksMore s first t → IsRightOf account cursors t next
         → IsThere [] cursors
         → t.document ≡ answer_document (refusal_answer (record { error = cursor_not_found; evidence = cursor_evidence first.cursor }))
     gone t cursors next more right there =
-        by_found (right_of changes history asked answered cursors right.request t (Ok (more_command more.more)) next
+        by_found (right_of account cursors right.request t (Ok (more_command more.more)) next
         (ap command_of right.same ∙ more.asks) right.right)
       where
         none : open_cursor right.request.id more.more.cursor more.more.namespace cursors ≡ None
         none = none_found s.id.router s.id.life first.cursor first.namespace first.time right.request.id more.more.cursor more.more.namespace cursors
             (owns right.request t more right.own) there
 
-        by_found : RightBy changes history asked answered cursors right.request t (Ok (more_command more.more)) next
+        by_found : RightBy account cursors right.request t (Ok (more_command more.more)) next
             → t.document ≡ answer_document (refusal_answer (record { error = cursor_not_found; evidence = cursor_evidence first.cursor }))
         by_found (inl told) = absurd (let e : None ≡ Some told.cursor = sym none ∙ told.found in cc)
         by_found (inr closed) =
@@ -370,7 +369,7 @@ module _ (given : List Given) (changes : List Change) (history : List Entry) (as
       pub some : left ≢ []
       pub cursors : List Cursor
       pub there : IsThere left cursors
-      pub right : AreRight given changes history asked answered cursors back
+      pub right : AreRight account cursors back
 
     some_left : (left : List Fields) → first.cursor ≢ pos 0 → first.cursor ≡ number_left first.cursor left → left ≢ []
     some_left [] some number none = some number
@@ -379,7 +378,7 @@ module _ (given : List Given) (changes : List Change) (history : List Entry) (as
     -- the documents that are shown and those that remain are all
     pub shown_there : (later : List Answered) (shown : List Fields) (back : List Answered) (cursors : List Cursor) (remaining : List Fields)
         → first.cursor ≢ pos 0 → remaining ≢ []
-        → Shows s first later shown → AreRight given changes history asked answered cursors (later ++ back) → IsThere remaining cursors
+        → Shows s first later shown → AreRight account cursors (later ++ back) → IsThere remaining cursors
         → Remains remaining shown back
     shown_there later shown back cursors remaining number some shows_nothing right there =
         record { left = remaining; split = refl; some = some; cursors = cursors; there = there; right = right }
@@ -408,10 +407,10 @@ module _ (given : List Given) (changes : List Change) (history : List Entry) (as
       pub cursors : List Cursor
       pub there : IsThere left cursors
       pub stays_ended : remaining ≡ [] → left ≡ []
-      pub right : AreRight given changes history asked answered cursors back
+      pub right : AreRight account cursors back
 
     pub there_still : (middle back : List Answered) (cursors : List Cursor) (remaining : List Fields)
-        → AreRight given changes history asked answered cursors (middle ++ back)
+        → AreRight account cursors (middle ++ back)
         → IsThere remaining cursors → RemainsSo remaining back
     there_still [] back cursors remaining right there = record {
       left = remaining;
@@ -438,13 +437,13 @@ module _ (given : List Given) (changes : List Change) (history : List Entry) (as
 
     -- what ends it
     pub ends_there : (u : Answered) (cursors next : List Cursor) (remaining : List Fields) → first.cursor ≢ pos 0 → remaining ≢ [] → EndsCursor s first u
-        → IsRightOf given changes history asked answered cursors u next → IsThere remaining cursors → IsThere [] next
+        → IsRightOf account cursors u next → IsThere remaining cursors → IsThere [] next
     ends_there u cursors next remaining number some (shows_last batch more loud says is) right there =
         let n = next_shown u cursors next remaining more some right there in
         let same : n.batch ≡ batch = same_next n.batch batch (sym n.says ∙ says) in
         subst (λ (l : List Fields). IsThere l next) (none_left n.left number (sym is ∙ ap (λ (b : Batch). b.cursor) (sym same) ∙ n.number)) (n.there loud)
     ends_there u cursors next remaining number some (closes closed) right there =
-        let told = right_of changes history asked answered cursors right.request u (Ok (kill_command closed.kill)) next
+        let told = right_of account cursors right.request u (Ok (kill_command closed.kill)) next
         (ap command_of right.same ∙ closed.asks) right.right in
         kills_end s.id.router s.id.life first.cursor first.namespace first.time right.request.id closed.kill.namespace cursors closed.kill.cursors told.killed
         told.missing next remaining

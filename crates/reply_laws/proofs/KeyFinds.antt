@@ -25,7 +25,7 @@ use Rattle.reply_model.specs.Cursors.{Cursor, IsNewNumber, Opens, opens_none, op
 use Rattle.reply_model.specs.Reads.{IsTimeRead, MayGive}
 use Rattle.reply_model.specs.Right.{asks_for_one, usual_size, IsReadRefused, refused_overflow, refused_excess, refused_ahead, IsRight, right_find}
 use Rattle.reply_facts.specs.Earlier.{found}
-use Rattle.reply_laws.specs.SampleExchanges.{IsToldRightly, id_is, find_of, created}
+use Rattle.reply_laws.specs.SampleExchanges.{IsToldRightly, id_is, find_of, account_of}
 use Rattle.reply_facts.proofs.RightAnswers.{RightBy, right_of, same_first}
 use Rattle.reply_laws.proofs.SpanReads.{runs_of_key}
 
@@ -66,7 +66,7 @@ pub key_find_right_among : (history : List Entry) (asked : List Asked) (answered
     (time : ℕ) (documents : List Fields)
     → command_of a.request ≡ Ok (find_command (find_of key at)) → IsTimeRead a t (find_of key at).reading time
     → filter (holds (id_is key)) (documents_at history (codes "d.c") time) ≡ documents → length documents ≤ 1 → excess_of_answer documents ≡ None
-    → t.document ≡ answer_document (first_answer (told_of documents time)) → IsRight created history asked answered [] a t []
+    → t.document ≡ answer_document (first_answer (told_of documents time)) → IsRight (account_of history asked answered) [] a t []
 key_find_right_among history asked answered a t key at time documents asks read same one small says =
     right_find (find_of key at) time documents (told_of documents time) [] asks read
     (subst (λ (l : List Fields). MayGive history (find_of key at).reading time (listed l)) same (key_gives history key at time)) small refl refl
@@ -110,13 +110,13 @@ pub record TellsKey (history : List Entry) (a : Asked) (t : Answered) (key : Dat
 
 -- a find of a key that returns these documents found them at their time
 pub tells_key : (history : List Entry) (a : Asked) (t : Answered) (next : List Cursor) (key : Datum) (at : Option ℕ) (documents : List Fields) (time : ℕ)
-    → IsRight created history [] [] [] a t next → command_of a.request ≡ Ok (find_command (find_of key at)) → key_equal (id_is key) ≡ Some key
+    → IsRight (account_of history [] []) [] a t next → command_of a.request ≡ Ok (find_command (find_of key at)) → key_equal (id_is key) ≡ Some key
     → a.request.more ≡ false
     → t.document ≡ answer_document (first_answer (told_of documents time)) → TellsKey history a t key at documents time
 tells_key history a t next key at documents time right asks own loud says =
-    by_told (right_of created history [] [] [] a t (Ok (find_command (find_of key at))) next asks right)
+    by_told (right_of (account_of history [] []) [] a t (Ok (find_command (find_of key at))) next asks right)
   where
-    not_refused : IsReadRefused created history [] a t (find_of key at).reading → ⊥
+    not_refused : IsReadRefused (account_of history [] []) a t (find_of key at).reading → ⊥
     not_refused (refused_overflow when read gives told) = let e = sym told ∙ says in cc
     not_refused (refused_excess when n read excess told) = let e = sym told ∙ says in cc
     not_refused (refused_ahead ahead told) = let e = sym told ∙ says in cc
@@ -130,7 +130,7 @@ tells_key history a t next key at documents time right asks own loud says =
         let more : whole ≡ shown = of_whole shown whole rest none in
         cc
 
-    by_told : RightBy created history [] [] [] a t (Ok (find_command (find_of key at))) next → TellsKey history a t key at documents time
+    by_told : RightBy (account_of history [] []) [] a t (Ok (find_command (find_of key at))) next → TellsKey history a t key at documents time
     by_told (inr refused) = absurd (not_refused refused.0)
     by_told (inl told) =
         let same : told.batch ≡ told_of documents time = same_first told.batch (told_of documents time) (sym told.says ∙ says) in

@@ -12,9 +12,10 @@ use Rattle.chunk_model.specs.Changes.{create_change}
 use Rattle.history_model.specs.History.{Operation, StatementNumber, Entry}
 use Rattle.history_model.proofs.Lists.{all_at, in_first}
 use Rattle.reply_model.specs.Exchanges.{Asked, Answered, number_for}
+use Rattle.reply_model.specs.Accounts.{Account}
 use Rattle.reply_model.specs.Outcomes.{StatementOutcome, is_older, Done, answer_by, fails, answer_of}
 use Rattle.reply_model.specs.Right.{IsStatement, HadSent, MayBeTold, told_own, told_other, told_older, AreTold, right_write}
-use Rattle.reply_laws.specs.SampleExchanges.{tells, created}
+use Rattle.reply_laws.specs.SampleExchanges.{tells, account_of}
 use Rattle.reply_laws.specs.SampleRetries.{IsToldJust, IsUntold}
 use Rattle.reply_facts.proofs.RightAnswers.{right_of}
 use Rattle.reply_facts.proofs.Statements.{UnlessEnded}
@@ -33,16 +34,16 @@ pub record Gives (asked : List Asked) (t : Answered) (number : StatementNumber) 
   pub other : e.number ≡ number → e.time ≤ t.time → HadSent asked e t → P (answer_by e)
   pub older : e.number.session ≡ number.session → int_lt number.transaction e.number.transaction ≡ true → HadSent asked e t → P (is_older e.number.transaction)
 
-pub told_by_entries : (history : List Entry) (asked : List Asked) (t : Answered) (given : Option ClientNumber) (number : StatementNumber) (namespace : List ℕ)
+pub told_by_entries : (account : Account) (t : Answered) (given : Option ClientNumber) (number : StatementNumber) (namespace : List ℕ)
     (operation : Operation)
-    (P : StatementOutcome → Type 0) (answer : StatementOutcome) → AllByRecursion (Gives asked t number namespace operation P) history
-    → MayBeTold history asked t given number namespace operation answer → P answer
-told_by_entries history asked t given number namespace operation P answer all (told_own e i is early) =
-    (all_at (Gives asked t number namespace operation P) e history all i).own is early
-told_by_entries history asked t given number namespace operation P answer all (told_other e by i some is early had) =
-    (all_at (Gives asked t number namespace operation P) e history all i).other is early had
-told_by_entries history asked t given number namespace operation P answer all (told_older e by i some session less early had) =
-    (all_at (Gives asked t number namespace operation P) e history all i).older session less had
+    (P : StatementOutcome → Type 0) (answer : StatementOutcome) → AllByRecursion (Gives account.asked t number namespace operation P) account.history
+    → MayBeTold account t given number namespace operation answer → P answer
+told_by_entries account t given number namespace operation P answer all (told_own e i is early) =
+    (all_at (Gives account.asked t number namespace operation P) e account.history all i).own is early
+told_by_entries account t given number namespace operation P answer all (told_other e by i some is early had) =
+    (all_at (Gives account.asked t number namespace operation P) e account.history all i).other is early had
+told_by_entries account t given number namespace operation P answer all (told_older e by i some session less early had) =
+    (all_at (Gives account.asked t number namespace operation P) e account.history all i).older session less had
 
 module _ (asked : List Asked) (t : Answered) (number : StatementNumber) where
   -- another session's gives none
@@ -105,14 +106,15 @@ module _ (history : List Entry) (asked : List Asked) (a : Asked) (step counter :
   AreJust index [] answers = answers ≡ []
   AreJust index (operation ∷ operations) [] = ⊥
   AreJust index (operation ∷ operations) (answer ∷ answers) =
-      ((document : Fields) → MayBeTold history asked (tells a step counter document) (Some by) (number_for (Some by) a.id index) (codes "d.c") operation answer)
+      ((document : Fields) → MayBeTold (account_of history asked []) (tells a step counter document) (Some by) (number_for (Some by) a.id index)
+      (codes "d.c") operation answer)
       × ((document : Fields) → AllByRecursion
       (Gives asked (tells a step counter document) (number_for (Some by) a.id index) (codes "d.c") operation (λ x. x ≡ answer)) history)
       × elim (ordered && fails (record { index = index; answer = answer })) [ true ↦ answers ≡ [] | false ↦ AreJust (index + 1) operations answers ]
 
   module _ (operations : List Operation) (document : Fields) where
     abbrev Told : ℕ → List Operation → List Done → Type 0
-    Told index rest dones = AreTold history asked (tells a step counter document) (command_with operations) index rest dones
+    Told index rest dones = AreTold (account_of history asked []) (tells a step counter document) (command_with operations) index rest dones
 
     just_told : (index : ℕ) (rest : List Operation) (answers : List StatementOutcome) → AreJust index rest answers → Told index rest (dones_from index answers)
     just_told index [] answers just = ap (λ (xs : List StatementOutcome). dones_from index xs) just
@@ -143,7 +145,7 @@ module _ (history : List Entry) (asked : List Asked) (a : Asked) (step counter :
         same : d ≡ record { index = index; answer = answer }
         same =
             let says : d.answer ≡ answer =
-            told_by_entries history asked (tells a step counter document) (Some by) (number_for (Some by) a.id index) (codes "d.c") operation
+            told_by_entries (account_of history asked []) (tells a step counter document) (Some by) (number_for (Some by) a.id index) (codes "d.c") operation
             (λ x. x ≡ answer) d.answer
             (just.1 document) told.1 in
             λ i. record { index = told.0 i; answer = says i }
@@ -161,7 +163,7 @@ module _ (history : List Entry) (asked : List Asked) (a : Asked) (step counter :
     right_write (command_with operations) (dones_from 0 answers) creation asks (just_told operations document 0 operations answers just) (λ none. absurd (cc))
         (in_first (create_change creation) []) refl begun says,
     λ other next right.
-        let told = (right_of created history asked [] [] a (tells a step counter other)
+        let told = (right_of (account_of history asked []) [] a (tells a step counter other)
         (Ok (write_command (command_with operations))) next asks right).0 in
         told.says
         ∙ ap (λ (dones : List Done). answer_document (answer_of kind (timestamp 1000 counter) dones))
@@ -175,12 +177,14 @@ module _ (history : List Entry) (asked : List Asked) (a : Asked) (step counter :
       (Gives asked (tells a step counter document) (number_for (Some by) a.id 0) (codes "d.c") operation (λ x. ⊥)) history)
       → IsUntold history asked a step counter
   untold operation rest asks none other next right =
-      let told = (right_of created history asked [] [] a (tells a step counter other)
+      let told = (right_of (account_of history asked []) [] a (tells a step counter other)
       (Ok (write_command (command_with (operation ∷ rest)))) next asks right).0 in
       no_first told.dones told.tells
     where
-      no_first : (dones : List Done) → AreTold history asked (tells a step counter other) (command_with (operation ∷ rest)) 0 (operation ∷ rest) dones → ⊥
+      no_first : (dones : List Done)
+          → AreTold (account_of history asked []) (tells a step counter other) (command_with (operation ∷ rest)) 0 (operation ∷ rest) dones → ⊥
       no_first [] told = told
       no_first (d ∷ dones) told =
-          told_by_entries history asked (tells a step counter other) (Some by) (number_for (Some by) a.id 0) (codes "d.c") operation (λ x. ⊥) d.answer
+          told_by_entries (account_of history asked []) (tells a step counter other) (Some by) (number_for (Some by) a.id 0) (codes "d.c") operation
+          (λ x. ⊥) d.answer
           (none other) told.1

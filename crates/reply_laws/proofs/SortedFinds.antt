@@ -24,13 +24,13 @@ use Rattle.pipeline_laws.proofs.SampleRuns.{at_most}
 use Rattle.history_model.specs.History.{Entry}
 use Rattle.base_model.specs.Identities.{RequestId}
 use Rattle.reply_model.specs.Exchanges.{Asked, Answered}
+use Rattle.reply_laws.specs.SampleExchanges.{account_of}
 use Rattle.reply_model.specs.Cursors.{Cursor, open_cursor, with_remaining, IsNewNumber, Opens, opens_none, opens_one, ShowsFirst, ShowsNext, Kills, kills_none, kills, misses}
 use Rattle.reply_model.specs.Reads.{IsTimeRead, named_time, own_time, later_time, MayGive}
 use Rattle.reply_model.specs.Right.{IsReadRefused, refused_overflow, refused_excess, refused_ahead, IsRight, right_find}
 use Rattle.reply_laws.specs.SampleReads.{kept, all_three, by_id, reading_all, finds_sorted}
 use Rattle.reply_facts.proofs.RightAnswers.{RightBy, right_of, same_first, same_next}
 use Rattle.reply_laws.proofs.SortedOrders.{one_rising}
-use Rattle.reply_laws.specs.SampleExchanges.{created}
 
 -- THE DOCUMENTS
 
@@ -97,17 +97,17 @@ module _ (asked : List Asked) (answered : List Answered) (cursors : List Cursor)
     (says : t.document ≡ answer_document (first_answer b)) where
   pub first_right : (next : List Cursor) → b.time ≡ timestamp 1000 4 → b.namespace ≡ codes "d.c"
       → ShowsFirst a.id size (single || a.request.more) cursors all_three b next
-      → IsRight created kept asked answered cursors a t next
+      → IsRight (account_of kept asked answered) cursors a t next
   first_right next when name shows =
       right_find (finds_sorted size single) (timestamp 1000 4) all_three b next asks
       (subst (λ n. IsTimeRead a t reading_all n) time (own_time refl tt)) gives_three refl name when shows says
 
-  not_refused : IsReadRefused created kept answered a t reading_all → ⊥
+  not_refused : IsReadRefused (account_of kept asked answered) a t reading_all → ⊥
   not_refused (refused_overflow when read gives told) = let e = sym told ∙ says in cc
   not_refused (refused_excess when n read excess told) = let e = sym told ∙ says in cc
   not_refused (refused_ahead ahead told) = let e = sym told ∙ says in cc
 
-  by_told : (next : List Cursor) → RightBy created kept asked answered cursors a t (Ok (find_command (finds_sorted size single))) next
+  by_told : (next : List Cursor) → RightBy (account_of kept asked answered) cursors a t (Ok (find_command (finds_sorted size single))) next
       → ShowsFirst a.id size (single || a.request.more) cursors all_three b next
   by_told next (inr refused) = absurd (not_refused refused.0)
   by_told next (inl told) =
@@ -118,13 +118,13 @@ module _ (asked : List Asked) (answered : List Answered) (cursors : List Cursor)
       (subst (λ (l : List Fields). ShowsFirst a.id size (single || a.request.more) cursors l told.batch next) all told.shows)
 
   -- a first batch that is right shows a front of the three
-  pub first_shows : (next : List Cursor) → IsRight created kept asked answered cursors a t next
+  pub first_shows : (next : List Cursor) → IsRight (account_of kept asked answered) cursors a t next
       → ShowsFirst a.id size (single || a.request.more) cursors all_three b next
   first_shows next right = by_told next
-      (right_of created kept asked answered cursors a t (Ok (find_command (finds_sorted size single))) next asks right)
+      (right_of (account_of kept asked answered) cursors a t (Ok (find_command (finds_sorted size single))) next asks right)
 
   pub first_documents : (next : List Cursor) (documents : List Fields) → IsBatch (Some size) all_three documents
-      → IsRight created kept asked answered cursors a t next → b.documents ≡ documents
+      → IsRight (account_of kept asked answered) cursors a t next → b.documents ≡ documents
   first_documents next documents is right = one_batch (Some size) all_three b.documents documents (first_shows next right).batch_of is
 
 -- where documents remain and more is requested, a new cursor is returned
@@ -154,7 +154,7 @@ module _ (history : List Entry) (asked : List Asked) (answered : List Answered) 
 
   shown_by : (next : List Cursor) (c : Cursor) (b : Batch) → open_cursor a.id more.cursor more.namespace cursors ≡ Some c
       → t.document ≡ answer_document (next_answer b)
-      → RightBy created history asked answered cursors a t (Ok (more_command more)) next → (shown : List Cursor)
+      → RightBy (account_of history asked answered) cursors a t (Ok (more_command more)) next → (shown : List Cursor)
       × ShowsNext a.id more.size cursors c b shown
   shown_by next c b found says (inr none) = absurd (let e : None ≡ Some c = sym none.0.closed ∙ found in cc)
   shown_by next c b found says (inl told) =
@@ -168,31 +168,31 @@ module _ (history : List Entry) (asked : List Asked) (answered : List Answered) 
   -- a next batch that is right is one of the cursor that is found
   pub next_shows : (next : List Cursor) (c : Cursor) (b : Batch) → open_cursor a.id more.cursor more.namespace cursors ≡ Some c
       → t.document ≡ answer_document (next_answer b)
-      → IsRight created history asked answered cursors a t next → (shown : List Cursor) × ShowsNext a.id more.size cursors c b shown
+      → IsRight (account_of history asked answered) cursors a t next → (shown : List Cursor) × ShowsNext a.id more.size cursors c b shown
   next_shows next c b found says right =
-      shown_by next c b found says (right_of created history asked answered cursors a t (Ok (more_command more)) next asks right)
+      shown_by next c b found says (right_of (account_of history asked answered) cursors a t (Ok (more_command more)) next asks right)
 
   none_by : (next : List Cursor) (b : Batch) → open_cursor a.id more.cursor more.namespace cursors ≡ None → t.document ≡ answer_document (next_answer b)
-      → RightBy created history asked answered cursors a t (Ok (more_command more)) next → ⊥
+      → RightBy (account_of history asked answered) cursors a t (Ok (more_command more)) next → ⊥
   none_by next b closed says (inr none) = not_next b (sym says ∙ none.0.says)
   none_by next b closed says (inl told) = let e : None ≡ Some told.cursor = sym closed ∙ told.found in cc
 
   -- and where none is found none is shown
   pub never_shows : (next : List Cursor) (b : Batch) → open_cursor a.id more.cursor more.namespace cursors ≡ None → t.document ≡ answer_document (next_answer b)
-      → IsRight created history asked answered cursors a t next → ⊥
+      → IsRight (account_of history asked answered) cursors a t next → ⊥
   never_shows next b closed says right =
-      none_by next b closed says (right_of created history asked answered cursors a t (Ok (more_command more)) next asks right)
+      none_by next b closed says (right_of (account_of history asked answered) cursors a t (Ok (more_command more)) next asks right)
 
   gone_by : (next : List Cursor) (c : Cursor) → open_cursor a.id more.cursor more.namespace cursors ≡ Some c → t.document ≡ gone_of more.cursor
-      → RightBy created history asked answered cursors a t (Ok (more_command more)) next → ⊥
+      → RightBy (account_of history asked answered) cursors a t (Ok (more_command more)) next → ⊥
   gone_by next c found says (inr none) = let e : None ≡ Some c = sym none.0.closed ∙ found in cc
   gone_by next c found says (inl told) = not_next told.batch (sym told.says ∙ says)
 
   -- nor is the reply that one is gone that is found
   pub never_gone : (next : List Cursor) (c : Cursor) → open_cursor a.id more.cursor more.namespace cursors ≡ Some c → t.document ≡ gone_of more.cursor
-      → IsRight created history asked answered cursors a t next → ⊥
+      → IsRight (account_of history asked answered) cursors a t next → ⊥
   never_gone next c found says right =
-      gone_by next c found says (right_of created history asked answered cursors a t (Ok (more_command more)) next asks right)
+      gone_by next c found says (right_of (account_of history asked answered) cursors a t (Ok (more_command more)) next asks right)
 
 -- CURSORS THAT ARE CLOSED
 
@@ -237,9 +237,9 @@ same_numbers (x ∷ xs) (y ∷ ys) same =
 pub killed_right : (asked : List Asked) (answered : List Answered) (cursors next : List Cursor) (a : Asked) (t : Answered) (kill : KillCursors)
     (killed missing : List ℤ)
     → command_of a.request ≡ Ok (kill_command kill) → t.document ≡ answer_document (killed_answer killed missing)
-    → IsRight created kept asked answered cursors a t next → killed ≡ killed_by a.id kill.namespace cursors kill.cursors
+    → IsRight (account_of kept asked answered) cursors a t next → killed ≡ killed_by a.id kill.namespace cursors kill.cursors
 killed_right asked answered cursors next a t kill killed missing asks says right =
-    let told = right_of created kept asked answered cursors a t (Ok (kill_command kill)) next asks right in
+    let told = right_of (account_of kept asked answered) cursors a t (Ok (kill_command kill)) next asks right in
     let e : answer_document (killed_answer killed missing) ≡ answer_document (killed_answer told.killed told.missing) = sym says ∙ told.says in
     let items : number_items killed ≡ number_items told.killed = cc in
     same_numbers killed told.killed items ∙ killed_is a.id kill.namespace cursors kill.cursors told.killed told.missing next told.kills

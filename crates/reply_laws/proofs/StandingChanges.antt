@@ -11,10 +11,11 @@ use Rattle.chunk_model.specs.Tables.{first_shard}
 use Rattle.chunk_model.specs.Changes.{Change, create_change, split_change, commit_change, time_of}
 use Rattle.chunk_model.specs.Placement.{owner}
 use Rattle.command_model.specs.Reading.{Reading}
-use Rattle.history_model.specs.History.{Entry}
 use Rattle.history_model.specs.Documents.{documents_at}
 use Rattle.history_model.proofs.Lists.{in_back}
 use Rattle.reply_model.specs.Exchanges.{Asked, Answered}
+use Rattle.reply_facts.proofs.Statements.{told_stays}
+use Rattle.reply_model.specs.Accounts.{Account}
 use Rattle.reply_model.specs.Cursors.{Cursor}
 use Rattle.reply_model.specs.Reads.{IsTimeRead, named_time, own_time, later_time, is_on, owned_by, IsExcess, excess_answer, excess_half}
 use Rattle.reply_model.specs.Right.{IsReadRefused, refused_overflow, refused_excess, refused_ahead, WasCreated, WasSplit, IsRight, right_write, right_find, right_count, right_refused_read, right_more, right_no_cursor, right_kill, right_shard, right_split, right_not_sharded, right_hello, right_legacy, right_ping, right_end_sessions, right_refusal}
@@ -87,13 +88,17 @@ same_owned more changes namespace shard time documents later =
 
 -- REPLIES
 
-excess_stays : (more changes : List Change) (history : List Entry) (reading : Reading) (time n : ℕ) → AllByRecursion (λ x. time < time_of x) more
-    → IsExcess history changes reading time n → IsExcess history (more ++ changes) reading time n
-excess_stays more changes history reading time n later (excess_answer answer gives is) = excess_answer answer gives is
-excess_stays more changes history reading time n later (excess_half shard ordered rows moved half is) =
+-- the account with more changes
+abbrev after_more : List Change → Account → Account
+after_more more account = record account { changes = more ++ account.changes }
+
+excess_stays : (more : List Change) (account : Account) (reading : Reading) (time n : ℕ) → AllByRecursion (λ x. time < time_of x) more
+    → IsExcess account reading time n → IsExcess (after_more more account) reading time n
+excess_stays more account reading time n later (excess_answer answer gives is) = excess_answer answer gives is
+excess_stays more account reading time n later (excess_half shard ordered rows moved half is) =
     excess_half shard ordered rows
     (subst (λ (l : List Fields). IsPermutation l ordered)
-    (sym (same_owned more changes reading.namespace shard time (documents_at history reading.namespace time) later)) moved)
+    (sym (same_owned more account.changes reading.namespace shard time (documents_at account.history reading.namespace time) later)) moved)
     half is
 
 all_after : (time later : ℕ) (changes : List Change) → time ≤ later → AllByRecursion (λ x. later < time_of x) changes
@@ -108,19 +113,20 @@ time_reached more a t reading time taken replied (named_time named at risen) = a
 time_reached more a t reading time taken replied (own_time at reached) = taken
 time_reached more a t reading time taken replied (later_time later after at wants less reached risen) = all_after later t.time more risen replied
 
-module _ (more changes : List Change) (history : List Entry) (asked : List Asked) (answered : List Answered) (cursors : List Cursor) (a : Asked)
-    (t : Answered) where
+module _ (more : List Change) (account : Account) (cursors : List Cursor) (a : Asked) (t : Answered) where
   refused_stays : (reading : Reading) → AllByRecursion (λ x. a.time < time_of x) more → AllByRecursion (λ x. t.time < time_of x) more
-      → IsReadRefused changes history answered a t reading → IsReadRefused (more ++ changes) history answered a t reading
+      → IsReadRefused account a t reading → IsReadRefused (after_more more account) a t reading
   refused_stays reading taken replied (refused_overflow time read gives says) = refused_overflow time read gives says
   refused_stays reading taken replied (refused_excess time n read excess says) =
-      refused_excess time n read (excess_stays more changes history reading time n (time_reached more a t reading time taken replied read) excess) says
-  refused_stays reading taken replied (refused_ahead ahead says) = refused_ahead ahead says
+      refused_excess time n read (excess_stays more account reading time n (time_reached more a t reading time taken replied read) excess) says
+  refused_stays reading taken replied (refused_ahead ahead says) =
+      refused_ahead (record { wanted = ahead.wanted; wants = ahead.wants; ahead = ahead.ahead; of_all = ahead.of_all }) says
 
   stays : (next : List Cursor) → AllByRecursion (λ x. a.time < time_of x) more → AllByRecursion (λ x. t.time < time_of x) more
-      → IsRight changes history asked answered cursors a t next → IsRight (more ++ changes) history asked answered cursors a t next
+      → IsRight account cursors a t next → IsRight (after_more more account) cursors a t next
   stays next taken replied (right_write write dones c wants tells whole begun name at says) =
-      right_write write dones c wants tells whole (in_back (create_change c) more changes begun) name at says
+      right_write write dones c wants (told_stays account (after_more more account) t (λ e i. i) (λ b i. i) write 0 write.operations dones tells) whole
+      (in_back (create_change c) more account.changes begun) name at says
   stays next taken replied (right_find find time documents batch after wants read gives small name at shows says) =
       right_find find time documents batch after wants read gives small name at shows says
   stays next taken replied (right_count reading time n wants read gives says) = right_count reading time n wants read gives says
@@ -129,9 +135,9 @@ module _ (more changes : List Change) (history : List Entry) (asked : List Asked
   stays next taken replied (right_no_cursor further wants closed says) = right_no_cursor further wants closed says
   stays next taken replied (right_kill kill killed missing after wants closes says) = right_kill kill killed missing after wants closes says
   stays next taken replied (right_shard namespace wants was says) =
-      right_shard namespace wants (created_stays more changes namespace t.time t.time was (omega arith)) says
+      right_shard namespace wants (created_stays more account.changes namespace t.time t.time was (omega arith)) says
   stays next taken replied (right_split split wants was says) =
-      right_split split wants (split_stays more changes split.namespace split.middle t.time t.time was (omega arith)) says
+      right_split split wants (split_stays more account.changes split.namespace split.middle t.time t.time was (omega arith)) says
   stays next taken replied (right_not_sharded split wants says) = right_not_sharded split wants says
   stays next taken replied (right_hello wants says) = right_hello wants says
   stays next taken replied (right_legacy legacy wants says) = right_legacy legacy wants says
@@ -139,8 +145,7 @@ module _ (more changes : List Change) (history : List Entry) (asked : List Asked
   stays next taken replied (right_end_sessions wants says) = right_end_sessions wants says
   stays next taken replied (right_refusal refusal wants says) = right_refusal refusal wants says
 
-pub right_stays : (more changes : List Change) (history : List Entry) (asked : List Asked) (answered : List Answered) (cursors next : List Cursor) (a : Asked)
-    (t : Answered) → AllByRecursion (λ (x : Change). a.time < time_of x) more → AllByRecursion (λ (x : Change). t.time < time_of x) more
-    → IsRight changes history asked answered cursors a t next → IsRight (more ++ changes) history asked answered cursors a t next
-right_stays more changes history asked answered cursors next a t taken replied right =
-    stays more changes history asked answered cursors a t next taken replied right
+pub right_stays : (more : List Change) (account : Account) (cursors next : List Cursor) (a : Asked) (t : Answered)
+    → AllByRecursion (λ (x : Change). a.time < time_of x) more → AllByRecursion (λ (x : Change). t.time < time_of x) more
+    → IsRight account cursors a t next → IsRight (after_more more account) cursors a t next
+right_stays more account cursors next a t taken replied right = stays more account cursors a t next taken replied right

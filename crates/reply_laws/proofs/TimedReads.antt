@@ -22,7 +22,7 @@ use Rattle.reply_model.specs.Exchanges.{Asked, Answered}
 use Rattle.reply_model.specs.Cursors.{Cursor, ShowsFirst, opens_none}
 use Rattle.reply_model.specs.Reads.{IsTimeRead, named_time, own_time, later_time, MayGive, time_wanted}
 use Rattle.reply_model.specs.Right.{Reads, find_reads, usual_size, IsReadRefused, refused_overflow, refused_excess, refused_ahead, IsRight, right_find, right_refused_read}
-use Rattle.reply_laws.specs.SampleExchanges.{IsToldRightly, created}
+use Rattle.reply_laws.specs.SampleExchanges.{IsToldRightly, account_of}
 use Rattle.reply_laws.specs.SampleReads.{kept, all_three}
 use Rattle.reply_laws.specs.SampleTimes.{reading_of, find_in}
 use Rattle.reply_facts.proofs.RightAnswers.{RightBy, right_of, same_first, TellsCount}
@@ -66,9 +66,9 @@ module _ (history : List Entry) (a : Asked) (t : Answered) (stages : List Stage)
   pub asks_read : Reads (command_of a.request) (reading_of stages at after)
   asks_read = subst (λ r. Reads r (reading_of stages at after)) (sym asks) (find_reads (find_in (reading_of stages at after)))
 
-  pub find_time : (next : List Cursor) (time : ℕ) → IsRight created history [] [] [] a t next → operation_time (Some t.document) ≡ Some time
+  pub find_time : (next : List Cursor) (time : ℕ) → IsRight (account_of history [] []) [] a t next → operation_time (Some t.document) ≡ Some time
       → IsTimeRead a t (reading_of stages at after) time
-  find_time next time right shown = shown_time created history [] [] [] a t next (reading_of stages at after) time asks_read right shown
+  find_time next time right shown = shown_time (account_of history [] []) [] a t next (reading_of stages at after) time asks_read right shown
 
   pub ahead_right : (wanted : ℕ) → time_wanted (reading_of stages at after) ≡ Some wanted → t.time < wanted → t.document
       ≡ answer_document (refusal_answer (time_ahead t.time))
@@ -79,15 +79,15 @@ module _ (history : List Entry) (a : Asked) (t : Answered) (stages : List Stage)
       says)
 
   pub ahead_of : (next : List Cursor) (wanted s : ℕ) → time_wanted (reading_of stages at after) ≡ Some wanted
-      → IsRight created history [] [] [] a t next
+      → IsRight (account_of history [] []) [] a t next
       → t.document ≡ answer_document (refusal_answer (time_ahead s)) → (s ≡ t.time) × (t.time < wanted)
   ahead_of next wanted s wants right told =
-      let ahead = is_ahead created history [] [] [] a t next (reading_of stages at after) s asks_read right told in
+      let ahead = is_ahead (account_of history [] []) [] a t next (reading_of stages at after) s asks_read right told in
       let both : Some ahead.wanted ≡ Some wanted = sym ahead.wants ∙ wants in
       let same : ahead.wanted ≡ wanted = cc in
-      (ahead_time created history [] [] [] a t next s right told, omega (arith, same, ahead.ahead))
+      (ahead_time (account_of history [] []) [] a t next s right told, omega (arith, same, ahead.ahead))
 
-  not_refused : (b : Batch) → t.document ≡ answer_document (first_answer b) → IsReadRefused created history [] a t (reading_of stages at after) → ⊥
+  not_refused : (b : Batch) → t.document ≡ answer_document (first_answer b) → IsReadRefused (account_of history [] []) a t (reading_of stages at after) → ⊥
   not_refused b says (refused_overflow when read gives told) = let e = sym told ∙ says in cc
   not_refused b says (refused_excess when n read excess told) = let e = sym told ∙ says in cc
   not_refused b says (refused_ahead ahead told) = let e = sym told ∙ says in cc
@@ -98,7 +98,7 @@ module _ (history : List Entry) (a : Asked) (t : Answered) (stages : List Stage)
     pub shows : ShowsFirst a.id usual_size a.request.more [] documents b next
 
   by_told : (b : Batch) (next : List Cursor) → t.document ≡ answer_document (first_answer b)
-      → RightBy created history [] [] [] a t (Ok (find_command (find_in (reading_of stages at after)))) next → Told b next
+      → RightBy (account_of history [] []) [] a t (Ok (find_command (find_in (reading_of stages at after)))) next → Told b next
   by_told b next says (inr refused) = absurd (not_refused b says refused.0)
   by_told b next says (inl told) =
       let same : told.batch ≡ b = same_first told.batch b (sym told.says ∙ says) in
@@ -109,38 +109,38 @@ module _ (history : List Entry) (a : Asked) (t : Answered) (stages : List Stage)
       }
 
   -- a batch that is right is a front of what the read may give
-  pub told_first : (b : Batch) (next : List Cursor) → IsRight created history [] [] [] a t next → t.document ≡ answer_document (first_answer b)
+  pub told_first : (b : Batch) (next : List Cursor) → IsRight (account_of history [] []) [] a t next → t.document ≡ answer_document (first_answer b)
       → Told b next
   told_first b next right says =
-      by_told b next says (right_of created history [] [] [] a t (Ok (find_command (find_in (reading_of stages at after)))) next asks right)
+      by_told b next says (right_of (account_of history [] []) [] a t (Ok (find_command (find_in (reading_of stages at after)))) next asks right)
 
 -- COUNTS
 
 module _ (history : List Entry) (a : Asked) (t : Answered) (reading : Reading) (asks : command_of a.request ≡ Ok (count_command reading)) where
-  not_refused_count : (n time : ℕ) → t.document ≡ answer_document (count_answer n time) → IsReadRefused created history [] a t reading → ⊥
+  not_refused_count : (n time : ℕ) → t.document ≡ answer_document (count_answer n time) → IsReadRefused (account_of history [] []) a t reading → ⊥
   not_refused_count n time says (refused_overflow when read gives told) = let e = sym told ∙ says in cc
   not_refused_count n time says (refused_excess when m read excess told) = let e = sym told ∙ says in cc
   not_refused_count n time says (refused_ahead ahead told) = let e = sym told ∙ says in cc
 
   by_count : (n time : ℕ) (next : List Cursor) → t.document ≡ answer_document (count_answer n time)
-      → RightBy created history [] [] [] a t (Ok (count_command reading)) next → TellsCount created history [] [] [] a t reading
+      → RightBy (account_of history [] []) [] a t (Ok (count_command reading)) next → TellsCount (account_of history [] []) [] a t reading
   by_count n time next says (inl told) = told.0
   by_count n time next says (inr refused) = absurd (not_refused_count n time says refused.0)
 
-  pub told_count : (n time : ℕ) (next : List Cursor) → IsRight created history [] [] [] a t next → t.document ≡ answer_document (count_answer n time)
-      → TellsCount created history [] [] [] a t reading
-  told_count n time next right says = by_count n time next says (right_of created history [] [] [] a t (Ok (count_command reading)) next asks right)
+  pub told_count : (n time : ℕ) (next : List Cursor) → IsRight (account_of history [] []) [] a t next → t.document ≡ answer_document (count_answer n time)
+      → TellsCount (account_of history [] []) [] a t reading
+  told_count n time next right says = by_count n time next says (right_of (account_of history [] []) [] a t (Ok (count_command reading)) next asks right)
 
   never_first : (b : Batch) (next : List Cursor) → t.document ≡ answer_document (first_answer b)
-      → RightBy created history [] [] [] a t (Ok (count_command reading)) next → ⊥
+      → RightBy (account_of history [] []) [] a t (Ok (count_command reading)) next → ⊥
   never_first b next says (inl told) = let e = sym told.0.says ∙ says in cc
   never_first b next says (inr (refused_overflow when read gives told, same)) = let e = sym told ∙ says in cc
   never_first b next says (inr (refused_excess when m read excess told, same)) = let e = sym told ∙ says in cc
   never_first b next says (inr (refused_ahead ahead told, same)) = let e = sym told ∙ says in cc
 
   -- it is never returned as a batch
-  pub no_batch : (b : Batch) (next : List Cursor) → IsRight created history [] [] [] a t next → t.document ≡ answer_document (first_answer b) → ⊥
-  no_batch b next right says = never_first b next says (right_of created history [] [] [] a t (Ok (count_command reading)) next asks right)
+  pub no_batch : (b : Batch) (next : List Cursor) → IsRight (account_of history [] []) [] a t next → t.document ≡ answer_document (first_answer b) → ⊥
+  no_batch b next right says = never_first b next says (right_of (account_of history [] []) [] a t (Ok (count_command reading)) next asks right)
 
 -- THREE DOCUMENTS
 
@@ -155,7 +155,7 @@ is_three (suc n) same = three_by n (fits_in 31 (pos (suc n))) (let e : int32_val
 -- they are counted
 pub three_told : (a : Asked) (t : Answered) (n time : ℕ) (next : List Cursor)
     → command_of a.request ≡ Ok (count_command (reading_of (count_stage (codes "n") ∷ []) None None))
-    → a.time ≡ timestamp 1000 4 → IsRight created kept [] [] [] a t next → t.document ≡ answer_document (count_answer n time)
+    → a.time ≡ timestamp 1000 4 → IsRight (account_of kept [] []) [] a t next → t.document ≡ answer_document (count_answer n time)
     → answer_document (count_answer n time) ≡ answer_document (count_answer 3 (timestamp 1000 4))
 three_told a t n time next asks at right says =
     let told = told_count kept a t (reading_of (count_stage (codes "n") ∷ []) None None) asks n time next right says in

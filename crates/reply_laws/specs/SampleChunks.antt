@@ -8,18 +8,18 @@ use Rattle.command_laws.specs.SampleRequests.{five}
 use Rattle.chunk_model.specs.Changes.{Change, create_change, split_change}
 use Rattle.chunk_model.specs.SampleCollections.{creation}
 use Rattle.reply_model.specs.Exchanges.{Asked, Answered}
+use Rattle.reply_model.specs.Accounts.{Dated}
 use Rattle.reply_model.specs.Cursors.{Cursor}
 use Rattle.reply_model.specs.Right.{IsRight, not_sharded}
-use Rattle.reply_model.specs.OneHistory.{Dated}
-use Rattle.reply_laws.specs.SampleExchanges.{asks, created, tells}
+use Rattle.reply_laws.specs.SampleExchanges.{asks, created, tells, account_with}
 
 -- The reply is right by these changes, where nothing was written or returned before, and no cursor is open.
 abbrev pub IsRightBy : List Change → Asked → Answered → Type 0
-IsRightBy changes a t = IsRight changes [] [] [] [] a t []
+IsRightBy changes a t = IsRight (account_with changes [] [] []) [] a t []
 
 -- it is not, whatever cursors there are afterwards
 abbrev pub IsWrongBy : List Change → Asked → Answered → Type 0
-IsWrongBy changes a t = (next : List Cursor) → IsRight changes [] [] [] [] a t next → ⊥
+IsWrongBy changes a t = (next : List Cursor) → IsRight (account_with changes [] [] []) [] a t next → ⊥
 
 -- SHARDCOLLECTION
 

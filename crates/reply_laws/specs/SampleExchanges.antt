@@ -16,9 +16,9 @@ use Rattle.chunk_model.specs.SampleCollections.{creation}
 use Rattle.history_model.specs.History.{router_session, insert_operation, update_operation, delete_operation, Outcome, done, fails_with, Entry}
 use Rattle.base_model.specs.Identities.{RequestId}
 use Rattle.reply_model.specs.Exchanges.{Asked, Answered}
+use Rattle.reply_model.specs.Accounts.{Dated, changes_in, Given, nothing_stored, Account}
 use Rattle.reply_model.specs.Cursors.{Cursor}
 use Rattle.reply_model.specs.Right.{IsRight}
-use Rattle.reply_model.specs.OneHistory.{Dated, Given}
 
 -- both routers, nodes 2 and 3, are given one moment, of the second 1000
 abbrev pub moments : List Given
@@ -74,13 +74,41 @@ created_dated = record { change = create_change creation; step = 0 } ∷ []
 abbrev pub created_late : List Change
 created_late = create_change (record creation { at = timestamp 1000 3 }) ∷ []
 
+-- the account of these changes, entries, requests and replies, with the moments that routers were given
+abbrev pub account_with : List Change → List Entry → List Asked → List Answered → Account
+account_with changes history asked answered = record {
+  changes = changes;
+  dated = [];
+  history = history;
+  asked = asked;
+  answered = answered;
+  given = moments;
+  stored = nothing_stored;
+}
+
+-- the same of changes with their steps
+abbrev pub account_by : List Dated → List Entry → List Asked → List Answered → Account
+account_by dated history asked answered = record {
+  changes = changes_in dated;
+  dated = dated;
+  history = history;
+  asked = asked;
+  answered = answered;
+  given = moments;
+  stored = nothing_stored;
+}
+
+-- of d.c alone
+abbrev pub account_of : List Entry → List Asked → List Answered → Account
+account_of history asked answered = account_by created_dated history asked answered
+
 -- Its reply is right, where there was no reply before, and no cursor is open before or afterwards.
 abbrev pub IsToldRightly : List Entry → Asked → Answered → Type 0
-IsToldRightly history a t = IsRight created history [] [] [] a t []
+IsToldRightly history a t = IsRight (account_of history [] []) [] a t []
 
 -- it is not, whatever cursors there are afterwards
 abbrev pub IsToldWrongly : List Entry → Asked → Answered → Type 0
-IsToldWrongly history a t = (next : List Cursor) → IsRight created history [] [] [] a t next → ⊥
+IsToldWrongly history a t = (next : List Cursor) → IsRight (account_of history [] []) [] a t next → ⊥
 
 -- the query that {_id: key} is, and the find of it, at a time where one is named
 abbrev pub id_is : Datum → Query
@@ -128,6 +156,10 @@ third_told = is_shown long_five None (with_id five ∷ []) 2
 
 abbrev pub both_entries : List Entry
 both_entries = first_entry ∷ second_entry ∷ []
+
+-- both entries, where only another node was given a moment
+abbrev pub given_elsewhere : Account
+given_elsewhere = record (account_of both_entries [] []) { given = record { node = 3; moment = 1000000; step = 0 } ∷ [] }
 
 abbrev pub all_asked : List Asked
 all_asked = first ∷ second ∷ third ∷ []

@@ -9,7 +9,7 @@ use Rattle.history_model.specs.History.{Entry}
 use Rattle.history_model.specs.Documents.{documents_at}
 use Rattle.reply_model.specs.Reads.{IsExcess}
 use Rattle.reply_laws.specs.SampleTimes.{reading_of}
-use Rattle.reply_laws.specs.SampleExchanges.{created}
+use Rattle.reply_laws.specs.SampleExchanges.{account_of}
 
 -- so many documents of so many bytes each
 pub record AreLong (count bytes : ℕ) (documents : List Fields) : Type 0 where
@@ -22,4 +22,4 @@ Holds count bytes history = AreLong count bytes (documents_at history (codes "d.
 
 -- of these stages, at that time, this is too long
 abbrev pub IsTooLong : List Entry → List Stage → (n : ℕ) → Type 0
-IsTooLong history stages n = IsExcess history created (reading_of stages None None) (timestamp 1000 4) n
+IsTooLong history stages n = IsExcess (account_of history [] []) (reading_of stages None None) (timestamp 1000 4) n

@@ -17,7 +17,7 @@ use Rattle.history_model.specs.History.{delete_operation, done, Entry}
 use Rattle.reply_model.specs.Exchanges.{Asked, Answered}
 use Rattle.reply_model.specs.Cursors.{Cursor}
 use Rattle.reply_model.specs.Right.{IsRight}
-use Rattle.reply_laws.specs.SampleExchanges.{asks, entry_at, tells, created}
+use Rattle.reply_laws.specs.SampleExchanges.{asks, entry_at, tells, account_of}
 
 abbrev pub one : Datum
 one = int32_value (pos 1)
@@ -113,11 +113,11 @@ told_killed a killed missing = tells a 9 4 (answer_document (killed_answer kille
 
 -- its reply of three documents is right, where these cursors were opened before, and these afterwards
 abbrev pub Turns : List Cursor → Asked → Answered → List Cursor → Type 0
-Turns cursors a t next = IsRight created kept [] [] cursors a t next
+Turns cursors a t next = IsRight (account_of kept [] []) cursors a t next
 
 -- it is not, whatever cursors there are afterwards
 abbrev pub TurnsNever : List Cursor → Asked → Answered → Type 0
-TurnsNever cursors a t = (next : List Cursor) → IsRight created kept [] [] cursors a t next → ⊥
+TurnsNever cursors a t = (next : List Cursor) → IsRight (account_of kept [] []) cursors a t next → ⊥
 
 -- singleBatch: true
 abbrev pub single_batch : Fields

@@ -15,7 +15,7 @@ use Rattle.history_model.specs.History.{client_session, StatementNumber, insert_
 use Rattle.reply_model.specs.Exchanges.{Asked, Answered}
 use Rattle.reply_model.specs.Cursors.{Cursor}
 use Rattle.reply_model.specs.Right.{IsRight}
-use Rattle.reply_laws.specs.SampleExchanges.{asks, entry_at, first_entry, tells, created}
+use Rattle.reply_laws.specs.SampleExchanges.{asks, entry_at, first_entry, tells, account_of}
 
 -- 16 bytes of another session
 abbrev pub eights : List ℕ
@@ -54,13 +54,13 @@ inserts_under transaction documents ordered = record {
 -- where these requests came, and there was no reply before, this reply is right in that step, at Timestamp(1000, ..), and nothing else
 abbrev pub IsToldJust : List Entry → List Asked → Asked → (step counter : ℕ) → Fields → Type 0
 IsToldJust history asked a step counter document =
-    IsRight created history asked [] [] a (tells a step counter document) []
-    × ((other : Fields) (next : List Cursor) → IsRight created history asked [] [] a (tells a step counter other) next → other ≡ document)
+    IsRight (account_of history asked []) [] a (tells a step counter document) []
+    × ((other : Fields) (next : List Cursor) → IsRight (account_of history asked []) [] a (tells a step counter other) next → other ≡ document)
 
 -- no reply is right
 abbrev pub IsUntold : List Entry → List Asked → Asked → (step counter : ℕ) → Type 0
 IsUntold history asked a step counter =
-    (other : Fields) (next : List Cursor) → IsRight created history asked [] [] a (tells a step counter other) next → ⊥
+    (other : Fields) (next : List Cursor) → IsRight (account_of history asked []) [] a (tells a step counter other) next → ⊥
 
 -- AN INSERT THAT IS SENT AGAIN
 

@@ -1,15 +1,15 @@
 //! Worked values of cursors: three documents in order, by a find and what follows it. Each with replies beside it that are wrong.
 
 ghost use Rattle.std.specs.Prelude.{◌≡◌, ◌∷◌, List, [], codes, Some, None, Ok, true, false, pos, negsuc};
+ghost use Rattle.command_model.specs.KillCursors.{KillCursors};
 ghost use Rattle.command_laws.specs.SampleCommands.{database_d};
 ghost use Rattle.command_laws.specs.SampleRequests.{with_id};
 ghost use Rattle.command_model.specs.Command.{find_command, more_command, kill_command, command_of};
-ghost use Rattle.command_model.specs.KillCursors.{KillCursors};
 ghost use Rattle.bson_model.specs.Tree.{boolean_value, field, no_fields};
 ghost use Rattle.reply_model.specs.Cursors.{Cursor};
 ghost use Rattle.reply_model.specs.OneHistory.{AreRight};
 ghost use Rattle.reply_model.specs.Right.{IsRight};
-ghost use Rattle.reply_laws.specs.SampleExchanges.{IsToldRightly, IsToldWrongly, moments, created};
+ghost use Rattle.reply_laws.specs.SampleExchanges.{IsToldRightly, IsToldWrongly, created, account_of};
 ghost use Rattle.reply_laws.specs.SampleReads.{Turns, TurnsNever, all_three, asks_more, finds_sorted, going_on, kept, killing, of_size, one, open_with, sorting, three, told_first, told_gone, told_killed, told_next, two, another_router, changed_later, first_asked, first_replies, four, single_batch, told_later};
 
 /// What the requests are.
@@ -42,7 +42,7 @@ pub fn batches()
         (open_with [] ∷ []) }
     ensures not_gone { TurnsNever (open_with [] ∷ []) (going_on false 2 4 (codes "c") no_fields)
         (told_next (going_on false 2 4 (codes "c") no_fields) (pos 0) []) }
-    ensures all { AreRight moments created kept first_asked first_replies [] first_replies }
+    ensures all { AreRight (account_of kept first_asked first_replies) [] first_replies }
 {}
 
 /// Of size 0 a batch shows nothing, and the cursor stays open; only where there is no document there is no cursor.
@@ -132,15 +132,15 @@ pub fn cursor_numbers()
 
 /// A cursor shows what was there at its time, whatever is written after that.
 pub fn later_writes()
-    ensures stays { IsRight created changed_later [] [] (open_with (with_id two ∷ with_id three ∷ []) ∷ []) (going_on false 2 5 (codes "c") no_fields)
+    ensures stays { IsRight (account_of changed_later [] []) (open_with (with_id two ∷ with_id three ∷ []) ∷ []) (going_on false 2 5 (codes "c") no_fields)
         (told_next (going_on false 2 5 (codes "c") no_fields) (pos 0) (with_id two ∷ with_id three ∷ [])) (open_with [] ∷ []) }
     ensures without_deleted { (next : List Cursor)
-        → IsRight created changed_later [] [] (open_with (with_id two ∷ with_id three ∷ []) ∷ []) (going_on false 2 5 (codes "c") no_fields)
+        → IsRight (account_of changed_later [] []) (open_with (with_id two ∷ with_id three ∷ []) ∷ []) (going_on false 2 5 (codes "c") no_fields)
         (told_next (going_on false 2 5 (codes "c") no_fields) (pos 0) (with_id two ∷ [])) next → ⊥ }
     ensures with_new { (next : List Cursor)
-        → IsRight created changed_later [] [] (open_with (with_id two ∷ with_id three ∷ []) ∷ []) (going_on false 2 5 (codes "c") no_fields)
+        → IsRight (account_of changed_later [] []) (open_with (with_id two ∷ with_id three ∷ []) ∷ []) (going_on false 2 5 (codes "c") no_fields)
         (told_next (going_on false 2 5 (codes "c") no_fields) (pos 0) (with_id two ∷ with_id four ∷ [])) next → ⊥ }
     ensures later_time { (next : List Cursor)
-        → IsRight created changed_later [] [] (open_with (with_id two ∷ with_id three ∷ []) ∷ []) (going_on false 2 5 (codes "c") no_fields)
+        → IsRight (account_of changed_later [] []) (open_with (with_id two ∷ with_id three ∷ []) ∷ []) (going_on false 2 5 (codes "c") no_fields)
         (told_later (going_on false 2 5 (codes "c") no_fields) (with_id two ∷ with_id three ∷ [])) next → ⊥ }
 {}

@@ -1,11 +1,11 @@
 //! The definitions on requests, answers and entries that one can check by hand.
 
 ghost use Rattle.std.specs.Prelude.{◌≡◌, ◌∷◌, ℕ, List, [], codes, map, Some, None, Ok, true, false, pos};
+ghost use Rattle.base_model.specs.Errors.{duplicate_key};
 ghost use Rattle.chunk_model.specs.SampleCollections.{creation};
 ghost use Rattle.chunk_model.specs.Changes.{create_change};
 ghost use Rattle.command_model.specs.Answers.{answer_document, legacy_answer, refusal_answer};
 ghost use Rattle.command_model.specs.Command.{find_command, write_command, command_of};
-ghost use Rattle.base_model.specs.Errors.{duplicate_key};
 ghost use Rattle.bson_model.specs.Faults.{Fault};
 ghost use Rattle.base_model.specs.Refusals.{Refusal, no_document_at};
 ghost use Rattle.opmsg_model.specs.Replies.{reply_bytes};
@@ -20,7 +20,7 @@ ghost use Rattle.reply_model.specs.Exchanges.{reply_put};
 ghost use Rattle.reply_model.specs.OneHistory.{AreDifferent, IsFresh, IsInOrder, IsKnown, IsPlaced, IsRightOf, OneHistory, WasSent, WasWanted, ids_asked, ids_told};
 ghost use Rattle.reply_model.specs.Cursors.{Cursor};
 ghost use Rattle.reply_model.specs.Right.{IsPart, IsWhole, Sends};
-ghost use Rattle.reply_laws.specs.SampleExchanges.{IsToldRightly, IsToldWrongly, find_of, all_asked, all_told, both_entries, changed_five, changed_reply, changing, changing_entry, deep_asked, deep_entry, deleted_reply, deleting, entry_at, finding, finding_later, first, first_entry, first_told, greeted, id_at, is_shown, is_shown_later, moments, second, second_entry, second_told, tells, third, third_told, three_asked, three_entries, three_writes, two_entries, finding_at, is_shown_at, unmet_delete, unmet_entries, upserting, upserting_entries, upserting_reply, created, created_dated, created_late};
+ghost use Rattle.reply_laws.specs.SampleExchanges.{IsToldRightly, IsToldWrongly, find_of, all_asked, all_told, both_entries, changed_five, changed_reply, changing, changing_entry, deep_asked, deep_entry, deleted_reply, deleting, entry_at, finding, finding_later, first, first_entry, first_told, greeted, id_at, is_shown, is_shown_later, second, second_entry, second_told, tells, third, third_told, three_asked, three_entries, three_writes, two_entries, finding_at, is_shown_at, unmet_delete, unmet_entries, upserting, upserting_entries, upserting_reply, created, created_late, account_of, account_by, given_elsewhere};
 
 /// What the requests are.
 pub fn asked()
@@ -57,14 +57,14 @@ pub fn asked()
 /// none where an entry is lost, where one was made that nobody sent, where a reply is missing from those to the requests, and where a request
 /// gets two replies.
 pub fn one_history()
-    ensures whole { OneHistory moments created_dated both_entries all_asked all_told }
-    ensures lost { OneHistory moments created_dated [] all_asked all_told → ⊥ }
-    ensures lost_duplicate { OneHistory moments created_dated (first_entry ∷ []) all_asked all_told → ⊥ }
-    ensures nobody_sent { OneHistory moments created_dated both_entries (first ∷ third ∷ []) (first_told ∷ third_told ∷ []) → ⊥ }
-    ensures not_asked { OneHistory moments created_dated both_entries (first ∷ second ∷ []) all_told → ⊥ }
-    ensures twice { OneHistory moments created_dated both_entries all_asked (first_told ∷ all_told) → ⊥ }
-    ensures not_begun { OneHistory moments [] both_entries all_asked all_told → ⊥ }
-    ensures disordered { OneHistory moments created_dated (second_entry ∷ first_entry ∷ []) all_asked all_told → ⊥ }
+    ensures whole { OneHistory (account_of both_entries all_asked all_told) }
+    ensures lost { OneHistory (account_of [] all_asked all_told) → ⊥ }
+    ensures lost_duplicate { OneHistory (account_of (first_entry ∷ []) all_asked all_told) → ⊥ }
+    ensures nobody_sent { OneHistory (account_of both_entries (first ∷ third ∷ []) (first_told ∷ third_told ∷ [])) → ⊥ }
+    ensures not_asked { OneHistory (account_of both_entries (first ∷ second ∷ []) all_told) → ⊥ }
+    ensures twice { OneHistory (account_of both_entries all_asked (first_told ∷ all_told)) → ⊥ }
+    ensures not_begun { OneHistory (account_by [] both_entries all_asked all_told) → ⊥ }
+    ensures disordered { OneHistory (account_of (second_entry ∷ first_entry ∷ []) all_asked all_told) → ⊥ }
 {}
 
 /// Of three documents the second has the key of the first. The error ends the insert where it is ordered, and else the third document
@@ -193,10 +193,10 @@ pub fn found_around_delete()
 /// taken.
 pub fn wrong_replies()
     ensures another { IsToldWrongly both_entries first (record first_told { document = duplicate_reply }) }
-    ensures number { (next : List Cursor) → IsRightOf moments created both_entries all_asked [] [] (record first_told { number = pos 2 }) next → ⊥ }
-    ensures link { (next : List Cursor) → IsRightOf moments created both_entries all_asked [] [] (record first_told { link = 1 }) next → ⊥ }
-    ensures early { (next : List Cursor) → IsRightOf moments created both_entries all_asked [] [] (record first_told { step = 1 }) next → ⊥ }
-    ensures not_taken { (next : List Cursor) → IsRightOf moments created both_entries [] [] [] first_told next → ⊥ }
+    ensures number { (next : List Cursor) → IsRightOf (account_of both_entries all_asked []) [] (record first_told { number = pos 2 }) next → ⊥ }
+    ensures link { (next : List Cursor) → IsRightOf (account_of both_entries all_asked []) [] (record first_told { link = 1 }) next → ⊥ }
+    ensures early { (next : List Cursor) → IsRightOf (account_of both_entries all_asked []) [] (record first_told { step = 1 }) next → ⊥ }
+    ensures not_taken { (next : List Cursor) → IsRightOf (account_of both_entries [] []) [] first_told next → ⊥ }
 {}
 
 /// What is stale: a request that comes to a router, in the life in which it had returned a time, with a lower one, or with a lower one
@@ -206,18 +206,18 @@ pub fn stale()
     ensures taken { IsInOrder (third ∷ []) (record first { came = 8 }) → ⊥ }
     ensures elsewhere { IsFresh (first_told ∷ []) second }
     ensures another_life { IsFresh (first_told ∷ []) (record second { id = record { router = 2; life = 2; count = 1 } }) }
-    ensures not_later { WasSent both_entries all_asked [] (entry_at 0 3 1 0 long_five done) → ⊥ }
+    ensures not_later { WasSent (account_of both_entries all_asked []) (entry_at 0 3 1 0 long_five done) → ⊥ }
 {}
 
 /// What a router knew: its last moment, and a time that was met. A time that nobody met, a moment that was given to another node or
 /// comes later, and a time before its moment's are made up.
 pub fn known()
-    ensures right { IsKnown moments created both_entries third }
-    ensures made_up { IsKnown moments created both_entries (record third { time = timestamp 1000 7 }) → ⊥ }
-    ensures moment { IsKnown moments created both_entries (record third { moment = 999000 }) → ⊥ }
-    ensures another_node { IsKnown (record { node = 3; moment = 1000000; step = 0 } ∷ []) created both_entries third → ⊥ }
-    ensures too_early { IsKnown moments created both_entries (record third { came = 0 }) → ⊥ }
-    ensures behind { IsKnown moments created both_entries (record third { time = 0 }) → ⊥ }
+    ensures right { IsKnown (account_of both_entries [] []) third }
+    ensures made_up { IsKnown (account_of both_entries [] []) (record third { time = timestamp 1000 7 }) → ⊥ }
+    ensures moment { IsKnown (account_of both_entries [] []) (record third { moment = 999000 }) → ⊥ }
+    ensures another_node { IsKnown given_elsewhere third → ⊥ }
+    ensures too_early { IsKnown (account_of both_entries [] []) (record third { came = 0 }) → ⊥ }
+    ensures behind { IsKnown (account_of both_entries [] []) (record third { time = 0 }) → ⊥ }
 {}
 
 /// How entries, collections and requests relate to each other.

@@ -16,13 +16,13 @@ ghost use Rattle.reply_model.specs.Cursors.{Cursor};
 ghost use Rattle.reply_model.specs.Exchanges.{reply_put};
 ghost use Rattle.reply_model.specs.Right.{IsRight, Sends};
 ghost use Rattle.reply_model.specs.OneHistory.{AreNumbered, IsReached, IsRightOf, OneHistory, WasSent};
-ghost use Rattle.reply_laws.specs.SampleExchanges.{entry_at, first_entry, moments, tells, created, created_dated};
+ghost use Rattle.reply_laws.specs.SampleExchanges.{entry_at, first_entry, tells, created, account_of};
 ghost use Rattle.reply_laws.specs.SampleRetries.{IsToldJust, IsToldThen, IsUntold, both_answers, both_done, both_sent, delete_three, eights, ended, entry_under, errors_reply, failed, failing, failing_again, failing_sent, finding_two, first_answer, first_three, five_elsewhere, insert_elsewhere, insert_five, insert_six, inserted_five, inserts_under, late_two, newer, newer_entry, number_in, older_error, put_five, second_done, sent_again, sent_first, sent_two, six_as, then_three, three_done, three_sent, three_without, told_ahead, two_sent, unmodified_reply, unnumbered_six, unordered_later, until_removed, upsert_three, upserted_five, zero_sent};
 
 /// An insert that is sent again, at another router: it is done once, and returns the same, also where the router knows of a later time. No
 /// reply is right where its entry is lost, or later than what the router knows; it has no second entry; and an entry under a router's own number is not of it.
 pub fn retried()
-    ensures whole { OneHistory moments created_dated (put_five ∷ []) both_sent both_answers }
+    ensures whole { OneHistory (account_of (put_five ∷ []) both_sent both_answers) }
     ensures same { IsToldJust (put_five ∷ []) both_sent sent_again 5 4 done_reply }
     ensures lost { IsUntold [] both_sent sent_again 5 2 }
     ensures foretold { IsUntold (put_five ∷ []) both_sent sent_again 5 1 }
@@ -64,7 +64,7 @@ pub fn older_transactions()
     ensures another_session { IsUntold (record newer_entry { number = number_in eights (pos 5) 0 } ∷ []) (newer ∷ late_two true ∷ []) (late_two true) 5 4 }
     ensures unnumbered { IsUntold (newer_entry ∷ []) (newer ∷ unnumbered_six ∷ []) unnumbered_six 5 4 }
     ensures foretold { IsUntold (newer_entry ∷ []) (record newer { came = 8 } ∷ late_two true ∷ []) (late_two true) 5 4 }
-    ensures made_up { (document : Fields) (next : List Cursor) → IsRightOf moments created (newer_entry ∷ []) (newer ∷ late_two true ∷ []) [] []
+    ensures made_up { (document : Fields) (next : List Cursor) → IsRightOf (account_of (newer_entry ∷ []) (newer ∷ late_two true ∷ []) []) []
         (record (tells (late_two true) 5 4 document) { time = timestamp 2000 0 }) next → ⊥ }
     ensures behind { AreNumbered (newer_entry ∷ entry_under sevens 3 (pos 4) 0 (insert_operation (with_id six)) done ∷ []) → ⊥ }
     ensures behind_zero { AreNumbered (entry_under sevens 2 (pos 0) 0 (insert_operation (with_id five)) done
@@ -74,32 +74,33 @@ pub fn older_transactions()
 /// A longer command under the same number does what is new in it, and another session has transactions of its own.
 pub fn new_statements()
     ensures longer { AreNumbered (put_five ∷ second_done 3 ∷ [])
-        × IsReached (put_five ∷ second_done 3 ∷ []) (sent_first ∷ two_sent 3 1 4 true ∷ []) (second_done 3) }
+        × IsReached (account_of (put_five ∷ second_done 3 ∷ []) (sent_first ∷ two_sent 3 1 4 true ∷ []) []) (second_done 3) }
     ensures another_session { AreNumbered (newer_entry ∷ entry_under eights 3 (pos 4) 0 (insert_operation (with_id six)) done ∷ []) }
 {}
 
 /// Where all requests that sent a statement are ordered, it is done after those before it, none of which failed: not after an error that is
 /// returned again, nor after one of another command under the number, nor with a gap. A request that is not ordered may do it, and the other gets the error.
 pub fn reached_statements()
-    ensures behind_error { IsReached both_done (two_sent 2 2 4 true ∷ two_sent 3 1 6 true ∷ []) (second_done 4) → ⊥ }
-    ensures behind_another { IsReached both_done (failing ∷ two_sent 3 1 6 true ∷ []) (second_done 4) → ⊥ }
-    ensures gap { IsReached (second_done 4 ∷ []) (two_sent 2 2 4 true ∷ []) (second_done 4) → ⊥ }
-    ensures unordered { IsReached both_done (two_sent 2 2 4 true ∷ two_sent 3 1 6 false ∷ []) (second_done 4) }
+    ensures behind_error { IsReached (account_of both_done (two_sent 2 2 4 true ∷ two_sent 3 1 6 true ∷ []) []) (second_done 4) → ⊥ }
+    ensures behind_another { IsReached (account_of both_done (failing ∷ two_sent 3 1 6 true ∷ []) []) (second_done 4) → ⊥ }
+    ensures gap { IsReached (account_of (second_done 4 ∷ []) (two_sent 2 2 4 true ∷ []) []) (second_done 4) → ⊥ }
+    ensures unordered { IsReached (account_of both_done (two_sent 2 2 4 true ∷ two_sent 3 1 6 false ∷ []) []) (second_done 4) }
     ensures ended { IsToldJust both_done (two_sent 2 2 4 true ∷ two_sent 3 1 6 false ∷ []) (two_sent 2 2 4 true) 9 5 duplicate_reply }
 {}
 
 /// Of two statements without order the first may return what was done, and the second that it is too old; the time is that of the first.
 pub fn answered_together()
-    ensures { IsRight created (put_five ∷ entry_under sevens 3 (pos 5) 0 (insert_operation (with_id six)) done ∷ [])
-        (sent_two ∷ six_as (pos 5) ∷ []) [] [] sent_two (tells sent_two 7 4 (errors_reply 1 2 (older_error (pos 5) 1 ∷ []))) [] }
+    ensures { IsRight (account_of (put_five ∷ entry_under sevens 3 (pos 5) 0 (insert_operation (with_id six)) done ∷ []) (sent_two ∷ six_as (pos 5) ∷ [])
+        []) [] sent_two (tells sent_two 7 4 (errors_reply 1 2 (older_error (pos 5) 1 ∷ []))) [] }
 {}
 
 /// A time that any router returned to a write with a number is not ahead; and an entry is not earlier than what its maker's router had returned, though
 /// another request, that had ended by then, had sent its statement before.
 pub fn told_before()
     ensures ahead { (next : List Cursor)
-        → IsRight created (put_five ∷ []) (sent_first ∷ finding_two ∷ []) (first_answer ∷ []) [] finding_two told_ahead next → ⊥ }
-    ensures ended { WasSent (first_entry ∷ failed ∷ second_done 50 ∷ []) (two_sent 2 2 4 true ∷ unordered_later ∷ []) (ended ∷ []) (second_done 50) → ⊥ }
+        → IsRight (account_of (put_five ∷ []) (sent_first ∷ finding_two ∷ []) (first_answer ∷ [])) [] finding_two told_ahead next → ⊥ }
+    ensures ended { WasSent (account_of (first_entry ∷ failed ∷ second_done 50 ∷ []) (two_sent 2 2 4 true ∷ unordered_later ∷ []) (ended ∷ []))
+        (second_done 50) → ⊥ }
 {}
 
 /// Three statements that are sent twice, as a field or as a sequence: they are done once, and the two replies are alike but for the number of

@@ -6,7 +6,7 @@ ghost use Rattle.command_model.specs.Cursors.{Batch};
 ghost use Rattle.pipeline_model.specs.Stages.{group_stage};
 ghost use Rattle.reply_model.specs.Cursors.{Cursor};
 ghost use Rattle.reply_model.specs.Right.{IsRight};
-ghost use Rattle.reply_laws.specs.SampleExchanges.{IsToldRightly, IsToldWrongly, created};
+ghost use Rattle.reply_laws.specs.SampleExchanges.{IsToldRightly, IsToldWrongly, created, account_of};
 ghost use Rattle.reply_laws.specs.SampleReads.{one, three, two};
 ghost use Rattle.reply_laws.specs.SampleSums.{both_valued, greatest, of_sum, sum_spec, summing, told_batch, told_fault, told_overflow};
 ghost use Rattle.reply_laws.specs.SampleTimes.{find_in, reading_of};
@@ -17,7 +17,7 @@ pub fn overflows()
     ensures refused { IsToldRightly (both_valued greatest one) summing told_overflow }
     ensures never_shown { (b : Batch) → IsToldWrongly (both_valued greatest one) summing (told_batch b) }
     ensures no_statement { IsToldWrongly (both_valued greatest one) summing told_fault }
-    ensures no_cursor { (next : List Cursor) → IsRight created (both_valued greatest one) [] [] [] summing told_overflow next → next ≡ [] }
+    ensures no_cursor { (next : List Cursor) → IsRight (account_of (both_valued greatest one) [] []) [] summing told_overflow next → next ≡ [] }
 {}
 
 /// 1 and 1: the sum is shown, and is not outside int64.

@@ -1,4 +1,5 @@
 pub mod Exchanges
+pub mod Accounts
 pub mod Outcomes
 pub mod Cursors
 pub mod Reads

@@ -13,6 +13,7 @@ use Rattle.chunk_model.specs.Placement.{AreFitting, owner}
 use Rattle.history_model.specs.History.{Entry, Legal, IsIn, key_written}
 use Rattle.base_model.specs.Identities.{RequestId}
 use Rattle.reply_model.specs.Exchanges.{Asked, Answered}
+use Rattle.reply_model.specs.Accounts.{Dated, changes_in, Given, nothing_stored, Account}
 use Rattle.reply_model.specs.Cursors.{Cursor}
 use Rattle.reply_model.specs.Right.{IsPart, IsRight, Sends, AreTold, WasCreated, WasSplit, ends, not_sharded}
 use Rattle.reply_model.specs.Outcomes.{Done, WasDone, answer_of}
@@ -31,12 +32,12 @@ EndsBefore index write (d ∷ dones) = ((d.index < index) × (ends write.ordered
 
 -- The entry was made for a request that a router took and that sent its statement: it is later than what the router knew then, and the reply to the request
 -- did not say that the write had ended before that statement.
-pub record WasSent (history : List Entry) (asked : List Asked) (answered : List Answered) (e : Entry) : Type 0 where
+pub record WasSent (account : Account) (e : Entry) : Type 0 where
   pub request : Asked
-  pub taken : IsIn request asked
+  pub taken : IsIn request account.asked
   pub sends : Sends request e
   pub later : request.time < e.time
-  pub goes_on : (t : Answered) (dones : List Done) → IsIn t answered → t.id ≡ request.id → AreTold history asked t sends.write 0 sends.write.operations dones
+  pub goes_on : (t : Answered) (dones : List Done) → IsIn t account.answered → t.id ≡ request.id → AreTold account t sends.write 0 sends.write.operations dones
       → t.document ≡ answer_document (answer_of sends.write.kind t.time dones) → ¬ EndsBefore sends.index sends.write dones
 
 -- the request asks for this change: as a write in the collection or to create it, or to split it at that key; no command moves a chunk yet
@@ -61,9 +62,9 @@ abbrev pub IsOrdered : List Asked → Entry → Type 0
 IsOrdered asked e = AllByRecursion (λ (b : Asked). (sends : Sends b e) → sends.write.ordered ≡ true) asked
 
 -- then each statement before it was applied before it, without an error
-abbrev pub IsReached : List Entry → List Asked → Entry → Type 0
-IsReached history asked e = IsOrdered asked e → (i : ℕ) → i < e.number.index
-    → (d : Entry) × IsIn d history × (d.number ≡ record { session = e.number.session; transaction = e.number.transaction; index = i })
+abbrev pub IsReached : Account → Entry → Type 0
+IsReached account e = IsOrdered account.asked e → (i : ℕ) → i < e.number.index
+    → (d : Entry) × IsIn d account.history × (d.number ≡ record { session = e.number.session; transaction = e.number.transaction; index = i })
     × (d.outcome.error ≡ None) × (d.time < e.time)
 
 -- of two entries of a shard the later has another number, and no smaller transaction of the session
@@ -75,12 +76,6 @@ abbrev pub AreNumbered : List Entry → Type 0
 AreNumbered [] = Unit {0}
 AreNumbered (d ∷ history) = AllByRecursion (KeepsNumbers d) history × AreNumbered history
 
--- a moment that was given to a node, in a step
-pub record Given : Type 0 where
-  pub node : ℕ
-  pub moment : ℕ
-  pub step : ℕ
-
 abbrev pub last_from : (node step moment : ℕ) → List Given → ℕ
 last_from node step moment [] = moment
 last_from node step moment (g ∷ given) =
@@ -91,33 +86,31 @@ abbrev pub last_given : (node step : ℕ) → List Given → ℕ
 last_given node step given = last_from node step 0 given
 
 -- the time occurs in the run: it is that of a moment that was given, of a change of the catalogue or of an entry
-abbrev pub WasMet : List Given → List Change → List Entry → ℕ → Type 0
-WasMet given changes history time =
+abbrev pub WasMet : Account → ℕ → Type 0
+WasMet account time =
     (time ≡ 0)
-    ⊎ (((g : Given) × IsIn g given × (time ≡ time_of_moment g.moment))
-    ⊎ (((x : Change) × IsIn x changes × (time ≡ time_of x))
-    ⊎ ((e : Entry) × IsIn e history × (time ≡ e.time))))
+    ⊎ (((g : Given) × IsIn g account.given × (time ≡ time_of_moment g.moment))
+    ⊎ (((x : Change) × IsIn x account.changes × (time ≡ time_of x))
+    ⊎ ((e : Entry) × IsIn e account.history × (time ≡ e.time))))
 
 -- the reply is a right one to a request that was taken, on its link and with its number, not before it, and at a time that occurs in the run
-pub record IsRightOf (given : List Given) (changes : List Change) (history : List Entry) (asked : List Asked) (answered : List Answered)
-    (cursors : List Cursor) (t : Answered) (next : List Cursor) : Type 0 where
+pub record IsRightOf (account : Account) (cursors : List Cursor) (t : Answered) (next : List Cursor) : Type 0 where
   pub request : Asked
-  pub taken : IsIn request asked
+  pub taken : IsIn request account.asked
   pub own : request.id ≡ t.id
   pub link : request.link ≡ t.link
   pub number : request.number ≡ t.number
   pub same : request.request ≡ t.request
   pub came : request.came ≤ t.step
   pub risen : request.time ≤ t.time
-  pub met : WasMet given changes history t.time
-  pub right : IsRight changes history asked answered cursors request t next
+  pub met : WasMet account t.time
+  pub right : IsRight account cursors request t next
 
 -- all replies, in order, starting with these cursors
-pub data AreRight (given : List Given) (changes : List Change) (history : List Entry) (asked : List Asked) (answered : List Answered) :
-    List Cursor → List Answered → Type 0 where
-  nothing_told : (cursors : List Cursor) → AreRight given changes history asked answered cursors []
-  then_told : (cursors next : List Cursor) (t : Answered) (later : List Answered) → IsRightOf given changes history asked answered cursors t next
-      → AreRight given changes history asked answered next later → AreRight given changes history asked answered cursors (t ∷ later)
+pub data AreRight (account : Account) : List Cursor → List Answered → Type 0 where
+  nothing_told : (cursors : List Cursor) → AreRight account cursors []
+  then_told : (cursors next : List Cursor) (t : Answered) (later : List Answered) → IsRightOf account cursors t next → AreRight account next later
+      → AreRight account cursors (t ∷ later)
 
 -- a time returned in the life of the request's router, before it came, is not later than what the router knew when it took it
 abbrev pub IsNotBefore : Asked → Answered → Type 0
@@ -133,9 +126,9 @@ abbrev pub IsInOrder : List Asked → Asked → Type 0
 IsInOrder asked a = AllByRecursion (λ (b : Asked). b.id.router ≡ a.id.router → b.id.life ≡ a.id.life → b.came < a.came → b.time ≤ a.time) asked
 
 -- what a router knew when it took a request: its last moment, and a time that occurs in the run and is not before that
-pub record IsKnown (given : List Given) (changes : List Change) (history : List Entry) (a : Asked) : Type 0 where
-  pub moment : a.moment ≡ last_given a.id.router a.came given
-  pub time : WasMet given changes history a.time
+pub record IsKnown (account : Account) (a : Asked) : Type 0 where
+  pub moment : a.moment ≡ last_given a.id.router a.came account.given
+  pub time : WasMet account a.time
   pub reached : time_of_moment a.moment ≤ a.time
 
 -- no request has the number of another
@@ -158,11 +151,6 @@ pub record IsPlaced (changes : List Change) (e : Entry) : Type 0 where
   pub before : creation.at < e.time
   pub writes : key_written e.operation ≡ Some key
   pub owner : owner e.namespace key e.time changes ≡ Some e.shard
-
--- a change of the catalogue, with the step in which it was made
-pub record Dated : Type 0 where
-  pub change : Change
-  pub step : ℕ
 
 -- the changes that were made before a step
 abbrev pub changes_before : ℕ → List Dated → List Change
@@ -188,37 +176,35 @@ changes_by dated t = changes_before (t.step + 1) dated
 
 -- What a reply says of the catalogue was so by its step: the collection of a write was created, or the one that is to be created, and a chunk begins where one
 -- is to be split. Where it says that there is no collection to split, there was none in a step after the request came, and not after the reply.
-pub record IsCaused (dated : List Dated) (asked : List Asked) (t : Answered) : Type 0 where
-  pub written : (a : Asked) (write : WriteCommand) → IsReplyTo asked a (write_command write) t → WasCreated (changes_by dated t) write.namespace t.time
-  pub created : (a : Asked) (namespace : List ℕ) → IsReplyTo asked a (shard_collection_command namespace) t
-      → t.document ≡ answer_document (sharded_answer namespace t.time) → WasCreated (changes_by dated t) namespace t.time
-  pub begins : (a : Asked) (split : SplitCommand) → IsReplyTo asked a (split_command split) t → t.document ≡ answer_document (changed_answer t.time)
-      → WasSplit (changes_by dated t) split.namespace split.middle t.time
-  pub absent : (a : Asked) (split : SplitCommand) → IsReplyTo asked a (split_command split) t → t.document ≡ not_sharded
-      → WasAbsent dated split.namespace a.came t.step
-
--- the changes of the catalogue, newest first
-abbrev pub changes_in : List Dated → List Change
-changes_in dated = map (λ (d : Dated). d.change) dated
+pub record IsCaused (account : Account) (t : Answered) : Type 0 where
+  pub written : (a : Asked) (write : WriteCommand) → IsReplyTo account.asked a (write_command write) t → WasCreated (changes_by account.dated t) write.namespace t.time
+  pub created : (a : Asked) (namespace : List ℕ) → IsReplyTo account.asked a (shard_collection_command namespace) t
+      → t.document ≡ answer_document (sharded_answer namespace t.time) → WasCreated (changes_by account.dated t) namespace t.time
+  pub begins : (a : Asked) (split : SplitCommand) → IsReplyTo account.asked a (split_command split) t → t.document ≡ answer_document (changed_answer t.time)
+      → WasSplit (changes_by account.dated t) split.namespace split.middle t.time
+  pub absent : (a : Asked) (split : SplitCommand) → IsReplyTo account.asked a (split_command split) t → t.document ≡ not_sharded
+      → WasAbsent account.dated split.namespace a.came t.step
 
 -- For all inputs: the entries are one legal history of an unsharded collection with each statement at most once; each belongs to a request that a router
 -- took, is on the shard that owns its key and is later than what its router knew; no shard uses a number again, nor applies an older transaction; each
 -- statement before a stored one was applied, where all requests that sent it are ordered; each change of the catalogue was made for a request, and follows
 -- those before it; each request has at most one reply, a right one, and what this says of the catalogue was so by its step; and what its router knew then is
--- not before what it had returned and taken.
-pub record OneHistory (given : List Given) (dated : List Dated) (history : List Entry) (asked : List Asked) (answered : List Answered) : Type 0 where
-  pub legal : Legal history
-  pub sent : AllByRecursion (WasSent history asked answered) history
-  pub numbers : AreNumbered history
-  pub reached : AllByRecursion (IsReached history asked) history
-  pub placed : AllByRecursion (IsPlaced (changes_in dated)) history
-  pub parts : AllByRecursion (StandsInPart history) asked
-  pub wanted : AllByRecursion (WasWanted asked) (changes_in dated)
-  pub fitting : AreFitting (changes_in dated)
-  pub caused : AllByRecursion (IsCaused dated asked) answered
-  pub right : AreRight given (changes_in dated) history asked answered [] answered
-  pub one : AreDifferent (ids_asked asked)
-  pub once : AreDifferent (ids_told answered)
-  pub fresh : AllByRecursion (IsFresh answered) asked
-  pub order : AllByRecursion (IsInOrder asked) asked
-  pub known : AllByRecursion (IsKnown given (changes_in dated) history) asked
+-- not before what it had returned and taken. Currently nothing is stored at the start.
+pub record OneHistory (account : Account) : Type 0 where
+  pub legal : Legal account.history
+  pub sent : AllByRecursion (WasSent account) account.history
+  pub numbers : AreNumbered account.history
+  pub reached : AllByRecursion (IsReached account) account.history
+  pub placed : AllByRecursion (IsPlaced account.changes) account.history
+  pub parts : AllByRecursion (StandsInPart account.history) account.asked
+  pub wanted : AllByRecursion (WasWanted account.asked) account.changes
+  pub fitting : AreFitting account.changes
+  pub steps : changes_in account.dated ≡ account.changes
+  pub caused : AllByRecursion (IsCaused account) account.answered
+  pub right : AreRight account [] account.answered
+  pub one : AreDifferent (ids_asked account.asked)
+  pub once : AreDifferent (ids_told account.answered)
+  pub fresh : AllByRecursion (IsFresh account.answered) account.asked
+  pub order : AllByRecursion (IsInOrder account.asked) account.asked
+  pub known : AllByRecursion (IsKnown account) account.asked
+  pub anew : account.stored ≡ nothing_stored

@@ -15,6 +15,7 @@ use Rattle.command_model.specs.Reading.{Reading}
 use Rattle.history_model.specs.History.{Entry, IsIn}
 use Rattle.history_model.specs.Documents.{documents_at}
 use Rattle.reply_model.specs.Exchanges.{Asked, Answered, number_for}
+use Rattle.reply_model.specs.Accounts.{Account}
 
 -- no time is to be reached, or this one is not before it
 abbrev pub IfReached : Option ℕ → ℕ → Type 0
@@ -45,12 +46,12 @@ owned_by changes namespace shard time documents = filter (is_owned changes names
 
 -- A length that is too great: of a result that the read may have, of a document of one, or of the rows that the half returns for the documents that one shard
 -- owned.
-pub data IsExcess (history : List Entry) (changes : List Change) (reading : Reading) (time n : ℕ) : Type 0 where
-  excess_answer : (answer : List Fields) → MayGive history reading time (listed answer) → excess_of_answer answer ≡ Some n
-      → IsExcess history changes reading time n
+pub data IsExcess (account : Account) (reading : Reading) (time n : ℕ) : Type 0 where
+  excess_answer : (answer : List Fields) → MayGive account.history reading time (listed answer) → excess_of_answer answer ≡ Some n
+      → IsExcess account reading time n
   excess_half : (shard : ℕ) (ordered : List Fields) (rows : Rows)
-      → IsPermutation (owned_by changes reading.namespace shard time (documents_at history reading.namespace time)) ordered
-      → IsHalf (split reading.stages).0 ordered rows → excess_of_half rows ≡ Some n → IsExcess history changes reading time n
+      → IsPermutation (owned_by account.changes reading.namespace shard time (documents_at account.history reading.namespace time)) ordered
+      → IsHalf (split reading.stages).0 ordered rows → excess_of_half rows ≡ Some n → IsExcess account reading time n
 
 -- the time that a read names, or that it is to reach
 abbrev pub time_wanted : Reading → Option ℕ
@@ -58,10 +59,10 @@ time_wanted reading = elim reading.at [ None ↦ reading.after | Some named ↦ 
 
 -- The time that a read requires is ahead of the router's, and of each operation time that a router returned to a write before the request came and that is
 -- the time of an entry of that write.
-pub record IsAhead (history : List Entry) (answered : List Answered) (a : Asked) (t : Answered) (reading : Reading) : Type 0 where
+pub record IsAhead (account : Account) (a : Asked) (t : Answered) (reading : Reading) : Type 0 where
   pub wanted : ℕ
   pub wants : time_wanted reading ≡ Some wanted
   pub ahead : t.time < wanted
-  pub of_all : (s : Answered) (write : WriteCommand) (index : ℕ) (e : Entry) → IsIn s answered → s.step < a.came
+  pub of_all : (s : Answered) (write : WriteCommand) (index : ℕ) (e : Entry) → IsIn s account.answered → s.step < a.came
       → command_of s.request ≡ Ok (write_command write)
-      → IsIn e history → e.number ≡ number_for write.number s.id index → operation_time (Some s.document) ≡ Some e.time → e.time < wanted
+      → IsIn e account.history → e.number ≡ number_for write.number s.id index → operation_time (Some s.document) ≡ Some e.time → e.time < wanted

@@ -24,6 +24,7 @@ use Rattle.chunk_model.specs.Changes.{Change, create_change, time_of, known_tabl
 use Rattle.chunk_model.specs.Tables.{Table}
 use Rattle.base_model.specs.Identities.{RequestId}
 use Rattle.reply_model.specs.Exchanges.{Asked, Answered, number_for, entries_by}
+use Rattle.reply_model.specs.Accounts.{Account}
 use Rattle.reply_model.specs.Outcomes.{StatementOutcome, is_older, Done, answer_by, done_of, fails, answer_of}
 use Rattle.reply_model.specs.Cursors.{Cursor, open_cursor, ShowsFirst, ShowsNext, Kills}
 use Rattle.reply_model.specs.Reads.{IsTimeRead, MayGive, IsExcess, IsAhead}
@@ -67,24 +68,24 @@ pub record HadSent (asked : List Asked) (e : Entry) (t : Answered) : Type 0 wher
 
 -- The right outcomes of a statement: that of its own entry; where a client gave the number, that of another entry under it; or that an entry of the client's
 -- session has this greater transaction. The entry is not later than what the router knows as it replies.
-pub data MayBeTold (history : List Entry) (asked : List Asked) (t : Answered) (given : Option ClientNumber) (number : StatementNumber) (namespace : List ℕ)
+pub data MayBeTold (account : Account) (t : Answered) (given : Option ClientNumber) (number : StatementNumber) (namespace : List ℕ)
     (operation : Operation) : StatementOutcome → Type 0 where
-  told_own : (e : Entry) → IsIn e history → IsStatement number namespace operation e → e.time ≤ t.time
-      → MayBeTold history asked t given number namespace operation (answer_by e)
-  told_other : (e : Entry) (by : ClientNumber) → IsIn e history → given ≡ Some by → e.number ≡ number → e.time ≤ t.time → HadSent asked e t
-      → MayBeTold history asked t given number namespace operation (answer_by e)
-  told_older : (e : Entry) (by : ClientNumber) → IsIn e history → given ≡ Some by → e.number.session ≡ number.session
-      → int_lt number.transaction e.number.transaction ≡ true → e.time ≤ t.time → HadSent asked e t
-      → MayBeTold history asked t given number namespace operation (is_older e.number.transaction)
+  told_own : (e : Entry) → IsIn e account.history → IsStatement number namespace operation e → e.time ≤ t.time
+      → MayBeTold account t given number namespace operation (answer_by e)
+  told_other : (e : Entry) (by : ClientNumber) → IsIn e account.history → given ≡ Some by → e.number ≡ number → e.time ≤ t.time → HadSent account.asked e t
+      → MayBeTold account t given number namespace operation (answer_by e)
+  told_older : (e : Entry) (by : ClientNumber) → IsIn e account.history → given ≡ Some by → e.number.session ≡ number.session
+      → int_lt number.transaction e.number.transaction ≡ true → e.time ≤ t.time → HadSent account.asked e t
+      → MayBeTold account t given number namespace operation (is_older e.number.transaction)
 
 -- these are right outcomes of the statements of a write from this index on, of all, or up to the error that ends an ordered command
-abbrev pub AreTold : List Entry → List Asked → Answered → WriteCommand → ℕ → List Operation → List Done → Type 0
-AreTold history asked t write index [] dones = dones ≡ []
-AreTold history asked t write index (operation ∷ operations) [] = ⊥
-AreTold history asked t write index (operation ∷ operations) (d ∷ dones) =
+abbrev pub AreTold : Account → Answered → WriteCommand → ℕ → List Operation → List Done → Type 0
+AreTold account t write index [] dones = dones ≡ []
+AreTold account t write index (operation ∷ operations) [] = ⊥
+AreTold account t write index (operation ∷ operations) (d ∷ dones) =
     (d.index ≡ index)
-    × MayBeTold history asked t write.number (number_for write.number t.id index) write.namespace operation d.answer
-    × elim (ends write.ordered d) [ true ↦ dones ≡ [] | false ↦ AreTold history asked t write (index + 1) operations dones ]
+    × MayBeTold account t write.number (number_for write.number t.id index) write.namespace operation d.answer
+    × elim (ends write.ordered d) [ true ↦ dones ≡ [] | false ↦ AreTold account t write (index + 1) operations dones ]
 
 -- THE STORED PART OF A WRITE THAT HAS NO NUMBER FROM ITS CLIENT
 
@@ -135,15 +136,14 @@ abbrev pub unless_silent : Request → (before after : List Cursor) → List Cur
 unless_silent request before after = if request.more then before else after
 
 -- A read is refused: it has no outcome, or one that is too long, or its time is ahead of the router's, which is shown.
-pub data IsReadRefused (changes : List Change) (history : List Entry) (answered : List Answered) (a : Asked) (t : Answered)
-    (reading : Reading) : Type 0 where
-  refused_overflow : (time : ℕ) → IsTimeRead a t reading time → MayGive history reading time overflowed
-      → t.document ≡ answer_document (refusal_answer (without_evidence overflow)) → IsReadRefused changes history answered a t reading
-  refused_excess : (time n : ℕ) → IsTimeRead a t reading time → IsExcess history changes reading time n
+pub data IsReadRefused (account : Account) (a : Asked) (t : Answered) (reading : Reading) : Type 0 where
+  refused_overflow : (time : ℕ) → IsTimeRead a t reading time → MayGive account.history reading time overflowed
+      → t.document ≡ answer_document (refusal_answer (without_evidence overflow)) → IsReadRefused account a t reading
+  refused_excess : (time n : ℕ) → IsTimeRead a t reading time → IsExcess account reading time n
       → t.document ≡ answer_document (refusal_answer (record { error = query_exceeded_memory; evidence = bytes_evidence n }))
-      → IsReadRefused changes history answered a t reading
-  refused_ahead : IsAhead history answered a t reading
-      → t.document ≡ answer_document (refusal_answer (time_ahead t.time)) → IsReadRefused changes history answered a t reading
+      → IsReadRefused account a t reading
+  refused_ahead : IsAhead account a t reading
+      → t.document ≡ answer_document (refusal_answer (time_ahead t.time)) → IsReadRefused account a t reading
 
 -- REPLIES ABOUT CHUNKS (MongoDB manual, "shardCollection" and "split")
 
@@ -172,43 +172,42 @@ not_sharded = answer_document (refusal_answer (without_evidence namespace_not_sh
 -- a collection that was created; or a batch of a result that the read may have at its time, or the number of documents, or why it is refused; or the next
 -- batch of its cursor, or that this is not open; or which cursors are closed; or that a collection was created, or that a chunk
 -- of it begins at a key, or that there is none (`OneHistory` says when); or a reply that needs no document; or its refusal.
-pub data IsRight (changes : List Change) (history : List Entry) (asked : List Asked) (answered : List Answered) (cursors : List Cursor) (a : Asked)
-    (t : Answered) : (next : List Cursor) → Type 0 where
+pub data IsRight (account : Account) (cursors : List Cursor) (a : Asked) (t : Answered) : (next : List Cursor) → Type 0 where
   right_write : (write : WriteCommand) (dones : List Done) (c : Creation) → command_of a.request ≡ Ok (write_command write)
-      → AreTold history asked t write 0 write.operations dones → (write.number ≡ None → IsWhole history a.id write)
-      → IsIn (create_change c) changes → c.namespace ≡ write.namespace → c.at ≤ t.time
-      → t.document ≡ answer_document (answer_of write.kind t.time dones) → IsRight changes history asked answered cursors a t cursors
+      → AreTold account t write 0 write.operations dones → (write.number ≡ None → IsWhole account.history a.id write)
+      → IsIn (create_change c) account.changes → c.namespace ≡ write.namespace → c.at ≤ t.time
+      → t.document ≡ answer_document (answer_of write.kind t.time dones) → IsRight account cursors a t cursors
   right_find : (find : Find) (time : ℕ) (documents : List Fields) (batch : Batch) (next : List Cursor) → command_of a.request ≡ Ok (find_command find)
-      → IsTimeRead a t find.reading time → MayGive history find.reading time (listed documents) → excess_of_answer documents ≡ None
+      → IsTimeRead a t find.reading time → MayGive account.history find.reading time (listed documents) → excess_of_answer documents ≡ None
       → batch.namespace ≡ find.reading.namespace → batch.time ≡ time
       → ShowsFirst a.id (unwrap_or find.batches.size usual_size) (asks_for_one find.batches a.request) cursors documents batch next
-      → t.document ≡ answer_document (first_answer batch) → IsRight changes history asked answered cursors a t next
+      → t.document ≡ answer_document (first_answer batch) → IsRight account cursors a t next
   right_count : (reading : Reading) (time n : ℕ) → command_of a.request ≡ Ok (count_command reading) → IsTimeRead a t reading time
-      → MayGive history reading time (listed (count_documents (codes "n") n))
-      → t.document ≡ answer_document (count_answer n time) → IsRight changes history asked answered cursors a t cursors
-  right_refused_read : (reading : Reading) → Reads (command_of a.request) reading → IsReadRefused changes history answered a t reading
-      → IsRight changes history asked answered cursors a t cursors
+      → MayGive account.history reading time (listed (count_documents (codes "n") n))
+      → t.document ≡ answer_document (count_answer n time) → IsRight account cursors a t cursors
+  right_refused_read : (reading : Reading) → Reads (command_of a.request) reading → IsReadRefused account a t reading
+      → IsRight account cursors a t cursors
   right_more : (more : GetMore) (c : Cursor) (batch : Batch) (next : List Cursor) → command_of a.request ≡ Ok (more_command more)
       → open_cursor a.id more.cursor more.namespace cursors ≡ Some c → ShowsNext a.id more.size cursors c batch next
-      → t.document ≡ answer_document (next_answer batch) → IsRight changes history asked answered cursors a t (unless_silent a.request cursors next)
+      → t.document ≡ answer_document (next_answer batch) → IsRight account cursors a t (unless_silent a.request cursors next)
   right_no_cursor : (more : GetMore) → command_of a.request ≡ Ok (more_command more) → open_cursor a.id more.cursor more.namespace cursors ≡ None
       → t.document ≡ answer_document (refusal_answer (record { error = cursor_not_found; evidence = cursor_evidence more.cursor }))
-      → IsRight changes history asked answered cursors a t cursors
+      → IsRight account cursors a t cursors
   right_kill : (kill : KillCursors) (killed missing : List ℤ) (next : List Cursor) → command_of a.request ≡ Ok (kill_command kill)
       → Kills a.id kill.namespace cursors kill.cursors killed missing next → t.document ≡ answer_document (killed_answer killed missing)
-      → IsRight changes history asked answered cursors a t next
-  right_shard : (namespace : List ℕ) → command_of a.request ≡ Ok (shard_collection_command namespace) → WasCreated changes namespace t.time
-      → t.document ≡ answer_document (sharded_answer namespace t.time) → IsRight changes history asked answered cursors a t cursors
-  right_split : (split : SplitCommand) → command_of a.request ≡ Ok (split_command split) → WasSplit changes split.namespace split.middle t.time
-      → t.document ≡ answer_document (changed_answer t.time) → IsRight changes history asked answered cursors a t cursors
+      → IsRight account cursors a t next
+  right_shard : (namespace : List ℕ) → command_of a.request ≡ Ok (shard_collection_command namespace) → WasCreated account.changes namespace t.time
+      → t.document ≡ answer_document (sharded_answer namespace t.time) → IsRight account cursors a t cursors
+  right_split : (split : SplitCommand) → command_of a.request ≡ Ok (split_command split) → WasSplit account.changes split.namespace split.middle t.time
+      → t.document ≡ answer_document (changed_answer t.time) → IsRight account cursors a t cursors
   right_not_sharded : (split : SplitCommand) → command_of a.request ≡ Ok (split_command split) → t.document ≡ not_sharded
-      → IsRight changes history asked answered cursors a t cursors
+      → IsRight account cursors a t cursors
   right_hello : command_of a.request ≡ Ok hello_command → t.document ≡ answer_document (hello_answer a.moment)
-      → IsRight changes history asked answered cursors a t cursors
+      → IsRight account cursors a t cursors
   right_legacy : (legacy : Legacy) → command_of a.request ≡ Ok (legacy_command legacy)
-      → t.document ≡ answer_document (legacy_answer a.moment legacy.shows_hello_ok) → IsRight changes history asked answered cursors a t cursors
-  right_ping : command_of a.request ≡ Ok ping_command → t.document ≡ answer_document done_answer → IsRight changes history asked answered cursors a t cursors
+      → t.document ≡ answer_document (legacy_answer a.moment legacy.shows_hello_ok) → IsRight account cursors a t cursors
+  right_ping : command_of a.request ≡ Ok ping_command → t.document ≡ answer_document done_answer → IsRight account cursors a t cursors
   right_end_sessions : command_of a.request ≡ Ok end_sessions_command → t.document ≡ answer_document done_answer
-      → IsRight changes history asked answered cursors a t cursors
+      → IsRight account cursors a t cursors
   right_refusal : (refusal : Refusal) → command_of a.request ≡ Err refusal → t.document ≡ answer_document (refusal_answer refusal)
-      → IsRight changes history asked answered cursors a t cursors
+      → IsRight account cursors a t cursors

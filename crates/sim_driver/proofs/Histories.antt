@@ -1,10 +1,10 @@
 -- However a script ends, its nodes took part in one run, which makes one history.
 use Rattle.std.proofs.Common.{◌≡◌, ℕ, List, ◌++◌}
 use Rattle.outside.specs.Devices.{SourceCall, SinkCall}
-use Rattle.node_model.specs.Journal.{changes_kept, entries_kept}
-use Rattle.node_model.specs.OneHistory.{OneHistory, changes_in}
-use Rattle.node_model.specs.Tables.{first_shard}
-use Rattle.node_model.specs.World.{Held, World, Event, Run, journal_at, start}
+use Rattle.node_model.specs.Journal.{changes_kept}
+use Rattle.node_model.specs.OneHistory.{OneHistory}
+use Rattle.node_model.specs.Accounts.{changes_in}
+use Rattle.node_model.specs.World.{Held, World, Event, Run, journal_at, start, account_of}
 use Rattle.node_model.proofs.Schedules.{run_then}
 use Rattle.node_laws.proofs.Runs.{run_keeps_changes, run_makes_one_history}
 use Rattle.pipe_driver.specs.declared.status.Status.{Status}
@@ -51,7 +51,7 @@ module _ (source : SourceCall) (sink : SinkCall) (kept : List Held → Type 0) (
       cause_run routers limit _ s.taken s.lines s.left s.put s.end status s.cause
 
   pub simulated_history : (s : IsSimulated source sink kept leaves owed routers limit status)
-      → OneHistory s.end.given s.end.changed (entries_kept (journal_at s.end.nodes first_shard)) s.end.asked s.end.answered
+      → OneHistory (account_of s.end)
   simulated_history s = let run = simulated_run s in run_makes_one_history routers run.0 s.end run.1
 
   -- its changes of the catalogue are those that the catalogue's journal stores

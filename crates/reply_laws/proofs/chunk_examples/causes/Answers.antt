@@ -9,12 +9,13 @@ use Rattle.chunk_model.specs.SampleCollections.{creation}
 use Rattle.chunk_model.specs.Tables.{first_table}
 use Rattle.history_model.proofs.Lists.{in_first}
 use Rattle.reply_model.specs.Right.{not_sharded, right_not_sharded}
-use Rattle.reply_model.specs.OneHistory.{Dated, IsCaused, changes_before}
-use Rattle.reply_laws.specs.SampleExchanges.{created}
+use Rattle.reply_model.specs.OneHistory.{IsCaused, changes_before}
+use Rattle.reply_laws.specs.SampleExchanges.{created, account_by}
 use Rattle.reply_laws.specs.SampleChunks.{created_in, splitting, told_none}
 use Rattle.reply_laws.proofs.CausedReplies.{by_split, caused_by}
 use Rattle.reply_laws.proofs.ChunkReplies.{changed_differs}
 use Rattle.reply_laws.proofs.chunk_examples.causes.Goals as goal
+use Rattle.reply_model.specs.Accounts.{Dated}
 
 pub returns-clause-right : goal.returns-clause-right
 returns-clause-right c = right_not_sharded (record { namespace = codes "d.c"; middle = five }) refl refl
@@ -23,9 +24,9 @@ unchanged : (time : ℕ) → not_sharded ≡ answer_document (changed_answer tim
 unchanged time same = changed_differs time (sym same)
 
 -- where no change was made before the request came
-caused : (dated : List Dated) → changes_before 4 dated ≡ [] → IsCaused dated (splitting ∷ []) told_none
+caused : (dated : List Dated) → changes_before 4 dated ≡ [] → IsCaused (account_by dated [] (splitting ∷ []) []) told_none
 caused dated none =
-    caused_by dated (splitting ∷ []) told_none (
+    caused_by (account_by dated [] (splitting ∷ []) []) told_none (
       by_split dated 4 told_none (record { namespace = codes "d.c"; middle = five }) (λ says. absurd (unchanged told_none.time says))
           (λ says. record { step = 4; after = omega arith; before = omega arith; none = ap (known_table (codes "d.c")) none }),
       tt,

@@ -11,7 +11,7 @@ use Rattle.chunk_model.specs.Tables.{first_table}
 use Rattle.history_model.specs.History.{insert_operation}
 use Rattle.history_model.proofs.Lists.{in_first, in_none}
 use Rattle.reply_model.specs.Right.{WasSplit, right_shard, right_split}
-use Rattle.reply_laws.specs.SampleExchanges.{created, first, first_told}
+use Rattle.reply_laws.specs.SampleExchanges.{created, first, first_told, account_by}
 use Rattle.reply_laws.specs.SampleChunks.{created_in, sharding, split_in, split_once, splitting, told_sharded, told_split}
 use Rattle.reply_laws.proofs.CausedReplies.{by_shard, by_split, by_write, caused_by, made_by}
 use Rattle.reply_laws.proofs.ChunkReplies.{NeverBegins, changed_differs, unsplit}
@@ -21,7 +21,7 @@ use Rattle.reply_laws.proofs.chunk_examples.changes_come_first.Goals as goal
 
 pub returns-clause-created : goal.returns-clause-created
 returns-clause-created c =
-    caused_by (created_in 5) (sharding ∷ []) (told_sharded 2)
+    caused_by (account_by (created_in 5) [] (sharding ∷ []) []) (told_sharded 2)
     (by_shard (created_in 5) 2 (told_sharded 2) (codes "d.c") (made_by (created_in 5) (told_sharded 2) refl (omega arith)), tt)
 
 pub returns-clause-created_later : goal.returns-clause-created_later
@@ -51,7 +51,7 @@ split_five = record {
 
 pub returns-clause-split : goal.returns-clause-split
 returns-clause-split c =
-    caused_by (split_in 7) (splitting ∷ []) (told_split 3)
+    caused_by (account_by (split_in 7) [] (splitting ∷ []) []) (told_split 3)
     (by_split (split_in 7) 4 (told_split 3) at_five (λ says. split_five) (λ says. absurd (changed_differs (timestamp 1000 3) says)), tt)
 
 never_by_creation : (time : ℕ) → NeverBegins time created
@@ -72,7 +72,7 @@ inserts_five = record { kind = insert_kind; namespace = codes "d.c"; operations 
 
 pub returns-clause-write : goal.returns-clause-write
 returns-clause-write c =
-    caused_by (created_in 3) (first ∷ []) first_told
+    caused_by (account_by (created_in 3) [] (first ∷ []) []) first_told
     (by_write (created_in 3) 2 first_told inserts_five (made_by (created_in 3) first_told refl (omega arith)), tt)
 
 pub returns-clause-write_later : goal.returns-clause-write_later

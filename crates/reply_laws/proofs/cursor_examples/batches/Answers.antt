@@ -10,7 +10,7 @@ use Rattle.reply_model.specs.Exchanges.{Asked, Answered}
 use Rattle.reply_model.specs.Cursors.{opens_one}
 use Rattle.reply_model.specs.Right.{IsRight, right_more, right_no_cursor}
 use Rattle.reply_model.specs.OneHistory.{WasMet, nothing_told, then_told}
-use Rattle.reply_laws.specs.SampleExchanges.{entry_at, moments, created}
+use Rattle.reply_laws.specs.SampleExchanges.{entry_at, account_of}
 use Rattle.reply_laws.specs.SampleReads.{asks_more, batch, first_asked, first_replies, going_on, kept, one, open_with, sorting, three, told_first, told_gone, told_next, two}
 use Rattle.reply_laws.proofs.KeyFinds.{opens_nothing}
 use Rattle.reply_laws.proofs.SortedFinds.{two_is, rest_is, first_right, first_shows, first_documents, opens_new, next_shows, never_shows}
@@ -28,7 +28,7 @@ second_kept = entry_at 3 2 1 1 two done
 abbrev third_kept : Entry
 third_kept = entry_at 4 2 1 2 three done
 
-met_four : WasMet moments created kept (timestamp 1000 4)
+met_four : WasMet (account_of kept [] []) (timestamp 1000 4)
 met_four = inr (inr (inr (
   third_kept,
   in_later third_kept first_kept (second_kept ∷ third_kept ∷ []) (in_later third_kept second_kept (third_kept ∷ []) (in_first third_kept [])),
@@ -36,7 +36,7 @@ met_four = inr (inr (inr (
 )))
 
 first_turn : (asked : List Asked) (answered : List Answered)
-    → IsRight created kept asked answered [] (sorting false 2 no_fields) (told_first (sorting false 2 no_fields) (pos 1) two_shown)
+    → IsRight (account_of kept asked answered) [] (sorting false 2 no_fields) (told_first (sorting false 2 no_fields) (pos 1) two_shown)
     (open_with (with_id three ∷ []) ∷ [])
 first_turn asked answered =
     first_right asked answered [] (sorting false 2 no_fields) (told_first (sorting false 2 no_fields) (pos 1) two_shown) 2 false
@@ -44,14 +44,14 @@ first_turn asked answered =
     (record { batch_of = two_is; opens = opens_one (with_id three ∷ []) (pos 1) (λ e. cc) refl ((1, omega arith, refl), tt) })
 
 next_turn : (asked : List Asked) (answered : List Answered)
-    → IsRight created kept asked answered (open_with (with_id three ∷ []) ∷ []) (going_on false 2 3 (codes "c") no_fields)
+    → IsRight (account_of kept asked answered) (open_with (with_id three ∷ []) ∷ []) (going_on false 2 3 (codes "c") no_fields)
     (told_next (going_on false 2 3 (codes "c") no_fields) (pos 0) (with_id three ∷ [])) (open_with [] ∷ [])
 next_turn asked answered =
     right_more (asks_more (codes "d.c") None) (open_with (with_id three ∷ [])) (batch (pos 0) (with_id three ∷ [])) (open_with [] ∷ []) refl refl
     (record { batch_of = rest_is (with_id three ∷ []) refl (inl (omega arith)); number = refl; name = refl; time = refl; rest = refl }) refl
 
 last_turn : (asked : List Asked) (answered : List Answered)
-    → IsRight created kept asked answered (open_with [] ∷ []) (going_on false 2 4 (codes "c") no_fields)
+    → IsRight (account_of kept asked answered) (open_with [] ∷ []) (going_on false 2 4 (codes "c") no_fields)
     (told_gone (going_on false 2 4 (codes "c") no_fields)) (open_with [] ∷ [])
 last_turn asked answered = right_no_cursor (asks_more (codes "d.c") None) refl refl refl
 

@@ -12,6 +12,7 @@ use Rattle.pipeline_model.proofs.Fronts.{opened}
 use Rattle.pipeline_model.proofs.OrderedLists.{sorted_from_up}
 use Rattle.pipeline_laws.proofs.PartRows.{chain_of, one_way_of}
 use Rattle.reply_model.specs.Exchanges.{Asked}
+use Rattle.reply_laws.specs.SampleExchanges.{account_of}
 use Rattle.reply_model.specs.Cursors.{Cursor, Opens, opens_none, opens_one, ShowsFirst}
 use Rattle.reply_model.specs.Reads.{own_time, MayGive}
 use Rattle.reply_model.specs.Right.{IsReadRefused, refused_overflow, refused_excess, refused_ahead, right_find}
@@ -20,7 +21,6 @@ use Rattle.reply_facts.proofs.RightAnswers.{RightBy, right_of, same_first}
 use Rattle.reply_laws.proofs.FilteredOrders.{no_order}
 use Rattle.reply_laws.proofs.KeyFinds.{whole_batch}
 use Rattle.reply_laws.proofs.cursor_examples.no_documents.Goals as goal
-use Rattle.reply_laws.specs.SampleExchanges.{created}
 
 abbrev asked : Asked
 asked = sorting false 0 no_fields
@@ -44,12 +44,12 @@ never_opens : (rest : List Fields) (number : ℤ) (next : List Cursor) → rest 
 never_opens rest number next none is (opens_none r why) = let e : pos 0 ≡ pos 1 = is in cc
 never_opens rest number next none is (opens_one r n some more new) = some none
 
-not_refused : IsReadRefused created [] [] asked (told_first (sorting false 0 no_fields) (pos 1) []) reading_all → ⊥
+not_refused : IsReadRefused (account_of [] [] []) asked (told_first (sorting false 0 no_fields) (pos 1) []) reading_all → ⊥
 not_refused (refused_overflow when read gives says) = let e = says in cc
 not_refused (refused_excess when n read excess says) = let e = says in cc
 not_refused (refused_ahead ahead says) = let e = says in cc
 
-by_told : (next : List Cursor) → RightBy created [] [] [] [] asked (told_first (sorting false 0 no_fields) (pos 1) [])
+by_told : (next : List Cursor) → RightBy (account_of [] [] []) [] asked (told_first (sorting false 0 no_fields) (pos 1) [])
     (Ok (find_command (finds_sorted 0 false))) next → ⊥
 by_told next (inr refused) = not_refused refused.0
 by_told next (inl first) =
@@ -63,5 +63,5 @@ by_told next (inl first) =
 
 pub returns-clause-open : goal.returns-clause-open
 returns-clause-open c next right =
-    by_told next (right_of created [] [] [] [] asked (told_first (sorting false 0 no_fields) (pos 1) [])
+    by_told next (right_of (account_of [] [] []) [] asked (told_first (sorting false 0 no_fields) (pos 1) [])
     (Ok (find_command (finds_sorted 0 false))) next refl right)

@@ -5,10 +5,9 @@ use Rattle.bson_model.specs.Tree.{Fields}
 use Rattle.command_model.specs.Find.{Find}
 use Rattle.command_model.specs.GetMore.{GetMore}
 use Rattle.command_model.specs.Command.{find_command, more_command}
-use Rattle.chunk_model.specs.Changes.{Change}
-use Rattle.history_model.specs.History.{Entry}
 use Rattle.base_model.specs.Identities.{RequestId}
 use Rattle.reply_model.specs.Exchanges.{Asked, Answered}
+use Rattle.reply_model.specs.Accounts.{Account}
 use Rattle.reply_model.specs.Cursors.{Cursor, Opens, opens_none, opens_one}
 use Rattle.reply_model.specs.Right.{asks_for_one}
 use Rattle.reply_facts.proofs.RightAnswers.{RightBy, right_of}
@@ -26,25 +25,25 @@ opens_none_more id single namespace time cursors rest number next silent (opens_
 opens_none_more id single namespace time cursors rest number next silent (opens_one r n some more new) =
     absurd (let e : true ≡ false = sym silent ∙ more in cc)
 
-found : (changes : List Change) (history : List Entry) (asked : List Asked) (answered : List Answered) (cursors next : List Cursor) (a : Asked)
+found : (account : Account) (cursors next : List Cursor) (a : Asked)
     (t : Answered) (find : Find)
-    → a.request.more ≡ true → RightBy changes history asked answered cursors a t (Ok (find_command find)) next → next ≡ cursors
-found changes history asked answered cursors next a t find silent (inl told) =
+    → a.request.more ≡ true → RightBy account cursors a t (Ok (find_command find)) next → next ≡ cursors
+found account cursors next a t find silent (inl told) =
     opens_none_more _ (asks_for_one find.batches a.request) _ _ cursors _ _ next (or_true find.batches.single a.request.more silent) told.shows.opens
-found changes history asked answered cursors next a t find silent (inr refused) = refused.1
+found account cursors next a t find silent (inr refused) = refused.1
 
-shown : (changes : List Change) (history : List Entry) (asked : List Asked) (answered : List Answered) (cursors next : List Cursor) (a : Asked)
+shown : (account : Account) (cursors next : List Cursor) (a : Asked)
     (t : Answered) (more : GetMore)
-    → a.request.more ≡ true → RightBy changes history asked answered cursors a t (Ok (more_command more)) next → next ≡ cursors
-shown changes history asked answered cursors next a t more silent (inl told) = told.then ∙ unless_silent_is a.request cursors told.shown silent
-shown changes history asked answered cursors next a t more silent (inr none) = none.1
+    → a.request.more ≡ true → RightBy account cursors a t (Ok (more_command more)) next → next ≡ cursors
+shown account cursors next a t more silent (inl told) = told.then ∙ unless_silent_is a.request cursors told.shown silent
+shown account cursors next a t more silent (inr none) = none.1
 
 pub returns-clause-find : goal.returns-clause-find
-returns-clause-find c changes history asked answered cursors next a t find right asks silent =
-    found changes history asked answered cursors next a t find silent
-    (right_of changes history asked answered cursors a t (Ok (find_command find)) next asks right)
+returns-clause-find c account cursors next a t find right asks silent =
+    found account cursors next a t find silent
+    (right_of account cursors a t (Ok (find_command find)) next asks right)
 
 pub returns-clause-more : goal.returns-clause-more
-returns-clause-more c changes history asked answered cursors next a t more right asks silent =
-    shown changes history asked answered cursors next a t more silent
-    (right_of changes history asked answered cursors a t (Ok (more_command more)) next asks right)
+returns-clause-more c account cursors next a t more right asks silent =
+    shown account cursors next a t more silent
+    (right_of account cursors a t (Ok (more_command more)) next asks right)

@@ -5,7 +5,7 @@ use Rattle.command_laws.specs.SampleCommands.{change_one}
 use Rattle.command_laws.specs.SampleRequests.{five, long_five, with_id}
 use Rattle.command_model.specs.Writes.{WriteCommand, delete_kind, update_kind}
 use Rattle.history_model.specs.History.{StatementNumber, delete_operation, router_session, update_operation}
-use Rattle.reply_laws.specs.SampleExchanges.{changed_reply, changing, changing_entry, deleted_reply, deleting, deleting_entry, first_entry, tells, three_writes, created}
+use Rattle.reply_laws.specs.SampleExchanges.{changed_reply, changing, changing_entry, deleted_reply, deleting, deleting_entry, first_entry, tells, three_writes, account_of}
 use Rattle.bson_model.specs.Tree.{Fields}
 use Rattle.reply_model.specs.Cursors.{Cursor}
 use Rattle.reply_model.specs.Right.{IsRight}
@@ -66,10 +66,10 @@ numbered = (
   ((record { apart = λ shard e. two_three (sym e); rises = λ shard e. refl }, tt), (tt, tt)),
 )
 
-update_says : (document : Fields) (next : List Cursor) → IsRight created three_writes [] [] [] changing (tells changing 5 3 document) next
+update_says : (document : Fields) (next : List Cursor) → IsRight (account_of three_writes [] []) [] changing (tells changing 5 3 document) next
     → document ≡ changed_reply 1 1
 update_says document next right =
-    (own_says three_writes [] (tells changing 5 3 document) changes refl numbered (refl, (refl, (refl, tt))) [] changing next refl refl right).1
+    (own_says three_writes [] (tells changing 5 3 document) changes refl [] numbered (refl, (refl, (refl, tt))) changing next refl refl right).1
 
 pub returns-clause-not_changed : goal.returns-clause-not_changed
 returns-clause-not_changed c next right = let e = update_says (changed_reply 1 0) next right in cc
@@ -80,5 +80,5 @@ returns-clause-not_met c next right = let e = update_says (changed_reply 0 0) ne
 pub returns-clause-not_deleted : goal.returns-clause-not_deleted
 returns-clause-not_deleted c next right =
     let e : deleted_reply 0 4 ≡ deleted_reply 1 4 =
-    (own_says three_writes [] (tells deleting 7 4 (deleted_reply 0 4)) deletes refl numbered (refl, (refl, (refl, tt))) [] deleting next refl refl right).1 in
+    (own_says three_writes [] (tells deleting 7 4 (deleted_reply 0 4)) deletes refl [] numbered (refl, (refl, (refl, tt))) deleting next refl refl right).1 in
     cc

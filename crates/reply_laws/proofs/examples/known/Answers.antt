@@ -4,9 +4,10 @@ use Rattle.base_model.specs.Times.{timestamp, time_of_moment}
 use Rattle.chunk_model.specs.Changes.{Change, time_of}
 use Rattle.history_model.specs.History.{Entry}
 use Rattle.history_model.proofs.Lists.{all_at, in_first}
-use Rattle.reply_model.specs.OneHistory.{Given, WasMet}
-use Rattle.reply_laws.specs.SampleExchanges.{both_entries, first_entry, moments, second_entry, created}
+use Rattle.reply_model.specs.OneHistory.{WasMet}
+use Rattle.reply_laws.specs.SampleExchanges.{both_entries, first_entry, moments, second_entry, created, account_of}
 use Rattle.reply_laws.proofs.examples.known.Goals as goal
+use Rattle.reply_model.specs.Accounts.{Given}
 
 pub returns-clause-right : goal.returns-clause-right
 returns-clause-right c = record {
@@ -16,7 +17,7 @@ returns-clause-right c = record {
 }
 
 -- no moment, collection or entry is of this time
-never_met : WasMet moments created both_entries (timestamp 1000 7) → ⊥
+never_met : WasMet (account_of both_entries [] []) (timestamp 1000 7) → ⊥
 never_met (inl zero) = omega (arith, zero)
 never_met (inr (inl (g, i, same))) = all_at (λ (g : Given). timestamp 1000 7 ≡ time_of_moment g.moment → ⊥) g moments
     ((λ e. omega (arith, e)), ((λ e. omega (arith, e)), tt)) i same

@@ -12,10 +12,11 @@ use Rattle.history_model.specs.History.{Legal, IsIn, insert_operation, Statement
 use Rattle.history_model.proofs.Lists.{all_at, in_first, in_later, in_none}
 use Rattle.base_model.specs.Identities.{RequestId}
 use Rattle.reply_model.specs.Exchanges.{Asked, Answered}
-use Rattle.reply_model.specs.OneHistory.{AreDifferent, Given, WasMet, WasSent, WasWanted, IsRightOf, AreRight, nothing_told, then_told, IsKnown, IsPlaced, IsCaused, changes_by}
+use Rattle.reply_model.specs.Accounts.{Given}
+use Rattle.reply_model.specs.OneHistory.{AreDifferent, WasMet, WasSent, WasWanted, IsRightOf, AreRight, nothing_told, then_told, IsKnown, IsPlaced, IsCaused, changes_by}
 use Rattle.reply_model.specs.Right.{IsPart, IsRight, Sends}
 use Rattle.reply_model.specs.Reads.{own_time}
-use Rattle.reply_laws.specs.SampleExchanges.{find_of, all_told, all_asked, both_entries, first, first_entry, first_told, id_at, moments, second, second_entry, second_told, tells, third, third_told, created, created_dated}
+use Rattle.reply_laws.specs.SampleExchanges.{find_of, all_told, all_asked, both_entries, first, first_entry, first_told, id_at, second, second_entry, second_told, tells, third, third_told, created, created_dated, account_of}
 use Rattle.reply_laws.proofs.CausedReplies.{by_find, by_write, caused_by, made_by}
 use Rattle.reply_laws.proofs.OwnWrites.{none_before, own_right, same_write}
 use Rattle.reply_facts.proofs.Requests.{number_same}
@@ -58,7 +59,7 @@ first_sends = record {
   };
 }
 
-first_sent : WasSent both_entries all_asked all_told first_entry
+first_sent : WasSent (account_of both_entries all_asked all_told) first_entry
 first_sent = record {
   request = first;
   taken = in_first first (second ∷ third ∷ []);
@@ -91,7 +92,7 @@ second_sends = record {
   };
 }
 
-second_sent : WasSent both_entries all_asked all_told second_entry
+second_sent : WasSent (account_of both_entries all_asked all_told) second_entry
 second_sent = record {
   request = second;
   taken = second_taken;
@@ -137,59 +138,59 @@ wanted = record {
 }
 
 right_of : (a : Asked) (step counter : ℕ) (document : Fields) → IsIn a all_asked → a.came ≤ step → a.time ≤ timestamp 1000 counter
-    → WasMet moments created both_entries (timestamp 1000 counter)
-    → IsRight created both_entries all_asked all_told [] a (tells a step counter document) []
-    → IsRightOf moments created both_entries all_asked all_told [] (tells a step counter document) []
+    → WasMet (account_of both_entries all_asked all_told) (timestamp 1000 counter)
+    → IsRight (account_of both_entries all_asked all_told) [] a (tells a step counter document) []
+    → IsRightOf (account_of both_entries all_asked all_told) [] (tells a step counter document) []
 right_of a step counter document there came risen met right =
     record { request = a; taken = there; own = refl; link = refl; number = refl; same = refl; came = came; risen = risen; met = met; right = right }
 
-met_first : WasMet moments created both_entries (timestamp 1000 2)
+met_first : WasMet (account_of both_entries all_asked all_told) (timestamp 1000 2)
 met_first = inr (inr (inr (first_entry, in_first first_entry (second_entry ∷ []), refl)))
 
-met_second : WasMet moments created both_entries (timestamp 1000 3)
+met_second : WasMet (account_of both_entries all_asked all_told) (timestamp 1000 3)
 met_second = inr (inr (inr (second_entry, in_later second_entry first_entry (second_entry ∷ []) (in_first second_entry []), refl)))
 
-first_right : IsRightOf moments created both_entries all_asked all_told [] first_told []
+first_right : IsRightOf (account_of both_entries all_asked all_told) [] first_told []
 first_right =
     right_of first 3 2 done_reply (in_first first (second ∷ third ∷ [])) (omega arith) (omega arith) met_first
     (own_right both_entries all_asked first_told inserts_five refl all_told first refl refl (record { part = first_part; all = refl }) (omega arith, tt) refl
     (omega arith) refl)
 
-second_right : IsRightOf moments created both_entries all_asked all_told [] second_told []
+second_right : IsRightOf (account_of both_entries all_asked all_told) [] second_told []
 second_right =
     right_of second 5 3 duplicate_reply second_taken (omega arith) (omega arith) met_second
     (own_right both_entries all_asked second_told inserts_long_five refl all_told second refl refl (record { part = second_part; all = refl })
     (omega arith, tt) refl (omega arith) refl)
 
-third_right : IsRightOf moments created both_entries all_asked all_told [] third_told []
+third_right : IsRightOf (account_of both_entries all_asked all_told) [] third_told []
 third_right =
     right_of third 7 2 (shown (with_id five ∷ []) 2) third_taken (omega arith) (omega arith) met_first
     (key_find_right_among both_entries all_asked all_told third third_told long_five None (timestamp 1000 2) (with_id five ∷ []) refl (own_time refl tt) refl
     (omega arith) refl refl)
 
-all_right : AreRight moments created both_entries all_asked all_told [] all_told
+all_right : AreRight (account_of both_entries all_asked all_told) [] all_told
 all_right =
     then_told [] [] first_told (second_told ∷ third_told ∷ []) first_right
     (then_told [] [] second_told (third_told ∷ []) second_right (then_told [] [] third_told [] third_right (nothing_told [])))
 
 -- each router had its moment, and router 2 its own entry after that
-first_known : IsKnown moments created both_entries first
+first_known : IsKnown (account_of both_entries all_asked all_told) first
 first_known = record { moment = refl; time = inr (inl (two_moment, in_first two_moment (three_moment ∷ []), refl)); reached = omega arith }
 
-second_known : IsKnown moments created both_entries second
+second_known : IsKnown (account_of both_entries all_asked all_told) second
 second_known = record {
   moment = refl;
   time = inr (inl (three_moment, in_later three_moment two_moment (three_moment ∷ []) (in_first three_moment []), refl));
   reached = omega arith;
 }
 
-third_known : IsKnown moments created both_entries third
+third_known : IsKnown (account_of both_entries all_asked all_told) third
 third_known = record { moment = refl; time = inr (inr (inr (first_entry, in_first first_entry (second_entry ∷ []), refl))); reached = omega arith }
 
 -- the collection was created before all replies
-all_caused : (t : Answered) → changes_by created_dated t ≡ created → creation.at ≤ t.time → IsCaused created_dated all_asked t
+all_caused : (t : Answered) → changes_by created_dated t ≡ created → creation.at ≤ t.time → IsCaused (account_of both_entries all_asked all_told) t
 all_caused t same past =
-    caused_by created_dated all_asked t (
+    caused_by (account_of both_entries all_asked all_told) t (
       by_write created_dated 2 t inserts_five (made_by created_dated t same past),
       (by_write created_dated 4 t inserts_long_five (made_by created_dated t same past), (by_find created_dated 6 t (find_of long_five None), tt)),
     )
@@ -234,6 +235,7 @@ returns-clause-whole c = record {
   );
   wanted = (wanted, tt);
   fitting = (record { later = tt; fits = record { absent = refl; next = refl } }, tt);
+  steps = refl;
   caused = (
     all_caused first_told refl (omega arith),
     (all_caused second_told refl (omega arith), (all_caused third_told refl (omega arith), tt)),
@@ -268,6 +270,7 @@ returns-clause-whole c = record {
     ),
   );
   known = (first_known, (second_known, (third_known, tt)));
+  anew = refl;
 }
 
 -- WHAT IS NONE
@@ -283,18 +286,18 @@ returns-clause-nobody_sent c one =
 
 pub returns-clause-lost : goal.returns-clause-lost
 returns-clause-lost c one =
-    ((told_write moments created_dated [] all_asked all_told one first_told inserts_five
+    ((told_write (account_of [] all_asked all_told) one first_told inserts_five
     (in_first first_told (second_told ∷ third_told ∷ [])) refl).whole refl).all
 
 pub returns-clause-lost_duplicate : goal.returns-clause-lost_duplicate
 returns-clause-lost_duplicate c one =
-    ((told_write moments created_dated (first_entry ∷ []) all_asked all_told one second_told inserts_long_five
+    ((told_write (account_of (first_entry ∷ []) all_asked all_told) one second_told inserts_long_five
     (in_later second_told first_told (second_told ∷ third_told ∷ []) (in_first second_told (third_told ∷ []))) refl).whole refl).all
 
 pub returns-clause-not_asked : goal.returns-clause-not_asked
 returns-clause-not_asked c one =
     let there = in_later third_told first_told (second_told ∷ third_told ∷ []) (in_later third_told second_told (third_told ∷ []) (in_first third_told [])) in
-    let r = told_to moments created_dated both_entries (first ∷ second ∷ []) all_told one third_told there in
+    let r = told_to (account_of both_entries (first ∷ second ∷ []) all_told) one third_told there in
     all_at (λ (a : Asked). a.id ≡ id_at 2 2 → ⊥) r.request (first ∷ second ∷ [])
     ((λ own. another_count (sym own)), ((λ own. another_router 1 2 own), tt)) r.is.taken r.is.own
 

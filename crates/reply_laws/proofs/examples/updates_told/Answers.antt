@@ -4,7 +4,7 @@ use Rattle.std.specs.Prelude.{None, Some, false, true, int_lt}
 use Rattle.command_laws.specs.SampleRequests.{five, six, with_id}
 use Rattle.command_model.specs.Writes.{WriteCommand, delete_kind, update_kind}
 use Rattle.history_model.specs.History.{StatementNumber, Entry, router_session, done, fails_with, delete_operation, update_operation}
-use Rattle.reply_laws.specs.SampleExchanges.{entry_at, first_entry, deleted_reply, set_key, set_nothing, tells, unmet_delete, unmet_entries, upserting, upserting_entries, upserting_reply, created}
+use Rattle.reply_laws.specs.SampleExchanges.{entry_at, first_entry, deleted_reply, set_key, set_nothing, tells, unmet_delete, unmet_entries, upserting, upserting_entries, upserting_reply, account_of}
 use Rattle.base_model.specs.Errors.{immutable_field}
 use Rattle.bson_model.specs.Tree.{Fields}
 use Rattle.reply_model.specs.Cursors.{Cursor}
@@ -78,11 +78,11 @@ numbered = (
   ),
 )
 
-says : (document : Fields) (next : List Cursor) → IsRight created upserting_entries [] [] [] upserting (tells upserting 5 5 document) next
+says : (document : Fields) (next : List Cursor) → IsRight (account_of upserting_entries [] []) [] upserting (tells upserting 5 5 document) next
     → document ≡ upserting_reply 2 0 1
 says document next right =
-    (own_says upserting_entries [] (tells upserting 5 5 document) three_updates refl numbered
-    (refl, (refl, (refl, (refl, tt)))) [] upserting next refl refl right).1
+    (own_says upserting_entries [] (tells upserting 5 5 document) three_updates refl [] numbered
+    (refl, (refl, (refl, (refl, tt)))) upserting next refl refl right).1
 
 pub returns-clause-more_changed : goal.returns-clause-more_changed
 returns-clause-more_changed c next right = let e = says (upserting_reply 2 2 1) next right in cc

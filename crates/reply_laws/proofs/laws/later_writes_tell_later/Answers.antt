@@ -3,5 +3,5 @@ use Rattle.reply_facts.proofs.Freshness.{later_told}
 use Rattle.reply_laws.proofs.laws.later_writes_tell_later.Goals as goal
 
 pub returns : goal.returns
-returns c given dated history asked answered a s t write before now one told w asks none shows shown =
-    later_told given dated history asked answered one a s t write before now told w asks none shows shown
+returns c account a s t write before now one told w asks none shows shown =
+    later_told account one a s t write before now told w asks none shows shown

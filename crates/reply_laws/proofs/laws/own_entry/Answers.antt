@@ -4,8 +4,8 @@ use Rattle.reply_facts.proofs.Requests.{own_entry}
 use Rattle.reply_laws.proofs.laws.own_entry.Goals as goal
 
 pub returns-clause-sent : goal.returns-clause-sent
-returns-clause-sent c given dated history asked answered e one i =
-    let s = sent given dated history asked answered one e i in
+returns-clause-sent c account e one i =
+    let s = sent account one e i in
     (s.request, s.taken, s.sends)
 
 pub returns-clause-alone : goal.returns-clause-alone

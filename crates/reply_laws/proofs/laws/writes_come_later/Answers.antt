@@ -3,4 +3,4 @@ use Rattle.reply_facts.proofs.Freshness.{comes_later}
 use Rattle.reply_laws.proofs.laws.writes_come_later.Goals as goal
 
 pub returns : goal.returns
-returns c given dated history asked answered e one i = comes_later given dated history asked answered one e i
+returns c account e one i = comes_later account one e i

@@ -4,30 +4,28 @@ use Rattle.std.specs.Prelude.{Ok}
 use Rattle.command_model.specs.Reading.{Reading}
 use Rattle.command_model.specs.Command.{count_command}
 use Rattle.command_model.specs.Answers.{answer_document, count_answer}
-use Rattle.chunk_model.specs.Changes.{Change}
 use Rattle.pipeline_model.specs.Runs.{count_documents, listed}
-use Rattle.history_model.specs.History.{Entry}
 use Rattle.reply_model.specs.Exchanges.{Asked, Answered}
+use Rattle.reply_model.specs.Accounts.{Account}
 use Rattle.reply_model.specs.Cursors.{Cursor}
 use Rattle.reply_model.specs.Reads.{IsTimeRead, MayGive}
 use Rattle.reply_model.specs.Right.{IsReadRefused}
 use Rattle.reply_facts.proofs.RightAnswers.{RightBy, right_of}
 use Rattle.reply_facts.proofs.Freshness.{answer_right}
 use Rattle.reply_laws.proofs.read_laws.counts_are_answered.Goals as goal
-use Rattle.reply_model.specs.OneHistory.{changes_in}
 
-tells : (changes : List Change) (history : List Entry) (asked : List Asked) (answered : List Answered) (cursors next : List Cursor) (a : Asked)
+tells : (account : Account) (cursors next : List Cursor) (a : Asked)
     (t : Answered) (reading : Reading)
-    → RightBy changes history asked answered cursors a t (Ok (count_command reading)) next
-    → ((time n : ℕ) × IsTimeRead a t reading time × MayGive history reading time (listed (count_documents (codes "n") n))
+    → RightBy account cursors a t (Ok (count_command reading)) next
+    → ((time n : ℕ) × IsTimeRead a t reading time × MayGive account.history reading time (listed (count_documents (codes "n") n))
     × (t.document ≡ answer_document (count_answer n time)))
-    ⊎ IsReadRefused changes history answered a t reading
-tells changes history asked answered cursors next a t reading (inl (counted, same)) =
+    ⊎ IsReadRefused account a t reading
+tells account cursors next a t reading (inl (counted, same)) =
     inl (counted.time, counted.number, counted.read, counted.gives, counted.says)
-tells changes history asked answered cursors next a t reading (inr refused) = inr refused.0
+tells account cursors next a t reading (inr refused) = inr refused.0
 
 pub returns : goal.returns
-returns c given dated history asked answered a t reading one told asks =
-    let r = answer_right given dated history asked answered one a t told in
-    tells (changes_in dated) history asked answered r.cursors r.next a t reading
-    (right_of (changes_in dated) history asked answered r.cursors a t (Ok (count_command reading)) r.next asks r.right)
+returns c account a t reading one told asks =
+    let r = answer_right account one a t told in
+    tells account r.cursors r.next a t reading
+    (right_of account r.cursors a t (Ok (count_command reading)) r.next asks r.right)

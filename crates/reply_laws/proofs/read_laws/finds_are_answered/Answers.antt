@@ -7,32 +7,30 @@ use Rattle.command_model.specs.Find.{Find}
 use Rattle.command_model.specs.Cursors.{Batch}
 use Rattle.command_model.specs.Command.{find_command}
 use Rattle.command_model.specs.Answers.{answer_document, first_answer}
-use Rattle.chunk_model.specs.Changes.{Change}
 use Rattle.pipeline_model.specs.Batches.{IsBatch}
 use Rattle.pipeline_model.specs.Runs.{listed}
-use Rattle.history_model.specs.History.{Entry}
 use Rattle.reply_model.specs.Exchanges.{Asked, Answered}
+use Rattle.reply_model.specs.Accounts.{Account}
 use Rattle.reply_model.specs.Cursors.{Cursor}
 use Rattle.reply_model.specs.Reads.{IsTimeRead, MayGive}
 use Rattle.reply_model.specs.Right.{IsReadRefused, usual_size}
 use Rattle.reply_facts.proofs.RightAnswers.{RightBy, right_of}
 use Rattle.reply_facts.proofs.Freshness.{answer_right}
 use Rattle.reply_laws.proofs.read_laws.finds_are_answered.Goals as goal
-use Rattle.reply_model.specs.OneHistory.{changes_in}
 
-tells : (changes : List Change) (history : List Entry) (asked : List Asked) (answered : List Answered) (cursors next : List Cursor) (a : Asked)
+tells : (account : Account) (cursors next : List Cursor) (a : Asked)
     (t : Answered) (find : Find)
-    → RightBy changes history asked answered cursors a t (Ok (find_command find)) next
-    → ((documents : List Fields) × (batch : Batch) × IsTimeRead a t find.reading batch.time × MayGive history find.reading batch.time (listed documents)
+    → RightBy account cursors a t (Ok (find_command find)) next
+    → ((documents : List Fields) × (batch : Batch) × IsTimeRead a t find.reading batch.time × MayGive account.history find.reading batch.time (listed documents)
     × IsBatch (Some (unwrap_or find.batches.size usual_size)) documents batch.documents × (batch.namespace ≡ find.reading.namespace)
     × (t.document ≡ answer_document (first_answer batch)))
-    ⊎ IsReadRefused changes history answered a t find.reading
-tells changes history asked answered cursors next a t find (inl first) =
+    ⊎ IsReadRefused account a t find.reading
+tells account cursors next a t find (inl first) =
     inl (first.documents, first.batch, first.time, first.gives, first.shows.batch_of, first.name, first.says)
-tells changes history asked answered cursors next a t find (inr refused) = inr refused.0
+tells account cursors next a t find (inr refused) = inr refused.0
 
 pub returns : goal.returns
-returns c given dated history asked answered a t find one told asks =
-    let r = answer_right given dated history asked answered one a t told in
-    tells (changes_in dated) history asked answered r.cursors r.next a t find
-    (right_of (changes_in dated) history asked answered r.cursors a t (Ok (find_command find)) r.next asks r.right)
+returns c account a t find one told asks =
+    let r = answer_right account one a t told in
+    tells account r.cursors r.next a t find
+    (right_of account r.cursors a t (Ok (find_command find)) r.next asks r.right)

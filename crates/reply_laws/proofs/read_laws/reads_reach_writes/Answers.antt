@@ -3,5 +3,5 @@ use Rattle.reply_facts.proofs.Freshness.{reaches}
 use Rattle.reply_laws.proofs.read_laws.reads_reach_writes.Goals as goal
 
 pub returns : goal.returns
-returns c given dated history asked answered a s t write dones d before time outcome reading one told w says i is asks none shown =
-    reaches given dated history asked answered one a s t write dones d before time outcome reading told w says i is asks none shown
+returns c account a s t write dones d before time outcome reading one told w says i is asks none shown =
+    reaches account one a s t write dones d before time outcome reading told w says i is asks none shown

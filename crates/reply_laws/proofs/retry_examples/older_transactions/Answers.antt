@@ -11,10 +11,11 @@ use Rattle.history_model.specs.History.{Entry, Operation, StatementNumber, done,
 use Rattle.history_model.proofs.Lists.{all_at, in_first}
 use Rattle.base_model.specs.Identities.{RequestId}
 use Rattle.reply_model.specs.Exchanges.{Asked, number_for}
+use Rattle.reply_model.specs.Accounts.{Given}
 use Rattle.reply_model.specs.Outcomes.{is_older}
-use Rattle.reply_model.specs.OneHistory.{Given, WasMet}
+use Rattle.reply_model.specs.OneHistory.{WasMet}
 use Rattle.reply_model.specs.Right.{HadSent, MayBeTold, Sends, told_older}
-use Rattle.reply_laws.specs.SampleExchanges.{moments, tells, created}
+use Rattle.reply_laws.specs.SampleExchanges.{moments, tells, created, account_of}
 use Rattle.reply_laws.specs.SampleRetries.{eights, entry_under, errors_reply, inserts_under, late_two, newer, newer_entry, number_in, older_error, six_as, two_documents, zero_sent}
 use Rattle.reply_laws.proofs.NumberedWrites.{Gives, gives_elsewhere, gives_older, told_just, untold}
 use Rattle.reply_laws.proofs.OwnWrites.{same_write}
@@ -39,7 +40,8 @@ newer_sent = record {
 }
 
 may : (ordered : Bool) (index : ℕ) (operation : Operation) (document : Fields)
-    → MayBeTold (newer_entry ∷ []) (newer ∷ late_two ordered ∷ []) (tells (late_two ordered) 5 4 document) (Some four) (number_in sevens (pos 4) index)
+    → MayBeTold (account_of (newer_entry ∷ []) (newer ∷ late_two ordered ∷ []) []) (tells (late_two ordered) 5 4 document) (Some four)
+    (number_in sevens (pos 4) index)
     (codes "d.c") operation (is_older (pos 5))
 may ordered index operation document =
     told_older newer_entry four (in_first newer_entry []) refl refl refl (omega arith)
@@ -161,7 +163,7 @@ returns-clause-foretold c =
     ))
 
 -- no moment, collection or entry is of this time
-never_met : WasMet moments created (newer_entry ∷ []) (timestamp 2000 0) → ⊥
+never_met : WasMet (account_of (newer_entry ∷ []) [] []) (timestamp 2000 0) → ⊥
 never_met (inl zero) = omega (arith, zero)
 never_met (inr (inl (g, i, same))) =
     all_at (λ (g : Given). timestamp 2000 0 ≡ time_of_moment g.moment → ⊥) g moments ((λ e. omega (arith, e)), ((λ e. omega (arith, e)), tt)) i same

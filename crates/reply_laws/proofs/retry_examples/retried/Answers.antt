@@ -12,10 +12,11 @@ use Rattle.history_model.specs.History.{IsIn, insert_operation}
 use Rattle.history_model.proofs.Lists.{in_first, in_later}
 use Rattle.base_model.specs.Identities.{RequestId}
 use Rattle.reply_model.specs.Exchanges.{Asked, Answered}
+use Rattle.reply_model.specs.Accounts.{Given}
 use Rattle.reply_model.specs.Outcomes.{answer_by}
-use Rattle.reply_model.specs.OneHistory.{AreDifferent, Given, IsCaused, IsKnown, changes_by, IsRightOf, StandsInPart, nothing_told, then_told}
+use Rattle.reply_model.specs.OneHistory.{AreDifferent, IsCaused, IsKnown, changes_by, IsRightOf, StandsInPart, nothing_told, then_told}
 use Rattle.reply_model.specs.Right.{IsRight, Sends, right_write, told_own}
-use Rattle.reply_laws.specs.SampleExchanges.{id_at, moments, tells, created, created_dated}
+use Rattle.reply_laws.specs.SampleExchanges.{id_at, tells, created, created_dated, account_of}
 use Rattle.reply_laws.specs.SampleRetries.{answer_again, both_answers, both_sent, first_answer, inserts_under, put_five, sent_again, sent_first}
 use Rattle.reply_laws.proofs.NumberedWrites.{gives_itself, gives_later, told_just, untold}
 use Rattle.reply_laws.proofs.CausedReplies.{by_write, caused_by, made_by}
@@ -53,13 +54,13 @@ again_taken : IsOfBoth sent_again
 again_taken = in_later sent_again sent_first (sent_again ∷ []) (in_first sent_again [])
 
 both_right : (a : Asked) (step : ℕ) → command_of a.request ≡ Ok (write_command inserts)
-    → IsRight created (put_five ∷ []) both_sent both_answers [] a (tells a step 2 done_reply) []
+    → IsRight (account_of (put_five ∷ []) both_sent both_answers) [] a (tells a step 2 done_reply) []
 both_right a step asks =
     right_write inserts (record { index = 0; answer = answer_by put_five } ∷ []) creation asks
     (refl, told_own put_five (in_first put_five []) (record { same_number = refl; name = refl; does = refl }) (omega arith), refl)
     (λ none. absurd (cc)) (in_first (create_change creation) []) refl (omega arith) refl
 
-first_right : IsRightOf moments created (put_five ∷ []) both_sent both_answers [] first_answer []
+first_right : IsRightOf (account_of (put_five ∷ []) both_sent both_answers) [] first_answer []
 first_right = record {
   request = sent_first;
   taken = first_taken;
@@ -73,7 +74,7 @@ first_right = record {
   right = both_right sent_first 3 refl;
 }
 
-again_right : IsRightOf moments created (put_five ∷ []) both_sent both_answers [] answer_again []
+again_right : IsRightOf (account_of (put_five ∷ []) both_sent both_answers) [] answer_again []
 again_right = record {
   request = sent_again;
   taken = again_taken;
@@ -99,10 +100,10 @@ two_moment = record { node = 2; moment = 1000000; step = 0 }
 abbrev three_moment : Given
 three_moment = record { node = 3; moment = 1000000; step = 1 }
 
-first_known : IsKnown moments created (put_five ∷ []) sent_first
+first_known : IsKnown (account_of (put_five ∷ []) both_sent both_answers) sent_first
 first_known = record { moment = refl; time = inr (inl (two_moment, in_first two_moment (three_moment ∷ []), refl)); reached = omega arith }
 
-again_known : IsKnown moments created (put_five ∷ []) sent_again
+again_known : IsKnown (account_of (put_five ∷ []) both_sent both_answers) sent_again
 again_known = record {
   moment = refl;
   time = inr (inl (three_moment, in_later three_moment two_moment (three_moment ∷ []) (in_first three_moment []), refl));
@@ -110,9 +111,9 @@ again_known = record {
 }
 
 -- the collection was created before both replies
-both_caused : (t : Answered) → changes_by created_dated t ≡ created → creation.at ≤ t.time → IsCaused created_dated both_sent t
+both_caused : (t : Answered) → changes_by created_dated t ≡ created → creation.at ≤ t.time → IsCaused (account_of (put_five ∷ []) both_sent both_answers) t
 both_caused t same past =
-    caused_by created_dated both_sent t (
+    caused_by (account_of (put_five ∷ []) both_sent both_answers) t (
       by_write created_dated sent_first.came t inserts (made_by created_dated t same past),
       (by_write created_dated sent_again.came t inserts (made_by created_dated t same past), tt),
     )
@@ -142,6 +143,7 @@ returns-clause-whole c = record {
   parts = (no_part sent_first refl, (no_part sent_again refl, tt));
   wanted = (record { request = sent_first; taken = first_taken; asks = inl (record { write = inserts; asks = refl; name = refl }); later = omega arith }, tt);
   fitting = (record { later = tt; fits = record { absent = refl; next = refl } }, tt);
+  steps = refl;
   caused = (both_caused first_answer refl (omega arith), (both_caused answer_again refl (omega arith), tt));
   right = then_told [] [] first_answer (answer_again ∷ []) first_right (then_told [] [] answer_again [] again_right (nothing_told []));
   one = different;
@@ -158,6 +160,7 @@ returns-clause-whole c = record {
     (((λ router life before. omega arith), ((λ router life before. omega arith), tt)), tt),
   );
   known = (first_known, (again_known, tt));
+  anew = refl;
 }
 
 pub returns-clause-same : goal.returns-clause-same

@@ -13,7 +13,7 @@ use Rattle.reply_model.specs.Outcomes.{Done, answer_by, answer_of}
 use Rattle.reply_model.specs.OneHistory.{EndsBefore}
 use Rattle.reply_model.specs.Reads.{IsAhead}
 use Rattle.reply_model.specs.Right.{AreTold, Sends, find_reads, told_own}
-use Rattle.reply_laws.specs.SampleExchanges.{find_of, first_entry, created}
+use Rattle.reply_laws.specs.SampleExchanges.{find_of, first_entry, account_of}
 use Rattle.reply_laws.specs.SampleRetries.{ended, failed, finding_two, first_answer, inserts_under, put_five, second_done, sent_first, told_ahead, two_documents, two_sent, unordered_later}
 use Rattle.reply_laws.proofs.OwnWrites.{same_write}
 use Rattle.reply_facts.proofs.ReadTimes.{is_ahead}
@@ -21,8 +21,9 @@ use Rattle.reply_laws.proofs.retry_examples.told_before.Goals as goal
 
 pub returns-clause-ahead : goal.returns-clause-ahead
 returns-clause-ahead c next right =
-    let ahead : IsAhead (put_five ∷ []) (first_answer ∷ []) finding_two told_ahead (find_of five (Some (timestamp 1000 2))).reading =
-    is_ahead created (put_five ∷ []) (sent_first ∷ finding_two ∷ []) (first_answer ∷ []) [] finding_two told_ahead next
+    let ahead : IsAhead (account_of (put_five ∷ []) (sent_first ∷ finding_two ∷ []) (first_answer ∷ [])) finding_two told_ahead
+    (find_of five (Some (timestamp 1000 2))).reading =
+    is_ahead (account_of (put_five ∷ []) (sent_first ∷ finding_two ∷ []) (first_answer ∷ [])) [] finding_two told_ahead next
     (find_of five (Some (timestamp 1000 2))).reading (timestamp 1000 0) (find_reads (find_of five (Some (timestamp 1000 2)))) right refl in
     let same : timestamp 1000 2 ≡ ahead.wanted = wanted ahead.wanted ahead.wants in
     omega (
@@ -53,7 +54,7 @@ two = inserts_under (pos 4) two_documents true
 abbrev one_done : List Done
 one_done = record { index = 0; answer = answer_by failed } ∷ []
 
-told_one : AreTold entries sent ended two 0 two.operations one_done
+told_one : AreTold (account_of entries sent (ended ∷ [])) ended two 0 two.operations one_done
 told_one = (
   refl,
   told_own failed (in_later failed first_entry (failed ∷ early ∷ []) (in_first failed (early ∷ []))) (record { same_number = refl; name = refl; does = refl })
@@ -64,7 +65,8 @@ told_one = (
 -- an entry may be made for it after all its outcomes
 abbrev GoesOn : (a : Asked) → Sends a early → Type 0
 GoesOn a sends =
-    (t : Answered) (dones : List Done) → IsIn t (ended ∷ []) → t.id ≡ a.id → AreTold entries sent t sends.write 0 sends.write.operations dones
+    (t : Answered) (dones : List Done) → IsIn t (ended ∷ []) → t.id ≡ a.id
+    → AreTold (account_of entries sent (ended ∷ [])) t sends.write 0 sends.write.operations dones
     → t.document ≡ answer_document (answer_of sends.write.kind t.time dones) → ¬ EndsBefore sends.index sends.write dones
 
 index_of : (given : Option ClientNumber) (id : RequestId) (index : ℕ) → (number_for given id index).index ≡ index
@@ -77,7 +79,7 @@ not_first sends goes_on =
     let at : 1 ≡ sends.index = ap (λ (n : StatementNumber). n.index) sends.entry.statement.same_number
     ∙ index_of sends.write.number (two_sent 2 2 4 true).id sends.index in
     goes_on ended one_done (in_first ended []) refl
-    (subst (λ (w : WriteCommand). AreTold entries sent ended w 0 w.operations one_done) same told_one)
+    (subst (λ (w : WriteCommand). AreTold (account_of entries sent (ended ∷ [])) ended w 0 w.operations one_done) same told_one)
     (subst (λ (w : WriteCommand). ended.document ≡ answer_document (answer_of w.kind ended.time one_done)) same refl)
     (subst (λ (w : WriteCommand). EndsBefore sends.index w one_done) same (inl (omega (arith, at), refl, tt)))
 

@@ -21,7 +21,7 @@ use Rattle.reply_facts.proofs.RightAnswers.{RightBy, right_of}
 use Rattle.reply_laws.proofs.TimedReads.{own_is, find_right, told_first}
 use Rattle.reply_laws.proofs.SumReads.{two_orders, joined_of, joined_is}
 use Rattle.reply_laws.proofs.sum_examples.small_sums.Goals as goal
-use Rattle.reply_laws.specs.SampleExchanges.{created}
+use Rattle.reply_laws.specs.SampleExchanges.{account_of}
 
 abbrev stages : List Stage
 stages = group_stage sum_spec ∷ []
@@ -87,7 +87,7 @@ never : (rows : List PartialRow) → documents_of sum_spec rows ≡ Some (of_sum
 never rows is (inl some) = let e : overflowed ≡ listed some.0 = opened some.2 in cc
 never rows is (inr none) = let e : Some (of_sum two).documents ≡ None = sym is ∙ none.0 in cc
 
-not_refused : IsReadRefused created (both_valued one one) [] summing told_overflow reading → ⊥
+not_refused : IsReadRefused (account_of (both_valued one one) [] []) summing told_overflow reading → ⊥
 not_refused (refused_overflow time read gives told) =
     let when : time ≡ timestamp 1000 4 = own_is summing told_overflow stages time read in
     let same = subst (λ n. MayGive (both_valued one one) reading n overflowed) when gives in
@@ -96,10 +96,10 @@ not_refused (refused_overflow time read gives told) =
 not_refused (refused_excess time n read excess told) = let e = told in cc
 not_refused (refused_ahead ahead told) = let e = told in cc
 
-by_told : (next : List Cursor) → RightBy created (both_valued one one) [] [] [] summing told_overflow (Ok (find_command (find_in reading))) next → ⊥
+by_told : (next : List Cursor) → RightBy (account_of (both_valued one one) [] []) [] summing told_overflow (Ok (find_command (find_in reading))) next → ⊥
 by_told next (inl told) = let e = told.says in cc
 by_told next (inr refused) = not_refused refused.0
 
 pub returns-clause-never_refused : goal.returns-clause-never_refused
 returns-clause-never_refused c next right =
-    by_told next (right_of created (both_valued one one) [] [] [] summing told_overflow (Ok (find_command (find_in reading))) next refl right)
+    by_told next (right_of (account_of (both_valued one one) [] []) [] summing told_overflow (Ok (find_command (find_in reading))) next refl right)
