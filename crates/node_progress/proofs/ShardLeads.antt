@@ -12,7 +12,7 @@ use Rattle.reply_model.specs.Outcomes.{Done}
 use Rattle.node_model.specs.Letters.{Statement, half_overflow, half_excess, Body, table_ask, table_told, split_ask, split_done, write_ask, write_done, read_ask, half_ask, read_rows, stale, time_ask, time_told, Letter, letter_input, Effect}
 use Rattle.node_model.specs.States.{Shard, Router, Open}
 use Rattle.node_model.specs.Service.{seen_before, Serves, serves_again, serves_new, ends_again, ends_new, Repeats, repeats, ends_repeat, documents_at}
-use Rattle.node_model.specs.ShardRows.{Ask, is_parked, ask_in, wants_table, tries, says, heard, AsksNothing, IsNoNews, is_news, asks_table as asks_for_table, ShardRow, shard_write, shard_repeat, shard_empty, shard_park, shard_waits, shard_stale, shard_read, shard_rows, shard_excess, shard_overflow, shard_time, shard_learn, shard_known, shard_skip}
+use Rattle.node_model.specs.ShardRows.{Ask, is_parked, ask_in, wants_table, tries, says, heard, AsksNothing, IsNoNews, is_news, asks_table as asks_for_table, ShardRow, shard_write, shard_repeat, shard_empty, shard_park, shard_waits, shard_stale, shard_read, shard_read_above, shard_rows, shard_excess, shard_overflow, shard_time, shard_learn, shard_known, shard_skip}
 use Rattle.node_laws.proofs.SeenStatements.{IsFound, found_entry, found_older, seen_found}
 use Rattle.node_progress.proofs.Leads.{IsNext, HasSent, IsAskOf, HasTable, LeadsBody, Fetches, Leads, Parks, Passes}
 
@@ -249,7 +249,20 @@ unparked r q _ _ _ _ place me own parks one leads (shard_waits s m a is not_seen
 unparked r q _ _ _ _ place me own parks one leads (shard_stale s m a met is not_seen old) =
     let p = ask_parts r q m.receiver m.sender m.body a is leads in
     absurd (not_stale s q a.namespace a.sent met p.name old (is_served r q s a.namespace a.sent me one p.name p.has))
-unparked r q _ _ _ _ place me own parks one leads (shard_read s m id turn namespace at half sent is verdict) =
+unparked r q _ _ _ _ place me own parks one leads (shard_read s m id turn namespace at half sent is verdict covered) =
+    let l = subst (λ b. LeadsBody r q m.receiver m.sender b) is leads in
+    record {
+      parked = [];
+      parks = (parks.0, inl refl);
+      passes = record {
+        letter = says s s.me (heard s m) (half_ask id turn namespace at half (documents_at s.entries namespace at half));
+        mail = refl;
+        taken = refl;
+        replies = refl;
+        leads = (me, l.1.0, l.1.2, l.1.3);
+      };
+    }
+unparked r q _ _ _ _ place me own parks one leads (shard_read_above s m id turn namespace at half sent is verdict above) =
     let l = subst (λ b. LeadsBody r q m.receiver m.sender b) is leads in
     record {
       parked = [];
@@ -353,7 +366,9 @@ parked_one r q p _ _ _ _ place me parks ask leads (shard_park s m a is not_seen 
     absurd (fetch_no_ask q m.receiver m.sender m.body a is leads)
 parked_one r q p _ _ _ _ place me parks ask leads (shard_waits s m a is not_seen old waits) = absurd (fetch_no_ask q m.receiver m.sender m.body a is leads)
 parked_one r q p _ _ _ _ place me parks ask leads (shard_stale s m a met is not_seen old) = absurd (fetch_no_ask q m.receiver m.sender m.body a is leads)
-parked_one r q p _ _ _ _ place me parks ask leads (shard_read s m id turn namespace at half sent is verdict) =
+parked_one r q p _ _ _ _ place me parks ask leads (shard_read s m id turn namespace at half sent is verdict covered) =
+    absurd (subst (λ b. Fetches q m.receiver m.sender b) is leads)
+parked_one r q p _ _ _ _ place me parks ask leads (shard_read_above s m id turn namespace at half sent is verdict above) =
     absurd (subst (λ b. Fetches q m.receiver m.sender b) is leads)
 parked_one r q p _ _ _ _ place me parks ask leads (shard_rows s m id turn namespace at half documents rows is makes few) =
     absurd (subst (λ b. Fetches q m.receiver m.sender b) is leads)
