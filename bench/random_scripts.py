@@ -204,9 +204,13 @@ class Catalogue:
         wanted = {command["own"] for command in commands if command["name"] in ("insert", "update", "delete", "shardCollection")}
         asked_for = [(command["own"], command["middle"]) for command in commands if command["name"] == "split"]
         for record in records(path):
+            at = struct.unpack("<Q", record[-8:])[0]
+            if record[1] == 0x25:
+                last = max(last, at)
+                continue
             length = struct.unpack_from("<I", record, 2)[0]
-            namespace, at = record[6 : 6 + length].decode(), struct.unpack("<Q", record[-8:])[0]
-            want(at > last, "the times of changes do not rise")
+            namespace = record[6 : 6 + length].decode()
+            want(at > last, "the times of changes do not rise, or not above the ceilings before them")
             last = at
             if record[1] == 0x20:
                 want(namespace not in self.made, f"{namespace} is created twice")
@@ -240,11 +244,17 @@ class History:
     """The entries of a shard, which must be legal, and what they leave."""
 
     def __init__(self, path):
-        self.entries = [Entry(record) for record in records(path) if record[:2] == b"\1\2"]
-        self.by_number, self.versions, last = {}, {}, 0
-        for entry in self.entries:
-            want(entry.time > last, "the times of entries do not rise")
-            last = entry.time
+        self.entries, self.by_number, self.versions, last = [], {}, {}, 0
+        for record in records(path):
+            if record[1] not in (2, 3):
+                continue
+            at = struct.unpack_from("<Q", record, 2)[0]
+            want(at > last, "the times of entries and ceilings do not rise")
+            last = at
+            if record[1] == 3:
+                continue
+            entry = Entry(record)
+            self.entries.append(entry)
             number = (entry.session, entry.transaction, entry.index)
             want(number not in self.by_number, f"two entries of one number {number}")
             self.by_number[number] = entry

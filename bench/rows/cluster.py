@@ -100,6 +100,14 @@ def entry_record(at, namespace, number, kind, statement, reply):
     return head + words(kind, statement) + struct.pack("<II", count, modified) + key + struct.pack("<i", code)
 
 
+def ceiling_record(at):
+    return b"\1\3" + struct.pack("<Q", at)
+
+
+def catalogue_ceiling_record(at):
+    return b"\1\x25" + struct.pack("<Q", at)
+
+
 def life_record():
     return b"\1\x30" + struct.pack("<Q", 1)
 
@@ -119,6 +127,7 @@ class Cluster:
     def __init__(self):
         self.time, self.moment, self.requests = 0, 0, 0
         self.collections, self.book, self.cursors, self.told = {}, {}, {}, 0
+        self.covered = 0  # the greatest time of an entry or a ceiling of the shard
         self.journals = [[], [], [life_record()]]
 
     def rise(self, moment):
@@ -230,6 +239,7 @@ class Cluster:
         after, reply = applied(kind, statement, before)
         versions.append((self.time, after))
         self.learn(collection, namespace)
+        self.covered = self.time
         self.journals[1].append(entry_record(self.time, namespace, number, kind, statement, reply))
         return self.time, reply
 
@@ -264,8 +274,11 @@ class Cluster:
 
     def read(self, command, is_silent):
         namespace, at = command["own"], self.time_of(command)
-        if namespace in self.collections and self.collections[namespace]["at"] <= at:
+        if namespace not in self.collections:
+            self.journals[0].append(catalogue_ceiling_record(at))
+        elif self.collections[namespace]["at"] <= at:
             self.learn(self.collections[namespace], namespace)
+            self.cover(at)
         try:
             found = answer(stages_of(command), self.documents_at(namespace, at))
         except Overflow:
@@ -276,6 +289,12 @@ class Cluster:
             count = found[0][0][1] if found else int32(0)
             return [("n", count), ("atClusterTime", time(at))] + done(at)
         return self.first_batch(command, namespace, at, found, is_silent)
+
+    def cover(self, at):
+        """The shard stores the time of a read that is above those of its entries and ceilings."""
+        if at > self.covered:
+            self.covered = at
+            self.journals[1].append(ceiling_record(at))
 
     def first_batch(self, command, namespace, at, found, is_silent):
         asked = command.get("cursor") if command["name"] == "aggregate" else command.get("batchSize")

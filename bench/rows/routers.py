@@ -10,7 +10,7 @@ import tempfile
 
 from bson import fields_of, stamp
 from changing import applied
-from cluster import create_record, entry_record, file_of, life_record, table_record
+from cluster import catalogue_ceiling_record, ceiling_record, create_record, entry_record, file_of, life_record, table_record
 from commands import command_of
 from form import Ask
 from reads import find, first, inserted
@@ -114,8 +114,8 @@ def own_times():
     anew = play.client(1, find("sort: {_id: -1}", first("{_id: 1}", 0, seconds=5)), 3)
     play.play("settle")
     play.gets(anew)
-    entries = [table_record("d.c", at(1)), entry(at(2), inserted(ONE), 1), entry(at(1, 5), inserted("{_id: 2}"), 2)]
-    return play.rows([[create_record("d.c", at(1))], entries] + lives(2))
+    stored = [table_record("d.c", at(1)), entry(at(2), inserted(ONE), 1), ceiling_record(at(0, 5)), entry(at(1, 5), inserted("{_id: 2}"), 2)]
+    return play.rows([[create_record("d.c", at(1))], stored] + lives(2))
 
 
 def moment_asks_again():
@@ -190,7 +190,7 @@ def greatest_moment():
     asked = play.client(0, find("", first("", 0, seconds=2**31)))
     play.play("settle")
     play.gets(asked)
-    return play.rows([[], []] + lives(1))
+    return play.rows([[catalogue_ceiling_record(at(0, 2**31))], []] + lives(1))
 
 
 def one_router():

@@ -8,7 +8,7 @@ use Rattle.chunk_model.specs.Placement.{owner}
 use Rattle.history_model.specs.History.{Operation, Entry, LegalAfter, key_written, document_left}
 use Rattle.journal_frames.specs.Files.{Stands}
 use Rattle.journal_frames.proofs.Unique as unique
-use Rattle.node_model.specs.Journal.{Kept, kept_table, kept_entry, kept_change, kept_life, kept_block, record_kept, entries_kept, changes_onto, changes_kept}
+use Rattle.node_model.specs.Journal.{Kept, kept_table, kept_entry, kept_change, kept_ceiling, kept_none, kept_life, kept_block, record_kept, entries_kept, changes_onto, changes_kept}
 use Rattle.node_model.specs.OneHistory.{IsPlaced}
 use Rattle.node_model.specs.World.{Held, journal_at, history_of}
 use Rattle.node_traits.specs.Effects.{AreSound, spellings}
@@ -58,6 +58,8 @@ begun older (kept_table t ∷ kept) = begun older kept
 begun older (kept_entry e ∷ kept) = begun older kept
 begun older (kept_life n ∷ kept) = begun older kept
 begun older (kept_block n ∷ kept) = begun older kept
+begun older (kept_ceiling n ∷ kept) = begun older kept
+begun older (kept_none n ∷ kept) = begun older kept
 
 -- the entries among records
 abbrev entries_among : List Record → List Record
@@ -74,6 +76,8 @@ written (kept_change (commit_change c) ∷ kept) = written kept
 written (kept_table t ∷ kept) = written kept
 written (kept_life n ∷ kept) = written kept
 written (kept_block n ∷ kept) = written kept
+written (kept_ceiling n ∷ kept) = written kept
+written (kept_none n ∷ kept) = written kept
 
 abbrev words_in : Record → Option EntryWords
 words_in (entry_record w) = Some w

@@ -8,9 +8,11 @@ use Rattle.chunk_model.specs.Requests.{changed, unchanged, no_collection, create
 use Rattle.chunk_model.specs.Tables.{Table}
 use Rattle.cluster_base.specs.declared.identity.NodeId.{NodeId}
 use Rattle.cluster_base.specs.declared.time.Time.{Time}
+use Rattle.node_model.specs.CatalogueRows.{none_at}
 use Rattle.node_model.specs.Journal.{change_record}
 use Rattle.node_model.specs.Letters.{Letter, letter_input, table_told, split_done}
 use Rattle.node_model.specs.States.{Catalogue}
+use Rattle.node_traits.specs.Effects.{AreSound, spellings}
 use Rattle.node_traits.specs.Ids.{id_view}
 use Rattle.protocol_model.specs.Bodies.{at_view, split_ask_view, table_ask_view}
 use Rattle.protocol_model.specs.Messages.{letter_of}
@@ -18,7 +20,7 @@ use Rattle.protocol_model.specs.declared.message.Message.{Message}
 use Rattle.protocol_model.specs.declared.splits.SplitAsk.{SplitAsk}
 use Rattle.protocol_model.specs.declared.tables.TableAsk.{TableAsk}
 use Rattle.record_model.specs.RecordFormat.{spelled, IsSound}
-use Rattle.config_node.proofs.Plans.{Planned, made_planned, told_planned}
+use Rattle.config_node.proofs.Plans.{Planned, made_planned, stored_planned, told_planned}
 use Rattle.config_node.proofs.Rows.{creates, has_bound, has_none, says, splits, tells}
 use Rattle.config_node.specs.declared.plan.StepPlan.{StepPlan}
 
@@ -38,14 +40,15 @@ module _ (n : Catalogue) (m : Letter) (sender : NodeId) (heard : Time) (answer :
         (after ∙ ap (λ t. t + 1) late) answered (sym known))
         timed one sent written sound
 
-    -- the present table, or none, is returned
+    -- the present table, or none, is returned; that there is none at a time is stored
     pub tell_planned : (p : StepPlan) → (ask.create ≡ false) ⊎ IsSome (known_table ask.namespace n.changes) → found ≡ known_table ask.namespace n.changes
         → answer.time ≡ heard → letter_of answer ≡ says n sender.0 heard.0 (table_told ask.namespace ask.create (at_view ask.at) found)
-        → p.time ≡ answer.time → p.change ≡ None → map letter_of p.mail ≡ letter_of answer ∷ [] → p.records.items ≡ [] → Planned n (letter_input m) p
-    tell_planned p may known now said timed none sent unwritten =
-        told_planned n m answer heard now here p
+        → p.time ≡ answer.time → p.change ≡ None → map letter_of p.mail ≡ letter_of answer ∷ [] → p.records.items ≡ spellings (none_at (at_view ask.at) found)
+        → AreSound (none_at (at_view ask.at) found) → Planned n (letter_input m) p
+    tell_planned p may known now said timed none sent written sound =
+        stored_planned n m answer heard now here (none_at (at_view ask.at) found) p
         (tells n m (letter_of answer) sender.0 heard.0 from ask.namespace ask.create (at_view ask.at) found is said may late known)
-        timed none sent unwritten
+        timed none sent written sound
 
   module _ (ask : SplitAsk) (is : m.body ≡ split_ask_view ask) (next : Time) (after : next.0 ≡ heard.0 + 1) where
     -- a chunk is split

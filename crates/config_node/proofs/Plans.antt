@@ -7,11 +7,11 @@ use Rattle.chunk_catalogue.specs.Views.{change_view}
 use Rattle.chunk_catalogue.specs.declared.change.Change.{Change as Made}
 use Rattle.chunk_model.specs.Changes.{Change}
 use Rattle.node_model.specs.CatalogueRows.{CatalogueRow, catalogue_moment, at_later, with_change}
-use Rattle.node_model.specs.Journal.{change_record, kept_change}
+use Rattle.node_model.specs.Journal.{Kept, change_record, kept_change}
 use Rattle.node_model.specs.Letters.{Letter, Input, letter_input, moment_input, nothing, sends, writes}
 use Rattle.node_model.specs.States.{Catalogue, catalogue_state}
 use Rattle.node_model.specs.Steps.{IsFor, catalogue_step, other_step}
-use Rattle.node_traits.specs.Effects.{StepPlanned}
+use Rattle.node_traits.specs.Effects.{AreSound, StepPlanned, spellings}
 use Rattle.cluster_base.specs.declared.time.Time.{Time}
 use Rattle.protocol_model.specs.Messages.{letter_of}
 use Rattle.protocol_model.specs.declared.message.Message.{Message}
@@ -32,6 +32,14 @@ sends_planned : (c : Catalogue) (i : Input) (time : ℕ) (change : Option Change
 sends_planned c i time change mail sent records for row none said unwritten =
     subst (λ x. StepPlanned (catalogue_state c) i mail [] records (at_then c.me time x c.changes)) (sym none)
     (record { effect = sends sent; step = catalogue_step _ _ _ _ for row; sent = sym said; told = refl; sound = tt; spelled = unwritten })
+
+-- a transition that stores these, and changes nothing but the time
+stores_planned : (c : Catalogue) (i : Input) (time : ℕ) (change : Option Change) (kept : List Kept) (mail sent : List Letter) (records : List (List ℕ)) → IsFor c.me i
+    → CatalogueRow c i (writes kept sent) (at_later c time) → change ≡ None → mail ≡ sent → records ≡ spellings kept → AreSound kept
+    → StepPlanned (catalogue_state c) i mail [] records (at_then c.me time change c.changes)
+stores_planned c i time change kept mail sent records for row none said written sound =
+    subst (λ x. StepPlanned (catalogue_state c) i mail [] records (at_then c.me time x c.changes)) (sym none)
+    (record { effect = writes kept sent; step = catalogue_step _ _ _ _ for row; sent = sym said; told = refl; sound = sound; spelled = written })
 
 -- a transition that stores a change
 writes_planned : (c : Catalogue) (i : Input) (x : Change) (time : ℕ) (change : Option Change) (mail sent : List Letter) (records : List (List ℕ)) → IsFor c.me i
@@ -85,6 +93,14 @@ module _ (c : Catalogue) (m : Letter) (answer : Message) (time : Time) (now : an
       sends_planned c (letter_input m) p.time.0 (option_map (λ x. change_view x.fields) p.change) (map letter_of p.mail) (letter_of answer ∷ []) p.records.items here
       (subst (λ t. CatalogueRow c (letter_input m) (sends (letter_of answer ∷ [])) (at_later c t.0)) (sym (late ∙ now)) row)
       (ap (λ o. option_map (λ x. change_view x.fields) o) none) sent unwritten
+
+  pub stored_planned : (kept : List Kept) (p : StepPlan) → CatalogueRow c (letter_input m) (writes kept (letter_of answer ∷ [])) (at_later c time.0)
+      → p.time ≡ answer.time → p.change ≡ None → map letter_of p.mail ≡ letter_of answer ∷ [] → p.records.items ≡ spellings kept → AreSound kept
+      → Planned c (letter_input m) p
+  stored_planned kept p row late none sent written sound =
+      stores_planned c (letter_input m) p.time.0 (option_map (λ x. change_view x.fields) p.change) kept (map letter_of p.mail) (letter_of answer ∷ []) p.records.items here
+      (subst (λ t. CatalogueRow c (letter_input m) (writes kept (letter_of answer ∷ [])) (at_later c t.0)) (sym (late ∙ now)) row)
+      (ap (λ o. option_map (λ x. change_view x.fields) o) none) sent written sound
 
   module _ {E : Type 0} (change : Made) where
     pub made_planned : (r : Result StepPlan E)

@@ -14,7 +14,7 @@ use Rattle.chunk_catalogue.specs.declared.catalogue.Catalogue.{Catalogue as Stor
 use Rattle.chunk_model.specs.Changes.{Change, create_change, split_change, namespace_of, table_after, known_table, creations, can_split}
 use Rattle.chunk_model.specs.Requests.{CatalogueAnswer, changed, unchanged, no_collection, create_answer, split_answer}
 use Rattle.chunk_model.specs.Tables.{Table}
-use Rattle.node_model.specs.CatalogueRows.{CatalogueRow, catalogue_create, catalogue_tell, catalogue_split, catalogue_bound, catalogue_none, heard, at_later, with_change}
+use Rattle.node_model.specs.CatalogueRows.{CatalogueRow, catalogue_create, catalogue_tell, catalogue_split, catalogue_bound, catalogue_none, heard, none_at, at_later, with_change}
 use Rattle.node_model.specs.Journal.{kept_change}
 use Rattle.node_model.specs.Letters.{At, Letter, Body, table_ask, table_told, split_ask, split_done, letter_input, sends, writes}
 use Rattle.node_model.specs.States.{Catalogue, NodeState, catalogue_state, shard_state, router_state, time_of_node}
@@ -149,7 +149,7 @@ module _ (c : Catalogue) (m l : Letter) (sender time : ℕ) (from : sender ≡ m
         rw (said, late, from, create_true, known) (catalogue_create c m namespace at x asked answered)
 
     pub tells : (create ≡ false) ⊎ IsSome (known_table namespace c.changes) → time ≡ heard c m → table ≡ known_table namespace c.changes
-        → CatalogueRow c (letter_input m) (sends (l ∷ [])) (at_later c time)
+        → CatalogueRow c (letter_input m) (writes (none_at at table) (l ∷ [])) (at_later c time)
     tells may late known = rw (said, late, from, known) (catalogue_tell c m namespace create at is may)
 
   module _ (id : RequestId) (namespace : List ℕ) (middle : Datum) (found : Bool) (is : m.body ≡ split_ask id namespace middle)

@@ -21,7 +21,7 @@ ghost use Rattle.config_node.specs.StepPlans.{IsPlanned, IsReady};
 ghost use Rattle.config_node.specs.State.{state_of};
 
 use crate::keys::is_writable;
-use crate::plan::{StepPlan, split_answer, table_answer};
+use crate::plan::{StepPlan, none_records, split_answer, table_answer};
 use crate::state::ConfigNode;
 use bson_values::Memory;
 use chunk_catalogue::{CatFault, Catalogue, Change};
@@ -128,7 +128,7 @@ impl ConfigNode {
     }
 
     // Returns the plan for a request of a table, at the time that the message carries: the collection is created where that is requested and there is none of
-    // its name; else the present table, or none, is returned.
+    // its name; else the present table, or none, is returned, and that there is none at a time is stored.
     fn plan_table(&mut self, heard: Time, sender: NodeId, ask: TableAsk) -> Result<StepPlan, Memory>
         requires early { heard.0 < last_time }
         requires late { self.old.time.0 ≤ heard.0 }
@@ -148,8 +148,9 @@ impl ConfigNode {
             }
             None => {
                 let table = self.known(&ask.namespace)?;
+                let records = none_records(self.alloc, ask.at, &table)?;
                 let answer = table_answer(me, heard, sender, ask, table);
-                Ok(StepPlan::tell(self.alloc, answer))
+                Ok(StepPlan::store_and_tell(self.alloc, records, answer))
             }
         }
     }

@@ -5,20 +5,25 @@ ghost use Rattle.std.specs.Arc.{arc_value};
 ghost use Rattle.std.specs.Option.{option_map};
 ghost use Rattle.chunk_catalogue.specs.Views.{change_view};
 ghost use Rattle.config_node.specs.Plans.{IsWritableChange};
+ghost use Rattle.node_model.specs.CatalogueRows.{none_at};
 ghost use Rattle.node_model.specs.Journal.{change_record};
 ghost use Rattle.node_model.specs.Letters.{split_done, table_told};
+ghost use Rattle.node_traits.specs.Effects.{AreSound, spellings};
 ghost use Rattle.node_traits.specs.Ids.{id_view};
 ghost use Rattle.protocol_model.specs.Bodies.{at_view};
 ghost use Rattle.protocol_model.specs.Messages.{letter_of};
 ghost use Rattle.record_model.specs.RecordFormat.{spelled, IsSound};
+ghost use Rattle.record_model.specs.Records.{catalogue_ceiling_record};
 
 use bson_values::{Blob, Memory};
 use chunk_catalogue::{Change, ChangeFields};
 use chunk_table::Table;
 use cluster_base::{NodeId, RequestId, Time};
 use node_traits::MailList;
-use protocol_model::{Body, Message, SplitDone, TableAsk, TableTold};
-use shard_records::{CommitChange, SplitChange, write_commit, write_creation, write_split};
+use protocol_model::{At, Body, Message, SplitDone, TableAsk, TableTold};
+use shard_records::{
+    CommitChange, SplitChange, write_catalogue_ceiling, write_commit, write_creation, write_split,
+};
 use std::alloc::Global;
 use std::sync::Arc;
 
@@ -59,6 +64,21 @@ impl StepPlan {
             change: None,
             mail: MailList::of_one(alloc, message),
             records: Vec::new(alloc),
+        }
+    }
+
+    /// Returns the plan to store these records and send a message at its time, without a change. Takes no memory.
+    pub(crate) fn store_and_tell(alloc: Global, records: Vec<Blob>, message: Message) -> StepPlan
+        ensures time { result.time ≡ message.time }
+        ensures change { result.change ≡ None }
+        ensures mail { map letter_of result.mail ≡ letter_of message ∷ [] }
+        ensures records { result.records.items ≡ records.items }
+    {
+        StepPlan {
+            time: message.time,
+            change: None,
+            mail: MailList::of_one(alloc, message),
+            records,
         }
     }
 
@@ -133,6 +153,34 @@ pub(crate) fn split_answer(
         receiver: sender,
         time,
         body: Body::SplitDone(SplitDone { id, found }),
+    }
+}
+
+// Returns the records of a ceiling, or `Memory` if memory runs out.
+fn ceiling_records(alloc: Global, at: Time) -> Result<Vec<Blob>, Memory>
+    ensures records { IfOk result (λ records. records.items ≡ spelled 1 (catalogue_ceiling_record at.0) ∷ []) }
+    ensures sound { OnOk result (IsSound (catalogue_ceiling_record at.0)) }
+{
+    let mut bytes = Vec::new(alloc);
+    write_catalogue_ceiling(at, &mut bytes)?;
+    let mut records = Vec::new(alloc);
+    records.push(Blob::of(alloc, &bytes)?)?;
+    Ok(records)
+}
+
+/// Returns the records of an answer: the time at which there is no table, where one was requested for a time. Returns `Memory` if memory runs out.
+pub(crate) fn none_records(
+    alloc: Global,
+    at: At,
+    table: &Option<Arc<Table, Global>>,
+) -> Result<Vec<Blob>, Memory>
+    ensures records { IfOk result (λ records. records.items ≡ spellings (none_at (at_view at) (option_map (λ t. arc_value t) table.now))) }
+    ensures sound { OnOk result (AreSound (none_at (at_view at) (option_map (λ t. arc_value t) table.now))) }
+{
+    match (at, table) {
+        (At::NoTime, _) => Ok(Vec::new(alloc)),
+        (At::Time(_), Some(_)) => Ok(Vec::new(alloc)),
+        (At::Time(at), None) => ceiling_records(alloc, at),
     }
 }
 

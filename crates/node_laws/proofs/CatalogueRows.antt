@@ -16,12 +16,13 @@ use Rattle.history_model.specs.History.{IsIn}
 use Rattle.reply_model.specs.Exchanges.{Asked, Answered}
 use Rattle.reply_model.specs.OneHistory.{WasWanted, ids_asked, ids_told, AreDifferent}
 use Rattle.reply_model.specs.Cursors.{Cursor}
-use Rattle.node_model.specs.Journal.{Kept, kept_change, changes_kept}
+use Rattle.node_model.specs.Journal.{Kept, kept_change, kept_none, changes_kept, time_kept, greatest_kept}
 use Rattle.node_model.specs.Letters.{At, no_time, at_time, table_ask, split_ask, Letter, Input, letter_input, Effect, sends, writes}
 use Rattle.node_model.specs.States.{Catalogue, catalogue_state}
-use Rattle.node_model.specs.CatalogueRows.{told, split_told, at_later, with_change, CatalogueRow, catalogue_create, catalogue_tell, catalogue_split, catalogue_bound, catalogue_none, catalogue_skip, catalogue_moment, catalogue_opened, catalogue_client}
+use Rattle.node_model.specs.CatalogueRows.{told, split_told, none_at, at_later, with_change, CatalogueRow, catalogue_create, catalogue_tell, catalogue_split, catalogue_bound, catalogue_none, catalogue_skip, catalogue_moment, catalogue_opened, catalogue_client}
 use Rattle.node_model.specs.World.{World}
-use Rattle.node_laws.proofs.Views.{Book, View, view_of, changes_in, MovesNothing, Later}
+use Rattle.node_laws.proofs.Views.{Book, View, view_of, changes_in, MovesNothing, IsAbove, Later}
+use Rattle.node_laws.proofs.GreatestTimes.{greatest_both, within_more}
 use Rattle.node_laws.proofs.CatalogueTables.{IsNoCreation, none_created, table_name, wanted_still}
 use Rattle.node_laws.proofs.CatalogueAnswers.{created_is, splits, has_bound, no_table, split_known}
 use Rattle.node_laws.proofs.SplitTables.{split_bound, begins_already}
@@ -78,22 +79,23 @@ no_creation_after namespace time (split_change s) other = tt
 no_creation_after namespace time (commit_change c) other = tt
 
 -- what the catalogue returns is true
-tell_fits : (v : View) (time early : ℕ) (changes : List Change) (namespace : List ℕ) (at : At) → AreStored v time changes → early ≤ v.bound 0
-    → AtFits at early → TableFits v time namespace at (known_table namespace changes)
-tell_fits v time early changes namespace at s bound fits = by_table (known_table namespace changes) refl
+tell_fits : (v : View) (time early : ℕ) (changes : List Change) (namespace : List ℕ) (at : At) → AreStored v time changes
+    → greatest_kept (none_at at (known_table namespace changes)) ≤ v.bound 0 → AtFits at early → TableFits v time namespace at (known_table namespace changes)
+tell_fits v time early changes namespace at s bound fits = by_table (known_table namespace changes) refl bound
   where
-    none_began : known_table namespace changes ≡ None → (at_is : At) → AtFits at_is early → TableFits v time namespace at_is None
-    none_began e no_time fits = tt
-    none_began e (at_time t) fits = (
-      omega arith,
+    none_began : known_table namespace changes ≡ None → (at_is : At) → greatest_kept (none_at at_is None) ≤ v.bound 0 → AtFits at_is early
+        → TableFits v time namespace at_is None
+    none_began e no_time bound fits = tt
+    none_began e (at_time t) bound fits = (
+      omega (arith, bound),
       subst (λ l. AllByRecursion (BeginsAfter namespace t) l) (sym s.same)
           (all_weaken (IsNoCreation namespace) (BeginsAfter namespace t) changes (λ x h. no_creation_after namespace t x h)
           (none_created namespace changes e)),
     )
 
-    by_table : (o : Option Table) → known_table namespace changes ≡ o → TableFits v time namespace at o
-    by_table None e = none_began e at fits
-    by_table (Some t) e = table_known v time changes namespace t s e
+    by_table : (o : Option Table) → known_table namespace changes ≡ o → greatest_kept (none_at at o) ≤ v.bound 0 → TableFits v time namespace at o
+    by_table None e bound = none_began e at bound fits
+    by_table (Some t) e bound = table_known v time changes namespace t s e
 
 at_fits : (v : View) (asked : List Asked) (sender receiver time : ℕ) (namespace : List ℕ) (create : Bool) (at : At)
     → BodyFits v asked sender receiver time (table_ask namespace create at) → AtFits at time
@@ -144,7 +146,7 @@ stored v asked at time kept c f le own = record {
 quiet : (w : World) (book : Book) (at : ℕ) (kept : List Kept) (c d : Catalogue) (mail : List Letter) → Good w book
     → HeldFits (view_of w.nodes book) w.asked w.answered w.given at (record { state = catalogue_state c; kept = kept }) → c.time ≤ d.time
     → CatalogueFits w.asked at kept d → IsMet (view_of w.nodes book) w.given d.time
-    → ((v : View) → Later (view_of w.nodes book) v → v.journal at ≡ kept → v.bound at ≡ d.time → AllByRecursion (IsSaid v w.asked w.given) mail)
+    → ((v : View) → Later (view_of w.nodes book) v → v.journal at ≡ kept → AllByRecursion (IsSaid v w.asked w.given) mail)
     → Owes w book at (record { state = catalogue_state c; kept = kept }) (sends mail) (catalogue_state d)
 quiet w book at kept c d mail good fits le new met letters = record {
   kind = tt;
@@ -162,8 +164,8 @@ quiet w book at kept c d mail good fits le new met letters = record {
   elsewhere = λ router other. refl;
   owed = λ v later others own time chosen cursors. record {
     node = rw (append-nil w.asked, append-nil w.answered, append-nil kept)
-        (record { state = new; met = met_later (view_of w.nodes book) v w.given d.time later met; cursors = tt });
-    letters = rw (append-nil w.asked) (letters v later (own ∙ append-nil kept) time);
+        (record { state = new; met = met_later (view_of w.nodes book) v w.given d.time later met; cursors = tt; within = (let n = fits.within in omega (arith, n, le)) });
+    letters = rw (append-nil w.asked) (letters v later (own ∙ append-nil kept));
     answers = no_answers v (w.asked ++ []) (w.answered ++ []) book.cursors cursors;
     known = tt;
     met = tt;
@@ -200,12 +202,14 @@ grown asked at now kept c x le f n =
 makes : (w : World) (book : Book) (at : ℕ) (kept : List Kept) (c : Catalogue) (now : ℕ) (x : Change) (mail : List Letter) → Good w book
     → HeldFits (view_of w.nodes book) w.asked w.answered w.given at (record { state = catalogue_state c; kept = kept })
     → c.time < now → IsNext w.asked c now x
-    → ((v : View) → Later (view_of w.nodes book) v → AreStored v now (x ∷ c.changes) → v.bound 0 ≡ now → IsMet v w.given now
+    → ((v : View) → Later (view_of w.nodes book) v → AreStored v now (x ∷ c.changes) → now ≤ v.bound 0 → IsMet v w.given now
     → AllByRecursion (IsSaid v w.asked w.given) mail)
     → Owes w book at (record { state = catalogue_state c; kept = kept }) (writes (kept_change x ∷ []) mail) (catalogue_state (with_change c now x))
 makes w book at kept c now x mail good fits less n letters =
     let own = n.at in
     let next = grown w.asked at now kept c x (omega arith) fits.state n in
+    let within : greatest_kept (kept ++ kept_change x ∷ []) ≤ now =
+    within_more kept (kept_change x ∷ []) c.time now fits.within (omega (arith, less)) (omega (arith, own), tt) in
     record {
       kind = tt;
       rises = ((omega arith, wanted_still w.asked x n.wanted), tt);
@@ -222,10 +226,13 @@ makes w book at kept c now x mail good fits less n letters =
       elsewhere = λ router other. refl;
       owed = λ v later others journal time chosen cursors.
           let s : AreStored v now (x ∷ c.changes) = stored v w.asked at now (kept ++ kept_change x ∷ []) (with_change c now x) next (omega arith) journal in
+          let stores = greatest_both kept (kept_change x ∷ []) in
+          let bound_is : v.bound 0 ≡ greatest_kept (kept ++ kept_change x ∷ []) = ap (λ p. v.bound p) (sym fits.state.place) ∙ time in
+          let bound : now ≤ v.bound 0 = omega (arith, stores, bound_is, own) in
           let met : IsMet v w.given now = inr (inr (inl (x, subst (λ l. IsIn x l) (sym s.same) (in_first x c.changes), sym n.at))) in
           record {
-            node = rw (append-nil w.asked, append-nil w.answered) (record { state = next; met = met; cursors = tt });
-            letters = rw (append-nil w.asked) (letters v later s (ap (λ p. v.bound p) (sym fits.state.place) ∙ time) met);
+            node = rw (append-nil w.asked, append-nil w.answered) (record { state = next; met = met; cursors = tt; within = within });
+            letters = rw (append-nil w.asked) (letters v later s bound met);
             answers = no_answers v (w.asked ++ []) (w.answered ++ []) book.cursors cursors;
             known = tt;
             met = tt;
@@ -235,7 +242,7 @@ makes w book at kept c now x mail good fits less n letters =
 -- its answer to a message, at the time of that or its own
 answers : (w : World) (book : Book) (at : ℕ) (kept : List Kept) (c : Catalogue) (m l : Letter) → Good w book
     → HeldFits (view_of w.nodes book) w.asked w.answered w.given at (record { state = catalogue_state c; kept = kept }) → InputFits w book (letter_input m)
-    → ((v : View) → Later (view_of w.nodes book) v → AreStored v (max c.time m.time) c.changes → v.bound 0 ≡ max c.time m.time
+    → ((v : View) → Later (view_of w.nodes book) v → AreStored v (max c.time m.time) c.changes
     → IsMet v w.given (max c.time m.time)
     → IsSaid v w.asked w.given l)
     → Owes w book at (record { state = catalogue_state c; kept = kept }) (sends (l ∷ [])) (catalogue_state (at_later c (max c.time m.time)))
@@ -243,11 +250,93 @@ answers w book at kept c m l good fits comes letter =
     let met : IsMet (view_of w.nodes book) w.given (max c.time m.time) = met_max (view_of w.nodes book) w.given c.time m.time fits.met comes.1 in
     quiet w book at kept c (at_later c (max c.time m.time)) (l ∷ []) good fits (omega arith)
     (later_catalogue w.asked at (max c.time m.time) kept c (omega arith) fits.state) met
-    (λ v later own time. (
-      letter v later (stored v w.asked at (max c.time m.time) kept c fits.state (omega arith) own) (ap (λ p. v.bound p) (sym fits.state.place) ∙ time)
+    (λ v later own. (
+      letter v later (stored v w.asked at (max c.time m.time) kept c fits.state (omega arith) own)
           (met_later (view_of w.nodes book) v w.given (max c.time m.time) later met),
       tt,
     ))
+
+-- its answer to a request of a table: that there is none at a time is stored
+no_change_told : (kept : List Kept) (at : At) (table : Option Table) → changes_kept (kept ++ none_at at table) ≡ changes_kept kept
+no_change_told kept no_time table = changes_longer kept []
+no_change_told kept (at_time t) None = changes_longer kept (kept_none t ∷ [])
+no_change_told kept (at_time t) (Some table) = changes_longer kept []
+
+told_above : (place time : ℕ) (at : At) (table : Option Table) → AllByRecursion (IsAbove place time) (none_at at table)
+told_above place time no_time table = tt
+told_above place time (at_time t) None = (tt, tt)
+told_above place time (at_time t) (Some table) = tt
+
+told_past : (early late : ℕ) (at : At) (table : Option Table) → early ≤ late → AtFits at early → AllByRecursion (λ k. time_kept k ≤ late) (none_at at table)
+told_past early late no_time table le fits = tt
+told_past early late (at_time t) None le fits = (omega (arith, le, fits), tt)
+told_past early late (at_time t) (Some table) le fits = tt
+
+told_below : (early : ℕ) (at : At) (table : Option Table) → AtFits at early → greatest_kept (none_at at table) ≤ early
+told_below early no_time table fits = omega arith
+told_below early (at_time t) None fits = omega (arith, fits)
+told_below early (at_time t) (Some table) fits = omega arith
+
+-- the same facts where no change is stored
+same_changes : (asked : List Asked) (at : ℕ) (kept more : List Kept) (c : Catalogue) → changes_kept more ≡ changes_kept kept → CatalogueFits asked at kept c
+    → CatalogueFits asked at more c
+same_changes asked at kept more c same f = record {
+  own = f.own;
+  place = f.place;
+  changes = f.changes ∙ sym same;
+  past = subst (λ l. AllByRecursion (λ x. time_of x ≤ c.time) l) (sym same) f.past;
+  fitting = subst (λ l. AreFitting l) (sym same) f.fitting;
+  wanted = subst (λ l. AllByRecursion (WasWanted asked) l) (sym same) f.wanted;
+}
+
+tells_table : (w : World) (book : Book) (at : ℕ) (kept : List Kept) (c : Catalogue) (m : Letter) (namespace : List ℕ) (create : Bool) (asked_at : At)
+    → Good w book
+    → HeldFits (view_of w.nodes book) w.asked w.answered w.given at (record { state = catalogue_state c; kept = kept }) → InputFits w book (letter_input m)
+    → AtFits asked_at m.time
+    → Owes w book at (record { state = catalogue_state c; kept = kept })
+    (writes (none_at asked_at (known_table namespace c.changes))
+    (told c m (max c.time m.time) namespace create asked_at (known_table namespace c.changes) ∷ []))
+    (catalogue_state (at_later c (max c.time m.time)))
+tells_table w book at kept c m namespace create asked_at good fits comes early =
+    let written : List Kept = none_at asked_at (known_table namespace c.changes) in
+    let now : ℕ = max c.time m.time in
+    let met : IsMet (view_of w.nodes book) w.given now = met_max (view_of w.nodes book) w.given c.time m.time fits.met comes.1 in
+    let next : CatalogueFits w.asked at (kept ++ written) (at_later c now) =
+    same_changes w.asked at kept (kept ++ written) (at_later c now) (no_change_told kept asked_at (known_table namespace c.changes))
+    (later_catalogue w.asked at now kept c (omega arith) fits.state) in
+    let both : greatest_kept (kept ++ written) ≡ max (greatest_kept kept) (greatest_kept written) = greatest_both kept written in
+    record {
+      kind = tt;
+      rises = told_above at c.time asked_at (known_table namespace c.changes);
+      later = omega arith;
+      taken = tt;
+      told = tt;
+      one = one_still w good.one;
+      once = once_still w good.once;
+      fresh = tt;
+      in_order = tt;
+      news = [];
+      chose = tt;
+      cursors = book.cursors;
+      elsewhere = λ router other. refl;
+      owed = λ v later others journal time chosen cursors.
+          let s : AreStored v now c.changes = stored v w.asked at now (kept ++ written) (at_later c now) next (omega arith) journal in
+          let bound : v.bound 0 ≡ greatest_kept (kept ++ written) = ap (λ p. v.bound p) (sym fits.state.place) ∙ time in
+          let told_met : IsMet v w.given now = met_later (view_of w.nodes book) v w.given now later met in
+          record {
+            node = rw (append-nil w.asked, append-nil w.answered) (record {
+              state = next;
+              met = told_met;
+              cursors = tt;
+              within = within_more kept written c.time now fits.within (omega arith)
+                  (told_past m.time now asked_at (known_table namespace c.changes) (omega arith) early);
+            });
+            letters = ((tell_fits v now m.time c.changes namespace asked_at s (omega (arith, bound, both)) early, told_met, tt), tt);
+            answers = no_answers v (w.asked ++ []) (w.answered ++ []) book.cursors cursors;
+            known = tt;
+            met = tt;
+          };
+    }
 
 -- ALL ROWS
 
@@ -276,7 +365,12 @@ module _ (w : World) (book : Book) (at : ℕ) (kept : List Kept) (c : Catalogue)
         at = ap (λ y. time_of y) is;
       })
       (λ v later s bound met. (
-        (tell_fits v (max c.time m.time + 1) m.time (x ∷ c.changes) namespace asked_at s (omega arith) asks.0, met, tt),
+        (
+          tell_fits v (max c.time m.time + 1) m.time (x ∷ c.changes) namespace asked_at s
+              (let below = told_below m.time asked_at (known_table namespace (x ∷ c.changes)) asks.0 in omega (arith, below, bound)) asks.0,
+          met,
+          tt,
+        ),
         tt,
       ))
 
@@ -333,7 +427,7 @@ module _ (w : World) (book : Book) (at : ℕ) (kept : List Kept) (c : Catalogue)
       let asks = split_asked id namespace middle says in
       let b = has_bound namespace middle (max c.time m.time + 1) c.changes there in
       answers w book at kept c m _ good fits comes
-      (λ v later s bound met. (
+      (λ v later s met. (
         record {
           request = asks.request;
           taken = asks.taken;
@@ -361,7 +455,7 @@ module _ (w : World) (book : Book) (at : ℕ) (kept : List Kept) (c : Catalogue)
   misses id namespace middle says none =
       let asks = split_asked id namespace middle says in
       answers w book at kept c m _ good fits comes
-      (λ v later s bound met. (
+      (λ v later s met. (
         tt,
         met,
         record {
@@ -380,21 +474,20 @@ pub catalogue_owes : (w : World) (book : Book) (at : ℕ) (kept : List Kept) (c 
     → CatalogueRow c i f d
     → Owes w book at (record { state = catalogue_state c; kept = kept }) f (catalogue_state d)
 catalogue_owes w book at kept _ _ _ _ good here fits comes (catalogue_skip c m skips) = quiet w book at kept c c [] good fits (omega arith) fits.state
-    fits.met (λ v later own time. tt)
+    fits.met (λ v later own. tt)
 catalogue_owes w book at kept _ _ _ _ good here fits comes (catalogue_opened c) = quiet w book at kept c c [] good fits (omega arith) fits.state fits.met
-    (λ v later own time. tt)
+    (λ v later own. tt)
 catalogue_owes w book at kept _ _ _ _ good here fits comes (catalogue_client c link number request) = quiet w book at kept c c [] good fits (omega arith)
-    fits.state fits.met (λ v later own time. tt)
+    fits.state fits.met (λ v later own. tt)
 catalogue_owes w book at kept _ _ _ _ good here fits comes (catalogue_moment c moment) =
     quiet w book at kept c (at_later c (max c.time (time_of_moment moment))) [] good fits (omega arith)
     (later_catalogue w.asked at (max c.time (time_of_moment moment)) kept c (omega arith) fits.state)
-    (met_max (view_of w.nodes book) w.given c.time (time_of_moment moment) fits.met comes) (λ v later own time. tt)
+    (met_max (view_of w.nodes book) w.given c.time (time_of_moment moment) fits.met comes) (λ v later own. tt)
 catalogue_owes w book at kept _ _ _ _ good here fits comes (catalogue_tell c m namespace create asked_at says may) =
     let asks : BodyFits (view_of w.nodes book) w.asked m.sender m.receiver m.time (table_ask namespace create asked_at) = subst
     (λ b. BodyFits (view_of w.nodes book) w.asked m.sender m.receiver m.time b) says comes.0 in
     let early = at_fits (view_of w.nodes book) w.asked m.sender m.receiver m.time namespace create asked_at asks in
-    answers w book at kept c m _ good fits comes
-    (λ v later s bound met. (tell_fits v (max c.time m.time) m.time c.changes namespace asked_at s (omega arith) early, met, tt))
+    tells_table w book at kept c m namespace create asked_at good fits comes early
 catalogue_owes w book at kept _ _ _ _ good here fits comes (catalogue_create c m namespace asked_at x says new) =
     creates w book at kept c good fits m comes namespace asked_at x says new
 catalogue_owes w book at kept _ _ _ _ good here fits comes (catalogue_split c m id namespace middle x says new) =

@@ -28,7 +28,7 @@ use Rattle.node_model.specs.Journal.{Kept, kept_entry, kept_block}
 use Rattle.node_model.specs.Letters.{At, split_done, Input, client_input, letter_input, moment_input, opened_input, Reply, Effect}
 use Rattle.node_model.specs.States.{Telling, Work, writing, reading, sharding, splitting, Open, Router, Catalogue, Shard}
 use Rattle.node_model.specs.CatalogueRows.{CatalogueRow, catalogue_create, catalogue_tell, catalogue_split, catalogue_bound, catalogue_none, catalogue_skip, catalogue_moment, catalogue_opened, catalogue_client}
-use Rattle.node_model.specs.ShardRows.{ShardRow, shard_write, shard_repeat, shard_empty, shard_park, shard_waits, shard_stale, shard_read, shard_rows, shard_excess, shard_overflow, shard_time, shard_learn, shard_known, shard_skip, shard_moment, shard_opened, shard_client}
+use Rattle.node_model.specs.ShardRows.{ShardRow, shard_write, shard_repeat, shard_empty, shard_park, shard_waits, shard_stale, shard_read, shard_read_above, shard_rows, shard_excess, shard_overflow, shard_time, shard_learn, shard_known, shard_skip, shard_moment, shard_opened, shard_client}
 use Rattle.node_model.specs.RouterRows.{table_for, is_for, is_for_catalogue, reply_to, empty_answer, Next, replies_in, stays, is_told, next_waiting, next_of, RequestPlan, at_once, needs, needs_batch, needs_end, plan_of, block_size, Opened, gives_number, Tells, tells_overflow, tells_excess, tells_number, tells_batch, tells_cursor, RouterRow, router_begin, router_opened, router_plain, router_more, router_no_cursor, router_kill, router_take, router_learn, router_split, router_not_sharded, router_reach, router_ahead, router_note, router_wrote, router_read, router_excess, router_overflow, router_late, router_skip, router_moment}
 use Rattle.node_model.specs.World.{World, answered_by, dated_onto}
 use Rattle.node_laws.proofs.Views.{Book, View, view_of}
@@ -61,7 +61,8 @@ shard_aside _ _ _ _ (shard_empty s m id turn ordered namespace sent says) = reco
 shard_aside _ _ _ _ (shard_park s m a asks unseen old new) = record { stores = tt; replies = refl }
 shard_aside _ _ _ _ (shard_waits s m a asks unseen old waits) = record { stores = tt; replies = refl }
 shard_aside _ _ _ _ (shard_stale s m a met asks unseen old) = record { stores = tt; replies = refl }
-shard_aside _ _ _ _ (shard_read s m id turn namespace at half sent says fit) = record { stores = tt; replies = refl }
+shard_aside _ _ _ _ (shard_read s m id turn namespace at half sent says fit covered) = record { stores = tt; replies = refl }
+shard_aside _ _ _ _ (shard_read_above s m id turn namespace at half sent says fit above) = record { stores = (tt, tt); replies = refl }
 shard_aside _ _ _ _ (shard_rows s m id turn namespace at half documents rows says makes few) = record { stores = tt; replies = refl }
 shard_aside _ _ _ _ (shard_excess s m id turn namespace at half documents rows length n says makes much told) = record { stores = tt; replies = refl }
 shard_aside _ _ _ _ (shard_overflow s m id turn namespace at half documents says runs) = record { stores = tt; replies = refl }

@@ -9,7 +9,7 @@ use Rattle.base_model.specs.Identities.{RequestId}
 use Rattle.reply_model.specs.Exchanges.{Asked}
 use Rattle.reply_model.specs.Accounts.{Dated, changes_in as changes_of}
 use Rattle.reply_model.specs.OneHistory.{changes_before}
-use Rattle.node_model.specs.Journal.{Kept, kept_table, kept_entry, kept_change, kept_life, kept_block, changes_onto, changes_kept}
+use Rattle.node_model.specs.Journal.{Kept, kept_table, kept_entry, kept_change, kept_ceiling, kept_none, kept_life, kept_block, changes_onto, changes_kept}
 use Rattle.node_model.specs.States.{NodeState}
 use Rattle.node_model.specs.World.{Held, dated_onto, journal_at}
 use Rattle.node_model.proofs.Journals.{journal_here, journal_got}
@@ -25,6 +25,8 @@ IsNoChange (kept_table t) = Unit {0}
 IsNoChange (kept_entry e) = Unit {0}
 IsNoChange (kept_life n) = Unit {0}
 IsNoChange (kept_block n) = Unit {0}
+IsNoChange (kept_ceiling n) = Unit {0}
+IsNoChange (kept_none n) = Unit {0}
 
 -- THE SAME CHANGES
 
@@ -35,6 +37,8 @@ changes_dated now dated (kept_entry e ∷ kept) = changes_dated now dated kept
 changes_dated now dated (kept_table t ∷ kept) = changes_dated now dated kept
 changes_dated now dated (kept_life n ∷ kept) = changes_dated now dated kept
 changes_dated now dated (kept_block n ∷ kept) = changes_dated now dated kept
+changes_dated now dated (kept_ceiling n ∷ kept) = changes_dated now dated kept
+changes_dated now dated (kept_none n ∷ kept) = changes_dated now dated kept
 
 none_dated : (now : ℕ) (dated : List Dated) (kept : List Kept) → AllByRecursion IsNoChange kept → dated_onto now dated kept ≡ dated
 none_dated now dated [] all = refl
@@ -43,6 +47,8 @@ none_dated now dated (kept_entry e ∷ kept) all = none_dated now dated kept all
 none_dated now dated (kept_table t ∷ kept) all = none_dated now dated kept all.1
 none_dated now dated (kept_life n ∷ kept) all = none_dated now dated kept all.1
 none_dated now dated (kept_block n ∷ kept) all = none_dated now dated kept all.1
+none_dated now dated (kept_ceiling n ∷ kept) all = none_dated now dated kept all.1
+none_dated now dated (kept_none n ∷ kept) all = none_dated now dated kept all.1
 
 none_onto : (older : List Change) (kept : List Kept) → AllByRecursion IsNoChange kept → changes_onto older kept ≡ older
 none_onto older [] all = refl
@@ -51,6 +57,8 @@ none_onto older (kept_entry e ∷ kept) all = none_onto older kept all.1
 none_onto older (kept_table t ∷ kept) all = none_onto older kept all.1
 none_onto older (kept_life n ∷ kept) all = none_onto older kept all.1
 none_onto older (kept_block n ∷ kept) all = none_onto older kept all.1
+none_onto older (kept_ceiling n ∷ kept) all = none_onto older kept all.1
+none_onto older (kept_none n ∷ kept) all = none_onto older kept all.1
 
 -- a step of the node at this place stores no change of the catalogue, or is one of the catalogue
 pub dated_same : (now : ℕ) (nodes : List Held) (at : ℕ) (old : Held) (written : List Kept) (new : NodeState) (dated : List Dated)
@@ -107,6 +115,8 @@ before_stays step now dated (kept_entry e ∷ written) le = before_stays step no
 before_stays step now dated (kept_table t ∷ written) le = before_stays step now dated written le
 before_stays step now dated (kept_life n ∷ written) le = before_stays step now dated written le
 before_stays step now dated (kept_block n ∷ written) le = before_stays step now dated written le
+before_stays step now dated (kept_ceiling n ∷ written) le = before_stays step now dated written le
+before_stays step now dated (kept_none n ∷ written) le = before_stays step now dated written le
 
 -- what was missing as a request came was missing then
 pub missing_grows : (now : ℕ) (dated : List Dated) (written : List Kept) (asked more : List Asked)
@@ -131,3 +141,5 @@ dated_more now dated (kept_entry e ∷ xs) ys = dated_more now dated xs ys
 dated_more now dated (kept_table t ∷ xs) ys = dated_more now dated xs ys
 dated_more now dated (kept_life n ∷ xs) ys = dated_more now dated xs ys
 dated_more now dated (kept_block n ∷ xs) ys = dated_more now dated xs ys
+dated_more now dated (kept_ceiling n ∷ xs) ys = dated_more now dated xs ys
+dated_more now dated (kept_none n ∷ xs) ys = dated_more now dated xs ys

@@ -17,7 +17,8 @@ use Rattle.reply_model.specs.Accounts.{Given, Dated, Account, changes_in as chan
 use Rattle.reply_model.specs.Outcomes.{Done}
 use Rattle.reply_model.specs.Right.{ends, IsReadRefused, refused_overflow, refused_excess, refused_ahead, WasCreated, IsRight, right_write, right_find, right_count, right_refused_read, right_more, right_no_cursor, right_kill, right_shard, right_split, right_not_sharded, right_hello, right_legacy, right_ping, right_end_sessions, right_refusal}
 use Rattle.reply_model.specs.OneHistory.{IsWriteIn, WasWanted, StandsInPart, IsPlaced, AreNumbered, IsFresh, IsInOrder, WasMet, ids_asked, ids_told, AreDifferent}
-use Rattle.node_model.specs.Journal.{Kept, entries_kept, changes_kept}
+use Rattle.node_model.specs.Journal.{Kept, entries_kept, changes_kept, greatest_kept}
+use Rattle.node_model.specs.ShardRows.{top}
 use Rattle.node_model.specs.Letters.{At, no_time, at_time, Statement, Body, table_ask, table_told, split_ask, split_done, write_ask, write_done, read_ask, half_ask, read_rows, stale, time_ask, time_told, Letter}
 use Rattle.node_model.specs.States.{Catalogue, Shard, Router, Work, writing, reading, sharding, splitting, Wait, for_time, Open, NodeState, catalogue_state, shard_state, router_state, time_of_node}
 use Rattle.node_model.specs.RouterRows.{id_of, statements_from, owner_of_statement, is_ahead, block_size}
@@ -145,6 +146,7 @@ pub record ShardFits (v : View) (asked : List Asked) (at : ℕ) (kept : List Kep
   pub own : s.me ≡ at
   pub place : IsShardAt at
   pub entries : s.entries ≡ entries_kept kept
+  pub tops : top s ≡ greatest_kept kept
   pub past : AllByRecursion (λ (e : Entry). e.time ≤ s.time) s.entries
   pub legal : Legal s.entries
   pub sent : AllByRecursion (WasMade (history_in v) asked) s.entries
@@ -259,6 +261,8 @@ pub record HeldFits (v : View) (asked : List Asked) (answered : List Answered) (
   pub state : StateFits v asked answered at h.kept h.state
   pub met : IsMet v given (time_of_node h.state)
   pub cursors : OwnCursors v.cursors at h.state
+  -- nothing that is stored is later than the node
+  pub within : greatest_kept h.kept ≤ time_of_node h.state
 
 -- ANSWERS
 

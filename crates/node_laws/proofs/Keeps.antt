@@ -10,14 +10,14 @@ use Rattle.history_model.specs.History.{Entry, IsIn}
 use Rattle.reply_model.specs.Exchanges.{Asked, Answered}
 use Rattle.reply_model.specs.Accounts.{Given, Dated, changes_in as changes_of}
 use Rattle.reply_model.specs.OneHistory.{WasWanted, StandsInPart, IsPlaced, AreNumbered, IsFresh, IsInOrder, ids_asked, ids_told, AreDifferent}
-use Rattle.node_model.specs.Journal.{Kept, entries_kept, changes_kept}
+use Rattle.node_model.specs.Journal.{Kept, entries_kept, changes_kept, greatest_kept}
 use Rattle.node_model.specs.Letters.{Body, table_ask, table_told, split_ask, split_done, write_ask, write_done, read_ask, half_ask, read_rows, stale, time_ask, time_told, Letter, Effect}
 use Rattle.node_model.specs.States.{Shard, NodeState, catalogue_state, shard_state, router_state, time_of_node}
 use Rattle.node_model.specs.World.{Held, World, asked_by, answered_by, dated_onto, after, journal_at}
 use Rattle.node_model.proofs.Journals.{journal_here}
-use Rattle.node_laws.proofs.Views.{Choice, Book, View, view_of, time_at, entries_in, changes_in, IsShardAt, history_in, IsWithin, MovesNothing, Later}
+use Rattle.node_laws.proofs.Views.{Choice, Book, View, view_of, entries_in, changes_in, IsShardAt, history_in, IsWithin, MovesNothing, Later}
 use Rattle.node_laws.proofs.CatalogueTables.{wanted_still, placed_first}
-use Rattle.node_laws.proofs.Places.{EachAt, each_set}
+use Rattle.node_laws.proofs.Places.{EachAt, each_get, each_set}
 use Rattle.node_laws.proofs.WriteFacts.{WasMade}
 use Rattle.node_laws.proofs.Facts.{BodyFits, ShardFits, StateFits, is_of, HeldFits, IsMet, AnswersFit, IsPast, IsToldOf, TimeFits, TellsAll, AreMade, NeighboursFit, IsCatalogue, IsShard, InOrder, SentFits, Good, SameKind}
 use Rattle.node_laws.proofs.Dates.{IsNoChange, none_before, missing_grows, dated_same}
@@ -25,7 +25,8 @@ use Rattle.node_laws.proofs.Owes.{asked_after, answered_after, dated_after, IsSa
 use Rattle.node_laws.proofs.Lists.{map_longer}
 use Rattle.node_laws.proofs.Growth.{letter_grows, met_later}
 use Rattle.node_laws.proofs.Histories.{entry_of_shard, stored_before}
-use Rattle.node_laws.proofs.Journals.{with_more, with_news, views_later, journal_else, time_here}
+use Rattle.node_laws.proofs.Journals.{with_more, with_news, views_later, journal_else}
+use Rattle.node_laws.proofs.GreatestTimes.{entries_within, changes_within}
 use Rattle.node_laws.proofs.Requests.{answered_now, answered_here, asked_now, asked_here, still_fresh}
 use Rattle.node_laws.proofs.Others.{Decided, other_fits}
 use Rattle.node_laws.proofs.Answers.{Grows, IsClosed, all_closed, answers_grow, answers_joined}
@@ -65,14 +66,13 @@ pub record TheShard (w : View) (asked : List Asked) (nodes : List Held) : Type 0
   pub kept : List Kept
   pub fits : ShardFits w asked first_shard kept shard
   pub journal : journal_at nodes first_shard ≡ kept
-  pub time : time_at nodes first_shard ≡ shard.time
 
 the_shard_in : (w : View) (asked : List Asked) (answered : List Answered) (given : List Given) (c h : Held) (routers : List Held) → IsShard h.state
     → EachAt (HeldFits w asked answered given) 0 (c ∷ h ∷ routers) → TheShard w asked (c ∷ h ∷ routers)
 the_shard_in w asked answered given c h routers is all = by_state h.state refl is all.1.0.state
   where
     by_state : (s : NodeState) → h.state ≡ s → IsShard s → StateFits w asked answered first_shard h.kept s → TheShard w asked (c ∷ h ∷ routers)
-    by_state (shard_state s) same is fits = record { shard = s; kept = h.kept; fits = fits; journal = refl; time = ap (λ x. time_of_node x) same }
+    by_state (shard_state s) same is fits = record { shard = s; kept = h.kept; fits = fits; journal = refl }
     by_state (catalogue_state s) same is fits = absurd is
     by_state (router_state s) same is fits = absurd is
 
@@ -85,30 +85,29 @@ the_shard w asked answered given nodes (c, s, routers, same, is_c, is_s) all =
       kept = t.kept;
       fits = t.fits;
       journal = ap (λ l. journal_at l first_shard) same ∙ t.journal;
-      time = ap (λ l. time_at l first_shard) same ∙ t.time;
     }
 
 -- WHAT THE CATALOGUE AND THE SHARD KEEP
 
 catalogue_begun : (w : View) (asked : List Asked) (answered : List Answered) (kept : List Kept) (s : NodeState) → IsCatalogue s
-    → StateFits w asked answered 0 kept s → AreMade (time_of_node s) (changes_kept kept)
+    → StateFits w asked answered 0 kept s → AreMade (greatest_kept kept) (changes_kept kept)
 catalogue_begun w asked answered kept (catalogue_state c) is fits = record {
   fitting = fits.fitting;
-  past = fits.past;
+  past = changes_within kept;
   still = all_weaken (WasWanted asked) MovesNothing (changes_kept kept) (λ x h. wanted_still asked x h) fits.wanted;
 }
 catalogue_begun w asked answered kept (shard_state s) is fits = absurd is
 catalogue_begun w asked answered kept (router_state r) is fits = absurd is
 
 pub the_begun : (w : View) (asked : List Asked) (answered : List Answered) (given : List Given) (nodes : List Held) → InOrder nodes
-    → EachAt (HeldFits w asked answered given) 0 nodes → AreMade (time_at nodes 0) (changes_kept (journal_at nodes 0))
+    → EachAt (HeldFits w asked answered given) 0 nodes → AreMade (greatest_kept (journal_at nodes 0)) (changes_kept (journal_at nodes 0))
 the_begun w asked answered given nodes (c, s, routers, same, is_c, is_s) all =
     let fits = (subst (λ l. EachAt (HeldFits w asked answered given) 0 l) same all).0 in
-    subst (λ l. AreMade (time_at l 0) (changes_kept (journal_at l 0))) (sym same) (catalogue_begun w asked answered c.kept c.state is_c fits.state)
+    subst (λ l. AreMade (greatest_kept (journal_at l 0)) (changes_kept (journal_at l 0))) (sym same) (catalogue_begun w asked answered c.kept c.state is_c fits.state)
 
 -- in a view of the nodes
 pub nodes_keep : (v : View) (asked : List Asked) (answered : List Answered) (given : List Given) (nodes : List Held) → InOrder nodes
-    → EachAt (HeldFits v asked answered given) 0 nodes → ((at : ℕ) → v.journal at ≡ journal_at nodes at) → ((at : ℕ) → v.bound at ≡ time_at nodes at)
+    → EachAt (HeldFits v asked answered given) 0 nodes → ((at : ℕ) → v.journal at ≡ journal_at nodes at) → ((at : ℕ) → v.bound at ≡ greatest_kept (journal_at nodes at))
     → AreDifferent (ids_asked asked) → NeighboursFit v asked
 nodes_keep v asked answered given nodes order all journals bounds different =
     let s = the_shard v asked answered given nodes order all in
@@ -119,11 +118,12 @@ nodes_keep v asked answered given nodes order all journals bounds different =
       begun = subst (λ l. AreMade (v.bound 0) l) (sym changes) (subst (λ t. AreMade t (changes_kept (journal_at nodes 0))) (sym (bounds 0)) b);
       one = different;
       past = subst (λ l. AllByRecursion (IsWithin v.bound) l) entries
-          (all_both (λ (e : Entry). e.time ≤ s.shard.time) (IsPlaced (changes_in v)) (IsWithin v.bound) s.shard.entries
+          (all_both (λ (e : Entry). e.time ≤ greatest_kept s.kept) (IsPlaced (changes_in v)) (IsWithin v.bound) s.shard.entries
           (λ e le placed.
           let of_first : e.shard ≡ first_shard = placed_first (changes_in v) s.fits.still e placed in
-          (of_first, subst (λ n. e.time ≤ n) (sym (bounds e.shard ∙ ap (λ n. time_at nodes n) of_first ∙ s.time)) le))
-          s.fits.past s.fits.placed);
+          (of_first, subst (λ n. e.time ≤ n)
+              (sym (bounds e.shard ∙ ap (λ n. greatest_kept (journal_at nodes n)) of_first ∙ ap (λ k. greatest_kept k) s.journal)) le))
+          (subst (λ l. AllByRecursion (λ (e : Entry). e.time ≤ greatest_kept s.kept) l) (sym s.fits.entries) (entries_within s.kept)) s.fits.placed);
       sent = subst (λ l. AllByRecursion (WasMade (history_in v) asked) l) entries s.fits.sent;
       numbers = subst (λ l. AreNumbered l) entries s.fits.numbers;
       parts = subst (λ l. AllByRecursion (StandsInPart l) asked) entries s.fits.parts;
@@ -315,14 +315,15 @@ pub good_after : (w : World) (book : Book) (at : ℕ) (old : Held) (f : Effect) 
 good_after w book at old f new good here changes owes =
     let v : View = view_of (slice_set w.nodes at (with_more old f.written new)) (with_news book owes.news owes.cursors) in
     let later : Later (view_of w.nodes book) (view_of (slice_set w.nodes at (with_more old f.written new)) (with_news book owes.news owes.cursors)) =
-    views_later w.nodes at old f.written new book owes.news owes.cursors here owes.rises owes.later in
+    views_later w.nodes at old f.written new book owes.news owes.cursors here owes.rises
+    (each_get (HeldFits (view_of w.nodes book) w.asked w.answered w.given) 0 at w.nodes old good.nodes here).within in
     let dated : changes_of (dated_after w f) ≡ changes_kept (journal_at (slice_set w.nodes at (with_more old f.written new)) 0) =
     dated_same w.now w.nodes at old f.written new w.changed here good.dated changes in
     let g : GoodIn (view_of (slice_set w.nodes at (with_more old f.written new)) (with_news book owes.news owes.cursors)) w at old f new =
     good_parts w book at old f new v good here owes refl later dated
     (owes.owed v later (λ p other. journal_else w.nodes at (with_more old f.written new) p other)
     (journal_here w.nodes at old (with_more old f.written new) here)
-    (time_here w.nodes at old (with_more old f.written new) here) refl refl) in
+    (ap (λ k. greatest_kept k) (journal_here w.nodes at old (with_more old f.written new) here)) refl refl) in
     record {
       order = g.order;
       nodes = g.nodes;

@@ -1,4 +1,5 @@
 pub mod Views
+pub mod GreatestTimes
 pub mod CatalogueTables
 pub mod SplitTables
 pub mod CatalogueAnswers

@@ -4,7 +4,7 @@ use Rattle.std.specs.List.{AllByRecursion}
 use Rattle.history_model.proofs.Lists.{all_weaken, all_append, in_prefix, in_back}
 use Rattle.chunk_model.specs.Changes.{Change, time_of}
 use Rattle.history_model.specs.History.{Entry, IsIn}
-use Rattle.node_model.specs.Journal.{Kept, kept_table, kept_entry, kept_change, kept_life, kept_block, entries_kept, changes_onto, changes_kept}
+use Rattle.node_model.specs.Journal.{Kept, kept_table, kept_entry, kept_ceiling, kept_change, kept_none, kept_life, kept_block, entries_kept, changes_onto, changes_kept}
 use Rattle.node_laws.proofs.Views.{View, entries_in, changes_in, MovesNothing, IsAbove, Later}
 
 pub entries_longer : (old more : List Kept) → entries_kept (old ++ more) ≡ entries_kept old ++ entries_kept more
@@ -14,6 +14,8 @@ entries_longer (kept_table t ∷ old) more = entries_longer old more
 entries_longer (kept_change x ∷ old) more = entries_longer old more
 entries_longer (kept_life n ∷ old) more = entries_longer old more
 entries_longer (kept_block n ∷ old) more = entries_longer old more
+entries_longer (kept_ceiling n ∷ old) more = entries_longer old more
+entries_longer (kept_none n ∷ old) more = entries_longer old more
 
 -- changes that are stored later come before those of before
 pub changes_after : (older : List Change) (old more : List Kept) → changes_onto older (old ++ more) ≡ changes_onto (changes_onto older old) more
@@ -23,6 +25,8 @@ changes_after older (kept_entry e ∷ old) more = changes_after older old more
 changes_after older (kept_table t ∷ old) more = changes_after older old more
 changes_after older (kept_life n ∷ old) more = changes_after older old more
 changes_after older (kept_block n ∷ old) more = changes_after older old more
+changes_after older (kept_ceiling n ∷ old) more = changes_after older old more
+changes_after older (kept_none n ∷ old) more = changes_after older old more
 
 changes_ahead : (older : List Change) (kept : List Kept) → changes_onto older kept ≡ changes_onto [] kept ++ older
 changes_ahead older [] = refl
@@ -34,6 +38,8 @@ changes_ahead older (kept_entry e ∷ kept) = changes_ahead older kept
 changes_ahead older (kept_table t ∷ kept) = changes_ahead older kept
 changes_ahead older (kept_life n ∷ kept) = changes_ahead older kept
 changes_ahead older (kept_block n ∷ kept) = changes_ahead older kept
+changes_ahead older (kept_ceiling n ∷ kept) = changes_ahead older kept
+changes_ahead older (kept_none n ∷ kept) = changes_ahead older kept
 
 pub changes_longer : (old more : List Kept) → changes_kept (old ++ more) ≡ changes_kept more ++ changes_kept old
 changes_longer old more = changes_after [] old more ∙ changes_ahead (changes_onto [] old) more
@@ -49,6 +55,8 @@ entries_above at time (kept_table t ∷ kept) all = entries_above at time kept a
 entries_above at time (kept_change x ∷ kept) all = entries_above at time kept all.1
 entries_above at time (kept_life n ∷ kept) all = entries_above at time kept all.1
 entries_above at time (kept_block n ∷ kept) all = entries_above at time kept all.1
+entries_above at time (kept_ceiling n ∷ kept) all = entries_above at time kept all.1
+entries_above at time (kept_none n ∷ kept) all = entries_above at time kept all.1
 
 -- a change that comes after a time
 abbrev pub IsNewChange : ℕ → Change → Type 0
@@ -62,6 +70,8 @@ changes_above at time older (kept_entry e ∷ kept) before all = changes_above a
 changes_above at time older (kept_table t ∷ kept) before all = changes_above at time older kept before all.1
 changes_above at time older (kept_life n ∷ kept) before all = changes_above at time older kept before all.1
 changes_above at time older (kept_block n ∷ kept) before all = changes_above at time older kept before all.1
+changes_above at time older (kept_ceiling n ∷ kept) before all = changes_above at time older kept before all.1
+changes_above at time older (kept_none n ∷ kept) before all = changes_above at time older kept before all.1
 
 -- one journal in a later view: the same entries, and more of its shard above its time
 pub record MoreEntries (at bound : ℕ) (old new : List Entry) : Type 0 where

@@ -11,7 +11,7 @@ use Rattle.reply_model.specs.OneHistory.{last_from, last_given}
 use Rattle.node_model.specs.Letters.{Letter, Input, client_input, letter_input, moment_input, opened_input, Taken, Effect, nothing}
 use Rattle.node_model.specs.States.{Catalogue, Shard, Router, NodeState, catalogue_state, shard_state, router_state}
 use Rattle.node_model.specs.CatalogueRows.{CatalogueRow, catalogue_create, catalogue_tell, catalogue_split, catalogue_bound, catalogue_none, catalogue_skip, catalogue_moment, catalogue_opened, catalogue_client}
-use Rattle.node_model.specs.ShardRows.{ShardRow, shard_write, shard_repeat, shard_empty, shard_park, shard_waits, shard_stale, shard_read, shard_rows, shard_excess, shard_overflow, shard_time, shard_learn, shard_known, shard_skip, shard_moment, shard_opened, shard_client}
+use Rattle.node_model.specs.ShardRows.{ShardRow, shard_write, shard_repeat, shard_empty, shard_park, shard_waits, shard_stale, shard_read, shard_read_above, shard_rows, shard_excess, shard_overflow, shard_time, shard_learn, shard_known, shard_skip, shard_moment, shard_opened, shard_client}
 use Rattle.node_model.specs.RouterRows.{RouterRow, begins, router_begin, router_opened, router_plain, router_more, router_no_cursor, router_kill, router_take, router_learn, router_split, router_not_sharded, router_reach, router_ahead, router_note, router_wrote, router_read, router_excess, router_overflow, router_late, router_skip, router_moment}
 use Rattle.node_model.specs.Steps.{Step, catalogue_step, shard_step, router_step, begin_step, other_step}
 use Rattle.node_model.specs.World.{World, asked_by, moment_in, Moves}
@@ -119,7 +119,8 @@ no_taken_shard _ _ _ _ (shard_empty s m id turn ordered namespace sent says) = r
 no_taken_shard _ _ _ _ (shard_park s m a asks unseen old new) = refl
 no_taken_shard _ _ _ _ (shard_waits s m a asks unseen old waits) = refl
 no_taken_shard _ _ _ _ (shard_stale s m a met asks unseen old) = refl
-no_taken_shard _ _ _ _ (shard_read s m id turn namespace at half sent says fit) = refl
+no_taken_shard _ _ _ _ (shard_read s m id turn namespace at half sent says fit covered) = refl
+no_taken_shard _ _ _ _ (shard_read_above s m id turn namespace at half sent says fit above) = refl
 no_taken_shard _ _ _ _ (shard_rows s m id turn namespace at half documents rows says makes few) = refl
 no_taken_shard _ _ _ _ (shard_excess s m id turn namespace at half documents rows length n says makes much told) = refl
 no_taken_shard _ _ _ _ (shard_overflow s m id turn namespace at half documents says runs) = refl

@@ -8,7 +8,7 @@ use Rattle.chunk_model.specs.Tables.{first_shard}
 use Rattle.reply_model.specs.OneHistory.{StandsInPart, IsPlaced, AreNumbered}
 use Rattle.node_model.specs.Journal.{entries_kept, changes_kept}
 use Rattle.node_model.specs.World.{World, journal_at}
-use Rattle.node_laws.proofs.Views.{Book, View, view_of, time_at, changes_in, MovesNothing, Later, history_in, IsWithin}
+use Rattle.node_laws.proofs.Views.{Book, View, view_of, changes_in, MovesNothing, Later, history_in, IsWithin}
 use Rattle.node_laws.proofs.WriteFacts.{WasMade}
 use Rattle.node_laws.proofs.Facts.{NeighboursFit, Good}
 use Rattle.node_laws.proofs.Growth.{placed_grows}
@@ -22,14 +22,14 @@ neighbours w book at v good place later others =
     let u : View = view_of w.nodes book in
     let k : NeighboursFit u w.asked = nodes_keep (view_of w.nodes book) w.asked w.answered w.given w.nodes good.order good.nodes (λ p. refl)
     (λ p. refl) good.one in
-    let rises : time_at w.nodes 0 ≤ v.bound 0 = later.times 0 in
+    let rises : u.bound 0 ≤ v.bound 0 = later.times 0 in
     let changes : changes_in v ≡ changes_in u = ap (λ l. changes_kept l) (others 0 (λ e. omega arith)) in
     let entries : history_in v ≡ history_in u = ap (λ l. entries_kept l) (others first_shard (λ e. omega arith)) in
     record {
       begun = record {
         fitting = subst (λ l. AreFitting l) (sym changes) k.begun.fitting;
         past = subst (λ l. AllByRecursion (λ x. time_of x ≤ v.bound 0) l) (sym changes)
-            (all_weaken (λ x. time_of x ≤ time_at w.nodes 0) (λ x. time_of x ≤ v.bound 0) (changes_in u) (λ x l. omega arith) k.begun.past);
+            (all_weaken (λ x. time_of x ≤ u.bound 0) (λ x. time_of x ≤ v.bound 0) (changes_in u) (λ x l. omega arith) k.begun.past);
         still = subst (λ l. AllByRecursion MovesNothing l) (sym changes) k.begun.still;
       };
       one = k.one;

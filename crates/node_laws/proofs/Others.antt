@@ -143,6 +143,7 @@ other_state v w asked more answered news j at kept (shard_state s) other later d
   own = fits.own;
   place = fits.place;
   entries = fits.entries;
+  tops = fits.tops;
   past = fits.past;
   legal = fits.legal;
   sent = all_weaken (WasMade (history_in v) asked) (WasMade (history_in w) (asked ++ more)) s.entries
@@ -177,4 +178,5 @@ other_fits v w asked more answered news given j at h other later decides cursors
   state = other_state v w asked more answered news j at h.kept h.state other later decides different own told fits.state;
   met = met_later v w given (time_of_node h.state) later fits.met;
   cursors = other_cursors v.cursors w.cursors j at h.state other cursors fits.cursors;
+  within = fits.within;
 }

@@ -9,6 +9,7 @@ use Rattle.reply_model.specs.Accounts.{Given, Dated}
 use Rattle.history_model.specs.History.{IsIn}
 use Rattle.reply_model.specs.OneHistory.{IsFresh, IsInOrder, ids_asked, ids_told, AreDifferent}
 use Rattle.node_model.specs.Letters.{Letter, Input, client_input, letter_input, moment_input, opened_input, Taken, Reply, Effect}
+use Rattle.node_model.specs.Journal.{greatest_kept}
 use Rattle.node_model.specs.States.{NodeState, time_of_node}
 use Rattle.node_model.specs.World.{Held, World, asked_by, answered_by, dated_onto, journal_at}
 use Rattle.node_laws.proofs.Views.{Choice, Book, View, view_of, IsAbove, Later}
@@ -60,7 +61,7 @@ pub record Owes (w : World) (book : Book) (at : ℕ) (old : Held) (f : Effect) (
   -- the cursors after the step: those of the other routers stay
   pub cursors : List Cursor
   pub elsewhere : (router : ℕ) → router ≢ at → filter (is_of router) cursors ≡ filter (is_of router) book.cursors
-  -- the rest is owed in the view after the step, in which the other journals stay, and its own journal and time are these
+  -- the rest is owed in the view after the step, in which the other journals stay, and its own is this
   pub owed : (v : View) → Later (view_of w.nodes book) v → ((p : ℕ) → p ≢ at → v.journal p ≡ journal_at w.nodes p) → v.journal at ≡ old.kept ++ f.written
-      → v.bound at ≡ time_of_node new
+      → v.bound at ≡ greatest_kept (old.kept ++ f.written)
       → v.chosen ≡ book.chosen ++ news → v.cursors ≡ cursors → OwesIn v w book at old f new

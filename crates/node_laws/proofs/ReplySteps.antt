@@ -21,7 +21,7 @@ use Rattle.reply_model.specs.Cursors.{Cursor}
 use Rattle.reply_model.specs.Right.{Reads, find_reads, count_reads, WasCreated, WasSplit, not_sharded, IsRight, right_write, right_find, right_count, right_refused_read, right_more, right_no_cursor, right_kill, right_shard, right_split, right_not_sharded, right_hello, right_legacy, right_ping, right_end_sessions, right_refusal}
 use Rattle.reply_model.specs.OneHistory.{changes_before, changes_by}
 use Rattle.reply_facts.proofs.RightAnswers.{TellsSplit, right_of}
-use Rattle.node_model.specs.Journal.{Kept, kept_table, kept_entry, kept_change, kept_life, kept_block}
+use Rattle.node_model.specs.Journal.{Kept, kept_table, kept_entry, kept_change, kept_ceiling, kept_none, kept_life, kept_block}
 use Rattle.node_model.specs.Letters.{Input, Reply}
 use Rattle.node_model.specs.World.{World, answered_by, dated_onto, after, is_given, tick, Moves}
 use Rattle.node_laws.proofs.Views.{Book, View, view_of, changes_in, account_in}
@@ -135,6 +135,8 @@ steps_after now dated (kept_entry e ∷ written) all = steps_after now dated wri
 steps_after now dated (kept_table t ∷ written) all = steps_after now dated written all
 steps_after now dated (kept_life n ∷ written) all = steps_after now dated written all
 steps_after now dated (kept_block n ∷ written) all = steps_after now dated written all
+steps_after now dated (kept_ceiling n ∷ written) all = steps_after now dated written all
+steps_after now dated (kept_none n ∷ written) all = steps_after now dated written all
 
 -- the reply was made before this step, and rests on what was made by its own
 pub record IsBased (now : ℕ) (dated : List Dated) (t : Answered) : Type 0 where

@@ -28,7 +28,7 @@ use Rattle.node_laws.proofs.RouterAnswers.{as_answered}
 use Rattle.node_laws.proofs.OpenFacts.{with_own, open_rises, open_stays}
 use Rattle.node_laws.proofs.Choices.{none_longer}
 use Rattle.node_laws.proofs.Turns.{Turns, turns_same}
-use Rattle.node_laws.proofs.RouterLater.{goes_to, tells, Leaves, goes_owes}
+use Rattle.node_laws.proofs.RouterLater.{goes_to, tells, IsTimeless, Leaves, goes_owes}
 
 -- a read whose time is reached
 pub not_ahead : (time at : ℕ) → at ≤ time → nat_lt time at ≡ false
@@ -109,7 +109,7 @@ module _ (w : World) (book : Book) (at : ℕ) (kept : List Kept) (r : Router) (g
   abbrev pub quiet : (time moment : ℕ) (tables : List Table) (requests : List Open) → r.time ≤ time
       → Leaves w book at r (goes_to r time moment tables requests (as_before r)) (as_before r)
   quiet time moment tables requests later = record
-      { news = []; chose = tt; cursors = book.cursors; turns = turns_stay time moment tables requests later; rises = tt }
+      { news = []; chose = tt; cursors = book.cursors; turns = turns_stay time moment tables requests later; timeless = tt }
 
   no_answers : (v : View) → v.cursors ≡ book.cursors → AnswersFit v w.asked (w.answered ++ []) book.cursors [] v.cursors
   no_answers v same = subst (λ l. AnswersFit v w.asked (w.answered ++ []) book.cursors [] l) (sym same) (no_answer book.cursors)
@@ -121,7 +121,7 @@ module _ (w : World) (book : Book) (at : ℕ) (kept : List Kept) (r : Router) (g
       → Owes w book at (record { state = router_state r; kept = kept }) (tells (as_before r) [] [])
       (router_state (goes_to r time r.moment r.tables r.requests (as_before r)))
   stays_owes time later met =
-      goes_owes w book at r fits good kept time r.moment r.tables r.requests (as_before r) [] [] later met (parted_same r r.requests fits.different)
+      goes_owes w book at r fits good kept time r.moment r.tables r.requests (as_before r) [] [] later h.within met (parted_same r r.requests fits.different)
       (quiet time r.moment r.tables r.requests later)
       (λ v grows others chosen cursors. record {
         tables = known_tables v (grows, others) time later;
@@ -142,7 +142,7 @@ module _ (w : World) (book : Book) (at : ℕ) (kept : List Kept) (r : Router) (g
       let met_time = met_max (view_of w.nodes book) w.given r.time (time_of_moment moment) h.met met in
       goes_owes w book at r fits good kept (max r.time (time_of_moment moment)) moment r.tables r.requests (as_before r)
       (flat_map (λ q. asks_again r (max r.time (time_of_moment moment)) q) r.requests) []
-      later met_time (parted_same r r.requests fits.different) (quiet (max r.time (time_of_moment moment)) moment r.tables r.requests later)
+      later h.within met_time (parted_same r r.requests fits.different) (quiet (max r.time (time_of_moment moment)) moment r.tables r.requests later)
       (λ v grows others chosen cursors.
       let rise = risen_open v (grows, others) chosen (goes_to r (max r.time (time_of_moment moment)) moment r.tables r.requests (as_before r)) later in record {
         tables = known_tables v (grows, others) (max r.time (time_of_moment moment)) later;
@@ -177,14 +177,14 @@ module _ (w : World) (book : Book) (at : ℕ) (kept : List Kept) (r : Router) (g
       (router_state (goes_to r time r.moment r.tables (replaced (going_on r time q work) r.requests) (as_before r)))
   goes_on_owes q work time news o stands later met reached chose none does =
       goes_owes w book at r fits good kept time r.moment r.tables (replaced (going_on r time q work) r.requests) (as_before r)
-      (asks_for r time q.count q.namespace work) [] later
+      (asks_for r time q.count q.namespace work) [] later h.within
       met (parted_replaced r (going_on r time q work) r.requests fits.different)
       (record {
         news = news;
         chose = chose;
         cursors = book.cursors;
         turns = turns_stay time r.moment r.tables (replaced (going_on r time q work) r.requests) later;
-        rises = tt;
+        timeless = tt;
       })
       (λ v grows others chosen cursors.
       let g = does v (grows, others) chosen (around v (grows, others)) in
@@ -219,16 +219,16 @@ module _ (w : World) (book : Book) (at : ℕ) (kept : List Kept) (r : Router) (g
   -- an open request is answered
   pub told_owes : (q : Open) (answer : Answer) (time : ℕ) (f : Opened) (next : List Cursor) → IsIn q r.requests → r.time ≤ time
       → IsMet (view_of w.nodes book) w.given time
-      → AllByRecursion (IsAbove at r.time) f.written → Turns book.cursors next at (goes_to r time r.moment r.tables (without q.count r.requests) f)
+      → AllByRecursion (IsTimeless at r.time) f.written → Turns book.cursors next at (goes_to r time r.moment r.tables (without q.count r.requests) f)
       → ((v : View) → IsBehind v → (o : IsOpenOf v w.asked w.answered r q) → NeighboursFit v w.asked
       → AnswerFits v w.asked (w.answered ++ as_answered w.now (reply_to r time q answer) ∷ []) book.cursors (as_answered w.now (reply_to r time q answer)) next
       × ToldBelow time (as_answered w.now (reply_to r time q answer)))
       → Owes w book at (record { state = router_state r; kept = kept }) (tells f [] (reply_to r time q answer ∷ []))
       (router_state (goes_to r time r.moment r.tables (without q.count r.requests) f))
   told_owes q answer time f next stands later met rises turns told =
-      goes_owes w book at r fits good kept time r.moment r.tables (without q.count r.requests) f [] (reply_to r time q answer ∷ []) later
+      goes_owes w book at r fits good kept time r.moment r.tables (without q.count r.requests) f [] (reply_to r time q answer ∷ []) later h.within
       met (parted_without r q (as_answered w.now (reply_to r time q answer)) r.requests fits.different stands refl)
-      (record { news = []; chose = tt; cursors = next; turns = turns; rises = rises })
+      (record { news = []; chose = tt; cursors = next; turns = turns; timeless = rises })
       (λ v grows others chosen cursors.
       let o = all_at (IsOpenOf v w.asked w.answered r) q r.requests (each_open v (grows, others) chosen) stands in
       let t = told v (grows, others) o (around v (grows, others)) in

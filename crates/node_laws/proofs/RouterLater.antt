@@ -9,13 +9,14 @@ use Rattle.base_model.specs.Identities.{RequestId}
 use Rattle.reply_model.specs.Exchanges.{Asked, Answered}
 use Rattle.reply_model.specs.Accounts.{Given}
 use Rattle.reply_model.specs.OneHistory.{ids_asked, ids_told, AreDifferent}
-use Rattle.node_model.specs.Journal.{Kept}
+use Rattle.node_model.specs.Journal.{Kept, time_kept, greatest_kept}
 use Rattle.node_model.specs.Letters.{Letter, Reply, Effect}
 use Rattle.node_model.specs.States.{Open, Router, router_state}
 use Rattle.reply_model.specs.Cursors.{Cursor}
 use Rattle.node_model.specs.RouterRows.{id_of, Opened}
 use Rattle.node_model.specs.World.{World, answered_by, journal_at}
 use Rattle.node_laws.proofs.Views.{Choice, Book, View, view_of, IsAbove, Later}
+use Rattle.node_laws.proofs.GreatestTimes.{within_more}
 use Rattle.node_laws.proofs.Facts.{IsKnownTable, IsOpenOf, IsBy, ToldBelow, IsClosedOrOpen, RouterFits, CursorsFit, IsMet, AnswersFit, Good}
 use Rattle.node_laws.proofs.Owes.{IsSaid, Owes}
 use Rattle.node_laws.proofs.Growth.{met_later}
@@ -53,13 +54,17 @@ pub record RowFits (v : View) (w : World) (book : Book) (s : Router) (mail : Lis
   pub below : AllByRecursion (λ x. ToldBelow s.time (as_answered w.now x)) replies
   pub times : AllByRecursion (λ (x : Reply). x.time ≡ s.time) replies
 
+-- a record without a time is above any, and not later than any
+abbrev pub IsTimeless : (at time : ℕ) → Kept → Type 0
+IsTimeless at time k = IsAbove at time k × (time_kept k ≤ time)
+
 -- what it leaves beside that: the times that it decides, and the cursors
 pub record Leaves (w : World) (book : Book) (at : ℕ) (r s : Router) (f : Opened) : Type 0 where
   pub news : List Choice
   pub chose : AllByRecursion (λ (c : Choice). (c.id.router ≡ at) × IsIn c.id (ids_asked w.asked)) news
   pub cursors : List Cursor
   pub turns : Turns book.cursors cursors at s
-  pub rises : AllByRecursion (IsAbove at r.time) f.written
+  pub timeless : AllByRecursion (IsTimeless at r.time) f.written
 
 -- LISTS
 
@@ -190,15 +195,15 @@ module _ (w : World) (book : Book) (at : ℕ) (r : Router) (fits : RouterFits (v
   }
 
   pub goes_owes : (kept : List Kept) (time moment : ℕ) (tables : List Table) (requests : List Open) (f : Opened) (mail : List Letter) (replies : List Reply)
-      → r.time ≤ time
+      → r.time ≤ time → greatest_kept kept ≤ r.time
       → IsMet (view_of w.nodes book) w.given time → IsParted r r.requests requests (answered_by w.now replies)
       → (left : Leaves w book at r (goes_to r time moment tables requests f) f)
       → ((v : View) → Later (view_of w.nodes book) v → ((p : ℕ) → p ≢ at → v.journal p ≡ journal_at w.nodes p) → v.chosen ≡ book.chosen ++ left.news
       → v.cursors ≡ left.cursors → RowFits v w book (goes_to r time moment tables requests f) mail replies)
       → Owes w book at (record { state = router_state r; kept = kept }) (tells f mail replies) (router_state (goes_to r time moment tables requests f))
-  goes_owes kept time moment tables requests f mail replies later met parted left row = record {
+  goes_owes kept time moment tables requests f mail replies later within met parted left row = record {
     kind = tt;
-    rises = left.rises;
+    rises = all_weaken (IsTimeless at r.time) (IsAbove at r.time) f.written (λ k h. h.0) left.timeless;
     later = later;
     taken = tt;
     told = of_replies (λ (t : Answered). t.id.router ≡ at) w.now replies
@@ -218,6 +223,8 @@ module _ (w : World) (book : Book) (at : ℕ) (r : Router) (fits : RouterFits (v
         state = router_goes v time moment tables requests f mail replies later parted given_row;
         met = met_later (view_of w.nodes book) v w.given time grows met;
         cursors = subst (λ l. CursorsFit l at (goes_to r time moment tables requests f)) (sym cursors) left.turns.fits;
+        within = within_more kept f.written r.time time within later
+            (all_weaken (IsTimeless at r.time) (λ k. time_kept k ≤ time) f.written (λ k h. let n = h.1 in omega (arith, n, later)) left.timeless);
       });
       letters = rw (append-nil w.asked) given_row.letters;
       answers = rw (append-nil w.asked) given_row.answers;

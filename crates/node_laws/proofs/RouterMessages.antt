@@ -112,7 +112,7 @@ module _ (w : World) (book : Book) (at : ℕ) (kept : List Kept) (r : Router) (g
       let said : List Answered = w.answered ++ answered_by w.now (told_by (next_by r m table namespace create told) r.requests) in
       goes_owes w book at r h.state good kept (heard r m) r.moment (adopted table r.tables) (left_by (next_by r m table namespace create told) r.requests)
       (as_before r)
-      (sent_by (next_by r m table namespace create told) r.requests) (told_by (next_by r m table namespace create told) r.requests) later met_time
+      (sent_by (next_by r m table namespace create told) r.requests) (told_by (next_by r m table namespace create told) r.requests) later h.within met_time
       (parted_next r w.now (next_by r m table namespace create told)
       (λ q. next_keeps r (heard r m) (adopted table r.tables) namespace (was_created create table) told q) r.requests h.state.different)
       (quiet w book at kept r good h (heard r m) r.moment (adopted table r.tables) (left_by (next_by r m table namespace create told) r.requests) later)

@@ -36,16 +36,16 @@ use Rattle.node_laws.proofs.ReadTimes.{read_int64}
 use Rattle.node_laws.proofs.RouterAnswers.{as_answered, answer_fits}
 use Rattle.node_laws.proofs.ReadAnswers.{MadeFor, made_for, rows_give, rows_exceed, told_alike, overflow_right, excess_right, number_right, batch_right}
 use Rattle.node_laws.proofs.Turns.{Turns, next_above, one_more_number, turns_one}
-use Rattle.node_laws.proofs.RouterLater.{goes_to, tells}
+use Rattle.node_laws.proofs.RouterLater.{goes_to, tells, IsTimeless}
 use Rattle.node_laws.proofs.RouterForms.{IsBehind, came_by, turns_stay, told_owes}
 use Rattle.node_laws.proofs.RouterMessages.{body_in, later, heard_met}
 
-none_above : (at time : ℕ) (r : Router) (cursors : List Cursor) → AllByRecursion (IsAbove at time) (gives_number r cursors).written
-none_above at time r cursors = by_test (nat_lt r.gave (block_size * r.blocks)) refl
+no_time : (at time : ℕ) (r : Router) (cursors : List Cursor) → AllByRecursion (IsTimeless at time) (gives_number r cursors).written
+no_time at time r cursors = by_test (nat_lt r.gave (block_size * r.blocks)) refl
   where
-    by_test : (b : Bool) → nat_lt r.gave (block_size * r.blocks) ≡ b → AllByRecursion (IsAbove at time) (gives_number r cursors).written
+    by_test : (b : Bool) → nat_lt r.gave (block_size * r.blocks) ≡ b → AllByRecursion (IsTimeless at time) (gives_number r cursors).written
     by_test true h = rw h tt
-    by_test false h = rw h (tt, tt)
+    by_test false h = rw h ((tt, omega arith), tt)
 
 -- what rows are made of, for an open read
 record ReadIn (v : View) (a : Asked) (namespace : List ℕ) (named : Bool) (time : ℕ) (stages : List Stage) (telling : Telling) (heard_at : ℕ)
@@ -135,7 +135,7 @@ module _ (w : World) (book : Book) (at : ℕ) (kept : List Kept) (r : Router) (g
       let now : Answered = as_answered w.now (reply_to r (heard r m) q (first_answer (batch_of q time (pos (next_number r)) batch))) in
       let up = later w book at kept r good h m comes in
       told_owes w book at kept r good h q shown (heard r m) (gives_number r (r.cursors ++ c ∷ [])) (book.cursors ++ c ∷ []) found.stands up
-      (heard_met w book at kept r good h m comes) (none_above at r.time r (r.cursors ++ c ∷ [])) (turns reached_now up)
+      (heard_met w book at kept r good h m comes) (no_time at r.time r (r.cursors ++ c ∷ [])) (turns reached_now up)
       (λ v behind o n.
       let x = read_now id rows q named time stages (in_batches size false) says found work v behind o in
       let reached = past id rows q named time stages (in_batches size false) says found work v o.request x in (

@@ -15,6 +15,7 @@ use Rattle.node_model.specs.States.{Open, Router, router_state}
 use Rattle.node_model.specs.RouterRows.{id_of, begins, takes, with_cursors, taken_now}
 use Rattle.node_model.specs.World.{World, answered_by}
 use Rattle.node_laws.proofs.Views.{Choice, Book, View, view_of, chosen_time}
+use Rattle.node_laws.proofs.GreatestTimes.{within_more}
 use Rattle.node_laws.proofs.Facts.{IsOpenOf, IsBy, ToldBelow, counts_of, AreDifferentCounts, IsClosedOrOpen, RouterFits, CursorsFit, HeldFits, AnswersFit, no_answer, one_answer, Good}
 use Rattle.node_laws.proofs.Owes.{IsSaid, Owes}
 use Rattle.node_laws.proofs.Lists.{all_mapped, map_longer}
@@ -147,6 +148,7 @@ module _ (w : World) (book : Book) (at : ℕ) (kept : List Kept) (r : Router) (g
         state = begun_fits v (grows, others) chosen none;
         met = met_later (view_of w.nodes book) v w.given r.time grows h.met;
         cursors = subst (λ l. CursorsFit l at (begins r)) (sym cursors) (record { own = h.cursors.own; given = h.cursors.given; most = h.cursors.most });
+        within = within_more kept (kept_life r.life ∷ []) r.time r.time h.within (omega arith) (omega arith, tt);
       });
       letters = tt;
       answers = subst (λ l. AnswersFit v (w.asked ++ []) (w.answered ++ []) book.cursors [] l) (sym cursors) (no_answer book.cursors);
@@ -307,6 +309,7 @@ module _ (w : World) (book : Book) (at : ℕ) (kept : List Kept) (r : Router) (g
               (of_answers (ToldBelow r.time) w.now replies below) closed given_row;
           met = met_later (view_of w.nodes book) v w.given r.time grows h.met;
           cursors = subst (λ l. CursorsFit l at (took r own more)) (sym cursors) turns.fits;
+          within = within_more kept [] r.time r.time h.within (omega arith) tt;
         };
         letters = given_row.letters;
         answers = given_row.answers;

@@ -36,6 +36,7 @@ routers_fit v at (suc n) none less = (
     state = record { own = refl; place = less; requests = tt; different = tt; counted = tt; told = tt; tables = tt; closed = tt; risen = tt };
     met = inl refl;
     cursors = subst (λ l. CursorsFit l at (new_router at)) (sym none) (record { own = refl; given = tt; most = omega arith });
+    within = omega arith;
   },
   routers_fit v (at + 1) n none (omega arith),
 )
@@ -46,13 +47,14 @@ start_good routers = record {
   good = record {
     order = (_, _, _, refl, tt, tt);
     nodes = (
-      record { state = record { own = refl; place = refl; changes = refl; past = tt; fitting = tt; wanted = tt }; met = inl refl; cursors = tt },
+      record { state = record { own = refl; place = refl; changes = refl; past = tt; fitting = tt; wanted = tt }; met = inl refl; cursors = tt; within = omega arith },
       (
         record {
           state = record {
             own = refl;
             place = refl;
             entries = refl;
+            tops = refl;
             past = tt;
             legal = tt;
             sent = tt;
@@ -65,6 +67,7 @@ start_good routers = record {
           };
           met = inl refl;
           cursors = tt;
+          within = omega arith;
         },
         routers_fit (view_of (start_nodes routers) (record { chosen = []; cursors = [] })) 2 routers refl (omega arith),
       ),

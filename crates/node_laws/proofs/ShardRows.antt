@@ -1,5 +1,5 @@
 -- The rows of a shard keep all facts.
-use Rattle.std.proofs.Common.{◌≡◌, ◌⊎◌, inl, inr, ℕ, ◌≤◌, List, [], ◌∷◌, ◌++◌, refl, sym, ap, subst, ◌∙◌, arith, append-nil, Bool}
+use Rattle.std.proofs.Common.{◌≡◌, ◌⊎◌, inl, inr, ℕ, ◌<◌, ◌≤◌, List, [], ◌∷◌, ◌++◌, refl, sym, ap, subst, ◌∙◌, arith, append-nil, Bool}
 use Rattle.std.specs.Prelude.{Some, true, not, max, filter}
 use Rattle.std.specs.List.{AllByRecursion, slice_get}
 use Rattle.history_model.proofs.Lists.{all_weaken, all_append}
@@ -13,17 +13,19 @@ use Rattle.chunk_model.specs.Tables.{Table, with_table}
 use Rattle.history_model.specs.History.{Entry}
 use Rattle.chunk_model.specs.Verdicts.{Sent}
 use Rattle.base_model.specs.Identities.{RequestId}
+use Rattle.reply_model.specs.Exchanges.{Asked}
 use Rattle.reply_model.specs.Outcomes.{Done}
-use Rattle.node_model.specs.Journal.{Kept, kept_table, entries_kept}
+use Rattle.node_model.specs.Journal.{Kept, kept_table, kept_ceiling, entries_kept, greatest_kept}
 use Rattle.node_model.specs.Letters.{At, Statement, Body, table_told, write_ask, write_done, read_ask, half_ask, time_ask, Letter, Input, letter_input, Effect}
 use Rattle.node_model.specs.States.{Shard, shard_state}
 use Rattle.node_model.specs.Service.{Repeats, repeats_no_more, repeats, ends_repeat, documents_at}
-use Rattle.node_model.specs.ShardRows.{heard, at_later, says, Ask, ask_in, wants_table, tries, asks_table, ShardRow, shard_write, shard_repeat, shard_empty, shard_park, shard_waits, shard_stale, shard_read, shard_rows, shard_excess, shard_overflow, shard_time, shard_learn, shard_known, shard_skip, shard_moment, shard_opened, shard_client}
+use Rattle.node_model.specs.ShardRows.{heard, at_later, under, greatest_entry, top, says, Ask, ask_in, wants_table, tries, asks_table, ShardRow, shard_write, shard_repeat, shard_empty, shard_park, shard_waits, shard_stale, shard_read, shard_read_above, shard_rows, shard_excess, shard_overflow, shard_time, shard_learn, shard_known, shard_skip, shard_moment, shard_opened, shard_client}
 use Rattle.node_model.specs.World.{World}
 use Rattle.node_laws.proofs.Views.{Book, View, view_of, entries_in, Later}
+use Rattle.node_laws.proofs.GreatestTimes.{greatest_both, within_more}
 use Rattle.node_laws.proofs.WriteFacts.{OnlyLast}
 use Rattle.node_laws.proofs.ReadFacts.{IsReadOf, IsShown, IsMade}
-use Rattle.node_laws.proofs.Facts.{IsKnownTable, IsWriteOf, IsDoneOf, BodyFits, ParkedFits, HeldFits, IsMet, Good}
+use Rattle.node_laws.proofs.Facts.{IsKnownTable, IsWriteOf, IsDoneOf, BodyFits, ParkedFits, ShardFits, HeldFits, IsMet, Good}
 use Rattle.node_laws.proofs.Owes.{InputFits, IsSaid, Owes}
 use Rattle.node_laws.proofs.Lists.{all_filtered, all_mapped}
 use Rattle.node_laws.proofs.LongerJournals.{entries_longer}
@@ -39,11 +41,11 @@ use Rattle.node_laws.proofs.KnownTables.{all_with}
 -- its time rises to one that was met, and it sends what fits
 at_rest : (w : World) (book : Book) (at : ℕ) (kept : List Kept) (s : Shard) (time : ℕ) (mail : List Letter) → Stood w book at kept s → s.time ≤ time
     → IsMet (view_of w.nodes book) w.given time
-    → ((v : View) → Later (view_of w.nodes book) v → IsMet v w.given time → entries_in v at ≡ s.entries → v.bound at ≡ time
+    → ((v : View) → Later (view_of w.nodes book) v → IsMet v w.given time → entries_in v at ≡ s.entries → v.bound at ≡ greatest_kept kept
     → AllByRecursion (IsSaid v w.asked w.given) mail)
     → Owes w book at (held_shard s kept) (record { written = []; mail = mail; taken = []; replies = [] }) (shard_state (at_later s time))
 at_rest w book at kept s time mail is later met letters =
-    quiet w book at (held_shard s kept) mail (shard_state (at_later s time)) is.good tt later
+    quiet w book at (held_shard s kept) mail (shard_state (at_later s time)) is.good tt later (let n = is.within in omega (arith, n, later))
     (λ v grows journal bound. record {
       node = shard_later (view_of w.nodes book) v w.asked at time kept s grows later is.fits;
       met = met_later (view_of w.nodes book) v w.given time grows met;
@@ -59,7 +61,7 @@ heard_met w book at kept s m is met = met_max (view_of w.nodes book) w.given s.t
 -- a message is received, and one is sent back
 heard_back : (w : World) (book : Book) (at : ℕ) (kept : List Kept) (s : Shard) (m : Letter) (mail : List Letter) → Stood w book at kept s
     → InputFits w book (letter_input m)
-    → ((v : View) → Later (view_of w.nodes book) v → IsMet v w.given (heard s m) → entries_in v at ≡ s.entries → v.bound at ≡ heard s m
+    → ((v : View) → Later (view_of w.nodes book) v → IsMet v w.given (heard s m) → entries_in v at ≡ s.entries → v.bound at ≡ greatest_kept kept
     → AllByRecursion (IsSaid v w.asked w.given) mail)
     → Owes w book at (held_shard s kept) (record { written = []; mail = mail; taken = []; replies = [] }) (shard_state (at_later s (heard s m)))
 heard_back w book at kept s m mail is comes letters = at_rest w book at kept s (heard s m) mail is (heard_later s m)
@@ -117,9 +119,9 @@ tells_again w book at kept s m id ordered namespace statements d dones is comes 
 parks : (w : World) (book : Book) (at : ℕ) (kept : List Kept) (s : Shard) (m : Letter) (a : Ask) → Stood w book at kept s → InputFits w book (letter_input m)
     → ask_in m.body ≡ Some a
     → Owes w book at (held_shard s kept) (record { written = []; mail = asks_table s (heard s m) a.namespace ∷ []; taken = []; replies = [] })
-    (shard_state (record { me = s.me; time = heard s m; tables = s.tables; entries = s.entries; parked = s.parked ++ m ∷ [] }))
+    (shard_state (record { me = s.me; time = heard s m; tables = s.tables; entries = s.entries; ceiling = s.ceiling; parked = s.parked ++ m ∷ [] }))
 parks w book at kept s m a is comes asks =
-    quiet w book at (held_shard s kept) (asks_table s (heard s m) a.namespace ∷ []) _ is.good tt (heard_later s m)
+    quiet w book at (held_shard s kept) (asks_table s (heard s m) a.namespace ∷ []) _ is.good tt (heard_later s m) (let n = is.within in omega (arith, n))
     (λ v grows journal bound.
     let met : IsMet v w.given (heard s m) = met_later (view_of w.nodes book) v w.given (heard s m) grows (heard_met w book at kept s m is comes.1) in
     let f = shard_later (view_of w.nodes book) v w.asked at (heard s m) kept s grows (heard_later s m) is.fits in
@@ -128,6 +130,7 @@ parks w book at kept s m a is comes asks =
         own = f.own;
         place = f.place;
         entries = f.entries;
+        tops = f.tops;
         past = f.past;
         legal = f.legal;
         sent = f.sent;
@@ -150,9 +153,26 @@ parks w book at kept s m a is comes asks =
       letters = ((tt, met, tt), tt);
     })
 
--- the documents of a read are taken
+-- the documents of a read are taken, at a time that is stored after the step
+documents_shown : (w : World) (book : Book) (at : ℕ) (kept : List Kept) (s : Shard) (m : Letter) (v : View) (id : RequestId) (namespace : List ℕ) (moment : ℕ)
+    (half : Half) → Stood w book at kept s → Later (view_of w.nodes book) v → entries_in v at ≡ s.entries → moment ≤ v.bound at → moment ≤ m.time
+    → IsReadOf (view_of w.nodes book) w.asked id namespace moment half
+    → IsShown v w.asked s.me (heard s m) id namespace moment half (documents_at s.entries namespace moment half)
+documents_shown w book at kept s m v id namespace moment half is grows entries reached early reads =
+    let own : at ≡ s.me = sym is.fits.own in
+    let here : entries_in v s.me ≡ s.entries = subst (λ n. entries_in v n ≡ s.entries) own entries in
+    record {
+      read = subst (λ l. IsReadOf v l id namespace moment half) (append-nil w.asked)
+          (read_grows (view_of w.nodes book) v w.asked [] id namespace moment half grows reads);
+      owner = is.fits.own ∙ is.fits.place;
+      documents_are = ap (λ l. documents_at l namespace moment half) (sym here);
+      settled = subst (λ n. moment ≤ v.bound n) own reached;
+      past = omega (arith, early);
+    }
+
 takes_documents : (w : World) (book : Book) (at : ℕ) (kept : List Kept) (s : Shard) (m : Letter) (id : RequestId) (turn : ℕ) (namespace : List ℕ) (moment : ℕ)
     (half : Half) (sent : Sent) → Stood w book at kept s → InputFits w book (letter_input m) → m.body ≡ read_ask id turn namespace moment half sent
+    → moment ≤ top s
     → Owes w book at (held_shard s kept) (record {
       written = [];
       mail = says s s.me (heard s m)
@@ -161,28 +181,77 @@ takes_documents : (w : World) (book : Book) (at : ℕ) (kept : List Kept) (s : S
       replies = [];
     })
     (shard_state (at_later s (heard s m)))
-takes_documents w book at kept s m id turn namespace moment half sent is comes asks =
+takes_documents w book at kept s m id turn namespace moment half sent is comes asks covered =
     let f = body_is w book at m (read_ask id turn namespace moment half sent) asks comes in
-    let early : moment ≤ m.time = f.1 in
-    let own : at ≡ s.me = sym is.fits.own in
+    let tops : top s ≡ greatest_kept kept = is.fits.tops in
     heard_back w book at kept s m _ is comes
-    (λ v grows met entries bound.
-    let here : entries_in v s.me ≡ s.entries = subst (λ n. entries_in v n ≡ s.entries) own entries in
-    let past : heard s m ≤ v.bound s.me = subst (λ n. heard s m ≤ v.bound n) own (omega (arith, bound)) in (
-      (
-        record {
-          read = subst (λ l. IsReadOf v l id namespace moment half) (append-nil w.asked)
-              (read_grows (view_of w.nodes book) v w.asked [] id namespace moment half grows f.0);
-          owner = is.fits.own ∙ is.fits.place;
-          documents_are = ap (λ l. documents_at l namespace moment half) (sym here);
-          settled = omega (arith, past);
-          past = omega arith;
-        },
-        met,
-        tt,
-      ),
+    (λ v grows met entries bound. (
+      (documents_shown w book at kept s m v id namespace moment half is grows entries (omega (arith, covered, tops, bound)) f.1 f.0, met, tt),
       tt,
     ))
+
+-- and the time is a ceiling from now on
+under_fits : (u v : View) (asked : List Asked) (at time ceiling : ℕ) (kept : List Kept) (s : Shard) → Later u v → s.time ≤ time → top s < ceiling
+    → ShardFits u asked at kept s → ShardFits v asked at (kept ++ kept_ceiling ceiling ∷ []) (under s time ceiling)
+under_fits u v asked at time ceiling kept s later le above fits =
+    let f = shard_later u v asked at time kept s later le fits in
+    let longer : entries_kept (kept ++ kept_ceiling ceiling ∷ []) ≡ s.entries = entries_longer kept (kept_ceiling ceiling ∷ []) ∙ append-nil (entries_kept kept)
+    ∙ sym fits.entries in
+    let before : max s.ceiling (greatest_entry s.entries) ≡ greatest_kept kept = fits.tops in
+    let stored = greatest_both kept (kept_ceiling ceiling ∷ []) in
+    record {
+      own = f.own;
+      place = f.place;
+      entries = sym longer;
+      tops = omega (arith, before, stored, above);
+      past = f.past;
+      legal = f.legal;
+      sent = f.sent;
+      numbers = f.numbers;
+      placed = f.placed;
+      parts = f.parts;
+      still = f.still;
+      tables = f.tables;
+      parked = f.parked;
+    }
+
+takes_above : (w : World) (book : Book) (at : ℕ) (kept : List Kept) (s : Shard) (m : Letter) (id : RequestId) (turn : ℕ) (namespace : List ℕ) (moment : ℕ)
+    (half : Half) (sent : Sent) → Stood w book at kept s → InputFits w book (letter_input m) → m.body ≡ read_ask id turn namespace moment half sent
+    → top s < moment
+    → Owes w book at (held_shard s kept) (record {
+      written = kept_ceiling moment ∷ [];
+      mail = says s s.me (heard s m)
+          (half_ask id turn namespace moment half (documents_at s.entries namespace moment half)) ∷ [];
+      taken = [];
+      replies = [];
+    })
+    (shard_state (under s (heard s m) moment))
+takes_above w book at kept s m id turn namespace moment half sent is comes asks above =
+    let f = body_is w book at m (read_ask id turn namespace moment half sent) asks comes in
+    let early : moment ≤ m.time = f.1 in
+    let longer : entries_kept (kept ++ kept_ceiling moment ∷ []) ≡ s.entries = entries_longer kept (kept_ceiling moment ∷ []) ∙ append-nil (entries_kept kept)
+    ∙ sym is.fits.entries in
+    let stored = greatest_both kept (kept_ceiling moment ∷ []) in
+    wrote w book at (held_shard s kept) (kept_ceiling moment ∷ [])
+    (says s s.me (heard s m) (half_ask id turn namespace moment half (documents_at s.entries namespace moment half)) ∷ []) _ is.good tt (tt, tt)
+    (heard_later s m)
+    (within_more kept (kept_ceiling moment ∷ []) s.time (heard s m) is.within (heard_later s m) (omega (arith, early), tt))
+    (λ v grows journal bound.
+    let met : IsMet v w.given (heard s m) = met_later (view_of w.nodes book) v w.given (heard s m) grows (heard_met w book at kept s m is comes.1) in
+    record {
+      node = under_fits (view_of w.nodes book) v w.asked at (heard s m) moment kept s grows (heard_later s m) above is.fits;
+      met = met;
+      cursors = tt;
+      letters = (
+        (
+          documents_shown w book at kept s m v id namespace moment half is grows (ap (λ k. entries_kept k) journal ∙ longer) (omega (arith, bound, stored)) early
+              f.0,
+          met,
+          tt,
+        ),
+        tt,
+      );
+    })
 
 -- what is made of the documents that were taken
 made_of : (w : World) (book : Book) (at : ℕ) (kept : List Kept) (s : Shard) (m : Letter) (v : View) (id : RequestId) (turn : ℕ) (namespace : List ℕ)
@@ -226,14 +295,17 @@ learns : (w : World) (book : Book) (at : ℕ) (kept : List Kept) (s : Shard) (m 
       time = heard s m;
       tables = with_table t s.tables;
       entries = s.entries;
+      ceiling = s.ceiling;
       parked = filter (λ p. not (wants_table t.namespace p)) s.parked;
     }))
 learns w book at kept s m namespace create moment t is comes told =
     let known = body_is w book at m (table_told namespace create moment (Some t)) told comes in
     let longer : entries_kept (kept ++ kept_table t ∷ []) ≡ s.entries = entries_longer kept (kept_table t ∷ []) ∙ append-nil (entries_kept kept)
     ∙ sym is.fits.entries in
+    let same : greatest_kept (kept ++ kept_table t ∷ []) ≡ greatest_kept kept = let both = greatest_both kept (kept_table t ∷ []) in omega (arith, both) in
     wrote w book at (held_shard s kept) (kept_table t ∷ []) (tries s (heard s m) (filter (wants_table t.namespace) s.parked)) _ is.good tt (tt, tt)
     (heard_later s m)
+    (within_more kept (kept_table t ∷ []) s.time (heard s m) is.within (heard_later s m) (omega arith, tt))
     (λ v grows journal bound.
     let met : IsMet v w.given (heard s m) = met_later (view_of w.nodes book) v w.given (heard s m) grows (heard_met w book at kept s m is comes.1) in
     let f = shard_later (view_of w.nodes book) v w.asked at (heard s m) kept s grows (heard_later s m) is.fits in
@@ -242,6 +314,7 @@ learns w book at kept s m namespace create moment t is comes told =
         own = f.own;
         place = f.place;
         entries = sym longer;
+        tops = is.fits.tops ∙ sym same;
         past = f.past;
         legal = f.legal;
         sent = f.sent;
@@ -289,8 +362,10 @@ owes_row w book at kept _ _ _ _ is comes (shard_park s m a asks new old waits) =
 owes_row w book at kept _ _ _ _ is comes (shard_waits s m a asks new old waits) = heard_back w book at kept s m [] is comes (λ v grows met entries bound. tt)
 owes_row w book at kept _ _ _ _ is comes (shard_stale s m a version asks new old) =
     heard_back w book at kept s m _ is comes (λ v grows met entries bound. ((tt, met, tt), tt))
-owes_row w book at kept _ _ _ _ is comes (shard_read s m id turn namespace moment half sent asks fits) =
-    takes_documents w book at kept s m id turn namespace moment half sent is comes asks
+owes_row w book at kept _ _ _ _ is comes (shard_read s m id turn namespace moment half sent asks fits covered) =
+    takes_documents w book at kept s m id turn namespace moment half sent is comes asks covered
+owes_row w book at kept _ _ _ _ is comes (shard_read_above s m id turn namespace moment half sent asks fits above) =
+    takes_above w book at kept s m id turn namespace moment half sent is comes asks above
 owes_row w book at kept _ _ _ _ is comes (shard_rows s m id turn namespace moment half documents rows asks makes few) =
     heard_back w book at kept s m _ is comes
     (λ v grows met entries bound. ((made_of w book at kept s m v id turn namespace moment half documents rows is comes asks grows makes, met, tt), tt))
@@ -341,4 +416,4 @@ pub shard_owes : (w : World) (book : Book) (at : ℕ) (kept : List Kept) (s t : 
     → HeldFits (view_of w.nodes book) w.asked w.answered w.given at (record { state = shard_state s; kept = kept }) → InputFits w book i → ShardRow s i f t
     → Owes w book at (record { state = shard_state s; kept = kept }) f (shard_state t)
 shard_owes w book at kept s t i f good here fits comes row = owes_row w book at kept s t i f
-    (record { good = good; here = here; fits = fits.state; met = fits.met }) comes row
+    (record { good = good; here = here; fits = fits.state; met = fits.met; within = fits.within }) comes row

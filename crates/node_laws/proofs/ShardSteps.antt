@@ -1,5 +1,5 @@
 -- What a step of a shard owes: quiet steps, later times, requests that wait, and what is found of a read.
-use Rattle.std.proofs.Common.{◌≡◌, ℕ, ◌≤◌, List, [], ◌∷◌, ◌++◌, refl, sym, subst, ◌∙◌, arith, append-nil, Bool}
+use Rattle.std.proofs.Common.{◌≡◌, ℕ, ◌≤◌, List, [], ◌∷◌, ◌++◌, refl, sym, ap, subst, ◌∙◌, arith, append-nil, Bool}
 use Rattle.std.specs.Prelude.{Option, Some, None, Ok, true, false}
 use Rattle.std.specs.List.{AllByRecursion}
 use Rattle.std.specs.Str.{bytes_eq}
@@ -14,7 +14,7 @@ use Rattle.reply_model.specs.Exchanges.{Asked}
 use Rattle.reply_model.specs.Accounts.{Given}
 use Rattle.reply_model.specs.Outcomes.{Done}
 use Rattle.reply_model.specs.OneHistory.{IsPlaced, ids_asked, ids_told, AreDifferent}
-use Rattle.node_model.specs.Journal.{Kept}
+use Rattle.node_model.specs.Journal.{Kept, greatest_kept}
 use Rattle.node_model.specs.Letters.{Statement, Body, table_ask, table_told, split_ask, split_done, write_ask, write_done, read_ask, half_ask, read_rows, stale, time_ask, time_told, Letter}
 use Rattle.node_model.specs.States.{Shard, NodeState, time_of_node}
 use Rattle.node_model.specs.ShardRows.{at_later, says, Ask, ask_in, wants_table, asks_table, asks_again}
@@ -43,10 +43,11 @@ pub record Leaves (v : View) (w : World) (at : ℕ) (kept : List Kept) (mail : L
 
 pub wrote : (w : World) (book : Book) (at : ℕ) (old : Held) (written : List Kept) (mail : List Letter) (new : NodeState) → Good w book → SameKind old.state new
     → AllByRecursion (IsAbove at (time_of_node old.state)) written → time_of_node old.state ≤ time_of_node new
-    → ((v : View) → Later (view_of w.nodes book) v → v.journal at ≡ old.kept ++ written → v.bound at ≡ time_of_node new
+    → greatest_kept (old.kept ++ written) ≤ time_of_node new
+    → ((v : View) → Later (view_of w.nodes book) v → v.journal at ≡ old.kept ++ written → v.bound at ≡ greatest_kept (old.kept ++ written)
     → Leaves v w at (old.kept ++ written) mail new)
     → Owes w book at old (record { written = written; mail = mail; taken = []; replies = [] }) new
-wrote w book at old written mail new good kind rises later leaves = record {
+wrote w book at old written mail new good kind rises later within leaves = record {
   kind = kind;
   rises = rises;
   later = later;
@@ -63,7 +64,7 @@ wrote w book at old written mail new good kind rises later leaves = record {
   owed = λ v grows others journal bound chosen cursors.
       let l = leaves v grows journal bound in
       record {
-        node = rw (append-nil w.asked, append-nil w.answered) (record { state = l.node; met = l.met; cursors = l.cursors });
+        node = rw (append-nil w.asked, append-nil w.answered) (record { state = l.node; met = l.met; cursors = l.cursors; within = within });
         letters = rw (append-nil w.asked) l.letters;
         answers = no_answers v (w.asked ++ []) (w.answered ++ []) book.cursors cursors;
         known = tt;
@@ -73,11 +74,13 @@ wrote w book at old written mail new good kind rises later leaves = record {
 
 -- and writes nothing
 pub quiet : (w : World) (book : Book) (at : ℕ) (old : Held) (mail : List Letter) (new : NodeState) → Good w book → SameKind old.state new
-    → time_of_node old.state ≤ time_of_node new
-    → ((v : View) → Later (view_of w.nodes book) v → v.journal at ≡ old.kept → v.bound at ≡ time_of_node new → Leaves v w at old.kept mail new)
+    → time_of_node old.state ≤ time_of_node new → greatest_kept old.kept ≤ time_of_node new
+    → ((v : View) → Later (view_of w.nodes book) v → v.journal at ≡ old.kept → v.bound at ≡ greatest_kept old.kept → Leaves v w at old.kept mail new)
     → Owes w book at old (record { written = []; mail = mail; taken = []; replies = [] }) new
-quiet w book at old mail new good kind later leaves = wrote w book at old [] mail new good kind tt later
-    (λ v grows journal bound. subst (λ k. Leaves v w at k mail new) (sym (append-nil old.kept)) (leaves v grows (journal ∙ append-nil old.kept) bound))
+quiet w book at old mail new good kind later within leaves = wrote w book at old [] mail new good kind tt later
+    (subst (λ k. greatest_kept k ≤ time_of_node new) (sym (append-nil old.kept)) within)
+    (λ v grows journal bound. subst (λ k. Leaves v w at k mail new) (sym (append-nil old.kept)) (leaves v grows (journal ∙ append-nil old.kept)
+    (bound ∙ ap (λ k. greatest_kept k) (append-nil old.kept))))
 
 -- LATER TIMES
 
@@ -101,6 +104,7 @@ shard_later u v asked at time kept s later le f = record {
   own = f.own;
   place = f.place;
   entries = f.entries;
+  tops = f.tops;
   past = up_to_later s.time time s.entries le f.past;
   legal = f.legal;
   sent = all_weaken (WasMade (history_in u) asked) (WasMade (history_in v) asked) s.entries (λ e m. made_later u v asked e later m) f.sent;

@@ -1,6 +1,6 @@
 -- Where a shard serves a request and stores its entries, all facts stay.
 use Rattle.std.proofs.Common.{◌≡◌, ◌⊎◌, inl, inr, ℕ, ◌+◌, ◌<◌, ◌≤◌, List, [], ◌∷◌, ◌++◌, refl, sym, ap, subst, ◌∙◌, arith, append-nil, Bool}
-use Rattle.std.specs.Prelude.{Some, None, true, map, length, drop}
+use Rattle.std.specs.Prelude.{Some, None, true, max, map, length, drop}
 use Rattle.std.specs.List.{AllByRecursion, slice_get}
 use Rattle.history_model.proofs.Lists.{all_weaken, all_both, all_append, all_at, in_back}
 use Rattle.chunk_model.specs.Tables.{first_shard}
@@ -10,12 +10,12 @@ use Rattle.reply_model.specs.Exchanges.{Asked, entries_by}
 use Rattle.reply_model.specs.Outcomes.{Done}
 use Rattle.reply_model.specs.Right.{AreStatements, IsPart}
 use Rattle.reply_model.specs.OneHistory.{StandsInPart, IsPlaced, AreNumbered}
-use Rattle.node_model.specs.Journal.{Kept, kept_entry, entries_kept}
+use Rattle.node_model.specs.Journal.{Kept, kept_entry, entries_kept, time_kept, greatest_kept}
 use Rattle.node_model.specs.Letters.{Statement, write_done, Letter}
 use Rattle.node_model.specs.States.{Shard, shard_state}
 use Rattle.node_model.specs.Service.{Serves, serves_no_more, serves_again, serves_new, ends_again, ends_new}
 use Rattle.node_model.specs.RouterRows.{statements_from}
-use Rattle.node_model.specs.ShardRows.{heard, says}
+use Rattle.node_model.specs.ShardRows.{heard, greatest_entry, says}
 use Rattle.node_model.specs.World.{Held, World}
 use Rattle.node_model.proofs.Journals.{journal_got}
 use Rattle.node_laws.proofs.Views.{Book, View, view_of, entries_in, changes_in, IsShardAt, history_in, IsAbove}
@@ -23,6 +23,7 @@ use Rattle.node_laws.proofs.WriteFacts.{AreAnswers, OnlyLast, AreDoneBefore, Was
 use Rattle.node_laws.proofs.Facts.{IsKnownTable, IsOwned, IsWriteOf, HasBegun, IsDoneOf, ParkedFits, ShardFits, IsMet, Good}
 use Rattle.node_laws.proofs.Owes.{Owes}
 use Rattle.node_laws.proofs.Lists.{all_mapped}
+use Rattle.node_laws.proofs.GreatestTimes.{greatest_both, greatest_entries, greatest_made, within_more}
 use Rattle.node_laws.proofs.LongerJournals.{entries_longer, IsNewAt, still_grows}
 use Rattle.node_laws.proofs.Histories.{shard_entries, entry_of_shard}
 use Rattle.node_laws.proofs.Growth.{entry_grows, made_later, known_grows, placed_grows, met_later}
@@ -41,6 +42,7 @@ pub record Stood (w : World) (book : Book) (at : ℕ) (kept : List Kept) (s : Sh
   pub here : slice_get w.nodes at ≡ Some (held_shard s kept)
   pub fits : ShardFits (view_of w.nodes book) w.asked at kept s
   pub met : IsMet (view_of w.nodes book) w.given s.time
+  pub within : greatest_kept kept ≤ s.time
 
 pub heard_later : (s : Shard) (m : Letter) → s.time ≤ heard s m
 heard_later s m = omega arith
@@ -206,6 +208,17 @@ served w book at kept s receiver time id ordered namespace statements d dones ma
     (begun_by (view_of w.nodes book) w.asked receiver time last id ordered namespace statements d dones (omega arith) ask
     (first_served s.me namespace ordered s.entries now statements (d ∷ dones) made last serves))
 
+-- entries that are stored are not later than the shard
+made_past : (entries made : List Entry) (last : ℕ) → AllByRecursion (λ (e : Entry). e.time ≤ last) (entries ++ made)
+    → AllByRecursion (λ (e : Entry). e.time ≤ last) made
+made_past [] made last all = all
+made_past (e ∷ entries) made last all = made_past entries made last all.1
+
+kept_past : (last : ℕ) (made : List Entry) → AllByRecursion (λ (e : Entry). e.time ≤ last) made
+    → AllByRecursion (λ k. time_kept k ≤ last) (map kept_entry made)
+kept_past last [] all = tt
+kept_past last (e ∷ made) all = (all.0, kept_past last made all.1)
+
 -- where served entries are kept, the shard fits and answers
 pub writes_all : (w : World) (book : Book) (at : ℕ) (kept : List Kept) (s : Shard) (m : Letter) (id : RequestId) (dones : List Done)
     (made : List Entry) (last : ℕ)
@@ -215,15 +228,23 @@ pub writes_all : (w : World) (book : Book) (at : ℕ) (kept : List Kept) (s : Sh
       mail = says s id.router last (write_done id dones) ∷ [];
       taken = [];
       replies = [];
-    }) (shard_state (record { me = s.me; time = last; tables = s.tables; entries = s.entries ++ made; parked = s.parked }))
+    }) (shard_state (record { me = s.me; time = last; tables = s.tables; entries = s.entries ++ made; ceiling = s.ceiling; parked = s.parked }))
 writes_all w book at kept s m id dones made last is met h =
     let u : View = view_of w.nodes book in
     let le : s.time ≤ last = let l = h.rises.later in omega arith in
+    let tops : max s.ceiling (greatest_entry (s.entries ++ made)) ≡ greatest_kept (kept ++ map kept_entry made) =
+    let before : max s.ceiling (greatest_entry s.entries) ≡ greatest_kept kept = is.fits.tops in
+    let stored = greatest_both kept (map kept_entry made) in
+    let written = greatest_made made in
+    let entered = greatest_entries s.entries made in
+    omega (arith, before, stored, written, entered) in
+    let within : greatest_kept (kept ++ map kept_entry made) ≤ last = within_more kept (map kept_entry made) s.time last is.within le
+    (kept_past last made (made_past s.entries made last h.past)) in
     let longer : entries_kept (kept ++ map kept_entry made) ≡ s.entries ++ made = entries_longer kept (map kept_entry made)
     ∙ ap (λ l. l ++ entries_kept (map kept_entry made)) (sym is.fits.entries) ∙ ap (λ l. s.entries ++ l) (entries_only made) in
     wrote w book at (held_shard s kept) (map kept_entry made) (says s id.router last (write_done id dones) ∷ []) _ is.good tt
     (kept_above at s.time made (all_both (λ (e : Entry). heard s m < e.time) (λ (e : Entry). e.shard ≡ s.me) (IsNewAt at s.time) made
-    (λ e l own. (own ∙ is.fits.own, omega arith)) h.rises.above h.own)) le
+    (λ e l own. (own ∙ is.fits.own, omega arith)) h.rises.above h.own)) le within
     (λ v grows journal bound.
     let entries : entries_in v at ≡ s.entries ++ made = ap (λ k. entries_kept k) journal ∙ longer in
     let reached : IsMet v w.given last = last_met w book at v (heard s m) last made s.entries is.fits.place entries
@@ -233,6 +254,7 @@ writes_all w book at kept s m id dones made last is met h =
         own = is.fits.own;
         place = is.fits.place;
         entries = sym longer;
+        tops = tops;
         past = h.past;
         legal = h.legal;
         sent = all_append (WasMade (history_in v) w.asked) s.entries made

@@ -39,7 +39,7 @@ given_good w book at i good =
       order = good.order;
       dated = good.dated;
       nodes = each_weaken (HeldFits v w.asked w.answered w.given) (HeldFits v w.asked w.answered (w.given ++ more)) 0 w.nodes
-          (λ j h f. record { state = f.state; met = met_grows v v w.given more (time_of_node h.state) (later_self v) f.met; cursors = f.cursors }) good.nodes;
+          (λ j h f. record { state = f.state; met = met_grows v v w.given more (time_of_node h.state) (later_self v) f.met; cursors = f.cursors; within = f.within }) good.nodes;
       letters = all_weaken (SentFits v w.changed w.asked w.answered w.given) (SentFits v w.changed w.asked w.answered (w.given ++ more)) w.sent
           (λ m f. (f.0, met_grows v v w.given more m.time (later_self v) f.1, f.2)) good.letters;
       answers = good.answers;
@@ -180,7 +180,8 @@ step_good w book at kept _ _ _ _ good here input (begin_step r q i f nb before r
     let good_v : Good (after w at old first (router_state (begins r))) (with_news book owes.news owes.cursors) =
     good_after w book at old first (router_state (begins r)) good here (inr (tt, tt)) owes in
     let here_v = get_set w.nodes at old (with_more old first.written (router_state (begins r))) here in
-    let later = views_later w.nodes at old first.written (router_state (begins r)) book owes.news owes.cursors here owes.rises owes.later in
+    let later = views_later w.nodes at old first.written (router_state (begins r)) book owes.news owes.cursors here owes.rises
+    (fits_here w book at old good here).within in
     let next = router_owes (after w at old first (router_state (begins r))) begun at (kept ++ kept_life r.life ∷ []) (begins r) q i f good_v here_v
     (fits_here (after w at old first (router_state (begins r))) begun at (with_more old first.written (router_state (begins r))) good_v here_v)
     (fits_later w book at old first (router_state (begins r)) begun i before later input) row in

@@ -7,8 +7,7 @@ use Rattle.chunk_model.specs.Tables.{first_shard}
 use Rattle.history_model.specs.History.{Entry}
 use Rattle.base_model.specs.Identities.{RequestId, same_request}
 use Rattle.reply_model.specs.Cursors.{Cursor}
-use Rattle.node_model.specs.Journal.{Kept, kept_table, kept_entry, kept_change, kept_life, kept_block, entries_kept, changes_kept}
-use Rattle.node_model.specs.States.{time_of_node}
+use Rattle.node_model.specs.Journal.{Kept, kept_table, kept_entry, kept_ceiling, kept_change, kept_none, kept_life, kept_block, entries_kept, changes_kept, greatest_kept}
 use Rattle.node_model.specs.World.{Held, journal_at}
 use Rattle.reply_model.specs.Exchanges.{Asked, Answered}
 use Rattle.reply_model.specs.Accounts.{Account, nothing_stored}
@@ -23,7 +22,7 @@ pub record Book : Type 0 where
   pub chosen : List Choice
   pub cursors : List Cursor
 
--- by place: what the journal stores, and the time up to which it says all; and what is noted
+-- by place: what the journal stores, and the time up to which it says all, which is the greatest that is stored; and what is noted
 pub record View : Type 0 where
   pub journal : ℕ → List Kept
   pub bound : ℕ → ℕ
@@ -34,14 +33,8 @@ abbrev pub chosen_time : RequestId → List Choice → Option ℕ
 chosen_time id [] = None
 chosen_time id (c ∷ chosen) = if same_request c.id id then Some c.at else chosen_time id chosen
 
--- the time of the node at a place
-abbrev pub time_at : List Held → ℕ → ℕ
-time_at [] at = 0
-time_at (h ∷ nodes) zero = time_of_node h.state
-time_at (h ∷ nodes) (suc at) = time_at nodes at
-
 abbrev pub view_of : List Held → Book → View
-view_of nodes book = record { journal = λ at. journal_at nodes at; bound = λ at. time_at nodes at; chosen = book.chosen; cursors = book.cursors }
+view_of nodes book = record { journal = λ at. journal_at nodes at; bound = λ at. greatest_kept (journal_at nodes at); chosen = book.chosen; cursors = book.cursors }
 
 abbrev pub entries_in : View → ℕ → List Entry
 entries_in v at = entries_kept (v.journal at)
@@ -98,6 +91,8 @@ IsAbove at time (kept_change x) = (time < time_of x) × MovesNothing x
 IsAbove at time (kept_table t) = Unit {0}
 IsAbove at time (kept_life n) = Unit {0}
 IsAbove at time (kept_block n) = Unit {0}
+IsAbove at time (kept_ceiling n) = Unit {0}
+IsAbove at time (kept_none n) = Unit {0}
 
 -- the journal at a place with more after it, above a time
 pub record Longer (at time : ℕ) (old new : List Kept) : Type 0 where

@@ -1,5 +1,5 @@
 -- What the catalogue may do in a step.
-use Rattle.std.specs.Prelude.{◌≡◌, ◌⊎◌, ℕ, ℤ, ◌+◌, max, List, [], ◌∷◌, Bool, true, false, Option, IsSome}
+use Rattle.std.specs.Prelude.{◌≡◌, ◌⊎◌, ℕ, ℤ, ◌+◌, max, List, [], ◌∷◌, Bool, true, false, Option, Some, None, IsSome}
 use Rattle.reply_model.specs.Requests.{Request}
 use Rattle.reply_model.specs.Times.{time_of_moment}
 use Rattle.reply_model.specs.Tree.{Datum}
@@ -7,8 +7,8 @@ use Rattle.base_model.specs.Identities.{RequestId}
 use Rattle.chunk_model.specs.Changes.{Change, known_table}
 use Rattle.chunk_model.specs.Requests.{changed, unchanged, no_collection, create_answer, split_answer}
 use Rattle.reply_model.specs.Tables.{Table}
-use Rattle.node_model.specs.Journal.{kept_change}
-use Rattle.node_model.specs.Letters.{At, Body, table_ask, table_told, split_ask, split_done, Letter, Input, client_input, letter_input, moment_input, opened_input, Effect, nothing, sends, writes}
+use Rattle.node_model.specs.Journal.{Kept, kept_change, kept_none}
+use Rattle.node_model.specs.Letters.{At, no_time, at_time, Body, table_ask, table_told, split_ask, split_done, Letter, Input, client_input, letter_input, moment_input, opened_input, Effect, nothing, sends, writes}
 use Rattle.node_model.specs.States.{Catalogue}
 
 -- the time of the message, or the own one where that is later
@@ -29,6 +29,12 @@ told c m time namespace create at table = record { sender = c.me; receiver = m.s
 abbrev pub split_told : Catalogue → Letter → (time : ℕ) → RequestId → (found : Bool) → Letter
 split_told c m time id found = record { sender = c.me; receiver = m.sender; time = time; body = split_done id found }
 
+-- what is stored with an answer: the time at which there is no table, where one was asked for
+abbrev pub none_at : At → Option Table → List Kept
+none_at no_time table = []
+none_at (at_time at) None = kept_none at ∷ []
+none_at (at_time at) (Some t) = []
+
 -- the catalogue at a later time, and with one change more
 abbrev pub at_later : Catalogue → ℕ → Catalogue
 at_later c time = record { me = c.me; time = time; changes = c.changes }
@@ -43,10 +49,12 @@ pub data CatalogueRow : Catalogue → Input → Effect → Catalogue → Type 0 
       → CatalogueRow c (letter_input m)
       (writes (kept_change x ∷ []) (told c m (heard c m + 1) namespace true at (known_table namespace (x ∷ c.changes)) ∷ []))
       (with_change c (heard c m + 1) x)
-  -- sends the table that there is, if there is one
+  -- sends the table that there is, if there is one; that there is none at a time is stored
   catalogue_tell : (c : Catalogue) (m : Letter) (namespace : List ℕ) (create : Bool) (at : At) → m.body ≡ table_ask namespace create at
       → (create ≡ false) ⊎ IsSome (known_table namespace c.changes)
-      → CatalogueRow c (letter_input m) (sends (told c m (heard c m) namespace create at (known_table namespace c.changes) ∷ [])) (at_later c (heard c m))
+      → CatalogueRow c (letter_input m)
+      (writes (none_at at (known_table namespace c.changes)) (told c m (heard c m) namespace create at (known_table namespace c.changes) ∷ []))
+      (at_later c (heard c m))
   -- a chunk is split, at the next time
   catalogue_split : (c : Catalogue) (m : Letter) (id : RequestId) (namespace : List ℕ) (middle : Datum) (x : Change) → m.body ≡ split_ask id namespace middle
       → split_answer namespace middle (heard c m + 1) c.changes ≡ changed x

@@ -1,5 +1,5 @@
 -- What a shard may do in a step.
-use Rattle.std.specs.Prelude.{◌≡◌, ◌≢◌, ◌⊎◌, ◌≤◌, ◌^◌, ℕ, ℤ, max, List, [], ◌∷◌, ◌++◌, map, filter, not, Bool, true, false, ◌==◌, ◌&&◌, Option, Some, None, is_some, Ok, Err}
+use Rattle.std.specs.Prelude.{◌≡◌, ◌≢◌, ◌⊎◌, ◌<◌, ◌≤◌, ◌^◌, ℕ, ℤ, max, List, [], ◌∷◌, ◌++◌, map, filter, not, Bool, true, false, ◌==◌, ◌&&◌, Option, Some, None, is_some, Ok, Err}
 use Rattle.std.specs.List.{list_any}
 use Rattle.std.specs.Str.{bytes_eq}
 use Rattle.reply_model.specs.Tree.{Fields}
@@ -11,7 +11,7 @@ use Rattle.reply_model.specs.Tables.{Table, table_of, with_table, is_longer}
 use Rattle.reply_model.specs.Verdicts.{Sent, fits, shard_is_old, router_is_old, verdict_of}
 use Rattle.base_model.specs.Identities.{RequestId, same_request}
 use Rattle.reply_model.specs.Outcomes.{Done}
-use Rattle.node_model.specs.Journal.{kept_table, kept_entry}
+use Rattle.node_model.specs.Journal.{kept_table, kept_entry, kept_ceiling}
 use Rattle.pipeline_model.specs.Halves.{Half, Rows, IsHalf}
 use Rattle.pipeline_model.specs.Lengths.{excess_of_half}
 use Rattle.pipeline_model.specs.Runs.{Runs, overflowed}
@@ -24,7 +24,19 @@ heard s m = max s.time m.time
 
 -- the shard at a later time
 abbrev pub at_later : Shard → ℕ → Shard
-at_later s time = record { me = s.me; time = time; tables = s.tables; entries = s.entries; parked = s.parked }
+at_later s time = record { me = s.me; time = time; tables = s.tables; entries = s.entries; ceiling = s.ceiling; parked = s.parked }
+
+-- the shard at a later time, with a new ceiling
+abbrev pub under : Shard → (time ceiling : ℕ) → Shard
+under s time ceiling = record { me = s.me; time = time; tables = s.tables; entries = s.entries; ceiling = ceiling; parked = s.parked }
+
+-- the greatest time of its ceilings and entries
+abbrev pub greatest_entry : List Entry → ℕ
+greatest_entry [] = 0
+greatest_entry (e ∷ entries) = max e.time (greatest_entry entries)
+
+abbrev pub top : Shard → ℕ
+top s = max s.ceiling (greatest_entry s.entries)
 
 -- what a shard sends at a time
 abbrev pub says : Shard → (to time : ℕ) → Body → Letter
@@ -109,7 +121,7 @@ pub data ShardRow : Shard → Input → Effect → Shard → Type 0 where
       → m.body ≡ write_ask id turn ordered namespace statements sent → verdict_of sent s.me (table_of namespace s.tables) ≡ fits
       → Serves s.me namespace ordered s.entries (heard s m) statements (d ∷ dones) made last
       → ShardRow s (letter_input m) (writes (map kept_entry made) (says s id.router last (write_done id (d ∷ dones)) ∷ []))
-      (record { me = s.me; time = last; tables = s.tables; entries = s.entries ++ made; parked = s.parked })
+      (record { me = s.me; time = last; tables = s.tables; entries = s.entries ++ made; ceiling = s.ceiling; parked = s.parked })
   -- statements that were applied before are answered on any table
   shard_repeat : (s : Shard) (m : Letter) (id : RequestId) (turn : ℕ) (ordered : Bool) (namespace : List ℕ) (statements : List Statement) (sent : Sent) (d : Done) (dones : List Done)
       → m.body ≡ write_ask id turn ordered namespace statements sent → verdict_of sent s.me (table_of namespace s.tables) ≢ fits
@@ -122,7 +134,7 @@ pub data ShardRow : Shard → Input → Effect → Shard → Type 0 where
   shard_park : (s : Shard) (m : Letter) (a : Ask) → ask_in m.body ≡ Some a → was_seen m.body s.entries ≡ false
       → verdict_of a.sent s.me (table_of a.namespace s.tables) ≡ shard_is_old → is_parked a s.parked ≡ false
       → ShardRow s (letter_input m) (sends (asks_table s (heard s m) a.namespace ∷ []))
-      (record { me = s.me; time = heard s m; tables = s.tables; entries = s.entries; parked = s.parked ++ m ∷ [] })
+      (record { me = s.me; time = heard s m; tables = s.tables; entries = s.entries; ceiling = s.ceiling; parked = s.parked ++ m ∷ [] })
   -- it waits already
   shard_waits : (s : Shard) (m : Letter) (a : Ask) → ask_in m.body ≡ Some a → was_seen m.body s.entries ≡ false
       → verdict_of a.sent s.me (table_of a.namespace s.tables) ≡ shard_is_old → is_parked a s.parked ≡ true
@@ -133,8 +145,14 @@ pub data ShardRow : Shard → Input → Effect → Shard → Type 0 where
       → ShardRow s (letter_input m) (sends (says s a.id.router (heard s m) (stale a.id a.turn met) ∷ [])) (at_later s (heard s m))
   -- the documents of a read are taken in one step, and its half is made of them in another
   shard_read : (s : Shard) (m : Letter) (id : RequestId) (turn : ℕ) (namespace : List ℕ) (at : ℕ) (half : Half) (sent : Sent)
-      → m.body ≡ read_ask id turn namespace at half sent → verdict_of sent s.me (table_of namespace s.tables) ≡ fits
+      → m.body ≡ read_ask id turn namespace at half sent → verdict_of sent s.me (table_of namespace s.tables) ≡ fits → at ≤ top s
       → ShardRow s (letter_input m) (sends (says s s.me (heard s m) (half_ask id turn namespace at half (documents_at s.entries namespace at half)) ∷ [])) (at_later s (heard s m))
+  -- where the read is above its entries and ceilings, its time is a ceiling from now on: later entries are above it, also after a restart
+  shard_read_above : (s : Shard) (m : Letter) (id : RequestId) (turn : ℕ) (namespace : List ℕ) (at : ℕ) (half : Half) (sent : Sent)
+      → m.body ≡ read_ask id turn namespace at half sent → verdict_of sent s.me (table_of namespace s.tables) ≡ fits → top s < at
+      → ShardRow s (letter_input m)
+      (writes (kept_ceiling at ∷ []) (says s s.me (heard s m) (half_ask id turn namespace at half (documents_at s.entries namespace at half)) ∷ []))
+      (under s (heard s m) at)
   shard_rows : (s : Shard) (m : Letter) (id : RequestId) (turn : ℕ) (namespace : List ℕ) (at : ℕ) (half : Half) (documents : List Fields) (rows : Rows)
       → m.body ≡ half_ask id turn namespace at half documents → IsHalf half documents rows → excess_of_half rows ≡ None
       → ShardRow s (letter_input m) (sends (says s id.router (heard s m) (read_rows id turn (Ok rows)) ∷ [])) (at_later s (heard s m))
@@ -153,7 +171,14 @@ pub data ShardRow : Shard → Input → Effect → Shard → Type 0 where
   shard_learn : (s : Shard) (m : Letter) (namespace : List ℕ) (create : Bool) (at : At) (t : Table)
       → m.body ≡ table_told namespace create at (Some t) → is_news t (table_of t.namespace s.tables) ≡ true
       → ShardRow s (letter_input m) (writes (kept_table t ∷ []) (tries s (heard s m) (filter (wants_table t.namespace) s.parked)))
-      (record { me = s.me; time = heard s m; tables = with_table t s.tables; entries = s.entries; parked = filter (λ p. not (wants_table t.namespace p)) s.parked })
+      (record {
+        me = s.me;
+        time = heard s m;
+        tables = with_table t s.tables;
+        entries = s.entries;
+        ceiling = s.ceiling;
+        parked = filter (λ p. not (wants_table t.namespace p)) s.parked;
+      })
   shard_known : (s : Shard) (m : Letter) (namespace : List ℕ) (create : Bool) (at : At) (table : Option Table)
       → m.body ≡ table_told namespace create at table → IsNoNews table s namespace → ShardRow s (letter_input m) nothing (at_later s (heard s m))
   -- a message of another kind has no effect

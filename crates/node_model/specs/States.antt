@@ -17,12 +17,13 @@ pub record Catalogue : Type 0 where
   pub time : ℕ
   pub changes : List Change
 
--- `parked`: the requests that wait for a table
+-- `ceiling`: the greatest of its ceilings; `parked`: the requests that wait for a table
 pub record Shard : Type 0 where
   pub me : ℕ
   pub time : ℕ
   pub tables : List Table
   pub entries : List Entry
+  pub ceiling : ℕ
   pub parked : List Letter
 
 -- how the result of a read is returned: in batches, of which the first has so many documents at most, and is the only one where `single`; or as the
@@ -103,7 +104,7 @@ abbrev pub new_catalogue : ℕ → Catalogue
 new_catalogue me = record { me = me; time = 0; changes = [] }
 
 abbrev pub new_shard : ℕ → Shard
-new_shard me = record { me = me; time = 0; tables = []; entries = []; parked = [] }
+new_shard me = record { me = me; time = 0; tables = []; entries = []; ceiling = 0; parked = [] }
 
 abbrev pub new_router : ℕ → Router
 new_router me = record { me = me; time = 0; life = 1; begun = false; moment = 0; count = 0; tables = []; requests = []; cursors = []; blocks = 0; gave = 0 }

@@ -6,7 +6,7 @@ use Rattle.history_model.specs.History.{Entry}
 use Rattle.reply_model.specs.Requests.{Request}
 use Rattle.reply_model.specs.Exchanges.{Asked, Answered}
 use Rattle.reply_model.specs.Accounts.{Dated, Given, nothing_stored, Account}
-use Rattle.node_model.specs.Journal.{Kept, kept_table, kept_entry, kept_change, kept_life, kept_block, entries_kept, changes_kept}
+use Rattle.node_model.specs.Journal.{Kept, kept_table, kept_entry, kept_ceiling, kept_change, kept_none, kept_life, kept_block, entries_kept, changes_kept}
 use Rattle.node_model.specs.Letters.{Letter, Input, client_input, letter_input, moment_input, opened_input, Taken, Reply, Effect}
 use Rattle.node_model.specs.States.{Router, NodeState, catalogue_state, shard_state, router_state, new_catalogue, new_shard, new_router}
 use Rattle.node_model.specs.Steps.{Step}
@@ -38,6 +38,8 @@ abbrev pub dated_onto : (now : ℕ) → List Dated → List Kept → List Dated
 dated_onto now older [] = older
 dated_onto now older (kept_change x ∷ kept) = dated_onto now (record { change = x; step = now } ∷ older) kept
 dated_onto now older (kept_entry e ∷ kept) = dated_onto now older kept
+dated_onto now older (kept_ceiling n ∷ kept) = dated_onto now older kept
+dated_onto now older (kept_none n ∷ kept) = dated_onto now older kept
 dated_onto now older (kept_table t ∷ kept) = dated_onto now older kept
 dated_onto now older (kept_life n ∷ kept) = dated_onto now older kept
 dated_onto now older (kept_block n ∷ kept) = dated_onto now older kept

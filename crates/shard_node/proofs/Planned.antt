@@ -21,7 +21,7 @@ use Rattle.shard_node.specs.Writes.{AreKept, spellings_of}
 use Rattle.node_traits.specs.Letters as letters
 use Rattle.node_traits.specs.Letters.{Letter, Body, Input, letter_input, table_told, write_ask, write_done, Effect, sends, writes, nothing}
 use Rattle.command_replies.specs.Kinds.{given_view}
-use Rattle.node_traits.specs.ShardRows.{Ask, AsksNothing, ShardRow, shard_write, shard_repeat, shard_empty, shard_park, shard_waits, shard_stale, shard_read, shard_rows, shard_excess, shard_overflow, shard_time, shard_learn, shard_known, shard_skip, shard_moment, shard_opened, shard_client, at_later, heard, says, ask_in, asks_again, asks_table}
+use Rattle.node_traits.specs.ShardRows.{Ask, AsksNothing, ShardRow, shard_write, shard_repeat, shard_empty, shard_park, shard_waits, shard_stale, shard_read, shard_read_above, shard_rows, shard_excess, shard_overflow, shard_time, shard_learn, shard_known, shard_skip, shard_moment, shard_opened, shard_client, at_later, heard, says, ask_in, asks_again, asks_table}
 use Rattle.node_traits.specs.States.{Shard, shard_state}
 use Rattle.chunk_table.specs.VerdictMeanings.{sent_view}
 use Rattle.protocol_model.specs.Bodies.{at_view, body_view, table_told_view}
@@ -39,7 +39,7 @@ use Rattle.std.specs.Option.{option_map}
 use Rattle.protocol_model.specs.Messages.{letter_of}
 use Rattle.shard_node.specs.Plans.{changed, after, FollowsBy, IsPlanned, IsStep}
 use Rattle.shard_node.specs.declared.plan.Change.{Change}
-use Rattle.shard_node.specs.declared.plan.Change.TheVariants.{Nothing, Park, Learn, Write}
+use Rattle.shard_node.specs.declared.plan.Change.TheVariants.{Nothing, Park, Learn, Ceil, Write}
 use Rattle.shard_node.specs.declared.plan.StepPlan.{StepPlan}
 
 -- the shard changes nothing but its time
@@ -91,7 +91,7 @@ pub write_planned : (s : Shard) (m : Letter) (p : StepPlan) (id : RequestId) (tu
     (dones : List Done) (made : List Entry) (last : ℕ) → time ≡ heard s m → m.body ≡ write_ask id turn ordered namespace statements sent
     → verdict_of sent s.me (table_of namespace s.tables) ≡ fits → Serves s.me namespace ordered s.entries time statements dones made last → (dones ≡ [] → ⊥) → AreKept made p.records.items
     → map letter_of p.mail ≡ says s id.router last (write_done id dones) ∷ []
-    → after s p ≡ record { me = s.me; time = last; tables = s.tables; entries = s.entries ++ made; parked = s.parked } → IsPlanned s (letter_input m) p
+    → after s p ≡ record { me = s.me; time = last; tables = s.tables; entries = s.entries ++ made; ceiling = s.ceiling; parked = s.parked } → IsPlanned s (letter_input m) p
 write_planned s m p id turn ordered namespace statements sent time [] made last late body fits_it serves some kept mail is = absurd (some refl)
 write_planned s m p id turn ordered namespace statements sent time (d ∷ dones) made last late body fits_it serves some kept mail is = record {
   effect = writes (map kept_entry made) (says s id.router last (write_done id (d ∷ dones)) ∷ []);
@@ -131,7 +131,8 @@ row_later _ _ _ _ (shard_empty s m id turn ordered namespace sent body) = le-max
 row_later _ _ _ _ (shard_park s m a ask unseen old new) = le-max_left s.time m.time
 row_later _ _ _ _ (shard_waits s m a ask unseen old known) = le-max_left s.time m.time
 row_later _ _ _ _ (shard_stale s m a met ask unseen old) = le-max_left s.time m.time
-row_later _ _ _ _ (shard_read s m id turn namespace at half sent body fits_it) = le-max_left s.time m.time
+row_later _ _ _ _ (shard_read s m id turn namespace at half sent body fits_it covered) = le-max_left s.time m.time
+row_later _ _ _ _ (shard_read_above s m id turn namespace at half sent body fits_it above) = le-max_left s.time m.time
 row_later _ _ _ _ (shard_rows s m id turn namespace at half documents rows body is fewer) = le-max_left s.time m.time
 row_later _ _ _ _ (shard_excess s m id turn namespace at half documents rows length n body is more told) = le-max_left s.time m.time
 row_later _ _ _ _ (shard_overflow s m id turn namespace at half documents body over) = le-max_left s.time m.time
@@ -147,6 +148,7 @@ time_after : (s : Shard) (time : ℕ) (change : Change) → (changed s time chan
 time_after s time Nothing = refl
 time_after s time (Park message) = refl
 time_after s time (Learn table) = refl
+time_after s time (Ceil at) = refl
 time_after s time (Write namespace entries) = refl
 
 -- a row is a step, where the input is none of another node
@@ -227,6 +229,7 @@ pub follows_same : (n k : ShardNode) (time : ℕ) (change : Change) → entries_
 follows_same n k time Nothing entries last follows = tt
 follows_same n k time (Park message) entries last follows = tt
 follows_same n k time (Learn table) entries last follows = tt
+follows_same n k time (Ceil at) entries last follows = tt
 follows_same n k time (Write namespace plan) entries last follows = (
   subst (λ (es : List Entry). IsPlan es (last_of k.store) namespace plan) (sym entries)
       (subst (λ (t : ℕ). IsPlan (entries_of n.store) t namespace plan) (sym last) follows.0),

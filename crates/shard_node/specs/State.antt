@@ -11,6 +11,7 @@ shard_view n = record {
   time = n.time.0;
   tables = n.tables.tables;
   entries = entries_of n.store;
+  ceiling = n.ceiling.0;
   parked = map letter_of n.parked.items;
 }
 

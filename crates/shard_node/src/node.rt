@@ -24,6 +24,8 @@ pub struct ShardNode {
     pub(crate) time: Time,
     pub(crate) tables: TableList,
     pub(crate) store: ShardStore,
+    // The greatest time of its ceilings, or 0.
+    pub(crate) ceiling: Time,
     // The requests that wait for a table, in order.
     pub(crate) parked: Vec<Message>,
     // No entry is later than the node.
@@ -47,6 +49,7 @@ impl ShardNode {
             time: Time(0),
             tables: TableList::new(alloc),
             store: ShardStore::new(alloc, me),
+            ceiling: Time(0),
             parked: Vec::new(alloc),
         }
     }

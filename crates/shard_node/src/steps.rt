@@ -185,6 +185,7 @@ impl ShardNode {
             Change::Nothing => {}
             Change::Park(_) => self.parked.reserve(1)?,
             Change::Learn(_) => self.tables.reserve()?,
+            Change::Ceil(_) => {}
             Change::Write { namespace, entries } => self.store.reserve(namespace, entries)?,
         }
         Ok(())
@@ -241,6 +242,7 @@ impl ShardNode {
                 keep_others(&mut self.parked, table.namespace());
                 self.tables.adopt(table);
             }
+            Change::Ceil(at) => self.ceiling = at,
             Change::Write { namespace, entries } => self.store.commit(&namespace, entries),
         }
     }

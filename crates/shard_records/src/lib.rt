@@ -17,7 +17,10 @@ pub use changes::{CommitChange, PurgeChange, ResolveChange, SplitChange};
 pub use moves::{
     Deletion, MoveEnd, MoveStart, ReceiveDone, ReceiveStart, ReceivedBatch, SectionStart,
 };
-pub use parts_writer::{write_block, write_commit, write_creation, write_life, write_split};
+pub use parts_writer::{
+    write_block, write_catalogue_ceiling, write_ceiling, write_commit, write_creation, write_life,
+    write_split,
+};
 pub use record::{Record, WordsRef};
 pub use tables::write_table;
 pub use writer::{write_entry, write_record};

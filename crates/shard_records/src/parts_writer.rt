@@ -2,7 +2,7 @@
 
 ghost use Rattle.std.specs.Prelude.{◌≡◌, ◌++◌, length, take, OnErr, OnOk};
 ghost use Rattle.bson_model.specs.Limits.{IsWritable};
-ghost use Rattle.record_model.specs.Records.{block_record, commit_record, create_record, life_record, split_record};
+ghost use Rattle.record_model.specs.Records.{block_record, catalogue_ceiling_record, ceiling_record, commit_record, create_record, life_record, split_record};
 ghost use Rattle.record_model.specs.RecordFormat.{IsSound, key_document, spelled};
 ghost use Rattle.shard_records.specs.MoveViews.{commit_view, split_view};
 ghost use Rattle.shard_records.specs.Sizes.{IsWritableRange};
@@ -144,5 +144,53 @@ pub fn write_block(block: u64, out: &mut Vec<u8>) -> Result<(), Memory>
 {
     let len = out.len();
     let done = put_block_record(block, out);
+    cut_after_err(done, len, out)
+}
+
+/// Writes the record of a ceiling of a shard.
+fn put_ceiling_record(time: Time, out: &mut Vec<u8>) -> Result<(), Memory>
+    ensures ok { OnOk result (out.new.items ≡ out.old.items ++ spelled 1 (ceiling_record time.0)) }
+    ensures sound { OnOk result (IsSound (ceiling_record time.0)) }
+    ensures kept { take (length out.old.items) out.new.items ≡ out.old.items }
+{
+    put_head(0x03, out)?;
+    put_u64(time.0, out)
+}
+
+/// Writes the one encoding, in the newest format, of the record of a shard's ceiling after the bytes.
+///
+/// # Errors
+/// `Memory` if memory runs out, and then the bytes are as they were.
+pub fn write_ceiling(time: Time, out: &mut Vec<u8>) -> Result<(), Memory>
+    ensures ok { OnOk result (out.new.items ≡ out.old.items ++ spelled 1 (ceiling_record time.0)) }
+    ensures sound { OnOk result (IsSound (ceiling_record time.0)) }
+    ensures err { OnErr result (out.new.items ≡ out.old.items) }
+{
+    let len = out.len();
+    let done = put_ceiling_record(time, out);
+    cut_after_err(done, len, out)
+}
+
+/// Writes the record of a ceiling of the catalogue.
+fn put_catalogue_ceiling_record(time: Time, out: &mut Vec<u8>) -> Result<(), Memory>
+    ensures ok { OnOk result (out.new.items ≡ out.old.items ++ spelled 1 (catalogue_ceiling_record time.0)) }
+    ensures sound { OnOk result (IsSound (catalogue_ceiling_record time.0)) }
+    ensures kept { take (length out.old.items) out.new.items ≡ out.old.items }
+{
+    put_head(0x25, out)?;
+    put_u64(time.0, out)
+}
+
+/// Writes the one encoding, in the newest format, of the record of a ceiling of the catalogue after the bytes.
+///
+/// # Errors
+/// `Memory` if memory runs out, and then the bytes are as they were.
+pub fn write_catalogue_ceiling(time: Time, out: &mut Vec<u8>) -> Result<(), Memory>
+    ensures ok { OnOk result (out.new.items ≡ out.old.items ++ spelled 1 (catalogue_ceiling_record time.0)) }
+    ensures sound { OnOk result (IsSound (catalogue_ceiling_record time.0)) }
+    ensures err { OnErr result (out.new.items ≡ out.old.items) }
+{
+    let len = out.len();
+    let done = put_catalogue_ceiling_record(time, out);
     cut_after_err(done, len, out)
 }

@@ -6,16 +6,16 @@ ghost use Rattle.protocol_model.specs.Statements.{operation_view};
 ghost use Rattle.shard_requests.specs.EntryRecords.{entry_record_of};
 ghost use Rattle.shard_records.specs.Meanings.{operation_lent};
 ghost use Rattle.record_model.specs.RecordFormat.{spelled, IsSound};
-ghost use Rattle.record_model.specs.Records.{table_record};
+ghost use Rattle.record_model.specs.Records.{ceiling_record, table_record};
 ghost use Rattle.shard_records.specs.Sizes.{IsWritableKey};
 ghost use Rattle.shard_store.specs.Entries.{operation_in};
 ghost use Rattle.shard_store.specs.Outcomes.{outcome_view};
 
 use bson_values::{Blob, Document, Memory};
 use chunk_table::Table;
-use cluster_base::{Namespace, Stmt};
+use cluster_base::{Namespace, Stmt, Time};
 use protocol_model::Operation;
-use shard_records::{WordsRef, write_entry, write_table};
+use shard_records::{WordsRef, write_ceiling, write_entry, write_table};
 use shard_store::{EntryResult, LentWords};
 use std::alloc::Global;
 
@@ -79,5 +79,24 @@ pub fn table_records(alloc: Global, table: &Table) -> Result<Vec<Blob>, Memory>
 {
     let mut records = Vec::new(alloc);
     records.push(table_bytes(alloc, table)?)?;
+    Ok(records)
+}
+
+// Returns the record of a ceiling, or `Memory` if memory runs out.
+fn ceiling_bytes(alloc: Global, at: Time) -> Result<Blob, Memory>
+    ensures { IfOk result (λ b. (b ≡ spelled 1 (ceiling_record at.0)) × IsSound (ceiling_record at.0)) }
+{
+    let mut bytes = Vec::new(alloc);
+    write_ceiling(at, &mut bytes)?;
+    Blob::of(alloc, &bytes)
+}
+
+/// Returns the records of a step that stores the time of a read as a ceiling, or `Memory` if memory runs out.
+pub fn ceiling_records(alloc: Global, at: Time) -> Result<Vec<Blob>, Memory>
+    ensures records { IfOk result (λ records. records.items ≡ spelled 1 (ceiling_record at.0) ∷ []) }
+    ensures sound { IfOk result (λ records. IsSound (ceiling_record at.0)) }
+{
+    let mut records = Vec::new(alloc);
+    records.push(ceiling_bytes(alloc, at)?)?;
     Ok(records)
 }

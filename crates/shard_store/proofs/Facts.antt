@@ -9,12 +9,29 @@ use Rattle.value_compare.specs.Order.{same_value}
 use Rattle.value_model.specs.Keys.{is_key}
 use Rattle.value_model.proofs.Spans.{same_is_key}
 use Rattle.node_model.specs.History.{same_key, key_written, Entry, writes_to, document_after, document_at, IsIn}
-use Rattle.history_model.proofs.Lists.{in_push}
+use Rattle.node_model.specs.ShardRows.{greatest_entry}
+use Rattle.history_model.proofs.Lists.{in_first, in_later, in_push}
 use Rattle.history_model.proofs.Keyed.{written_is_key}
 use Rattle.shard_store.specs.Collections.{room_under}
 use Rattle.shard_store.specs.declared.collections.Collections.{Collections}
 use Rattle.shard_store.specs.Entries.{Kept, entry_view, entries_kept, note_kept, notes_kept}
 use Rattle.shard_store.specs.declared.entry.Planned.{Planned}
+
+-- the greatest time is at least that of an entry that follows
+greatest_pushed : (es : List Entry) (e : Entry) → e.time ≤ greatest_entry (es ++ e ∷ [])
+greatest_pushed [] e = omega arith
+greatest_pushed (x ∷ es) e = let more = greatest_pushed es e in omega (arith, more)
+
+greatest_within : (es : List Entry) (last : ℕ) → ((e : Entry) → IsIn e es → e.time ≤ last) → greatest_entry es ≤ last
+greatest_within [] last past = omega arith
+greatest_within (x ∷ es) last past =
+    let first = past x (in_first x es) in
+    let more = greatest_within es last (λ e i. past e (in_later e x es i)) in
+    omega (arith, first, more)
+
+-- where no entry is later than the last, and one is at its time, that is the greatest time
+pub last_is_greatest : (es : List Entry) (last : ℕ) → ((e : Entry) → IsIn e es → e.time ≤ last) → last ≤ greatest_entry es → last ≡ greatest_entry es
+last_is_greatest es last past reached = let within = greatest_within es last past in omega (arith, within, reached)
 
 module _ (shard : ℕ) (kept new : List Kept) (namespace : List ℕ) (p : Planned) (grown : new ≡ kept ++ (namespace, p) ∷ []) where
   pub entries_grown : entries_kept shard new ≡ entries_kept shard kept ++ entry_view shard namespace p ∷ []
@@ -31,6 +48,10 @@ module _ (shard : ℕ) (kept new : List Kept) (namespace : List ℕ) (p : Planne
       by_part : IsIn e (entries_kept shard kept) ⊎ (e ≡ entry_view shard namespace p) → e.time ≤ p.time.0
       by_part (inl j) = omega (arith, past e j, later)
       by_part (inr same) = omega (arith, ap (λ (d : Entry). d.time) same)
+
+  pub reached_grown : p.time.0 ≤ greatest_entry (entries_kept shard new)
+  reached_grown =
+      subst (λ (l : List Entry). p.time.0 ≤ greatest_entry l) (sym entries_grown) (greatest_pushed (entries_kept shard kept) (entry_view shard namespace p))
 
 -- versions that are no later than the entries are earlier than the next
 pub versions_earlier : (o : Option ℕ) (last time : ℕ) → ((t : ℕ) → o ≡ Some t → t ≤ last) → last < time → IfSome o (λ t. t < time)

@@ -11,6 +11,7 @@ ghost use Rattle.node_model.specs.Halves.{may_stand_in};
 ghost use Rattle.node_model.specs.History.{Entry, IsIn, document_left, insert_operation};
 ghost use Rattle.node_model.specs.Exchanges.{number_for};
 ghost use Rattle.node_model.specs.Service.{seen_before};
+ghost use Rattle.node_model.specs.ShardRows.{greatest_entry};
 ghost use Rattle.command_replies.specs.Kinds.{given_view};
 ghost use Rattle.command_model.specs.CommandSizes.{IsKeepable};
 ghost use Rattle.session_book.specs.Books.{NotesAre, room_in};
@@ -50,6 +51,8 @@ pub struct ShardStore {
     entries: GhostList<Namespace, Planned>,
     // No entry is later than the last.
     ghost past: { (e : Entry) → IsIn e (entries_kept shard.0 entries.items) → e.time ≤ last.0 },
+    // One of them is at that time, unless there is none.
+    ghost reached: { last.0 ≤ greatest_entry (entries_kept shard.0 entries.items) },
     // At each time the collections show what the entries left.
     ghost shown: { AreShown collections (entries_kept shard.0 entries.items) } by { shown-prop collections (entries_kept shard.0 entries.items) },
     // No version is later than the last entry.
@@ -74,6 +77,13 @@ impl ShardStore {
             book: Book::new(alloc),
             entries: GhostList::new(),
         }
+    }
+
+    /// Returns the greatest time of an entry, or 0.
+    pub fn last(&self) -> Time
+        ensures { result.0 ≡ greatest_entry (entries_of self.now) }
+    {
+        self.last
     }
 
     /// Returns the outcome of the statement with this index of a request, to which its client gave this number or none, unless it is new: its original

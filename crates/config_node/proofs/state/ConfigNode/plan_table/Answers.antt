@@ -26,8 +26,9 @@ pub returns-in_ok-table-in-None-clause-planned : goal.returns-in_ok-table-in-Non
 returns-in_ok-table-in-None-clause-planned c = λ m late from is here.
     let n = catalogue_of c.args.self.now in
     let answer = c.table_answer-answer-in-None in
-    let told = c.tell.ensures in
+    let told = c.store_and_tell.ensures in
+    let stored = c.in_ok-records.ensures in
     let same = same_changes (catalogue_of c.creation.new.self) n c.creation.ensures.same in
-    tell_planned n m c.args.sender c.args.heard answer.result late from here c.args.ask (option_map (λ t. arc_value t) c.in_ok-table-in-None.table) is c.tell.result
+    tell_planned n m c.args.sender c.args.heard answer.result late from here c.args.ask (option_map (λ t. arc_value t) c.in_ok-table-in-None.table) is c.store_and_tell.result
     (c.in_ok-change.ensures.none c.in-None.is) (c.in_ok-table-in-None.ensures ∙ ap (λ xs. known_table c.args.ask.namespace xs) same)
-    answer.ensures.time answer.ensures.letter told.time told.change told.mail told.records
+    answer.ensures.time answer.ensures.letter told.time told.change told.mail (told.records ∙ stored.records) stored.sound

@@ -19,7 +19,7 @@ returns-clause-planned c = λ m namespace create at body timed.
       effect = writes (kept_table t ∷ []) (tries s c.args.time.0 (filter (wants_table t.namespace) s.parked));
       row = subst
           (λ (u : ℕ). ShardRow s (letter_input m) (writes (kept_table t ∷ []) (tries s u (filter (wants_table t.namespace) s.parked)))
-          (record { me = s.me; time = u; tables = with_table t s.tables; entries = s.entries; parked = filter (λ p. not (wants_table t.namespace p)) s.parked }))
+          (record { me = s.me; time = u; tables = with_table t s.tables; entries = s.entries; ceiling = s.ceiling; parked = filter (λ p. not (wants_table t.namespace p)) s.parked }))
           (sym timed)
           (shard_learn s m namespace create at t body c.requires.news);
       sent = sym (c.in_ok-mail.ensures ∙ ap (λ (n : List ℕ). tries s c.args.time.0 (filter (wants_table n) s.parked)) name);

@@ -35,7 +35,7 @@ returns-clause-planned c =
       effect = sends (asks_table s c.args.time.0 ask.namespace.now ∷ []);
       row = subst
           (λ (t : ℕ). ShardRow s (letter_input m) (sends (asks_table s t ask.namespace.now ∷ []))
-          (record { me = s.me; time = t; tables = s.tables; entries = s.entries; parked = s.parked ++ m ∷ [] }))
+          (record { me = s.me; time = t; tables = s.tables; entries = s.entries; ceiling = s.ceiling; parked = s.parked ++ m ∷ [] }))
           (sym c.requires.time)
           (shard_park s m (ask_view ask) (sym c.in-Some.ensures) c.requires.unseen verdict (sym (c.is_parked.ensures ∙ parked) ∙ c.if-is_parked.false));
       sent = sym (ap (λ (l : List Message). map letter_of l) c.of_one.ensures ∙ ap (λ (x : Letter). x ∷ []) c.in_ok-asked.ensures);

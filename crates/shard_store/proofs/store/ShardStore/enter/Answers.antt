@@ -4,7 +4,7 @@ use Rattle.node_model.specs.History.{document_at}
 use Rattle.history_model.specs.Notes.{seen}
 use Rattle.session_book.specs.Books.{note_view}
 use Rattle.statement_views.specs.Views.{number_view}
-use Rattle.shard_store.proofs.Facts.{entries_grown, notes_grown, past_grown, versions_grown}
+use Rattle.shard_store.proofs.Facts.{entries_grown, notes_grown, past_grown, reached_grown, versions_grown}
 use Rattle.shard_store.proofs.Pushed.{shown_after}
 use Rattle.shard_store.proofs.Seen.{new_kept}
 use Rattle.shard_store.specs.Collections.{last_under, shown_in}
@@ -30,6 +30,7 @@ invariant_of-self c =
     let entered = rw c.as_str.ensures.text at c.enter.ensures.shown in
     record {
       past = past_grown store.shard.0 kept new name p grown store.last.0 store.past later;
+      reached = reached_grown store.shard.0 kept new name p grown;
       shown = λ n k t.
           shown_after store.shard.0 (entries_kept store.shard.0 kept) store.last.0 name p store.past c.requires.next n k t
           (shown_in store.collections n k t) (shown_in c.enter.new.self n k t) (store.shown n k t) (entered n k t)
