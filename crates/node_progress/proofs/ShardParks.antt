@@ -10,7 +10,7 @@ use Rattle.chunk_model.specs.Tables.{Table, first_shard, table_of, with_table, i
 use Rattle.chunk_model.specs.Verdicts.{shard_is_old, verdict_of}
 use Rattle.node_model.specs.Letters.{At, no_time, Body, table_ask, table_told, split_ask, split_done, write_ask, write_done, read_ask, half_ask, read_rows, stale, time_ask, time_told, Letter, Input, letter_input, Effect}
 use Rattle.node_model.specs.States.{Shard}
-use Rattle.node_model.specs.ShardRows.{Ask, ask_in, wants_table, asks_table, says, heard, is_news, IsNoNews, AsksNothing, ShardRow, shard_write, shard_repeat, shard_empty, shard_park, shard_waits, shard_stale, shard_read, shard_rows, shard_excess, shard_overflow, shard_time, shard_learn, shard_known, shard_skip, shard_moment, shard_opened, shard_client}
+use Rattle.node_model.specs.ShardRows.{Ask, ask_in, wants_table, asks_table, says, heard, is_news, IsNoNews, AsksNothing, ShardRow, shard_write, shard_repeat, shard_empty, shard_park, shard_waits, shard_stale, shard_read, shard_read_above, shard_rows, shard_excess, shard_overflow, shard_time, shard_learn, shard_known, shard_skip, shard_moment, shard_opened, shard_client}
 use Rattle.node_laws.proofs.Lists.{all_filtered}
 use Rattle.node_progress.specs.UnderWay.{a_table, Brings, IsFor}
 use Rattle.node_progress.proofs.Versions.{none_where_old}
@@ -197,7 +197,9 @@ shard_parked _ _ _ u me to named fit (shard_park s m a asks unseen old not_parke
     }))
 shard_parked _ _ _ u me to named fit (shard_waits s m a asks unseen old waits) = all_stay s u (letter_input m) _ to refl (no_ask m a asks)
 shard_parked _ _ _ u me to named fit (shard_stale s m a met asks unseen old) = all_stay s u (letter_input m) _ to refl (no_ask m a asks)
-shard_parked _ _ _ u me to named fit (shard_read s m id turn namespace at half sent body verdict) =
+shard_parked _ _ _ u me to named fit (shard_read s m id turn namespace at half sent body verdict covered) =
+    all_stay s u (letter_input m) _ to refl (other_body m (read_ask id turn namespace at half sent) body (λ n t e. cc e))
+shard_parked _ _ _ u me to named fit (shard_read_above s m id turn namespace at half sent body verdict above) =
     all_stay s u (letter_input m) _ to refl (other_body m (read_ask id turn namespace at half sent) body (λ n t e. cc e))
 shard_parked _ _ _ u me to named fit (shard_rows s m id turn namespace at half documents rows body makes few) =
     all_stay s u (letter_input m) _ to refl (other_body m (half_ask id turn namespace at half documents) body (λ n t e. cc e))

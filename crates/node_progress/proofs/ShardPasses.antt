@@ -13,7 +13,7 @@ use Rattle.reply_model.specs.Outcomes.{Done}
 use Rattle.node_model.specs.Letters.{Statement, HalfFault, half_overflow, half_excess, write_ask, write_done, half_ask, read_rows, time_told, Letter, Input, letter_input, Effect}
 use Rattle.node_model.specs.States.{Shard}
 use Rattle.node_model.specs.Service.{seen_before, Serves, serves_again, serves_new, ends_again, ends_new, Repeats, repeats, ends_repeat, documents_at}
-use Rattle.node_model.specs.ShardRows.{Ask, is_ask, same_ask, ask_in, wants_table, says, heard, ShardRow, shard_write, shard_repeat, shard_empty, shard_park, shard_waits, shard_stale, shard_read, shard_rows, shard_excess, shard_overflow, shard_time, shard_learn, shard_known, shard_skip, shard_moment, shard_opened, shard_client}
+use Rattle.node_model.specs.ShardRows.{Ask, is_ask, same_ask, ask_in, wants_table, says, heard, ShardRow, shard_write, shard_repeat, shard_empty, shard_park, shard_waits, shard_stale, shard_read, shard_read_above, shard_rows, shard_excess, shard_overflow, shard_time, shard_learn, shard_known, shard_skip, shard_moment, shard_opened, shard_client}
 use Rattle.node_laws.proofs.SeenStatements.{IsFound, found_entry, found_older, seen_found}
 use Rattle.node_progress.specs.UnderWay.{Thing, a_run, Brings, IsFor}
 use Rattle.node_progress.proofs.Things.{home, shard_idle, thing_asked, ask_brings, brings_asked, same_thing, any_found}
@@ -99,7 +99,10 @@ shard_passes _ _ _ _ t place me own fit to is (shard_waits s m a asks unseen old
     found.1 found.2)
 shard_passes _ _ _ _ t place me own fit to is (shard_stale s m a met asks unseen old) =
     absurd (never_stale s.tables a met (subst (λ n. verdict_of a.sent n (table_of a.namespace s.tables) ≡ router_is_old met) me old) (fit a asks))
-shard_passes _ _ _ _ t place me own fit to is (shard_read s m id turn namespace at half sent body verdict) =
+shard_passes _ _ _ _ t place me own fit to is (shard_read s m id turn namespace at half sent body verdict covered) =
+    let l = subst (λ b. Brings t m.sender m.receiver b) body is in
+    inl (only_among (says s s.me (heard s m) (half_ask id turn namespace at half (documents_at s.entries namespace at half))) t (l.0, me))
+shard_passes _ _ _ _ t place me own fit to is (shard_read_above s m id turn namespace at half sent body verdict above) =
     let l = subst (λ b. Brings t m.sender m.receiver b) body is in
     inl (only_among (says s s.me (heard s m) (half_ask id turn namespace at half (documents_at s.entries namespace at half))) t (l.0, me))
 shard_passes _ _ _ _ t place me own fit to is (shard_rows s m id turn namespace at half documents rows body makes few) =
@@ -152,7 +155,8 @@ shard_holds _ _ _ _ p a me there asks (shard_empty s m id turn ordered namespace
 shard_holds _ _ _ _ p a me there asks (shard_park s m b own unseen old not_parked) = inl (in_prefix p s.parked (m ∷ []) there)
 shard_holds _ _ _ _ p a me there asks (shard_waits s m b own unseen old waits) = inl there
 shard_holds _ _ _ _ p a me there asks (shard_stale s m b met own unseen old) = inl there
-shard_holds _ _ _ _ p a me there asks (shard_read s m id turn namespace at half sent body verdict) = inl there
+shard_holds _ _ _ _ p a me there asks (shard_read s m id turn namespace at half sent body verdict covered) = inl there
+shard_holds _ _ _ _ p a me there asks (shard_read_above s m id turn namespace at half sent body verdict above) = inl there
 shard_holds _ _ _ _ p a me there asks (shard_rows s m id turn namespace at half documents rows body makes few) = inl there
 shard_holds _ _ _ _ p a me there asks (shard_excess s m id turn namespace at half documents rows length n body makes much told) = inl there
 shard_holds _ _ _ _ p a me there asks (shard_overflow s m id turn namespace at half documents body runs) = inl there

@@ -9,7 +9,7 @@ use Rattle.chunk_model.specs.Verdicts.{router_is_old, verdict_of}
 use Rattle.base_model.specs.Identities.{RequestId}
 use Rattle.node_model.specs.Letters.{Body, table_ask, table_told, split_ask, split_done, write_ask, write_done, read_ask, half_ask, read_rows, stale, time_ask, time_told, Letter, Input, letter_input, Effect}
 use Rattle.node_model.specs.States.{Shard}
-use Rattle.node_model.specs.ShardRows.{Ask, ask_in, asks_table, asks_again, tries, says, wants_table, ShardRow, shard_write, shard_repeat, shard_empty, shard_park, shard_waits, shard_stale, shard_read, shard_rows, shard_excess, shard_overflow, shard_time, shard_learn, shard_known, shard_skip, shard_moment, shard_opened, shard_client}
+use Rattle.node_model.specs.ShardRows.{Ask, ask_in, asks_table, asks_again, tries, says, wants_table, ShardRow, shard_write, shard_repeat, shard_empty, shard_park, shard_waits, shard_stale, shard_read, shard_read_above, shard_rows, shard_excess, shard_overflow, shard_time, shard_learn, shard_known, shard_skip, shard_moment, shard_opened, shard_client}
 use Rattle.node_laws.proofs.Lists.{all_mapped}
 use Rattle.node_progress.specs.UnderWay.{IsNotStale}
 use Rattle.node_progress.proofs.Versions.{IsWell, never_stale}
@@ -71,7 +71,9 @@ shard_well changes count _ _ _ _ own some me of fit parked (shard_park s m a ask
 shard_well changes count _ _ _ _ own some me of fit parked (shard_waits s m a asks unseen old waits) = tt
 shard_well changes count _ _ _ _ own some me of fit parked (shard_stale s m a met asks unseen old) =
     absurd (never_stale s.tables a met (subst (λ n. verdict_of a.sent n (table_of a.namespace s.tables) ≡ router_is_old met) me old) (fit m refl a asks))
-shard_well changes count _ _ _ _ own some me of fit parked (shard_read s m id turn namespace at half sent body verdict) =
+shard_well changes count _ _ _ _ own some me of fit parked (shard_read s m id turn namespace at half sent body verdict covered) =
+    answer_well changes count s own s.me _ _ refl tt own
+shard_well changes count _ _ _ _ own some me of fit parked (shard_read_above s m id turn namespace at half sent body verdict above) =
     answer_well changes count s own s.me _ _ refl tt own
 shard_well changes count _ _ _ _ own some me of fit parked (shard_rows s m id turn namespace at half documents rows body makes few) =
     answer_well changes count s own id.router _ _ refl tt (of m refl id (ap (λ b. request_in b) body))

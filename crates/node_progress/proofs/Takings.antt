@@ -4,7 +4,7 @@ use Rattle.std.specs.List.{AllByRecursion}
 use Rattle.node_model.specs.Letters.{Input, Taken, Effect}
 use Rattle.node_model.specs.States.{Catalogue, Shard, Router}
 use Rattle.node_model.specs.CatalogueRows.{CatalogueRow, catalogue_create, catalogue_tell, catalogue_split, catalogue_bound, catalogue_none, catalogue_skip, catalogue_moment, catalogue_opened, catalogue_client}
-use Rattle.node_model.specs.ShardRows.{ShardRow, shard_write, shard_repeat, shard_empty, shard_park, shard_waits, shard_stale, shard_read, shard_rows, shard_excess, shard_overflow, shard_time, shard_learn, shard_known, shard_skip, shard_moment, shard_opened, shard_client}
+use Rattle.node_model.specs.ShardRows.{ShardRow, shard_write, shard_repeat, shard_empty, shard_park, shard_waits, shard_stale, shard_read, shard_read_above, shard_rows, shard_excess, shard_overflow, shard_time, shard_learn, shard_known, shard_skip, shard_moment, shard_opened, shard_client}
 use Rattle.node_model.specs.RouterRows.{RouterRow, router_begin, router_opened, router_plain, router_more, router_no_cursor, router_kill, router_take, router_learn, router_split, router_not_sharded, router_reach, router_ahead, router_note, router_wrote, router_read, router_excess, router_overflow, router_late, router_skip, router_moment}
 
 pub catalogue_takes_none : (c d : Catalogue) (i : Input) (f : Effect) → CatalogueRow c i f d → f.taken ≡ []
@@ -25,7 +25,8 @@ shard_takes_none _ _ _ _ (shard_empty s m id turn ordered namespace sent body) =
 shard_takes_none _ _ _ _ (shard_park s m a asks unseen old not_parked) = refl
 shard_takes_none _ _ _ _ (shard_waits s m a asks unseen old waits) = refl
 shard_takes_none _ _ _ _ (shard_stale s m a met asks unseen old) = refl
-shard_takes_none _ _ _ _ (shard_read s m id turn namespace at half sent body verdict) = refl
+shard_takes_none _ _ _ _ (shard_read s m id turn namespace at half sent body verdict covered) = refl
+shard_takes_none _ _ _ _ (shard_read_above s m id turn namespace at half sent body verdict above) = refl
 shard_takes_none _ _ _ _ (shard_rows s m id turn namespace at half documents rows body makes few) = refl
 shard_takes_none _ _ _ _ (shard_excess s m id turn namespace at half documents rows length n body makes much told) = refl
 shard_takes_none _ _ _ _ (shard_overflow s m id turn namespace at half documents body runs) = refl
