@@ -10,9 +10,9 @@ use Rattle.chunk_model.specs.Tables.{Table}
 use Rattle.history_model.proofs.Lists.{all_append}
 use Rattle.history_model.specs.History.{Entry}
 use Rattle.reply_model.specs.Exchanges.{Asked}
-use Rattle.node_model.specs.CatalogueRows.{CatalogueRow, catalogue_create, catalogue_tell, catalogue_split, catalogue_bound, catalogue_none, catalogue_skip, catalogue_moment, catalogue_opened, catalogue_client}
-use Rattle.node_model.specs.Journal.{Kept, kept_change, change_record, record_kept, changes_kept}
-use Rattle.node_model.specs.Letters.{Letter, Input, Effect}
+use Rattle.node_model.specs.CatalogueRows.{none_at, CatalogueRow, catalogue_create, catalogue_tell, catalogue_split, catalogue_bound, catalogue_none, catalogue_skip, catalogue_moment, catalogue_opened, catalogue_client}
+use Rattle.node_model.specs.Journal.{Kept, kept_change, kept_none, change_record, record_kept, changes_kept}
+use Rattle.node_model.specs.Letters.{At, no_time, at_time, Letter, Input, Effect, writes}
 use Rattle.node_model.specs.States.{Catalogue}
 use Rattle.node_laws.proofs.Lists.{map_longer}
 use Rattle.node_laws.proofs.LongerJournals.{changes_longer}
@@ -96,12 +96,30 @@ module _ (asked : List Asked) (history : List Entry) (at : ℕ) (kept : List Kep
         tells = tells;
       }
 
+  -- a table is returned, or that there is none at a time, which is stored
+  tells_stay : (time : ℕ) (told : At) (table : Option Table) (mail : List Letter) → AllByRecursion (LetterStays asked history) mail
+      → CatalogueNext asked history at kept (writes (none_at told table) mail) (record { me = c.me; time = time; changes = c.changes })
+  tells_stay time no_time table mail letters = quiet (writes [] mail) time refl refl refl letters
+  tells_stay time (at_time t) (Some table) mail letters = quiet (writes [] mail) time refl refl refl letters
+  tells_stay time (at_time t) None mail letters = record {
+    node = record {
+      own = mine.own;
+      place = mine.place;
+      changes = mine.changes ∙ sym (changes_longer kept (kept_none t ∷ []));
+      keyed = subst (λ l. AllByRecursion HasKey l) (sym (map_longer record_kept kept (kept_none t ∷ [])))
+          (all_append HasKey (records_of kept) (record_kept (kept_none t) ∷ []) mine.keyed (tt, tt));
+    };
+    letters = letters;
+    takes = refl;
+    tells = refl;
+  }
+
 pub catalogue_stays : (asked : List Asked) (history : List Entry) (at : ℕ) (kept : List Kept) (c d : Catalogue) (i : Input) (f : Effect)
     → CatalogueStays at kept c → InputStays asked history i → CatalogueRow c i f d → CatalogueNext asked history at kept f d
 catalogue_stays asked history at kept _ _ _ _ mine input (catalogue_create c m namespace told x asks answer) =
     changes_stay asked history at kept c mine _ _ x refl refl refl (tt, tt) (created_key namespace _ c.changes x answer)
 catalogue_stays asked history at kept _ _ _ _ mine input (catalogue_tell c m namespace create told asks known) =
-    quiet asked history at kept c mine _ _ refl refl refl (tt, tt)
+    tells_stay asked history at kept c mine _ told (known_table namespace c.changes) _ (tt, tt)
 catalogue_stays asked history at kept _ _ _ _ mine input (catalogue_split c m id namespace middle x asks answer) =
     changes_stay asked history at kept c mine _ _ x refl refl refl (tt, tt)
     (split_key namespace middle _ c.changes x (subst (λ b. BodyStays asked history b) asks input) answer)

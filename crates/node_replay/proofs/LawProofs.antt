@@ -1,11 +1,12 @@
 -- The laws, as the functions of `src/laws.rt` state them.
 use Rattle.std.proofs.Common.{◌≡◌, ℕ, List}
-use Rattle.std.specs.Prelude.{Some}
+use Rattle.std.specs.Prelude.{max, Some}
 use Rattle.std.specs.List.{AllByRecursion}
 use Rattle.history_model.proofs.Lists.{all_weaken}
 use Rattle.record_model.specs.Records.{Record}
 use Rattle.reply_model.specs.OneHistory.{AreDifferent, ids_told}
-use Rattle.node_model.specs.Letters.{Effect, Input}
+use Rattle.node_model.specs.Journal.{greatest_kept}
+use Rattle.node_model.specs.Letters.{Letter, Effect, Input}
 use Rattle.node_model.specs.States.{NodeState}
 use Rattle.node_model.specs.Steps.{Step}
 use Rattle.node_model.specs.World.{Event, Run, World, start}
@@ -13,24 +14,30 @@ use Rattle.node_replay.specs.Acknowledged.{KeepsJournals, KeepsWrites}
 use Rattle.node_replay.specs.Durable.{DurableCatalogue, DurableShard, durable_catalogue, durable_of, durable_shard, empty_catalogue, empty_shard}
 use Rattle.node_replay.specs.Histories.{AreChanges, HasKey, IsHistory}
 use Rattle.node_replay.specs.Holds.{Holds, MayOpen, Replays}
+use Rattle.node_replay.specs.ReadTimes.{IsInTime, ComesInTime}
 use Rattle.node_replay.specs.Replays.{records_of, replayed}
 use Rattle.node_replay.specs.Restarts.{EventOrStop, RunWithStops}
 use Rattle.node_replay.proofs.Steps.{step_follows}
 use Rattle.node_replay.proofs.Runs.{NodeReplays, run_replays, start_replays}
-use Rattle.node_replay.proofs.Restarts.{run_with_stops_replays}
+use Rattle.node_replay.proofs.Restarts.{run_with_stops_replays, run_with_stops_in_time}
 use Rattle.node_replay.proofs.StopStays.{run_with_stops_keeps}
 use Rattle.node_replay.proofs.JournalsStay.{run_with_stops_grows}
 use Rattle.node_replay.proofs.OnceRuns.{run_with_stops_once}
 use Rattle.node_replay.proofs.ShardHistories.{shard_history}
 use Rattle.node_replay.proofs.CatalogueHistories.{catalogue_changes}
 
-pub steps_store_what_may_follow : (s t : NodeState) (i : Input) (f : Effect) → Holds s → Step s i f t
-    → (replayed (Some (durable_of s)) (records_of f.written) ≡ Some (durable_of t)) × Holds t
-steps_store_what_may_follow s t i f holds step = let h = step_follows s t i f holds step in (h.leads, h.holds)
+pub steps_store_what_may_follow : (stored : ℕ) (s t : NodeState) (i : Input) (f : Effect) → Holds stored s → ComesInTime i → Step s i f t
+    → (replayed (Some (durable_of stored s)) (records_of f.written) ≡ Some (durable_of (max stored (greatest_kept f.written)) t))
+    × Holds (max stored (greatest_kept f.written)) t
+steps_store_what_may_follow stored s t i f holds input step = let h = step_follows stored s t i f holds input step in (h.leads, h.holds)
+
+pub no_message_reads_ahead : (routers : ℕ) (events : List EventOrStop) (w : World) → RunWithStops (start routers) events w
+    → AllByRecursion IsInTime w.sent
+no_message_reads_ahead = run_with_stops_in_time
 
 pub runs_replay : (routers : ℕ) (events : List Event) (w : World) → Run (start routers) events w → AllByRecursion Replays w.nodes
 runs_replay routers events w run =
-    all_weaken NodeReplays Replays w.nodes (λ h r. r.0) (run_replays (start routers) w events (start_replays routers) run)
+    all_weaken NodeReplays Replays w.nodes (λ h r. r.0) (run_replays (start routers) w events (start_replays routers) run).nodes
 
 pub runs_with_stops_replay : (routers : ℕ) (events : List EventOrStop) (w : World) → RunWithStops (start routers) events w
     → AllByRecursion Replays w.nodes × AllByRecursion MayOpen w.nodes

@@ -4,6 +4,7 @@ pub mod ShardFollows
 pub mod CatalogueFollows
 pub mod RouterFollows
 pub mod Steps
+pub mod ReadTimes
 pub mod Runs
 pub mod Restarts
 pub mod ShardHistories

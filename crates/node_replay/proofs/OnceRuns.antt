@@ -13,7 +13,7 @@ use Rattle.node_model.specs.CatalogueRows.{CatalogueRow, catalogue_create, catal
 use Rattle.node_model.specs.Journal.{Kept}
 use Rattle.node_model.specs.Letters.{Input, client_input, letter_input, moment_input, opened_input, Effect, nothing}
 use Rattle.node_model.specs.RouterRows.{begins}
-use Rattle.node_model.specs.ShardRows.{ShardRow, shard_write, shard_repeat, shard_empty, shard_park, shard_waits, shard_stale, shard_read, shard_rows, shard_excess, shard_overflow, shard_time, shard_learn, shard_known, shard_skip, shard_moment, shard_opened, shard_client}
+use Rattle.node_model.specs.ShardRows.{ShardRow, shard_write, shard_repeat, shard_empty, shard_park, shard_waits, shard_stale, shard_read, shard_read_above, shard_rows, shard_excess, shard_overflow, shard_time, shard_learn, shard_known, shard_skip, shard_moment, shard_opened, shard_client}
 use Rattle.node_model.specs.States.{Catalogue, Shard, Open, Router, NodeState, catalogue_state, shard_state, router_state}
 use Rattle.node_model.specs.Steps.{Step, catalogue_step, shard_step, router_step, begin_step, other_step}
 use Rattle.node_model.specs.World.{Held, World, Moves, Event, Happens, comes, delivers, passes, begins as was_opened, routers_from, start, asked_by, answered_by}
@@ -25,7 +25,7 @@ use Rattle.node_replay.specs.Restarts.{Restarts, Stops, EventOrStop, Occurs, occ
 use Rattle.node_replay.proofs.OnceStays.{IsSilent, RouterOnce, StepOnce, router_once}
 use Rattle.node_replay.proofs.Restarts.{occurs_replays}
 use Rattle.node_replay.proofs.RouterNext.{begins_stays}
-use Rattle.node_replay.proofs.Runs.{NodeReplays, start_replays}
+use Rattle.node_replay.proofs.Runs.{WorldReplays, start_replays}
 use Rattle.node_replay.proofs.StayFacts.{id_in, StateStays, HeldStays, RouterStays}
 use Rattle.node_replay.proofs.StopStays.{here_stays, occurs_stays, start_stays}
 use Rattle.node_replay.proofs.WorldStays.{stored_in, WorldStays}
@@ -39,7 +39,8 @@ shard_quiet _ _ _ _ (shard_empty s m id turn ordered namespace sent asks) = (ref
 shard_quiet _ _ _ _ (shard_park s m a asks unseen old waits) = (refl, refl)
 shard_quiet _ _ _ _ (shard_waits s m a asks unseen old waits) = (refl, refl)
 shard_quiet _ _ _ _ (shard_stale s m a met asks unseen old) = (refl, refl)
-shard_quiet _ _ _ _ (shard_read s m id turn namespace at half sent asks agree) = (refl, refl)
+shard_quiet _ _ _ _ (shard_read s m id turn namespace at half sent asks agree covered) = (refl, refl)
+shard_quiet _ _ _ _ (shard_read_above s m id turn namespace at half sent asks agree above) = (refl, refl)
 shard_quiet _ _ _ _ (shard_rows s m id turn namespace at half documents rows asks shows small) = (refl, refl)
 shard_quiet _ _ _ _ (shard_excess s m id turn namespace at half documents rows length n asks shows much told) = (refl, refl)
 shard_quiet _ _ _ _ (shard_overflow s m id turn namespace at half documents asks over) = (refl, refl)
@@ -212,7 +213,7 @@ occurs_once _ _ _ stay own (stops w v at e i gives m) =
 
 -- RUNS
 
-run_once : (u w : World) (events : List EventOrStop) → WorldStays u → AllByRecursion NodeReplays u.nodes → WorldOnce u → RunWithStops u events w → WorldOnce w
+run_once : (u w : World) (events : List EventOrStop) → WorldStays u → WorldReplays u → WorldOnce u → RunWithStops u events w → WorldOnce w
 run_once _ _ _ stay all own (stays w) = own
 run_once _ _ _ stay all own (proceeds u v w e events h more) =
     run_once v w events (occurs_stays u v e stay all h) (occurs_replays u v e all h) (occurs_once u v e stay own h) more

@@ -5,7 +5,8 @@ use Rattle.history_model.specs.History.{Entry}
 use Rattle.record_model.specs.Records.{Record}
 use Rattle.node_model.specs.Journal.{Kept, record_kept}
 use Rattle.node_laws.proofs.Lists.{map_longer}
-use Rattle.node_replay.specs.Durable.{DurableState, latest_entry}
+use Rattle.node_model.specs.ShardRows.{greatest_entry}
+use Rattle.node_replay.specs.Durable.{DurableState}
 use Rattle.node_replay.specs.Replays.{follow, replayed, records_of}
 
 pub replayed_more : (o : Option DurableState) (records more : List Record) → replayed o (records ++ more) ≡ replayed (replayed o records) more
@@ -22,10 +23,10 @@ replayed_then o kept written d e before next =
     ∙ ap (λ x. replayed x (records_of written)) before
     ∙ next
 
-pub latest_joined : (xs ys : List Entry) → latest_entry (xs ++ ys) ≡ max (latest_entry xs) (latest_entry ys)
+pub latest_joined : (xs ys : List Entry) → greatest_entry (xs ++ ys) ≡ max (greatest_entry xs) (greatest_entry ys)
 latest_joined [] ys = omega arith
 latest_joined (e ∷ xs) ys = let h = latest_joined xs ys in omega (arith, h)
 
 -- a later entry is the latest
-pub latest_push : (xs : List Entry) (e : Entry) → latest_entry xs < e.time → latest_entry (xs ++ e ∷ []) ≡ e.time
+pub latest_push : (xs : List Entry) (e : Entry) → greatest_entry xs < e.time → greatest_entry (xs ++ e ∷ []) ≡ e.time
 latest_push xs e less = let h = latest_joined xs (e ∷ []) in omega (arith, h)

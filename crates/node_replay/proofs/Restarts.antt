@@ -6,19 +6,19 @@ use Rattle.std.specs.Option.{option_map}
 use Rattle.chunk_model.specs.Changes.{create_change, split_change}
 use Rattle.chunk_model.specs.Tables.{table_of}
 use Rattle.record_model.specs.Records.{Record, table_record, entry_record, ceiling_record, create_record, split_record, catalogue_ceiling_record, life_record, block_record}
-use Rattle.node_model.specs.Journal.{Kept}
-use Rattle.node_model.specs.Letters.{Input, Effect}
-use Rattle.node_model.specs.ShardRows.{is_news}
-use Rattle.node_model.specs.States.{NodeState, catalogue_state, shard_state, router_state}
-use Rattle.node_model.specs.World.{Held, World, start}
+use Rattle.node_model.specs.Journal.{Kept, greatest_kept}
+use Rattle.node_model.specs.Letters.{Letter, Input, client_input, letter_input, moment_input, opened_input, Effect}
+use Rattle.node_model.specs.ShardRows.{is_news, top, greatest_entry}
+use Rattle.node_model.specs.States.{Shard, NodeState, catalogue_state, shard_state, router_state}
+use Rattle.node_model.specs.World.{Held, World, Event, start}
 use Rattle.node_replay.specs.Durable.{DurableState, durable_catalogue, durable_shard, durable_router, next_life, durable_of, empty_of}
 use Rattle.node_replay.specs.Follow.{may_create, with_change, may_split, catalogue_follow, entry_from, may_enter, has_table, with_entry, shard_follow, router_follow}
 use Rattle.node_replay.specs.Replays.{follow, replayed, records_of, time_in, latest_time}
 use Rattle.node_replay.specs.Openings.{opened, opened_on}
 use Rattle.node_replay.specs.Holds.{Holds, Replays, MayOpen}
-use Rattle.node_replay.specs.Restarts.{Restarts, Stops, EventOrStop, Occurs, occurs, restarts, stops, RunWithStops, stays, proceeds}
-use Rattle.node_replay.proofs.Steps.{StepFollows, step_follows}
-use Rattle.node_replay.proofs.Runs.{NodeReplays, all_got, all_set, step_replays, event_replays, start_replays}
+use Rattle.node_replay.specs.ReadTimes.{IsInTime, ComesInTime, ReadsInTime}
+use Rattle.node_replay.specs.Restarts.{Restarts, Stops, Gives, gives_request, gives_message, gives_moment, gives_opening, EventOrStop, Occurs, occurs, restarts, stops, RunWithStops, stays, proceeds}
+use Rattle.node_replay.proofs.Runs.{NodeReplays, NodeReads, WorldReplays, MoveShows, move_shows, all_got, all_set, step_replays, event_replays, start_replays}
 use Rattle.history_model.proofs.Lists.{all_weaken}
 
 -- TIMES
@@ -75,84 +75,117 @@ replay_top (r ∷ records) d e same = by_next (follow d r) refl (λ x more. repl
 
 -- A START
 
-pub opened_durable : (time : ℕ) (s : NodeState) → durable_of (opened time (durable_of s)) ≡ durable_of s
-opened_durable time (catalogue_state c) = refl
-opened_durable time (shard_state s) = refl
-opened_durable time (router_state r) = refl
+-- the ceiling of a shard that is started is the greatest of all that it stored, and this stays so
+same_top : (s : Shard) → max (top s) (greatest_entry s.entries) ≡ top s
+same_top s = omega arith
 
-opened_own : (time : ℕ) (s : NodeState) → empty_of (opened time (durable_of s)) ≡ empty_of s
-opened_own time (catalogue_state c) = refl
-opened_own time (shard_state s) = refl
-opened_own time (router_state r) = refl
+pub opened_durable : (time stored : ℕ) (s : NodeState) → durable_of stored (opened time (durable_of stored s)) ≡ durable_of stored s
+opened_durable time stored (catalogue_state c) = refl
+opened_durable time stored (shard_state s) =
+    ap (λ n. durable_shard (record { me = s.me; top = n; tables = s.tables; entries = s.entries })) (same_top s)
+opened_durable time stored (router_state r) = refl
 
-opened_holds : (records : List Record) (s : NodeState) → replayed (Some (empty_of s)) records ≡ Some (durable_of s) → Holds s
-    → Holds (opened (latest_time records) (durable_of s))
-opened_holds records (catalogue_state c) replays holds =
-    let h = replay_top records (empty_of (catalogue_state c)) (durable_of (catalogue_state c)) replays in
+pub opened_own : (time stored : ℕ) (s : NodeState) → empty_of (opened time (durable_of stored s)) ≡ empty_of s
+opened_own time stored (catalogue_state c) = refl
+opened_own time stored (shard_state s) = refl
+opened_own time stored (router_state r) = refl
+
+-- nothing is parked and nothing is open
+opened_reads : (time : ℕ) (d : DurableState) → ReadsInTime (opened time d)
+opened_reads time (durable_catalogue d) = tt
+opened_reads time (durable_shard d) = tt
+opened_reads time (durable_router d) = tt
+
+opened_holds : (records : List Record) (stored : ℕ) (s : NodeState) → replayed (Some (empty_of s)) records ≡ Some (durable_of stored s) → Holds stored s
+    → Holds stored (opened (latest_time records) (durable_of stored s))
+opened_holds records stored (catalogue_state c) replays holds =
+    let h = replay_top records (empty_of (catalogue_state c)) (durable_of stored (catalogue_state c)) replays in
     omega (arith, h)
-opened_holds records (shard_state s) replays holds =
-    let h = replay_top records (empty_of (shard_state s)) (durable_of (shard_state s)) replays in
+opened_holds records stored (shard_state s) replays holds =
+    let h = replay_top records (empty_of (shard_state s)) (durable_of stored (shard_state s)) replays in
     omega (arith, h)
-opened_holds records (router_state r) replays holds = (life_first r.begun, inr refl)
+opened_holds records stored (router_state r) replays holds = (life_first r.begun, inr refl)
   where
     life_first : (begun : Bool) → 1 ≤ next_life r.life begun
     life_first true = omega arith
     life_first false = holds.0
 
 -- what a node becomes
-pub node_opens : (h : Held) → Replays h → opened_on h.state h.kept ≡ Some (opened (latest_time (records_of h.kept)) (durable_of h.state))
+abbrev pub became : Held → NodeState
+became h = opened (latest_time (records_of h.kept)) (durable_of (greatest_kept h.kept) h.state)
+
+pub node_opens : (h : Held) → Replays h → opened_on h.state h.kept ≡ Some (became h)
 node_opens h replays = ap (λ o. option_map (opened (latest_time (records_of h.kept))) o) replays
 
-pub opened_is : (h : Held) (new : NodeState) → Replays h → opened_on h.state h.kept ≡ Some new
-    → opened (latest_time (records_of h.kept)) (durable_of h.state) ≡ new
-opened_is h new replays opens = some_is (opened (latest_time (records_of h.kept)) (durable_of h.state)) new (sym (node_opens h replays) ∙ opens)
+pub opened_is : (h : Held) (new : NodeState) → Replays h → opened_on h.state h.kept ≡ Some new → became h ≡ new
+opened_is h new replays opens = some_is (became h) new (sym (node_opens h replays) ∙ opens)
 
 pub opened_replays : (h : Held) (new : NodeState) → NodeReplays h → opened_on h.state h.kept ≡ Some new
-    → NodeReplays (record { state = new; kept = h.kept })
+    → NodeReplays (record { state = new; kept = h.kept }) × ReadsInTime new
 opened_replays h new (replays, holds) opens =
-    let became : NodeState = opened (latest_time (records_of h.kept)) (durable_of h.state) in
-    let same : became ≡ new = opened_is h new replays opens in
-    subst (λ s. NodeReplays (record { state = s; kept = h.kept })) same (
-      subst (λ e. replayed (Some e) (records_of h.kept) ≡ Some (durable_of became)) (sym (opened_own (latest_time (records_of h.kept)) h.state))
-          (replays ∙ ap (λ d. Some d) (sym (opened_durable (latest_time (records_of h.kept)) h.state))),
-      opened_holds (records_of h.kept) h.state replays holds,
+    let same : became h ≡ new = opened_is h new replays opens in
+    subst (λ s. NodeReplays (record { state = s; kept = h.kept }) × ReadsInTime s) same (
+      (
+        subst (λ e. replayed (Some e) (records_of h.kept) ≡ Some (durable_of (greatest_kept h.kept) (became h)))
+            (sym (opened_own (latest_time (records_of h.kept)) (greatest_kept h.kept) h.state))
+            (replays ∙ ap (λ d. Some d) (sym (opened_durable (latest_time (records_of h.kept)) (greatest_kept h.kept) h.state))),
+        opened_holds (records_of h.kept) (greatest_kept h.kept) h.state replays holds,
+      ),
+      opened_reads (latest_time (records_of h.kept)) (durable_of (greatest_kept h.kept) h.state),
     )
 
 -- RUNS
 
-restart_replays : (w v : World) (at : ℕ) → AllByRecursion NodeReplays w.nodes → Restarts w at v → AllByRecursion NodeReplays v.nodes
+restart_replays : (w v : World) (at : ℕ) → WorldReplays w → Restarts w at v → WorldReplays v
 restart_replays w v at all m =
-    let old : NodeReplays m.old = all_got NodeReplays w.nodes at m.old all m.here in
-    subst (λ (x : World). AllByRecursion NodeReplays x.nodes) (sym m.then)
-    (all_set NodeReplays w.nodes at (record { state = m.new; kept = m.old.kept ++ [] }) all
-    (subst (λ k. NodeReplays (record { state = m.new; kept = k })) (sym (append-nil m.old.kept)) (opened_replays m.old m.new old m.opens)))
+    let old : NodeReplays m.old = all_got NodeReplays w.nodes at m.old all.nodes m.here in
+    let now = opened_replays m.old m.new old m.opens in
+    subst (λ (x : World). WorldReplays x) (sym m.then) (record {
+      nodes = all_set NodeReplays w.nodes at (record { state = m.new; kept = m.old.kept ++ [] }) all.nodes
+          (subst (λ k. NodeReplays (record { state = m.new; kept = k })) (sym (append-nil m.old.kept)) now.0);
+      reads = all_set NodeReads w.nodes at (record { state = m.new; kept = m.old.kept ++ [] }) all.reads now.1;
+      letters = subst (λ l. AllByRecursion IsInTime l) (sym (append-nil w.sent)) all.letters;
+    })
 
-stop_replays : (w v : World) (at : ℕ) (i : Input) → AllByRecursion NodeReplays w.nodes → Stops w at i v → AllByRecursion NodeReplays v.nodes
-stop_replays w v at i all m =
-    let old : NodeReplays m.old = all_got NodeReplays w.nodes at m.old all m.here in
-    let s : StepFollows m.old.state m.f m.reached = step_follows m.old.state m.reached i m.f old.1 m.step in
+stop_replays : (w v : World) (at : ℕ) (i : Input) → WorldReplays w → ComesInTime i → Stops w at i v → WorldReplays v
+stop_replays w v at i all input m =
+    let old : NodeReplays m.old = all_got NodeReplays w.nodes at m.old all.nodes m.here in
+    let s : MoveShows m.old m.f m.reached = move_shows w at m.old m.reached i m.f all input m.here m.step in
     let kept : List Kept = m.old.kept ++ m.f.written in
     let opens : opened_on m.reached kept ≡ Some m.new =
-    ap (λ e. option_map (opened (latest_time (records_of kept))) (replayed (Some e) (records_of kept))) s.own ∙ m.opens in
-    subst (λ (x : World). AllByRecursion NodeReplays x.nodes) (sym m.then)
-    (all_set NodeReplays w.nodes at (record { state = m.new; kept = kept }) all
-    (opened_replays (record { state = m.reached; kept = kept }) m.new (step_replays m.old m.reached i m.f old s) opens))
+    ap (λ e. option_map (opened (latest_time (records_of kept))) (replayed (Some e) (records_of kept))) s.follows.own ∙ m.opens in
+    let now = opened_replays (record { state = m.reached; kept = kept }) m.new (step_replays m.old m.reached i m.f old s.follows) opens in
+    subst (λ (x : World). WorldReplays x) (sym m.then) (record {
+      nodes = all_set NodeReplays w.nodes at (record { state = m.new; kept = kept }) all.nodes now.0;
+      reads = all_set NodeReads w.nodes at (record { state = m.new; kept = kept }) all.reads now.1;
+      letters = subst (λ l. AllByRecursion IsInTime l) (sym (append-nil w.sent)) all.letters;
+    })
 
-pub occurs_replays : (w v : World) (e : EventOrStop) → AllByRecursion NodeReplays w.nodes → Occurs w e v → AllByRecursion NodeReplays v.nodes
+-- a message that is delivered was sent
+pub given_in_time : (w : World) (e : Event) (at : ℕ) (i : Input) → WorldReplays w → Gives w e at i → ComesInTime i
+given_in_time w _ _ _ all (gives_request at link number request is) = tt
+given_in_time w _ _ _ all (gives_message at which m got to) = all_got IsInTime w.sent which m all.letters got
+given_in_time w _ _ _ all (gives_moment at moment) = tt
+given_in_time w _ _ _ all (gives_opening at) = tt
+
+pub occurs_replays : (w v : World) (e : EventOrStop) → WorldReplays w → Occurs w e v → WorldReplays v
 occurs_replays _ _ _ all (occurs w v e h) = event_replays w v e all h
 occurs_replays _ _ _ all (restarts w v at m) = restart_replays w v at all m
-occurs_replays _ _ _ all (stops w v at e i gives m) = stop_replays w v at i all m
+occurs_replays _ _ _ all (stops w v at e i gives m) = stop_replays w v at i all (given_in_time w e at i all gives) m
 
-pub stopped_replays : (u w : World) (events : List EventOrStop) → AllByRecursion NodeReplays u.nodes → RunWithStops u events w
-    → AllByRecursion NodeReplays w.nodes
+pub stopped_replays : (u w : World) (events : List EventOrStop) → WorldReplays u → RunWithStops u events w → WorldReplays w
 stopped_replays _ _ _ all (stays w) = all
 stopped_replays _ _ _ all (proceeds u v w e events h more) = stopped_replays v w events (occurs_replays u v e all h) more
 
 may_open : (h : Held) → NodeReplays h → MayOpen h
-may_open h (replays, holds) = (opened (latest_time (records_of h.kept)) (durable_of h.state), node_opens h replays)
+may_open h (replays, holds) = (became h, node_opens h replays)
 
 pub run_with_stops_replays : (routers : ℕ) (events : List EventOrStop) (w : World) → RunWithStops (start routers) events w
     → AllByRecursion Replays w.nodes × AllByRecursion MayOpen w.nodes
 run_with_stops_replays routers events w run =
-    let all : AllByRecursion NodeReplays w.nodes = stopped_replays (start routers) w events (start_replays routers) run in
-    (all_weaken NodeReplays Replays w.nodes (λ h r. r.0) all, all_weaken NodeReplays MayOpen w.nodes may_open all)
+    let all : WorldReplays w = stopped_replays (start routers) w events (start_replays routers) run in
+    (all_weaken NodeReplays Replays w.nodes (λ h r. r.0) all.nodes, all_weaken NodeReplays MayOpen w.nodes may_open all.nodes)
+
+pub run_with_stops_in_time : (routers : ℕ) (events : List EventOrStop) (w : World) → RunWithStops (start routers) events w
+    → AllByRecursion IsInTime w.sent
+run_with_stops_in_time routers events w run = (stopped_replays (start routers) w events (start_replays routers) run).letters

@@ -11,20 +11,20 @@ use Rattle.reply_model.specs.Cursors.{Cursor}
 use Rattle.chunk_model.specs.Tables.{Table}
 use Rattle.node_model.specs.Journal.{Kept, kept_block, kept_life}
 use Rattle.node_model.specs.Letters.{Letter, Input, Effect}
-use Rattle.node_model.specs.States.{Telling, Open, Router, router_state, open_with, without, replaced}
+use Rattle.node_model.specs.States.{Telling, Open, Router, open_with, without, replaced}
 use Rattle.node_model.specs.RouterRows.{heard, id_of, open_of, new_cursor, next_of, stay_in, adopted, was_created, knows, begins, Opened, opens, as_before, gives_number, block_size, Tells, tells_overflow, tells_excess, tells_number, tells_batch, tells_cursor, RouterRow, router_begin, router_opened, router_plain, router_more, router_no_cursor, router_kill, router_take, router_learn, router_split, router_not_sharded, router_reach, router_ahead, router_note, router_wrote, router_read, router_excess, router_overflow, router_late, router_skip, router_moment}
-use Rattle.node_replay.specs.Durable.{DurableRouter, DurableState, durable_router, next_life, durable_of}
+use Rattle.node_replay.specs.Durable.{DurableRouter, DurableState, durable_router, next_life, router_part}
 use Rattle.node_replay.specs.Replays.{replayed, records_of}
-use Rattle.node_replay.specs.Holds.{Holds}
+
+-- lives count from 1, and outside of a life no request is open
+abbrev pub RouterHolds : Router → Type 0
+RouterHolds r = (1 ≤ r.life) × ((r.begun ≡ true) ⊎ (r.requests ≡ []))
 
 -- what a step of a router has to show
 pub record RouterFollows (r : Router) (f : Effect) (q : Router) : Type 0 where
   pub own : q.me ≡ r.me
-  pub leads : replayed (Some (durable_of (router_state r))) (records_of f.written) ≡ Some (durable_of (router_state q))
-  pub holds : Holds (router_state q)
-
-abbrev pub RouterHolds : Router → Type 0
-RouterHolds r = Holds (router_state r)
+  pub leads : replayed (Some (durable_router (router_part r))) (records_of f.written) ≡ Some (durable_router (router_part q))
+  pub holds : RouterHolds q
 
 -- NO REQUEST IS OPEN OUTSIDE OF A LIFE
 
@@ -53,17 +53,17 @@ kept_none begun requests next (inr none) f = inr (f none)
 still : (r q : Router) (f : Effect) → f.written ≡ [] → q.me ≡ r.me → q.life ≡ r.life → q.begun ≡ r.begun → q.blocks ≡ r.blocks → 1 ≤ r.life
     → (q.begun ≡ true) ⊎ (q.requests ≡ []) → RouterFollows r f q
 still r q f none me life begun blocks first closed =
-    let same : Some (durable_of (router_state r)) ≡ Some (durable_of (router_state q)) =
+    let same : Some (durable_router (router_part r)) ≡ Some (durable_router (router_part q)) =
     λ i. Some (durable_router (record { me = sym me i; life = next_life (sym life i) (sym begun i); blocks = sym blocks i })) in
     record {
       own = me;
-      leads = ap (λ l. replayed (Some (durable_of (router_state r))) (records_of l)) none ∙ same;
+      leads = ap (λ l. replayed (Some (durable_router (router_part r))) (records_of l)) none ∙ same;
       holds = (subst (λ n. 1 ≤ n) (sym life) first, closed);
     }
 
 -- the record of a life
 begins_follow : (r : Router) → RouterHolds r → r.begun ≡ false
-    → replayed (Some (durable_of (router_state r))) (records_of (kept_life r.life ∷ [])) ≡ Some (durable_of (router_state (begins r)))
+    → replayed (Some (durable_router (router_part r))) (records_of (kept_life r.life ∷ [])) ≡ Some (durable_router (router_part (begins r)))
 begins_follow r holds not_begun =
     let life : next_life r.life r.begun ≡ r.life = ap (λ b. next_life r.life b) not_begun in
     let may : (r.life == next_life r.life r.begun) ≡ true = eq-eqb r.life (next_life r.life r.begun) (sym life) in
@@ -74,7 +74,7 @@ begins_holds r holds = (holds.0, inl refl)
 
 -- the record of a block
 block_follows : (r : Router) → 1 ≤ r.life → r.begun ≡ true
-    → replayed (Some (durable_of (router_state r))) (records_of (kept_block r.blocks ∷ []))
+    → replayed (Some (durable_router (router_part r))) (records_of (kept_block r.blocks ∷ []))
     ≡ Some (durable_router (record { me = r.me; life = next_life r.life r.begun; blocks = r.blocks + 1 }))
 block_follows r first begun =
     let life : next_life r.life r.begun ≡ r.life + 1 = ap (λ b. next_life r.life b) begun in
@@ -91,7 +91,7 @@ numbered r cursors t =
 
 abbrev HasBlocks : Router → Opened → Type 0
 HasBlocks r f =
-    replayed (Some (durable_of (router_state r))) (records_of f.written)
+    replayed (Some (durable_router (router_part r))) (records_of f.written)
     ≡ Some (durable_router (record { me = r.me; life = next_life r.life r.begun; blocks = f.blocks }))
 
 number_follows : (r : Router) (cursors : List Cursor) (t : Bool) → 1 ≤ r.life → r.begun ≡ true → HasBlocks r (numbered r cursors t)

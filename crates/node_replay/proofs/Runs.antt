@@ -4,19 +4,34 @@ use Rattle.std.specs.Prelude.{max, Bool, true, false, ◌&&◌, Option, Some, No
 use Rattle.std.specs.List.{AllByRecursion, slice_get, slice_set}
 use Rattle.std.specs.Option.{option_map}
 use Rattle.std.proofs.lemmas.Bool.{ltb-true}
-use Rattle.node_model.specs.Journal.{Kept}
-use Rattle.node_model.specs.Letters.{Input, client_input, letter_input, moment_input, opened_input, Effect, nothing}
+use Rattle.history_model.proofs.Lists.{all_append}
+use Rattle.node_model.specs.Journal.{Kept, greatest_kept}
+use Rattle.node_model.specs.Letters.{Letter, Input, client_input, letter_input, moment_input, opened_input, Effect, nothing}
 use Rattle.node_model.specs.States.{NodeState, catalogue_state, shard_state, router_state, new_router}
+use Rattle.node_model.specs.Steps.{Step}
 use Rattle.node_model.specs.World.{Held, World, Moves, Event, Happens, comes, delivers, passes, begins, Run, stands, goes, routers_from, start}
 use Rattle.node_replay.specs.Durable.{DurableState, durable_of, empty_of}
 use Rattle.node_replay.specs.Replays.{replayed, records_of}
+use Rattle.node_laws.proofs.GreatestTimes.{greatest_both}
 use Rattle.node_replay.specs.Holds.{Holds, Replays}
+use Rattle.node_replay.specs.ReadTimes.{IsInTime, ComesInTime, ReadsInTime}
 use Rattle.node_replay.proofs.Replay.{replayed_then}
+use Rattle.node_replay.proofs.ReadTimes.{StepInTime, step_in_time}
+use Rattle.node_replay.proofs.CatalogueFollows.{stored_with}
 use Rattle.node_replay.proofs.Steps.{StepFollows, step_follows}
 
 -- what is true of each node at every moment
 abbrev pub NodeReplays : Held → Type 0
-NodeReplays h = Replays h × Holds h.state
+NodeReplays h = Replays h × Holds (greatest_kept h.kept) h.state
+
+abbrev pub NodeReads : Held → Type 0
+NodeReads h = ReadsInTime h.state
+
+-- and of all nodes and messages
+pub record WorldReplays (w : World) : Type 0 where
+  pub nodes : AllByRecursion NodeReplays w.nodes
+  pub reads : AllByRecursion NodeReads w.nodes
+  pub letters : AllByRecursion IsInTime w.sent
 
 -- LISTS
 
@@ -32,30 +47,52 @@ all_set P (y ∷ xs) (suc at) x all p = (all.0, all_set P xs at x all.1 p)
 
 -- STEPS
 
-pub step_replays : (old : Held) (new : NodeState) (i : Input) (f : Effect) → NodeReplays old → StepFollows old.state f new
+pub step_replays : (old : Held) (new : NodeState) (i : Input) (f : Effect) → NodeReplays old → StepFollows (greatest_kept old.kept) old.state f new
     → NodeReplays (record { state = new; kept = old.kept ++ f.written })
-step_replays old new i f (replays, holds) s = (
-  subst (λ e. replayed (Some e) (records_of (old.kept ++ f.written)) ≡ Some (durable_of new)) (sym s.own)
-      (replayed_then (Some (empty_of old.state)) old.kept f.written (durable_of old.state) (durable_of new) replays s.leads),
-  s.holds,
-)
+step_replays old new i f (replays, holds) s =
+    let stored : stored_with (greatest_kept old.kept) f ≡ greatest_kept (old.kept ++ f.written) = sym (greatest_both old.kept f.written) in (
+      subst (λ e. replayed (Some e) (records_of (old.kept ++ f.written)) ≡ Some (durable_of (greatest_kept (old.kept ++ f.written)) new)) (sym s.own)
+          (replayed_then (Some (empty_of old.state)) old.kept f.written (durable_of (greatest_kept old.kept) old.state)
+          (durable_of (greatest_kept (old.kept ++ f.written)) new) replays (s.leads ∙ ap (λ n. Some (durable_of n new)) stored)),
+      subst (λ n. Holds n new) stored s.holds,
+    )
 
-pub move_replays : (w v : World) (at : ℕ) (i : Input) → AllByRecursion NodeReplays w.nodes → Moves w at i v → AllByRecursion NodeReplays v.nodes
-move_replays w v at i all m =
-    let old : NodeReplays m.old = all_got NodeReplays w.nodes at m.old all m.here in
-    subst (λ (x : World). AllByRecursion NodeReplays x.nodes) (sym m.then)
-    (all_set NodeReplays w.nodes at (record { state = m.new; kept = m.old.kept ++ m.f.written }) all
-    (step_replays m.old m.new i m.f old (step_follows m.old.state m.new i m.f old.1 m.step)))
+-- what a step of a node of a world shows
+pub record MoveShows (old : Held) (f : Effect) (new : NodeState) : Type 0 where
+  pub follows : StepFollows (greatest_kept old.kept) old.state f new
+  pub in_time : StepInTime f new
 
-pub event_replays : (w v : World) (e : Event) → AllByRecursion NodeReplays w.nodes → Happens w e v → AllByRecursion NodeReplays v.nodes
-event_replays _ _ _ all (comes w v at link number request is m) = move_replays w v at (client_input link number request) all m
-event_replays _ _ _ all (delivers w v at which l got to m) = move_replays w v at (letter_input l) all m
-event_replays _ _ _ all (passes w v at moment m) = move_replays w v at (moment_input moment) all m
-event_replays _ _ _ all (begins w v at m) = move_replays w v at opened_input all m
+pub move_shows : (w : World) (at : ℕ) (old : Held) (new : NodeState) (i : Input) (f : Effect) → WorldReplays w → ComesInTime i
+    → slice_get w.nodes at ≡ Some old → Step old.state i f new → MoveShows old f new
+move_shows w at old new i f all input here step =
+    let replays : NodeReplays old = all_got NodeReplays w.nodes at old all.nodes here in
+    let reads : NodeReads old = all_got NodeReads w.nodes at old all.reads here in
+    record {
+      follows = step_follows (greatest_kept old.kept) old.state new i f replays.1 input step;
+      in_time = step_in_time old.state new i f reads input step;
+    }
+
+move_replays : (w v : World) (at : ℕ) (i : Input) → WorldReplays w → ComesInTime i → Moves w at i v → WorldReplays v
+move_replays w v at i all input m =
+    let old : NodeReplays m.old = all_got NodeReplays w.nodes at m.old all.nodes m.here in
+    let s : MoveShows m.old m.f m.new = move_shows w at m.old m.new i m.f all input m.here m.step in
+    subst (λ (x : World). WorldReplays x) (sym m.then) (record {
+      nodes = all_set NodeReplays w.nodes at (record { state = m.new; kept = m.old.kept ++ m.f.written }) all.nodes
+          (step_replays m.old m.new i m.f old s.follows);
+      reads = all_set NodeReads w.nodes at (record { state = m.new; kept = m.old.kept ++ m.f.written }) all.reads s.in_time.state;
+      letters = all_append IsInTime w.sent m.f.mail all.letters s.in_time.letters;
+    })
+
+pub event_replays : (w v : World) (e : Event) → WorldReplays w → Happens w e v → WorldReplays v
+event_replays _ _ _ all (comes w v at link number request is m) = move_replays w v at (client_input link number request) all tt m
+event_replays _ _ _ all (delivers w v at which l got to m) =
+    move_replays w v at (letter_input l) all (all_got IsInTime w.sent which l all.letters got) m
+event_replays _ _ _ all (passes w v at moment m) = move_replays w v at (moment_input moment) all tt m
+event_replays _ _ _ all (begins w v at m) = move_replays w v at opened_input all tt m
 
 -- RUNS
 
-pub run_replays : (u w : World) (events : List Event) → AllByRecursion NodeReplays u.nodes → Run u events w → AllByRecursion NodeReplays w.nodes
+pub run_replays : (u w : World) (events : List Event) → WorldReplays u → Run u events w → WorldReplays w
 run_replays _ _ _ all (stands w) = all
 run_replays _ _ _ all (goes u v w e events h more) = run_replays v w events (event_replays u v e all h) more
 
@@ -63,5 +100,13 @@ routers_replay : (at n : ℕ) → AllByRecursion NodeReplays (routers_from at n)
 routers_replay at zero = tt
 routers_replay at (suc n) = ((refl, (omega arith, inr refl)), routers_replay (at + 1) n)
 
-pub start_replays : (routers : ℕ) → AllByRecursion NodeReplays (start routers).nodes
-start_replays routers = ((refl, omega arith), ((refl, omega arith), routers_replay 2 routers))
+routers_read : (at n : ℕ) → AllByRecursion NodeReads (routers_from at n)
+routers_read at zero = tt
+routers_read at (suc n) = (tt, routers_read (at + 1) n)
+
+pub start_replays : (routers : ℕ) → WorldReplays (start routers)
+start_replays routers = record {
+  nodes = ((refl, omega arith), ((refl, omega arith), routers_replay 2 routers));
+  reads = (tt, (tt, routers_read 2 routers));
+  letters = tt;
+}

@@ -10,11 +10,11 @@ use Rattle.history_model.proofs.Lists.{all_weaken, all_append, all_at, all_filte
 use Rattle.history_model.specs.History.{StatementNumber, Entry, IsIn}
 use Rattle.reply_model.specs.Exchanges.{Asked, number_for}
 use Rattle.reply_model.specs.Outcomes.{StatementOutcome, Done}
-use Rattle.node_model.specs.Journal.{Kept, kept_table, kept_entry, entries_kept}
+use Rattle.node_model.specs.Journal.{Kept, kept_table, kept_entry, kept_ceiling, entries_kept}
 use Rattle.node_model.specs.Letters.{Statement, Body, write_done, Letter, Input, client_input, letter_input, moment_input, opened_input, Effect, sends, writes}
 use Rattle.node_model.specs.RouterRows.{statements_from}
 use Rattle.node_model.specs.Service.{Serves, Repeats}
-use Rattle.node_model.specs.ShardRows.{heard, at_later, Ask, ask_in, wants_table, says, asks_table, tries, asks_again, ShardRow, shard_write, shard_repeat, shard_empty, shard_park, shard_waits, shard_stale, shard_read, shard_rows, shard_excess, shard_overflow, shard_time, shard_learn, shard_known, shard_skip, shard_moment, shard_opened, shard_client}
+use Rattle.node_model.specs.ShardRows.{heard, greatest_entry, at_later, under, Ask, ask_in, wants_table, says, asks_table, tries, asks_again, ShardRow, shard_write, shard_repeat, shard_empty, shard_park, shard_waits, shard_stale, shard_read, shard_read_above, shard_rows, shard_excess, shard_overflow, shard_time, shard_learn, shard_known, shard_skip, shard_moment, shard_opened, shard_client}
 use Rattle.node_model.specs.States.{Shard}
 use Rattle.node_laws.proofs.Dates.{IsNoChange}
 use Rattle.node_laws.proofs.Lists.{all_mapped}
@@ -23,7 +23,6 @@ use Rattle.node_laws.proofs.MadeEntries.{statements_of}
 use Rattle.node_laws.proofs.ServedStatements.{AreUpTo, IsOf, AreOf, IsEntryOf, statement_of, serves_entries, serves_told, repeats_told}
 use Rattle.node_laws.proofs.WriteFacts.{IsAnswerOf, by_entry, by_older, IsDoneAt}
 use Rattle.node_replay.specs.Acknowledged.{IsOutcomeOf, of_entry, of_greater, IsOutcomeAt}
-use Rattle.node_replay.specs.Durable.{latest_entry}
 use Rattle.node_replay.proofs.StayFacts.{AreSent, AreDone, BodyStays, LetterStays, EntryStays, ShardStays, Grows, body_grows, letters_grow, entries_grow}
 
 -- what is known of an input
@@ -44,7 +43,7 @@ pub record ShardNext (asked : List Asked) (history : List Entry) (at : ℕ) (kep
 -- LISTS
 
 -- no entry is above the latest
-pub latest_above : (time : ℕ) (entries : List Entry) → latest_entry entries ≤ time → AreUpTo time entries
+pub latest_above : (time : ℕ) (entries : List Entry) → greatest_entry entries ≤ time → AreUpTo time entries
 latest_above time [] le = tt
 latest_above time (e ∷ entries) le = (omega (arith, le), latest_above time entries (omega (arith, le)))
 
@@ -100,11 +99,11 @@ asks_again_stay asked history s time (m ∷ parked) = by_ask (ask_in m.body) (as
 -- TRANSITIONS
 
 module _ (asked more : List Asked) (history longer : List Entry) (g : Grows asked more history longer) (at : ℕ) (kept : List Kept) (s : Shard)
-    (mine : ShardStays asked history at kept s) (past : latest_entry s.entries ≤ s.time) where
+    (mine : ShardStays asked history at kept s) (past : greatest_entry s.entries ≤ s.time) where
   -- the shard stores nothing
   quiet : (f : Effect) (time : ℕ) (parked : List Letter) → f.written ≡ [] → f.taken ≡ [] → f.replies ≡ []
       → AllByRecursion (LetterStays more longer) parked → AllByRecursion (LetterStays more longer) f.mail
-      → ShardNext more longer at kept f (record { me = s.me; time = time; tables = s.tables; entries = s.entries; parked = parked })
+      → ShardNext more longer at kept f (record { me = s.me; time = time; tables = s.tables; entries = s.entries; ceiling = s.ceiling; parked = parked })
   quiet f time parked none takes tells waits letters = record {
     node = record {
       own = mine.own;
@@ -124,7 +123,7 @@ module _ (asked more : List Asked) (history longer : List Entry) (g : Grows aske
 
   -- one message, about which nothing is known, or none
   says_one : (f : Effect) (time : ℕ) → f.written ≡ [] → f.taken ≡ [] → f.replies ≡ [] → AllByRecursion (LetterStays more longer) f.mail
-      → ShardNext more longer at kept f (record { me = s.me; time = time; tables = s.tables; entries = s.entries; parked = s.parked })
+      → ShardNext more longer at kept f (record { me = s.me; time = time; tables = s.tables; entries = s.entries; ceiling = s.ceiling; parked = s.parked })
   says_one f time none takes tells letters = quiet f time s.parked none takes tells parked_stay letters
 
   done_stay : (id : RequestId) (namespace : List ℕ) (statements : List Statement) (ask : AreSent asked id namespace statements) (last : ℕ) (dones : List Done)
@@ -143,7 +142,7 @@ module _ (asked more : List Asked) (history longer : List Entry) (g : Grows aske
       (last to : ℕ) → s.time ≤ time → longer ≡ entries_kept (kept ++ map kept_entry made) → AreSent asked id namespace statements
       → Serves s.me namespace ordered s.entries time statements dones made last
       → ShardNext more longer at kept (writes (map kept_entry made) (says s to last (write_done id dones) ∷ []))
-      (record { me = s.me; time = last; tables = s.tables; entries = s.entries ++ made; parked = s.parked })
+      (record { me = s.me; time = last; tables = s.tables; entries = s.entries ++ made; ceiling = s.ceiling; parked = s.parked })
   writes_stay id namespace ordered time statements dones made last to le here ask serves =
       let stored : entries_kept (kept ++ map kept_entry made) ≡ s.entries ++ made =
       entries_longer kept (map kept_entry made)
@@ -191,7 +190,7 @@ module _ (asked more : List Asked) (history longer : List Entry) (g : Grows aske
   learns_stay : (t : Table) (time : ℕ) (mail : List Letter) (parked : List Letter) → AllByRecursion (LetterStays more longer) mail
       → AllByRecursion (LetterStays more longer) parked
       → ShardNext more longer at kept (writes (kept_table t ∷ []) mail)
-      (record { me = s.me; time = time; tables = with_table t s.tables; entries = s.entries; parked = parked })
+      (record { me = s.me; time = time; tables = with_table t s.tables; entries = s.entries; ceiling = s.ceiling; parked = parked })
   learns_stay t time mail parked letters waits = record {
     node = record {
       own = mine.own;
@@ -206,8 +205,25 @@ module _ (asked more : List Asked) (history longer : List Entry) (g : Grows aske
     stores = (tt, tt);
   }
 
+  -- the time of a read is stored as a ceiling
+  ceils_stay : (time ceiling : ℕ) (mail : List Letter) → AllByRecursion (LetterStays more longer) mail
+      → ShardNext more longer at kept (writes (kept_ceiling ceiling ∷ []) mail) (under s time ceiling)
+  ceils_stay time ceiling mail letters = record {
+    node = record {
+      own = mine.own;
+      place = mine.place;
+      entries = mine.entries ∙ sym (append-nil (entries_kept kept)) ∙ sym (entries_longer kept (kept_ceiling ceiling ∷ []));
+      sent = entries_grow asked more history longer g s.entries mine.sent;
+      parked = parked_stay;
+    };
+    letters = letters;
+    takes = refl;
+    tells = refl;
+    stores = (tt, tt);
+  }
+
 pub shard_stays : (asked more : List Asked) (history longer : List Entry) (g : Grows asked more history longer) (at : ℕ) (kept : List Kept) (s t : Shard)
-    (i : Input) (f : Effect) → longer ≡ entries_kept (kept ++ f.written) → ShardStays asked history at kept s → latest_entry s.entries ≤ s.time
+    (i : Input) (f : Effect) → longer ≡ entries_kept (kept ++ f.written) → ShardStays asked history at kept s → greatest_entry s.entries ≤ s.time
     → InputStays asked history i → ShardRow s i f t → ShardNext more longer at kept f t
 shard_stays asked more history longer g at kept _ _ _ _ here mine past input
     (shard_write s m id turn ordered namespace statements sent d dones made last asks agree serves) =
@@ -227,8 +243,10 @@ shard_stays asked more history longer g at kept _ _ _ _ here mine past input (sh
     says_one asked more history longer g at kept s mine past _ (heard s m) refl refl refl tt
 shard_stays asked more history longer g at kept _ _ _ _ here mine past input (shard_stale s m a met asks unseen old) =
     says_one asked more history longer g at kept s mine past _ (heard s m) refl refl refl (tt, tt)
-shard_stays asked more history longer g at kept _ _ _ _ here mine past input (shard_read s m id turn namespace at_time half sent asks agree) =
+shard_stays asked more history longer g at kept _ _ _ _ here mine past input (shard_read s m id turn namespace at_time half sent asks agree covered) =
     says_one asked more history longer g at kept s mine past _ (heard s m) refl refl refl (tt, tt)
+shard_stays asked more history longer g at kept _ _ _ _ here mine past input (shard_read_above s m id turn namespace at_time half sent asks agree above) =
+    ceils_stay asked more history longer g at kept s mine past (heard s m) at_time _ (tt, tt)
 shard_stays asked more history longer g at kept _ _ _ _ here mine past input (shard_rows s m id turn namespace at_time half documents rows asks shows small) =
     says_one asked more history longer g at kept s mine past _ (heard s m) refl refl refl (tt, tt)
 shard_stays asked more history longer g at kept _ _ _ _ here mine past input

@@ -11,7 +11,7 @@ use Rattle.history_model.proofs.Lists.{all_weaken, all_at, in_cons, in_none}
 use Rattle.history_model.specs.History.{Operation, Entry, IsIn, Legal}
 use Rattle.reply_model.specs.Exchanges.{Asked, Answered, number_for}
 use Rattle.reply_model.specs.OneHistory.{ids_asked, AreDifferent, AreNumbered}
-use Rattle.node_model.specs.Journal.{Kept, entries_kept, changes_kept}
+use Rattle.node_model.specs.Journal.{Kept, entries_kept, changes_kept, greatest_kept}
 use Rattle.node_model.specs.Letters.{Statement, Letter, Input, client_input, letter_input, moment_input, opened_input, Effect, nothing}
 use Rattle.node_model.specs.RouterRows.{statements_from}
 use Rattle.node_model.specs.States.{NodeState, catalogue_state, shard_state, router_state, new_router}
@@ -22,18 +22,18 @@ use Rattle.node_laws.proofs.Places.{EachAt, each_get}
 use Rattle.node_laws.proofs.ServedStatements.{statement_of}
 use Rattle.node_laws.proofs.StepsKeep.{got_is_in}
 use Rattle.node_replay.specs.Acknowledged.{IsStored, WasSentBy, KeepsWrites}
-use Rattle.node_replay.specs.Durable.{durable_of, empty_of, next_life, durable_catalogue, durable_shard, latest_change, latest_entry}
+use Rattle.node_replay.specs.Durable.{durable_of, empty_of, next_life, durable_catalogue, durable_shard, catalogue_part, shard_part}
 use Rattle.node_replay.specs.Holds.{Holds, Replays}
+use Rattle.node_replay.specs.ReadTimes.{ComesInTime}
 use Rattle.node_replay.specs.Openings.{opened, opened_on}
 use Rattle.node_replay.specs.Replays.{replayed, records_of, latest_time}
 use Rattle.node_replay.specs.Restarts.{Restarts, Stops, Gives, gives_request, gives_message, gives_moment, gives_opening, cut_off, EventOrStop, Occurs, occurs, restarts, stops, RunWithStops, stays, proceeds}
 use Rattle.node_replay.proofs.CatalogueHistories.{catalogue_changes}
-use Rattle.node_replay.proofs.Restarts.{opened_is, occurs_replays}
-use Rattle.node_replay.proofs.Runs.{NodeReplays, all_got, step_replays, start_replays}
+use Rattle.node_replay.proofs.Restarts.{became, opened_is, given_in_time, occurs_replays}
+use Rattle.node_replay.proofs.Runs.{NodeReplays, WorldReplays, MoveShows, move_shows, all_got, step_replays, start_replays}
 use Rattle.node_replay.proofs.ShardHistories.{shard_history}
 use Rattle.node_replay.proofs.ShardStays.{InputStays}
 use Rattle.node_replay.proofs.StayFacts.{AreSent, LetterStays, EntryStays, CatalogueStays, ShardStays, StateStays, HeldStays, Grows}
-use Rattle.node_replay.proofs.Steps.{StepFollows, step_follows}
 use Rattle.node_replay.proofs.WorldStays.{StepStays, step_stays, state_grows, stored_in, WorldStays, with_step, stored_stays, stored_here, world_after}
 
 -- A START
@@ -45,11 +45,11 @@ ended life now true P Q (inr (e, is, p)) = inl (omega arith)
 ended life now false P Q (inl less) = inl less
 ended life now false P Q (inr (e, is, p)) = absurd (cc)
 
-opened_stays : (asked : List Asked) (history : List Entry) (at : ℕ) (kept : List Kept) (time : ℕ) (s : NodeState) → StateStays asked history at kept s
-    → StateStays asked history at kept (opened time (durable_of s))
-opened_stays asked history at kept time (catalogue_state c) s = record { own = s.own; place = s.place; changes = s.changes; keyed = s.keyed }
-opened_stays asked history at kept time (shard_state x) s = record { own = s.own; place = s.place; entries = s.entries; sent = s.sent; parked = tt }
-opened_stays asked history at kept time (router_state r) s = record {
+opened_stays : (asked : List Asked) (history : List Entry) (at : ℕ) (kept : List Kept) (time stored : ℕ) (s : NodeState)
+    → StateStays asked history at kept s → StateStays asked history at kept (opened time (durable_of stored s))
+opened_stays asked history at kept time stored (catalogue_state c) s = record { own = s.own; place = s.place; changes = s.changes; keyed = s.keyed }
+opened_stays asked history at kept time stored (shard_state x) s = record { own = s.own; place = s.place; entries = s.entries; sent = s.sent; parked = tt }
+opened_stays asked history at kept time stored (router_state r) s = record {
   own = s.own;
   place = s.place;
   requests = tt;
@@ -74,13 +74,13 @@ taken_step : (w : World) (at : ℕ) (i : Input) (old : Held) (f : Effect) (reach
     → StepStays w.asked (stored_in (with_step w.nodes at old f.written new)) w.now at old.kept f reached
 taken_step w at i old f reached new stay replays input here step =
     step_stays w.asked (stored_in w.nodes) (stored_in (with_step w.nodes at old f.written new)) (stored_stays w.nodes at old f.written new here)
-    w.now at old.kept old.state reached i f stay.one (λ is. stored_here w.nodes at old f.written new here is) (here_stays w at old stay here)
+    w.now at (greatest_kept old.kept) old.kept old.state reached i f stay.one (λ is. stored_here w.nodes at old f.written new here is) (here_stays w at old stay here)
     replays.1 input step
 
-move_stays : (w v : World) (at : ℕ) (i : Input) → WorldStays w → AllByRecursion NodeReplays w.nodes → InputStays w.asked (stored_in w.nodes) i → Moves w at i v
+move_stays : (w v : World) (at : ℕ) (i : Input) → WorldStays w → WorldReplays w → InputStays w.asked (stored_in w.nodes) i → Moves w at i v
     → WorldStays v
 move_stays w v at i stay all input m =
-    let s = taken_step w at i m.old m.f m.new m.new stay (all_got NodeReplays w.nodes at m.old all m.here) input m.here m.step in
+    let s = taken_step w at i m.old m.f m.new m.new stay (all_got NodeReplays w.nodes at m.old all.nodes m.here) input m.here m.step in
     subst (λ x. WorldStays x) (sym m.then)
     (world_after w at m.old m.f m.new stay m.here m.f.mail m.f.replies s.changes s.node s.letters s.told s.one s.here)
 
@@ -88,37 +88,37 @@ move_stays w v at i stay all input m =
 sent_stays : (w : World) (which : ℕ) (m : Letter) → WorldStays w → slice_get w.sent which ≡ Some m → LetterStays w.asked (stored_in w.nodes) m
 sent_stays w which m stay got = all_at (LetterStays w.asked (stored_in w.nodes)) m w.sent stay.letters (got_is_in w.sent which m got)
 
-event_stays : (w v : World) (e : Event) → WorldStays w → AllByRecursion NodeReplays w.nodes → Happens w e v → WorldStays v
+event_stays : (w v : World) (e : Event) → WorldStays w → WorldReplays w → Happens w e v → WorldStays v
 event_stays _ _ _ stay all (comes w v at link number request is m) = move_stays w v at (client_input link number request) stay all tt m
 event_stays _ _ _ stay all (delivers w v at which l got to m) = move_stays w v at (letter_input l) stay all (sent_stays w which l stay got) m
 event_stays _ _ _ stay all (passes w v at moment m) = move_stays w v at (moment_input moment) stay all tt m
 event_stays _ _ _ stay all (begins w v at m) = move_stays w v at opened_input stay all tt m
 
-restart_stays : (w v : World) (at : ℕ) → WorldStays w → AllByRecursion NodeReplays w.nodes → Restarts w at v → WorldStays v
+restart_stays : (w v : World) (at : ℕ) → WorldStays w → WorldReplays w → Restarts w at v → WorldStays v
 restart_stays w v at stay all m =
-    let replays : NodeReplays m.old = all_got NodeReplays w.nodes at m.old all m.here in
+    let replays : NodeReplays m.old = all_got NodeReplays w.nodes at m.old all.nodes m.here in
     let g : Grows w.asked (w.asked ++ []) (stored_in w.nodes) (stored_in (with_step w.nodes at m.old [] m.new)) =
     record { taken = λ a i. subst (λ l. IsIn a l) (sym (append-nil w.asked)) i; stored = stored_stays w.nodes at m.old [] m.new m.here } in
     let old = state_grows w.asked [] (stored_in w.nodes) (stored_in (with_step w.nodes at m.old [] m.new)) g at m.old.kept m.old.state tt
     (here_stays w at m.old stay m.here) in
-    let became = opened_stays (w.asked ++ []) (stored_in (with_step w.nodes at m.old [] m.new)) at m.old.kept
-    (latest_time (records_of m.old.kept)) m.old.state old in
+    let now = opened_stays (w.asked ++ []) (stored_in (with_step w.nodes at m.old [] m.new)) at m.old.kept
+    (latest_time (records_of m.old.kept)) (greatest_kept m.old.kept) m.old.state old in
     subst (λ x. WorldStays x) (sym m.then)
     (world_after w at m.old nothing m.new stay m.here [] [] (inr tt)
     (subst (λ k. StateStays (w.asked ++ []) (stored_in (with_step w.nodes at m.old [] m.new)) at k m.new) (sym (append-nil m.old.kept))
     (subst (λ s. StateStays (w.asked ++ []) (stored_in (with_step w.nodes at m.old [] m.new)) at m.old.kept s)
-    (opened_is m.old m.new replays.0 m.opens) became))
+    (opened_is m.old m.new replays.0 m.opens) now))
     tt tt (subst (λ l. AreDifferent (ids_asked l)) (sym (append-nil w.asked)) stay.one) tt)
 
-stop_stays : (w v : World) (at : ℕ) (i : Input) → WorldStays w → AllByRecursion NodeReplays w.nodes → InputStays w.asked (stored_in w.nodes) i → Stops w at i v
+stop_stays : (w v : World) (at : ℕ) (i : Input) → WorldStays w → WorldReplays w → InputStays w.asked (stored_in w.nodes) i → ComesInTime i → Stops w at i v
     → WorldStays v
-stop_stays w v at i stay all input m =
-    let replays : NodeReplays m.old = all_got NodeReplays w.nodes at m.old all m.here in
-    let follows : StepFollows m.old.state m.f m.reached = step_follows m.old.state m.reached i m.f replays.1 m.step in
-    let after : NodeReplays (record { state = m.reached; kept = m.old.kept ++ m.f.written }) = step_replays m.old m.reached i m.f replays follows in
+stop_stays w v at i stay all input comes m =
+    let replays : NodeReplays m.old = all_got NodeReplays w.nodes at m.old all.nodes m.here in
+    let shows : MoveShows m.old m.f m.reached = move_shows w at m.old m.reached i m.f all comes m.here m.step in
+    let after : NodeReplays (record { state = m.reached; kept = m.old.kept ++ m.f.written }) = step_replays m.old m.reached i m.f replays shows.follows in
     let opens : opened_on m.reached (m.old.kept ++ m.f.written) ≡ Some m.new =
     ap (λ e. option_map (opened (latest_time (records_of (m.old.kept ++ m.f.written)))) (replayed (Some e) (records_of (m.old.kept ++ m.f.written))))
-    follows.own
+    shows.follows.own
     ∙ m.opens in
     let s = taken_step w at i m.old m.f m.reached m.new stay replays input m.here m.step in
     subst (λ x. WorldStays x) (sym m.then)
@@ -126,7 +126,7 @@ stop_stays w v at i stay all input m =
     (subst (λ x. StateStays (w.asked ++ asked_by w.now m.f.taken) (stored_in (with_step w.nodes at m.old m.f.written m.new)) at (m.old.kept ++ m.f.written) x)
     (opened_is (record { state = m.reached; kept = m.old.kept ++ m.f.written }) m.new after.0 opens)
     (opened_stays (w.asked ++ asked_by w.now m.f.taken) (stored_in (with_step w.nodes at m.old m.f.written m.new)) at (m.old.kept ++ m.f.written)
-    (latest_time (records_of (m.old.kept ++ m.f.written))) m.reached s.node))
+    (latest_time (records_of (m.old.kept ++ m.f.written))) (greatest_kept (m.old.kept ++ m.f.written)) m.reached s.node))
     tt tt s.one s.here)
 
 given_stays : (w : World) (e : Event) (at : ℕ) (i : Input) → WorldStays w → Gives w e at i → InputStays w.asked (stored_in w.nodes) i
@@ -135,15 +135,15 @@ given_stays w _ _ _ stay (gives_message at which m got to) = sent_stays w which 
 given_stays w _ _ _ stay (gives_moment at moment) = tt
 given_stays w _ _ _ stay (gives_opening at) = tt
 
-pub occurs_stays : (w v : World) (e : EventOrStop) → WorldStays w → AllByRecursion NodeReplays w.nodes → Occurs w e v → WorldStays v
+pub occurs_stays : (w v : World) (e : EventOrStop) → WorldStays w → WorldReplays w → Occurs w e v → WorldStays v
 occurs_stays _ _ _ stay all (occurs w v e h) = event_stays w v e stay all h
 occurs_stays _ _ _ stay all (restarts w v at m) = restart_stays w v at stay all m
-occurs_stays _ _ _ stay all (stops w v at e i gives m) = stop_stays w v at i stay all (given_stays w e at i stay gives) m
+occurs_stays _ _ _ stay all (stops w v at e i gives m) = stop_stays w v at i stay all (given_stays w e at i stay gives) (given_in_time w e at i all gives) m
 
 -- RUNS
 
-run_stays : (u w : World) (events : List EventOrStop) → WorldStays u → AllByRecursion NodeReplays u.nodes → RunWithStops u events w
-    → WorldStays w × AllByRecursion NodeReplays w.nodes
+run_stays : (u w : World) (events : List EventOrStop) → WorldStays u → WorldReplays u → RunWithStops u events w
+    → WorldStays w × WorldReplays w
 run_stays _ _ _ stay all (stays w) = (stay, all)
 run_stays _ _ _ stay all (proceeds u v w e events h more) = run_stays v w events (occurs_stays u v e stay all h) (occurs_replays u v e all h) more
 
@@ -250,7 +250,7 @@ shard_keeps : (asked : List Asked) (history : List Entry) (kept : List Kept) (s 
 shard_keeps asked history kept (catalogue_state c) stay replays = let e = stay.place in absurd (omega arith)
 shard_keeps asked history kept (router_state r) stay replays = let l = stay.place in absurd (omega arith)
 shard_keeps asked history kept (shard_state x) stay replays =
-    let h = shard_history x.me (records_of kept) (record { me = x.me; top = latest_entry x.entries; tables = x.tables; entries = x.entries }) replays.0 in
+    let h = shard_history x.me (records_of kept) (shard_part x) replays.0 in
     subst (λ l. ShardKeeps asked l) stay.entries
     (record {
       legal = h.legal;
@@ -270,7 +270,7 @@ catalogue_keeps : (asked : List Asked) (history : List Entry) (kept : List Kept)
 catalogue_keeps asked history kept (shard_state x) stay replays = let e = stay.place in absurd (omega arith)
 catalogue_keeps asked history kept (router_state r) stay replays = let l = stay.place in absurd (omega arith)
 catalogue_keeps asked history kept (catalogue_state c) stay replays =
-    let h = catalogue_changes c.me (records_of kept) (record { me = c.me; top = latest_change c.changes; changes = c.changes }) stay.keyed replays.0 in
+    let h = catalogue_changes c.me (records_of kept) (catalogue_part (greatest_kept kept) c) stay.keyed replays.0 in
     subst (λ l. AreFitting l) stay.changes h.fitting
 
 catalogue_of_nodes : (asked : List Asked) (history : List Entry) (nodes : List Held) → EachAt (HeldStays asked history) 0 nodes
@@ -281,13 +281,13 @@ catalogue_of_nodes asked history (c ∷ nodes) stay all = catalogue_keeps asked 
 pub run_with_stops_keeps : (routers : ℕ) (events : List EventOrStop) (w : World) → RunWithStops (start routers) events w → KeepsWrites w
 run_with_stops_keeps routers events w run =
     let r = run_stays (start routers) w events (start_stays routers) (start_replays routers) run in
-    let s = shard_of_nodes w.asked (stored_in w.nodes) w.nodes r.0.each r.1 in
+    let s = shard_of_nodes w.asked (stored_in w.nodes) w.nodes r.0.each r.1.nodes in
     record {
       legal = s.legal;
       numbers = s.numbers;
       sent = s.sent;
       told = r.0.told;
-      fitting = catalogue_of_nodes w.asked (stored_in w.nodes) w.nodes r.0.each r.1;
+      fitting = catalogue_of_nodes w.asked (stored_in w.nodes) w.nodes r.0.each r.1.nodes;
       one = r.0.one;
       dated = r.0.dated;
     }

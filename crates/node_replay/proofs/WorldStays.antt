@@ -85,19 +85,19 @@ module _ (asked : List Asked) (history longer : List Entry) (stays : (e : Entry)
     counted = s.counted;
   }
 
-  pub step_stays : (now at : ℕ) (kept : List Kept) (s t : NodeState) (i : Input) (f : Effect) → AreDifferent (ids_asked asked)
-      → (at ≡ first_shard → longer ≡ entries_kept (kept ++ f.written)) → StateStays asked history at kept s → Holds s → InputStays asked history i
+  pub step_stays : (now at stored : ℕ) (kept : List Kept) (s t : NodeState) (i : Input) (f : Effect) → AreDifferent (ids_asked asked)
+      → (at ≡ first_shard → longer ≡ entries_kept (kept ++ f.written)) → StateStays asked history at kept s → Holds stored s → InputStays asked history i
       → Step s i f t → StepStays asked longer now at kept f t
-  step_stays now at kept _ _ _ _ one written mine holds input (catalogue_step c d i f own row) =
+  step_stays now at stored kept _ _ _ _ one written mine holds input (catalogue_step c d i f own row) =
       let h = catalogue_stays asked longer at kept c d i f mine (input_grows i input) row in
       silent asked longer now at kept f (catalogue_state d) one h.takes h.tells h.node h.letters (inl mine.place)
-  step_stays now at kept _ _ _ _ one written mine holds input (shard_step s t i f own row) =
-      let h = shard_stays asked asked history longer longer_only at kept s t i f (written mine.place) mine holds input row in
+  step_stays now at stored kept _ _ _ _ one written mine holds input (shard_step s t i f own row) =
+      let h = shard_stays asked asked history longer longer_only at kept s t i f (written mine.place) mine (omega (arith, holds)) input row in
       silent asked longer now at kept f (shard_state t) one h.takes h.tells h.node h.letters (inr h.stores)
-  step_stays now at kept _ _ _ _ one written mine holds input (router_step r q i f own row) =
+  step_stays now at stored kept _ _ _ _ one written mine holds input (router_step r q i f own row) =
       of_router asked longer now at kept f q (router_steps asked longer now at r q i f (router_longer at r mine) one (input_grows i input) row)
       (router_aside r q i f row)
-  step_stays now at kept _ _ _ _ one written mine holds input (begin_step r q i f not_begun before row) =
+  step_stays now at stored kept _ _ _ _ one written mine holds input (begin_step r q i f not_begun before row) =
       let h = router_steps asked longer now at (begins r) q i f
       (begins_stays asked longer now at r (router_longer at r mine) one not_begun) one (input_grows i input) row in
       let s = of_router asked longer now at kept f q h (router_aside (begins r) q i f row) in
@@ -109,7 +109,7 @@ module _ (asked : List Asked) (history longer : List Entry) (stays : (e : Entry)
         here = s.here;
         changes = inr (tt, router_aside (begins r) q i f row);
       }
-  step_stays now at kept _ _ _ _ one written mine holds input (other_step s m apart) =
+  step_stays now at stored kept _ _ _ _ one written mine holds input (other_step s m apart) =
       silent asked longer now at kept _ s one refl refl (by_state s mine) tt (inr tt)
     where
       by_state : (s : NodeState) → StateStays asked history at kept s → StateStays asked longer at (kept ++ []) s

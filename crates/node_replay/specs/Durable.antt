@@ -1,9 +1,10 @@
 -- The durable part of a node: what its journal stores of it, and what an opening restores (docs/JOURNAL.md, "The program's journals").
 -- Messages, open requests, cursors and parked requests are not durable.
-use Rattle.std.specs.Prelude.{ℕ, ◌+◌, max, List, [], ◌∷◌, Bool, if◌then◌else◌}
-use Rattle.chunk_model.specs.Changes.{Change, time_of}
+use Rattle.std.specs.Prelude.{ℕ, ◌+◌, List, [], Bool, if◌then◌else◌}
+use Rattle.chunk_model.specs.Changes.{Change}
 use Rattle.chunk_model.specs.Tables.{Table}
 use Rattle.history_model.specs.History.{Entry}
+use Rattle.node_model.specs.ShardRows.{top}
 use Rattle.node_model.specs.States.{Catalogue, Shard, Router, NodeState, catalogue_state, shard_state, router_state}
 
 -- `top`: the greatest time in the journal; `changes`: newest first
@@ -30,24 +31,25 @@ pub data DurableState : Type 0 where
   durable_shard : DurableShard → DurableState
   durable_router : DurableRouter → DurableState
 
--- the greatest time of changes, and of entries
-abbrev pub latest_change : List Change → ℕ
-latest_change [] = 0
-latest_change (x ∷ changes) = max (time_of x) (latest_change changes)
-
-abbrev pub latest_entry : List Entry → ℕ
-latest_entry [] = 0
-latest_entry (e ∷ entries) = max e.time (latest_entry entries)
-
 -- the life after the one that began, or the one that did not begin
 abbrev pub next_life : ℕ → (begun : Bool) → ℕ
 next_life life begun = if begun then life + 1 else life
 
--- the durable part of a node
-abbrev pub durable_of : NodeState → DurableState
-durable_of (catalogue_state c) = durable_catalogue (record { me = c.me; top = latest_change c.changes; changes = c.changes })
-durable_of (shard_state s) = durable_shard (record { me = s.me; top = latest_entry s.entries; tables = s.tables; entries = s.entries })
-durable_of (router_state r) = durable_router (record { me = r.me; life = next_life r.life r.begun; blocks = r.blocks })
+-- the durable parts of nodes: of the catalogue with the greatest time that it stored, which its state does not have
+abbrev pub catalogue_part : (stored : ℕ) → Catalogue → DurableCatalogue
+catalogue_part stored c = record { me = c.me; top = stored; changes = c.changes }
+
+abbrev pub shard_part : Shard → DurableShard
+shard_part s = record { me = s.me; top = top s; tables = s.tables; entries = s.entries }
+
+abbrev pub router_part : Router → DurableRouter
+router_part r = record { me = r.me; life = next_life r.life r.begun; blocks = r.blocks }
+
+-- the durable part of a node whose journal stores no time greater than this one
+abbrev pub durable_of : (stored : ℕ) → NodeState → DurableState
+durable_of stored (catalogue_state c) = durable_catalogue (catalogue_part stored c)
+durable_of stored (shard_state s) = durable_shard (shard_part s)
+durable_of stored (router_state r) = durable_router (router_part r)
 
 -- nodes with an empty journal
 abbrev pub empty_catalogue : ℕ → DurableCatalogue

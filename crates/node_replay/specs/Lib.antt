@@ -4,6 +4,7 @@ pub mod Follow
 pub mod Replays
 pub mod Openings
 pub mod Holds
+pub mod ReadTimes
 pub mod Restarts
 pub mod Histories
 pub mod Acknowledged

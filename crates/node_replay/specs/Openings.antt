@@ -9,10 +9,11 @@ use Rattle.node_replay.specs.Replays.{replayed, records_of, latest_time}
 
 -- A catalogue has its changes, and so its tables; a shard its tables and entries, and so its documents and what it noted of statements,
 -- and no request that waits. Both are at this time. A router has the life that it will begin, no time, table, request or cursor, and
--- takes its next cursor number from the next block.
+-- takes its next cursor number from the next block. A shard's ceiling is the greatest time of its ceilings and entries, whichever that was:
+-- this is what it compares the times of reads with.
 abbrev pub opened : (time : ℕ) → DurableState → NodeState
 opened time (durable_catalogue d) = catalogue_state (record { me = d.me; time = time; changes = d.changes })
-opened time (durable_shard d) = shard_state (record { me = d.me; time = time; tables = d.tables; entries = d.entries; parked = [] })
+opened time (durable_shard d) = shard_state (record { me = d.me; time = time; tables = d.tables; entries = d.entries; ceiling = d.top; parked = [] })
 opened time (durable_router d) = router_state (record {
   me = d.me;
   time = 0;

@@ -1,10 +1,11 @@
 //! The laws of journals.
 
-ghost use Rattle.std.specs.Prelude.{◌≡◌, ℕ, List, Some};
+ghost use Rattle.std.specs.Prelude.{◌≡◌, ℕ, List, Some, max};
 ghost use Rattle.std.specs.List.{AllByRecursion};
 ghost use Rattle.record_model.specs.Records.{Record};
 ghost use Rattle.reply_model.specs.OneHistory.{AreDifferent, ids_told};
-ghost use Rattle.node_model.specs.Letters.{Effect, Input};
+ghost use Rattle.node_model.specs.Journal.{greatest_kept};
+ghost use Rattle.node_model.specs.Letters.{Effect, Input, Letter};
 ghost use Rattle.node_model.specs.States.{NodeState};
 ghost use Rattle.node_model.specs.Steps.{Step};
 ghost use Rattle.node_model.specs.World.{Event, Run, World, start};
@@ -12,13 +13,19 @@ ghost use Rattle.node_replay.specs.Acknowledged.{KeepsJournals, KeepsWrites};
 ghost use Rattle.node_replay.specs.Durable.{DurableCatalogue, DurableShard, durable_catalogue, durable_of, durable_shard, empty_catalogue, empty_shard};
 ghost use Rattle.node_replay.specs.Histories.{AreChanges, HasKey, IsHistory};
 ghost use Rattle.node_replay.specs.Holds.{Holds, MayOpen, Replays};
+ghost use Rattle.node_replay.specs.ReadTimes.{ComesInTime, IsInTime};
 ghost use Rattle.node_replay.specs.Replays.{records_of, replayed};
 ghost use Rattle.node_replay.specs.Restarts.{EventOrStop, RunWithStops};
 
 /// The records that a step stores may follow, one after another, in the durable part of the node before it, and lead to the durable part of the node
-/// after it.
+/// after it, where no message reads at a time later than itself.
 pub fn steps_store_what_may_follow()
-    ensures { (s : NodeState) (t : NodeState) (i : Input) (f : Effect) → Holds s → Step s i f t → (replayed (Some (durable_of s)) (records_of f.written) ≡ Some (durable_of t)) × Holds t }
+    ensures { (stored : ℕ) (s : NodeState) (t : NodeState) (i : Input) (f : Effect) → Holds stored s → ComesInTime i → Step s i f t → (replayed (Some (durable_of stored s)) (records_of f.written) ≡ Some (durable_of (max stored (greatest_kept f.written)) t)) × Holds (max stored (greatest_kept f.written)) t }
+{}
+
+/// And none does, where nodes stop and are started again.
+pub fn no_message_reads_ahead()
+    ensures { (routers : ℕ) (events : List EventOrStop) (w : World) → RunWithStops (start routers) events w → AllByRecursion IsInTime w.sent }
 {}
 
 /// In every run from empty journals the journal of each node replays to its durable part.
