@@ -9,12 +9,12 @@ use Rattle.chunk_model.specs.Tables.{Table}
 use Rattle.base_model.specs.Identities.{RequestId}
 use Rattle.reply_model.specs.Exchanges.{Asked}
 use Rattle.command_model.proofs.Taken.{operations_with_keys}
-use Rattle.node_model.specs.Journal.{Kept, changes_kept}
+use Rattle.node_model.specs.Journal.{Kept, changes_kept, greatest_kept}
 use Rattle.node_model.specs.Letters.{At, Body, table_ask, table_told, split_ask, split_done, write_ask, write_done, read_ask, half_ask, read_rows, stale, time_ask, time_told, Letter, Input, letter_input}
 use Rattle.node_model.specs.States.{Catalogue, Shard, Router, Work, writing, reading, sharding, splitting, Open, catalogue_state, shard_state, router_state}
 use Rattle.node_model.specs.World.{World, journal_at}
 use Rattle.node_model.proofs.Journals.{journal_got}
-use Rattle.node_laws.proofs.Views.{Book, View, time_at, view_of, changes_in}
+use Rattle.node_laws.proofs.Views.{Book, View, view_of, changes_in}
 use Rattle.node_laws.proofs.Facts.{IsKnownTable, BodyFits, WorkFits, IsOpenOf, AreMade, CatalogueFits, ShardFits, RouterFits, SentFits, Good}
 use Rattle.node_laws.proofs.Keeps.{the_begun}
 use Rattle.node_laws.proofs.StepsKeep.{fits_here}
@@ -35,7 +35,7 @@ abbrev pub now : World → Book → View
 now w book = view_of w.nodes book
 
 module _ (w : World) (book : Book) (left : ℕ → Type 0) (good : Good w book) (bag : Bag left w) where
-  pub made : AreMade (time_at w.nodes 0) (changes_in (now w book))
+  pub made : AreMade (greatest_kept (journal_at w.nodes 0)) (changes_in (now w book))
   made = the_begun (now w book) w.asked w.answered w.given w.nodes good.order good.nodes
 
   pub sent_fits : (m : Letter) → IsIn m w.sent → SentFits (now w book) w.changed w.asked w.answered w.given m
@@ -87,7 +87,7 @@ module _ (w : World) (book : Book) (left : ℕ → Type 0) (good : Good w book) 
       → FitsThere s m
   fit_here s p kept m here there a asks =
       let fits : ShardFits (now w book) w.asked p kept s = (fits_here w book p (record { state = shard_state s; kept = kept }) good here).state in
-      fits_there (now w book) s.time (time_at w.nodes 0) s.tables a made fits.tables
+      fits_there (now w book) s.time (greatest_kept (journal_at w.nodes 0)) s.tables a made fits.tables
       ((all_at (IsWell (changes_made w) (length w.nodes)) m w.sent bag.well there).knowing a asks)
 
   -- a router may proceed
