@@ -112,9 +112,9 @@ restart_stays w v at stay all m =
 
 stop_stays : (w v : World) (at : ℕ) (i : Input) → WorldStays w → WorldReplays w → InputStays w.asked (stored_in w.nodes) i → ComesInTime i → Stops w at i v
     → WorldStays v
-stop_stays w v at i stay all input comes m =
+stop_stays w v at i stay all input in_time m =
     let replays : NodeReplays m.old = all_got NodeReplays w.nodes at m.old all.nodes m.here in
-    let shows : MoveShows m.old m.f m.reached = move_shows w at m.old m.reached i m.f all comes m.here m.step in
+    let shows : MoveShows m.old m.f m.reached = move_shows w at m.old m.reached i m.f all in_time m.here m.step in
     let after : NodeReplays (record { state = m.reached; kept = m.old.kept ++ m.f.written }) = step_replays m.old m.reached i m.f replays shows.follows in
     let opens : opened_on m.reached (m.old.kept ++ m.f.written) ≡ Some m.new =
     ap (λ e. option_map (opened (latest_time (records_of (m.old.kept ++ m.f.written)))) (replayed (Some e) (records_of (m.old.kept ++ m.f.written))))
