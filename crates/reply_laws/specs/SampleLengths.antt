@@ -1,5 +1,5 @@
 -- Reads of long documents, to try the definitions on.
-use Rattle.std.specs.Prelude.{◌≡◌, ℕ, List, length, codes, None}
+use Rattle.std.specs.Prelude.{◌≡◌, ℕ, List, length, codes, None, []}
 use Rattle.std.specs.List.{AllByRecursion}
 use Rattle.bson_model.specs.Tree.{Fields}
 use Rattle.base_model.specs.Times.{timestamp}
