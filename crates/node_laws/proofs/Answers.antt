@@ -233,7 +233,8 @@ fixed_grows : (v w : View) (read : Reading) (time : ℕ) → Later v w → IsFix
 fixed_grows v w read time later (inl h) = inl (passed_later v w time later h)
 fixed_grows v w read time later (inr h) = inr (began_grows v w read.namespace time later h)
 
-excess_stays : (v w : View) (asked more : List Asked) (answered news : List Answered) (read : Reading) (time n : ℕ) → Later v w → NeighboursFit v asked → NeighboursFit w (asked ++ more)
+excess_stays : (v w : View) (asked more : List Asked) (answered news : List Answered) (read : Reading) (time n : ℕ) → Later v w → NeighboursFit v asked
+    → NeighboursFit w (asked ++ more)
     → IsFixed v read time
     → IsExcess (account_in v asked answered) read time n → IsExcess (account_in w (asked ++ more) (answered ++ news)) read time n
 excess_stays v w asked more answered news read time n later before after fixed (excess_answer answer may much) =
@@ -286,7 +287,8 @@ module _ (v w : View) (asked more : List Asked) (answered news : List Answered) 
     settled = fixed_grows v w read time g.later fixed;
   }
   refused_stays a t read cursors came reads (refused_excess time n of much told) fixed = record {
-    right = right_refused_read read reads (refused_excess time n of (excess_stays v w asked more answered news read time n g.later g.before g.after fixed much) told);
+    right = right_refused_read read reads (refused_excess time n of (excess_stays v w asked more answered news read time n g.later g.before g.after fixed
+        much) told);
     settled = fixed_grows v w read time g.later fixed;
   }
   refused_stays a t read cursors came reads (refused_ahead ahead told) fixed =

@@ -148,7 +148,8 @@ shown_grows v w asked more sender early late id namespace at half documents late
     record {
       read = read_grows v w asked more id namespace at half later s.read;
       owner = s.owner;
-      documents_are = s.documents_are ∙ ap (λ l. kept_at_head half.stages (filter (may_stand_in half.span) l)) (sym (settled_stay v w sender namespace at later s.settled));
+      documents_are = s.documents_are
+          ∙ ap (λ l. kept_at_head half.stages (filter (may_stand_in half.span) l)) (sym (settled_stay v w sender namespace at later s.settled));
       settled = omega arith;
       past = omega arith;
     }

@@ -210,7 +210,11 @@ module _ (v w : View) (dated : List Dated) (written : List Kept) (asked more : L
 
   letters_grow : (given : List Given) (m : Letter) → SentFits v dated asked answered given m
       → SentFits w (dated_onto now dated written) (asked ++ more) (answered ++ news) given m
-  letters_grow given m f = (letter_grows v w asked more m g.later f.0, met_later v w given m.time g.later f.1, times_grow m.sender m.receiver m.time m.body f.0 f.2)
+  letters_grow given m f = (
+    letter_grows v w asked more m g.later f.0,
+    met_later v w given m.time g.later f.1,
+    times_grow m.sender m.receiver m.time m.body f.0 f.2,
+  )
 
 -- A STEP
 

@@ -103,7 +103,8 @@ rows_give v read at time rows out small m merged =
     }
 
 -- rows that are too much are too much of what the shard owned
-pub rows_exceed : (v : View) (asked : List Asked) (answered : List Answered) (read : Reading) (at time n : ℕ) (rows : Rows) → NeighboursFit v asked → MadeFor v read at time rows
+pub rows_exceed : (v : View) (asked : List Asked) (answered : List Answered) (read : Reading) (at time n : ℕ) (rows : Rows) → NeighboursFit v asked
+    → MadeFor v read at time rows
     → excess_of_half rows ≡ Some n → IsExcess (account_in v asked answered) read at n
 rows_exceed v asked answered read at time n rows around m much =
     let docs : List Fields = documents_at (history_in v) read.namespace at in

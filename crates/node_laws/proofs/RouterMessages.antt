@@ -204,7 +204,8 @@ module _ (w : World) (book : Book) (at : ℕ) (kept : List Kept) (r : Router) (g
           }
 
   -- the shard's time came after the request, so that of no write that was answered before is an entry later
-  told_before : (v : View) → Behind v → (id : RequestId) → m.body ≡ time_told id → (a : Asked) → IsIn a w.asked → a.id ≡ id → IsPast v m.sender w.answered a m.time
+  told_before : (v : View) → Behind v → (id : RequestId) → m.body ≡ time_told id → (a : Asked) → IsIn a w.asked → a.id ≡ id
+      → IsPast v m.sender w.answered a m.time
   told_before v behind id says a taken own =
       let t : TimeFits (view_of w.nodes book) w.changed w.asked w.answered m.sender m.time (time_told id) = subst
       (λ b. TimeFits (view_of w.nodes book) w.changed w.asked w.answered m.sender m.time b) says comes.2 in

@@ -250,7 +250,8 @@ module _ (w : World) (book : Book) (at : ℕ) (kept : List Kept) (r : Router) (g
       let past = x.made.past in (
         excess_right v w.asked (Told q (refusal_answer (too_much n))) book.cursors o.request
             (as_answered w.now (reply_to r (heard r m) q (refusal_answer (too_much n)))) q.namespace named time much.length stages telling x.does
-            (rows_exceed v w.asked (Told q (refusal_answer (too_much n))) x.does.read time m.time much.length much.rows k x.made much.excess) (inl x.made.settled) (omega arith)
+            (rows_exceed v w.asked (Told q (refusal_answer (too_much n))) x.does.read time m.time much.length much.rows k x.made much.excess)
+            (inl x.made.settled) (omega arith)
             (told_alike much.length n much.told),
         refusal_below (heard r m) (too_much n),
       ))

@@ -77,7 +77,8 @@ module _ (account : Account) (numbered : AreNumbered account.history) (first : (
     later = m.later;
     goes_on = λ t dones i own told document over.
         none_ends t m.sends.write e.time m.sends.index
-        (λ ordered. subst (λ id. AreDoneBefore account.history e.time m.sends.write id m.sends.index) (sym own) (m.reached ordered)) 0 m.sends.write.operations dones
+        (λ ordered. subst (λ id. AreDoneBefore account.history e.time m.sends.write id m.sends.index) (sym own) (m.reached ordered)) 0
+        m.sends.write.operations dones
         told over;
   }
 

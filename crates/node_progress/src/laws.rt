@@ -52,7 +52,8 @@ pub fn piped_requests_are_answered()
 #[tactic(auto, using(crate::proofs::Rounds::earlier_requests_stay_answered))]
 pub fn earlier_requests_stay_answered()
     ensures answered { (routers : ℕ) (rounds : List Round) (events more : List Event) (u w : World) (next : ℕ) → Pipes routers rounds events u next → Run u more w → AllByRecursion (IsAnswered w.answered) u.asked }
-    ensures served { (routers : ℕ) (rounds : List Round) (events more : List Event) (u w : World) (next : ℕ) → Pipes routers rounds events u next → Run u more w → AllByRecursion (IsServed (account_of w)) u.asked }
+    ensures served { (routers : ℕ) (rounds : List Round) (events more : List Event) (u w : World) (next : ℕ) → Pipes routers rounds events u next
+        → Run u more w → AllByRecursion (IsServed (account_of w)) u.asked }
 {}
 
 /// The events of the schedule are a run, so what is true of each run is true after each round.

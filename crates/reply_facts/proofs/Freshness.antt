@@ -80,7 +80,8 @@ module _ (account : Account)
   pub told_to : (t : Answered) → IsIn t account.answered → HasRequest t
   told_to t i = let r = (right_told t i).is in record { request = r.request; is = record { taken = r.taken; told = i; own = r.own }; same = r.same }
 
-  tells_its_write : (a : Asked) (t : Answered) (write : WriteCommand) → IsTold account.asked account.answered a t → command_of a.request ≡ Ok (write_command write)
+  tells_its_write : (a : Asked) (t : Answered) (write : WriteCommand) → IsTold account.asked account.answered a t
+      → command_of a.request ≡ Ok (write_command write)
       → TellsWrite account t.id t write
   tells_its_write a t write told asks =
       let r = answer_right a t told in
@@ -146,9 +147,11 @@ module _ (account : Account)
 
   -- WHAT CAME BEFORE
 
-  pub told_before : (a : Asked) (t : Answered) (time : ℕ) → IsIn a account.asked → WasToldBefore account.answered a t → operation_time (Some t.document) ≡ Some time
+  pub told_before : (a : Asked) (t : Answered) (time : ℕ) → IsIn a account.asked → WasToldBefore account.answered a t
+      → operation_time (Some t.document) ≡ Some time
       → time ≤ a.time
-  told_before a t time i w shows = all_at (IsNotBefore a) t account.answered (all_at (IsFresh account.answered) a account.asked one.fresh i) w.told time w.router w.life w.before shows
+  told_before a t time i w shows = all_at (IsNotBefore a) t account.answered (all_at (IsFresh account.answered) a account.asked one.fresh i) w.told time
+      w.router w.life w.before shows
 
   pub taken_before : (a b : Asked) → IsIn a account.asked → WasTakenBefore account.asked a b → b.time ≤ a.time
   taken_before a b i w = all_at (λ (c : Asked). c.id.router ≡ a.id.router → c.id.life ≡ a.id.life → c.came < a.came → c.time ≤ a.time) b account.asked
@@ -175,18 +178,21 @@ module _ (account : Account)
       let r = answer_right a t told in
       shown_time account r.cursors a t r.next reading now asks r.right shown
 
-  pub reads_at_least : (a : Asked) (s t : Answered) (reading : Reading) (before now : ℕ) → IsTold account.asked account.answered a t → WasToldBefore account.answered a s
+  pub reads_at_least : (a : Asked) (s t : Answered) (reading : Reading) (before now : ℕ) → IsTold account.asked account.answered a t
+      → WasToldBefore account.answered a s
       → Reads (command_of a.request) reading → reading.at ≡ None → operation_time (Some s.document) ≡ Some before
       → operation_time (Some t.document) ≡ Some now → before ≤ now
   reads_at_least a s t reading before now told w asks none shows shown =
       omega (arith, not_before a t reading now (read_at a t reading now told asks shown) none, told_before a s before told.taken w shows)
 
-  pub reads_after : (a : Asked) (t : Answered) (reading : Reading) (after now : ℕ) → IsTold account.asked account.answered a t → Reads (command_of a.request) reading
+  pub reads_after : (a : Asked) (t : Answered) (reading : Reading) (after now : ℕ) → IsTold account.asked account.answered a t
+      → Reads (command_of a.request) reading
       → reading.at ≡ None → reading.after ≡ Some after → operation_time (Some t.document) ≡ Some now → after ≤ now
   reads_after a t reading after now told asks none wants shown = not_before_after a t reading now after (read_at a t reading now told asks shown) none wants
 
   pub reaches : (a : Asked) (s t : Answered) (write : WriteCommand) (dones : List Done) (d : Done) (before time : ℕ) (outcome : Outcome) (reading : Reading)
-      → IsTold account.asked account.answered a t → WasToldBefore account.answered a s → s.document ≡ answer_document (answer_of write.kind s.time dones) → IsIn d dones
+      → IsTold account.asked account.answered a t → WasToldBefore account.answered a s → s.document ≡ answer_document (answer_of write.kind s.time dones)
+      → IsIn d dones
       → d.answer ≡ was_done before outcome → Reads (command_of a.request) reading → reading.at ≡ None → operation_time (Some t.document) ≡ Some time
       → before ≤ time
   reaches a s t write dones d before time outcome reading told w says i is asks none shown =
@@ -219,7 +225,8 @@ module _ (account : Account)
   first_told t write (operation ∷ operations) [] some told = absurd told
   first_told t write (operation ∷ operations) (d ∷ dones) some told = (d, in_first d dones)
 
-  pub later_told : (a : Asked) (s t : Answered) (write : WriteCommand) (before now : ℕ) → IsTold account.asked account.answered a t → WasToldBefore account.answered a s
+  pub later_told : (a : Asked) (s t : Answered) (write : WriteCommand) (before now : ℕ) → IsTold account.asked account.answered a t
+      → WasToldBefore account.answered a s
       → command_of a.request ≡ Ok (write_command write) → write.number ≡ None → operation_time (Some s.document) ≡ Some before
       → operation_time (Some t.document) ≡ Some now → before < now
   later_told a s t write before now told w asks none shows shown =
@@ -245,7 +252,8 @@ module _ (account : Account)
 
   pub never_ahead_of_told : (a : Asked) (s t : Answered) (write : WriteCommand) (index : ℕ) (e : Entry) (reading : Reading) (greatest : ℕ)
       → IsTold account.asked account.answered a t
-      → IsIn s account.answered → s.step < a.came → command_of s.request ≡ Ok (write_command write) → IsIn e account.history → e.number ≡ number_for write.number s.id index
+      → IsIn s account.answered → s.step < a.came → command_of s.request ≡ Ok (write_command write) → IsIn e account.history
+      → e.number ≡ number_for write.number s.id index
       → operation_time (Some s.document) ≡ Some e.time → Reads (command_of a.request) reading
       → (reading.at ≡ Some e.time) ⊎ ((reading.at ≡ None) × (reading.after ≡ Some e.time))
       → t.document ≡ answer_document (refusal_answer (time_ahead greatest)) → ⊥

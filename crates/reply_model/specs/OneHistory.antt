@@ -188,8 +188,8 @@ pub record IsCaused (account : Account) (t : Answered) : Type 0 where
 -- For all inputs: the entries are one legal history of an unsharded collection with each statement at most once; each belongs to a request that a router
 -- took, is on the shard that owns its key and is later than what its router knew; no shard uses a number again, nor applies an older transaction; each
 -- statement before a stored one was applied, where all requests that sent it are ordered; each change of the catalogue was made for a request, and follows
--- those before it; each request has at most one reply, a right one, and what this says of the catalogue was so by its step; and what its router knew then is
--- not before what it had returned and taken. Currently nothing is stored at the start.
+-- those before it; each request has at most one reply, a right one, and what this says of the catalogue was so by its step; and what its router knew then
+-- is not before what it had returned and taken. Currently nothing is stored at the start.
 pub record OneHistory (account : Account) : Type 0 where
   pub legal : Legal account.history
   pub sent : AllByRecursion (WasSent account) account.history
