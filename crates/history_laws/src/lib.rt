@@ -6,6 +6,6 @@ pub mod examples;
 mod laws;
 
 pub use laws::{
-    apart_by_entries, grows, journals_go_on, legal_by_keys, legal_journals, merged_is_legal, merged_is_rising,
-    merged_keeps_each, one_journal,
+    apart_by_entries, grows, journals_go_on, legal_by_keys, legal_journals, merged_is_legal,
+    merged_is_rising, merged_keeps_each, one_journal,
 };

@@ -1,10 +1,9 @@
 -- The greatest time that a journal stores.
-use Rattle.std.proofs.Common.{◌≡◌, ℕ, ◌<◌, ◌≤◌, List, [], ◌∷◌, ◌++◌, refl, sym, ap, ◌∙◌, arith}
-use Rattle.std.specs.Prelude.{max, map, Option, Some, None}
+use Rattle.std.proofs.Common.{◌≡◌, ℕ, ◌≤◌, List, [], ◌∷◌, ◌++◌, refl, ap, arith}
+use Rattle.std.specs.Prelude.{max, map}
 use Rattle.std.specs.List.{AllByRecursion}
 use Rattle.chunk_model.specs.Changes.{Change, time_of}
 use Rattle.history_model.specs.History.{Entry}
-use Rattle.history_model.proofs.Lists.{all_weaken}
 use Rattle.node_model.specs.Journal.{Kept, kept_table, kept_entry, kept_ceiling, kept_change, kept_none, kept_life, kept_block, entries_kept, changes_onto, changes_kept, time_kept, greatest_kept}
 use Rattle.node_model.specs.ShardRows.{greatest_entry}
 use Rattle.node_laws.proofs.Views.{IsAbove}

@@ -12,7 +12,7 @@ use Rattle.reply_model.specs.Accounts.{Given, Dated, changes_in as changes_of}
 use Rattle.reply_model.specs.OneHistory.{WasWanted, StandsInPart, IsPlaced, AreNumbered, IsFresh, IsInOrder, ids_asked, ids_told, AreDifferent}
 use Rattle.node_model.specs.Journal.{Kept, entries_kept, changes_kept, greatest_kept}
 use Rattle.node_model.specs.Letters.{Body, table_ask, table_told, split_ask, split_done, write_ask, write_done, read_ask, half_ask, read_rows, stale, time_ask, time_told, Letter, Effect}
-use Rattle.node_model.specs.States.{Shard, NodeState, catalogue_state, shard_state, router_state, time_of_node}
+use Rattle.node_model.specs.States.{Shard, NodeState, catalogue_state, shard_state, router_state}
 use Rattle.node_model.specs.World.{Held, World, asked_by, answered_by, dated_onto, after, journal_at}
 use Rattle.node_model.proofs.Journals.{journal_here}
 use Rattle.node_laws.proofs.Views.{Choice, Book, View, view_of, entries_in, changes_in, IsShardAt, history_in, IsWithin, MovesNothing, Later}
@@ -120,9 +120,11 @@ nodes_keep v asked answered given nodes order all journals bounds different =
       past = subst (λ l. AllByRecursion (IsWithin v.bound) l) entries
           (all_both (λ (e : Entry). e.time ≤ greatest_kept s.kept) (IsPlaced (changes_in v)) (IsWithin v.bound) s.shard.entries
           (λ e le placed.
-          let of_first : e.shard ≡ first_shard = placed_first (changes_in v) s.fits.still e placed in
-          (of_first, subst (λ n. e.time ≤ n)
-              (sym (bounds e.shard ∙ ap (λ n. greatest_kept (journal_at nodes n)) of_first ∙ ap (λ k. greatest_kept k) s.journal)) le))
+          let of_first : e.shard ≡ first_shard = placed_first (changes_in v) s.fits.still e placed in (
+            of_first,
+            subst (λ n. e.time ≤ n)
+                (sym (bounds e.shard ∙ ap (λ n. greatest_kept (journal_at nodes n)) of_first ∙ ap (λ k. greatest_kept k) s.journal)) le,
+          ))
           (subst (λ l. AllByRecursion (λ (e : Entry). e.time ≤ greatest_kept s.kept) l) (sym s.fits.entries) (entries_within s.kept)) s.fits.placed);
       sent = subst (λ l. AllByRecursion (WasMade (history_in v) asked) l) entries s.fits.sent;
       numbers = subst (λ l. AreNumbered l) entries s.fits.numbers;

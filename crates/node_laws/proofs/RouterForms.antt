@@ -16,7 +16,7 @@ use Rattle.node_model.specs.Journal.{Kept}
 use Rattle.node_model.specs.States.{Work, for_time, Open, Router, router_state, replaced, without}
 use Rattle.node_model.specs.RouterRows.{id_of, Opened, as_before, table_for, wait_by, asks_for, asks_again, wait_of, going_on, is_ahead, reply_to}
 use Rattle.node_model.specs.World.{World, journal_at}
-use Rattle.node_laws.proofs.Views.{Choice, Book, View, view_of, chosen_time, IsAbove, Later}
+use Rattle.node_laws.proofs.Views.{Choice, Book, View, view_of, chosen_time, Later}
 use Rattle.node_laws.proofs.ReadFacts.{IsDecided}
 use Rattle.node_laws.proofs.Facts.{IsKnownTable, WorkFits, AreSeen, IsOpenOf, ToldBelow, RouterFits, HeldFits, IsMet, AnswerFits, AnswersFit, no_answer, one_answer, NeighboursFit, Good}
 use Rattle.node_laws.proofs.Owes.{IsSaid, Owes}

@@ -23,7 +23,7 @@ use Rattle.node_model.specs.Letters.{half_overflow, half_excess, read_rows, Lett
 use Rattle.node_model.specs.States.{Telling, in_batches, as_number, reading, Open, Router, router_state, without}
 use Rattle.node_model.specs.RouterRows.{id_of, heard, Opened, as_before, too_much, block_size, gives_number, next_number, new_cursor, batch_of, reply_to, Tells, tells_overflow, tells_excess, tells_number, tells_batch, tells_cursor}
 use Rattle.node_model.specs.World.{World}
-use Rattle.node_laws.proofs.Views.{Book, View, view_of, chosen_time, IsAbove, history_in}
+use Rattle.node_laws.proofs.Views.{Book, View, view_of, chosen_time, history_in}
 use Rattle.node_laws.proofs.ReadFacts.{WaitsFor, IsDecided, IsReading, IsMade, IsTooMuch}
 use Rattle.node_laws.proofs.Facts.{WorkFits, HasTime, IsOpenOf, CursorsFit, HeldFits, NeighboursFit, SentFits, Good}
 use Rattle.node_laws.proofs.Owes.{Owes}

@@ -6,6 +6,6 @@ mod laws;
 
 pub use examples::{catalogues_refuse, journals_replay, routers_refuse, shards_refuse};
 pub use laws::{
-    no_message_reads_ahead, replayed_catalogue_has_changes, replayed_shard_is_one_history, runs_replay,
-    runs_with_stops_keep_writes, runs_with_stops_replay, steps_store_what_may_follow,
+    no_message_reads_ahead, replayed_catalogue_has_changes, replayed_shard_is_one_history,
+    runs_replay, runs_with_stops_keep_writes, runs_with_stops_replay, steps_store_what_may_follow,
 };
