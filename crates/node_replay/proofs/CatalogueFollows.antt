@@ -1,20 +1,20 @@
 -- The record of each transition of the catalogue may follow, and leads to its durable part after it.
-use Rattle.std.proofs.Common.{◌≡◌, ℕ, ◌+◌, ◌<◌, ◌≤◌, List, [], ◌∷◌, refl, sym, ap, subst, ◌∙◌, arith}
+use Rattle.std.proofs.Common.{◌≡◌, ℕ, ◌+◌, ◌<◌, ◌≤◌, List, [], ◌∷◌, refl, ap, subst, ◌∙◌, arith}
 use Rattle.std.specs.Prelude.{max, Bool, true, false, ◌&&◌, ◌==◌, Option, Some, None, is_none, nat_lt, if◌then◌else◌}
 use Rattle.std.specs.Option.{option_map}
 use Rattle.std.proofs.lemmas.Bool.{and_from, lt-ltb, eq-eqb}
 use Rattle.base_model.specs.Times.{time_of_moment}
 use Rattle.bson_model.specs.Tree.{Datum}
 use Rattle.chunk_model.specs.Catalogue.{Creation, Split}
-use Rattle.chunk_model.specs.Changes.{Change, time_of, create_change, split_change, known_table, creations, can_split}
+use Rattle.chunk_model.specs.Changes.{Change, create_change, split_change, known_table, creations, can_split}
 use Rattle.chunk_model.specs.Requests.{CatalogueAnswer, changed, unchanged, no_collection, create_answer, split_answer}
 use Rattle.chunk_model.specs.Tables.{Table}
 use Rattle.node_model.specs.CatalogueRows.{heard, none_at, CatalogueRow, catalogue_create, catalogue_tell, catalogue_split, catalogue_bound, catalogue_none, catalogue_skip, catalogue_moment, catalogue_opened, catalogue_client}
 use Rattle.node_model.specs.Journal.{kept_change, greatest_kept}
-use Rattle.node_model.specs.Letters.{At, no_time, at_time, Letter, Input, Effect}
+use Rattle.node_model.specs.Letters.{At, no_time, at_time, Input, Effect}
 use Rattle.node_model.specs.States.{Catalogue}
-use Rattle.node_replay.specs.Durable.{DurableCatalogue, DurableState, durable_catalogue, catalogue_part}
-use Rattle.node_replay.specs.Follow.{may_create, may_split, is_inside, with_change}
+use Rattle.node_replay.specs.Durable.{DurableCatalogue, durable_catalogue, catalogue_part}
+use Rattle.node_replay.specs.Follow.{is_inside, with_change}
 use Rattle.node_replay.specs.Replays.{replayed, records_of}
 use Rattle.node_replay.specs.ReadTimes.{IsNamedBy, ReadsBy, ComesInTime}
 

@@ -6,7 +6,7 @@ use Rattle.history_model.proofs.Lists.{all_weaken}
 use Rattle.record_model.specs.Records.{Record}
 use Rattle.reply_model.specs.OneHistory.{AreDifferent, ids_told}
 use Rattle.node_model.specs.Journal.{greatest_kept}
-use Rattle.node_model.specs.Letters.{Letter, Effect, Input}
+use Rattle.node_model.specs.Letters.{Effect, Input}
 use Rattle.node_model.specs.States.{NodeState}
 use Rattle.node_model.specs.Steps.{Step}
 use Rattle.node_model.specs.World.{Event, Run, World, start}

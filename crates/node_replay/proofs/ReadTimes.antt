@@ -1,21 +1,20 @@
 -- No message reads at a time that is later than itself, whatever stops.
-use Rattle.std.proofs.Common.{◌≡◌, ◌≢◌, ℕ, ◌+◌, ◌≤◌, List, [], ◌∷◌, ◌++◌, refl, sym, ap, subst, arith, Bool}
-use Rattle.std.specs.Prelude.{max, map, filter, not, true, false, ◌&&◌, Option, Some, None, nat_lt, if◌then◌else◌}
+use Rattle.std.proofs.Common.{◌≡◌, ◌≢◌, ℕ, ◌+◌, ◌≤◌, List, [], ◌∷◌, ◌++◌, refl, arith, Bool}
+use Rattle.std.specs.Prelude.{max, filter, not, true, false, ◌&&◌, Option, Some, None, if◌then◌else◌}
 use Rattle.std.specs.List.{AllByRecursion, flat_map}
 use Rattle.std.specs.Str.{bytes_eq}
 use Rattle.std.proofs.lemmas.Bool.{ltb-false}
-use Rattle.base_model.specs.Identities.{RequestId}
 use Rattle.base_model.specs.Times.{time_of_moment}
 use Rattle.chunk_model.specs.Tables.{Table, table_of}
 use Rattle.chunk_model.specs.Verdicts.{sent_by}
 use Rattle.history_model.proofs.Lists.{all_weaken, all_append, all_filter}
 use Rattle.pipeline_model.specs.Halves.{Half}
 use Rattle.pipeline_model.specs.Split.{split}
-use Rattle.command_model.specs.Answers.{Answer, sharded_answer}
+use Rattle.command_model.specs.Answers.{sharded_answer}
 use Rattle.node_model.specs.CatalogueRows.{CatalogueRow, catalogue_create, catalogue_tell, catalogue_split, catalogue_bound, catalogue_none, catalogue_skip, catalogue_moment, catalogue_opened, catalogue_client}
 use Rattle.node_model.specs.Letters.{At, no_time, at_time, Statement, Body, table_ask, table_told, split_ask, split_done, write_ask, write_done, read_ask, half_ask, read_rows, stale, time_ask, time_told, Letter, Input, Effect, Reply}
 use Rattle.node_model.specs.ShardRows.{heard as heard_there, Ask, ask_in, wants_table, says as says_there, asks_table, asks_again as asks_tables, ShardRow, shard_write, shard_repeat, shard_empty, shard_park, shard_waits, shard_stale, shard_read, shard_read_above, shard_rows, shard_excess, shard_overflow, shard_time, shard_learn, shard_known, shard_skip, shard_moment, shard_opened, shard_client}
-use Rattle.node_model.specs.RouterRows.{heard, id_of, says, run_to, owner_of_statement, asks_to_write, asks_to_read, asks_shards, asks_catalogue, owner_of_span, unanswered, asks_times, is_ahead, reached, table_for, wait_by, asks_by, wait_of, asks_for, opened_request, reply_to, empty_answer, noted, with_work, going_on, is_for, Next, stays, is_told, next_without, is_for_catalogue, next_waiting, next_of, adopted, was_created, asks_again, knows, RouterRow, router_begin, router_opened, router_plain, router_more, router_no_cursor, router_kill, router_take, router_learn, router_split, router_not_sharded, router_reach, router_ahead, router_note, router_wrote, router_read, router_excess, router_overflow, router_late, router_skip, router_moment, begins}
+use Rattle.node_model.specs.RouterRows.{heard, id_of, says, run_to, owner_of_statement, asks_to_write, asks_to_read, asks_shards, asks_catalogue, owner_of_span, unanswered, asks_times, is_ahead, reached, table_for, wait_by, asks_by, wait_of, asks_for, opened_request, reply_to, empty_answer, noted, going_on, is_for, Next, stays, is_told, is_for_catalogue, next_waiting, next_of, adopted, was_created, asks_again, RouterRow, router_begin, router_opened, router_plain, router_more, router_no_cursor, router_kill, router_take, router_learn, router_split, router_not_sharded, router_reach, router_ahead, router_note, router_wrote, router_read, router_excess, router_overflow, router_late, router_skip, router_moment, begins}
 use Rattle.node_model.specs.States.{Work, writing, reading, sharding, splitting, Wait, for_time, for_catalogue, for_shards, Open, Router, Shard, Catalogue, NodeState, without, replaced}
 use Rattle.node_model.specs.Steps.{Step, catalogue_step, shard_step, router_step, begin_step, other_step}
 use Rattle.node_laws.proofs.Lists.{all_mapped}

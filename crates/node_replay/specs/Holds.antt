@@ -3,7 +3,7 @@
 use Rattle.std.specs.Prelude.{◌≡◌, ◌⊎◌, ◌≤◌, ℕ, [], true, Some}
 use Rattle.node_model.specs.Journal.{greatest_kept}
 use Rattle.node_model.specs.ShardRows.{top}
-use Rattle.node_model.specs.States.{Catalogue, Shard, Router, NodeState, catalogue_state, shard_state, router_state}
+use Rattle.node_model.specs.States.{NodeState, catalogue_state, shard_state, router_state}
 use Rattle.node_model.specs.World.{Held}
 use Rattle.node_replay.specs.Durable.{durable_of, empty_of}
 use Rattle.node_replay.specs.Replays.{replayed, records_of}
