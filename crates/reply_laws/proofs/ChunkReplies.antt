@@ -66,7 +66,7 @@ module _ (changes : List Change) (t : Answered) (never : NeverBegins t.time chan
       by_told (right_of (account_with changes [] [] []) [] splitting t (Ok (split_command (record { namespace = codes "d.c"; middle = five }))) next refl
       right).0
     where
-      by_told : TellsSplit changes [] [] [] [] splitting t (record { namespace = codes "d.c"; middle = five }) ⊎ (t.document ≡ not_sharded) → ⊥
+      by_told : TellsSplit (account_with changes [] [] []) [] splitting t (record { namespace = codes "d.c"; middle = five }) ⊎ (t.document ≡ not_sharded) → ⊥
       by_told (inl changed) = unsplit changed.begins
       by_told (inr none) = told none
 
