@@ -1,5 +1,5 @@
 -- The requests that routers took, and the reply to each.
-use Rattle.std.specs.Prelude.{ℕ, ℤ, List, [], ◌∷◌, Bool, false, ◌==◌, ◌&&◌, Option, Some, None, pos, if◌then◌else◌}
+use Rattle.std.specs.Prelude.{ℕ, ℤ, List, [], ◌∷◌, Bool, false, Option, Some, None, pos, if◌then◌else◌}
 use Rattle.bson_model.specs.Tree.{Fields}
 use Rattle.base_model.specs.Identities.{RequestId, same_request}
 use Rattle.opmsg_model.specs.Requests.{Request}
