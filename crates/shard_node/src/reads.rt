@@ -64,18 +64,27 @@ impl ShardNode {
         Ok(self.message(self.me, time, Body::HalfAsk(half)))
     }
 
-    // Returns the plan for a read on the table that it was sent with: its documents are taken, and where its time is above all entries and ceilings, that is a
-    // ceiling from now on. Returns `Memory` if memory runs out.
-    pub(crate) fn plan_read(&self, time: Time, ask: &ReadAsk) -> Result<StepPlan, Memory>
+    // Returns the plan for a read at a time that is covered: its documents are taken. Returns `Memory` if memory runs out.
+    fn plan_covered(&self, time: Time, ask: &ReadAsk) -> Result<StepPlan, Memory>
         requires fits { verdict_of (sent_view ask.now.sent) self.now.me.0 (table_of ask.now.namespace self.now.tables.tables) ≡ fits }
+        requires covered { ask.now.at.0 ≤ top (shard_view self.now) }
         ensures planned { (m : Letter) → m.body ≡ read_ask_view ask.now → time.0 ≡ heard (shard_view self.now) m →
             IfOk result (λ p. IsPlanned (shard_view self.now) (letter_input m) p) }
         ensures follows { IfOk result (λ p. Follows self.now p) }
     {
-        if self.is_covered(ask.at) {
-            let taken = self.half_message(time, ask)?;
-            return Ok(StepPlan::of_message(self.alloc, time, taken));
-        }
+        let message = self.half_message(time, ask)?;
+        Ok(StepPlan::of_message(self.alloc, time, message))
+    }
+
+    // Returns the plan for a read at a time above all entries and ceilings: its documents are taken, and the time is a ceiling from now on. Returns `Memory`
+    // if memory runs out.
+    fn plan_above(&self, time: Time, ask: &ReadAsk) -> Result<StepPlan, Memory>
+        requires fits { verdict_of (sent_view ask.now.sent) self.now.me.0 (table_of ask.now.namespace self.now.tables.tables) ≡ fits }
+        requires above { top (shard_view self.now) < ask.now.at.0 }
+        ensures planned { (m : Letter) → m.body ≡ read_ask_view ask.now → time.0 ≡ heard (shard_view self.now) m →
+            IfOk result (λ p. IsPlanned (shard_view self.now) (letter_input m) p) }
+        ensures follows { IfOk result (λ p. Follows self.now p) }
+    {
         let records = ceiling_records(self.alloc, ask.at)?;
         let message = self.half_message(time, ask)?;
         Ok(StepPlan {
@@ -84,6 +93,19 @@ impl ShardNode {
             records,
             change: Change::Ceil(ask.at),
         })
+    }
+
+    // Returns the plan for a read on the table that it was sent with. Returns `Memory` if memory runs out.
+    pub(crate) fn plan_read(&self, time: Time, ask: &ReadAsk) -> Result<StepPlan, Memory>
+        requires fits { verdict_of (sent_view ask.now.sent) self.now.me.0 (table_of ask.now.namespace self.now.tables.tables) ≡ fits }
+        ensures planned { (m : Letter) → m.body ≡ read_ask_view ask.now → time.0 ≡ heard (shard_view self.now) m →
+            IfOk result (λ p. IsPlanned (shard_view self.now) (letter_input m) p) }
+        ensures follows { IfOk result (λ p. Follows self.now p) }
+    {
+        if self.is_covered(ask.at) {
+            return self.plan_covered(time, ask);
+        }
+        self.plan_above(time, ask)
     }
 
     // Returns the plan for the half of the documents of a read, or `Memory` if memory runs out.

@@ -22,12 +22,12 @@ returns-in_ok-table-in-Some-clause-planned c = λ m late from is here.
     create_planned n m c.args.sender c.args.heard answer.result late from here c.args.ask (Some (arc_value c.in_ok-table-in-Some.table)) is x _ c.make.result
     refl requested answered (known ∙ ap (λ (t : Table). Some t) shared) answer.ensures.time answer.ensures.letter made.time made.change made.mail made.records made.sound
 
-pub returns-in_ok-table-in-None-clause-planned : goal.returns-in_ok-table-in-None-clause-planned
-returns-in_ok-table-in-None-clause-planned c = λ m late from is here.
+pub returns-in_ok-records-in-None-clause-planned : goal.returns-in_ok-records-in-None-clause-planned
+returns-in_ok-records-in-None-clause-planned c = λ m late from is here.
     let n = catalogue_of c.args.self.now in
     let answer = c.table_answer-answer-in-None in
     let told = c.store_and_tell.ensures in
-    let stored = c.in_ok-records.ensures in
+    let stored = c.in_ok-records-in-None.ensures in
     let same = same_changes (catalogue_of c.creation.new.self) n c.creation.ensures.same in
     tell_planned n m c.args.sender c.args.heard answer.result late from here c.args.ask (option_map (λ t. arc_value t) c.in_ok-table-in-None.table) is c.store_and_tell.result
     (c.in_ok-change.ensures.none c.in-None.is) (c.in_ok-table-in-None.ensures ∙ ap (λ xs. known_table c.args.ask.namespace xs) same)
