@@ -68,7 +68,7 @@ StateOnce answered (shard_state s) = Unit {0}
 StateOnce answered (router_state r) = RouterOnce answered r
 
 -- what a step of a node shows
-record NodeOnce (asked : List Asked) (answered news : List Answered) (at : ℕ) (new : NodeState) : Type 0 where
+pub record NodeOnce (asked : List Asked) (answered news : List Answered) (at : ℕ) (new : NodeState) : Type 0 where
   pub node : StateOnce (answered ++ news) new
   pub here : AllByRecursion (λ (t : Answered). t.id.router ≡ at) news
   pub told : AllByRecursion (λ (t : Answered). IsIn t.id (ids_asked asked)) news
@@ -76,9 +76,9 @@ record NodeOnce (asked : List Asked) (answered news : List Answered) (at : ℕ) 
 
 module _ (asked : List Asked) (history : List Entry) (answered : List Answered) (now at : ℕ) (kept : List Kept) (one : AreDifferent (ids_asked asked))
     (told : AllByRecursion (λ (t : Answered). IsIn t.id (ids_asked asked)) answered) (once : AreDifferent (ids_told answered)) where
-  of_router : (f : Effect) (q : Router) → StepOnce (asked ++ asked_by now f.taken) answered (answered_by now f.replies) at q
+  of_router : (f : Effect) (q : Router) → StepOnce asked answered now at f q
       → NodeOnce (asked ++ asked_by now f.taken) answered (answered_by now f.replies) at (router_state q)
-  of_router f q s = record { node = s.node; here = s.here; told = s.told; once = s.once }
+  of_router f q s = record { node = s.all.node; here = s.all.here; told = s.all.told; once = s.all.once }
 
   -- a step with no reply
   quiet : (f : Effect) (t : NodeState) → f.replies ≡ [] → StateOnce answered t
@@ -100,7 +100,7 @@ module _ (asked : List Asked) (history : List Entry) (answered : List Answered) 
   step_once _ _ _ _ mine own (begin_step r q i f not_begun before row) =
       let s = router_once asked history answered now at (begins r) q i f (begins_stays asked history now at r mine one not_begun) one
       (record { different = own.different; silent = own.silent }) told once row in
-      record { node = s.node; here = s.here; told = s.told; once = s.once }
+      record { node = s.all.node; here = s.all.here; told = s.all.told; once = s.all.once }
   step_once _ _ _ _ mine own (other_step s m apart) = quiet nothing s refl own
 
 -- a node that was started again has no open request
@@ -135,12 +135,12 @@ state_grows asked history answered news at j kept (router_state r) apart here mi
 
 -- THE WORLD
 
-record ListsOnce (nodes : List Held) (asked : List Asked) (answered : List Answered) : Type 0 where
+pub record ListsOnce (nodes : List Held) (asked : List Asked) (answered : List Answered) : Type 0 where
   pub each : EachAt (λ j (h : Held). StateOnce answered h.state) 0 nodes
   pub told : AllByRecursion (λ (t : Answered). IsIn t.id (ids_asked asked)) answered
   pub once : AreDifferent (ids_told answered)
 
-abbrev WorldOnce : World → Type 0
+abbrev pub WorldOnce : World → Type 0
 WorldOnce w = ListsOnce w.nodes w.asked w.answered
 
 ids_grow : (asked more : List Asked) (told : List Answered) → AllByRecursion (λ (t : Answered). IsIn t.id (ids_asked asked)) told

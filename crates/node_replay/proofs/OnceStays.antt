@@ -30,12 +30,15 @@ pub record RouterOnce (answered : List Answered) (r : Router) : Type 0 where
   pub different : AreDifferentCounts (counts_of r.requests)
   pub silent : AllByRecursion (λ (q : Open). IsSilent answered r.me r.life q.count) r.requests
 
--- what a step of a router shows
-pub record StepOnce (asked : List Asked) (answered news : List Answered) (at : ℕ) (q : Router) : Type 0 where
+-- what a step of a router shows, with these replies
+pub record RepliesOnce (asked : List Asked) (answered news : List Answered) (at : ℕ) (q : Router) : Type 0 where
   pub node : RouterOnce (answered ++ news) q
   pub here : AllByRecursion (λ (t : Answered). t.id.router ≡ at) news
   pub told : AllByRecursion (λ (t : Answered). IsIn t.id (ids_asked asked)) news
   pub once : AreDifferent (ids_told (answered ++ news))
+
+pub record StepOnce (asked : List Asked) (answered : List Answered) (now at : ℕ) (f : Effect) (q : Router) : Type 0 where
+  pub all : RepliesOnce (asked ++ asked_by now f.taken) answered (answered_by now f.replies) at q
 
 pub id_asked : (a : Asked) (asked : List Asked) → IsIn a asked → IsIn a.id (ids_asked asked)
 id_asked a asked (prefix, back, same) =
@@ -75,10 +78,10 @@ module _ (asked : List Asked) (history : List Entry) (answered : List Answered) 
   IsHere t = (x : Open) × IsIn x r.requests × (t.id ≡ id_of r x.count)
 
   -- requests that stay open, and others that are answered
-  parted : (f : Effect) (q : Router) → f.taken ≡ [] → q.me ≡ r.me → q.life ≡ r.life → IsParted r r.requests q.requests (answered_by now f.replies)
+  parted_all : (f : Effect) (q : Router) → f.taken ≡ [] → q.me ≡ r.me → q.life ≡ r.life → IsParted r r.requests q.requests (answered_by now f.replies)
       → AllByRecursion (λ (p : Open). IsSilent answered r.me r.life p.count) q.requests
-      → StepOnce (asked ++ asked_by now f.taken) answered (answered_by now f.replies) at q
-  parted f q none me life p quiet =
+      → RepliesOnce (asked ++ asked_by now f.taken) answered (answered_by now f.replies) at q
+  parted_all f q none me life p quiet =
       let news : List Answered = answered_by now f.replies in
       let same : asked ≡ asked ++ asked_by now f.taken = sym (append-nil asked) ∙ ap (λ l. asked ++ asked_by now l) (sym none) in
       record {
@@ -105,13 +108,18 @@ module _ (asked : List Asked) (history : List Entry) (answered : List Answered) 
           let o = all_at (OpenStays asked history r.me r.life) x r.requests mine.requests i in
           subst (λ n. IsIn n (ids_asked asked)) (o.own ∙ sym same) (id_asked o.request asked o.taken)
 
-  -- none is answered
-  none_told : (f : Effect) (q : Router) → f.taken ≡ [] → f.replies ≡ [] → q.me ≡ r.me → q.life ≡ r.life → AreDifferentCounts (counts_of q.requests)
+  parted : (f : Effect) (q : Router) → f.taken ≡ [] → q.me ≡ r.me → q.life ≡ r.life → IsParted r r.requests q.requests (answered_by now f.replies)
       → AllByRecursion (λ (p : Open). IsSilent answered r.me r.life p.count) q.requests
-      → StepOnce (asked ++ asked_by now f.taken) answered (answered_by now f.replies) at q
-  none_told f q none quiet me life different silent =
+      → StepOnce asked answered now at f q
+  parted f q none me life p quiet = record { all = parted_all f q none me life p quiet }
+
+  -- none is answered
+  none_told_all : (f : Effect) (q : Router) → f.taken ≡ [] → f.replies ≡ [] → q.me ≡ r.me → q.life ≡ r.life → AreDifferentCounts (counts_of q.requests)
+      → AllByRecursion (λ (p : Open). IsSilent answered r.me r.life p.count) q.requests
+      → RepliesOnce (asked ++ asked_by now f.taken) answered (answered_by now f.replies) at q
+  none_told_all f q none quiet me life different silent =
       let same : asked ≡ asked ++ asked_by now f.taken = sym (append-nil asked) ∙ ap (λ l. asked ++ asked_by now l) (sym none) in
-      subst (λ l. StepOnce (asked ++ asked_by now f.taken) answered (answered_by now l) at q) (sym quiet) (record {
+      subst (λ l. RepliesOnce (asked ++ asked_by now f.taken) answered (answered_by now l) at q) (sym quiet) (record {
         node = record {
           different = different;
           silent = subst (λ l. AllByRecursion (λ (p : Open). IsSilent l q.me q.life p.count) q.requests) (sym (append-nil answered))
@@ -122,6 +130,11 @@ module _ (asked : List Asked) (history : List Entry) (answered : List Answered) 
         told = tt;
         once = subst (λ l. AreDifferent (ids_told l)) (sym (append-nil answered)) once;
       })
+
+  none_told : (f : Effect) (q : Router) → f.taken ≡ [] → f.replies ≡ [] → q.me ≡ r.me → q.life ≡ r.life → AreDifferentCounts (counts_of q.requests)
+      → AllByRecursion (λ (p : Open). IsSilent answered r.me r.life p.count) q.requests
+      → StepOnce asked answered now at f q
+  none_told f q none quiet me life different silent = record { all = none_told_all f q none quiet me life different silent }
 
   -- A REQUEST COMES
 
@@ -142,12 +155,12 @@ module _ (asked : List Asked) (history : List Entry) (answered : List Answered) 
       mine.requests
 
   -- the router after it took a request: it is answered at once
-  answers : r.begun ≡ true → AreDifferent (ids_asked asked) → (f : Effect) (q : Router) (x : Reply) (a : Asked) → asked_by now f.taken ≡ a ∷ []
+  answers_all : r.begun ≡ true → AreDifferent (ids_asked asked) → (f : Effect) (q : Router) (x : Reply) (a : Asked) → asked_by now f.taken ≡ a ∷ []
       → a.id ≡ id_of r (r.count + 1) → f.replies ≡ x ∷ [] → x.id ≡ id_of r (r.count + 1) → q.me ≡ r.me → q.life ≡ r.life → q.requests ≡ r.requests ++ []
-      → StepOnce (asked ++ asked_by now f.taken) answered (answered_by now f.replies) at q
-  answers begun one f q x a takes asks replies number me life requests =
-      subst (λ l. StepOnce (asked ++ l) answered (answered_by now f.replies) at q) (sym takes)
-      (subst (λ l. StepOnce (asked ++ a ∷ []) answered (answered_by now l) at q) (sym replies) (record {
+      → RepliesOnce (asked ++ asked_by now f.taken) answered (answered_by now f.replies) at q
+  answers_all begun one f q x a takes asks replies number me life requests =
+      subst (λ l. RepliesOnce (asked ++ l) answered (answered_by now f.replies) at q) (sym takes)
+      (subst (λ l. RepliesOnce (asked ++ a ∷ []) answered (answered_by now l) at q) (sym replies) (record {
         node = record {
           different = subst (λ l. AreDifferentCounts (counts_of l)) same own.different;
           silent = subst (λ l. AllByRecursion (λ (p : Open). IsSilent (answered ++ as_answered now x ∷ []) q.me q.life p.count) l) same
@@ -170,12 +183,17 @@ module _ (asked : List Asked) (history : List Entry) (answered : List Answered) 
       same : r.requests ≡ q.requests
       same = sym (append-nil r.requests) ∙ sym requests
 
+  answers : r.begun ≡ true → AreDifferent (ids_asked asked) → (f : Effect) (q : Router) (x : Reply) (a : Asked) → asked_by now f.taken ≡ a ∷ []
+      → a.id ≡ id_of r (r.count + 1) → f.replies ≡ x ∷ [] → x.id ≡ id_of r (r.count + 1) → q.me ≡ r.me → q.life ≡ r.life → q.requests ≡ r.requests ++ []
+      → StepOnce asked answered now at f q
+  answers begun one f q x a takes asks replies number me life requests = record { all = answers_all begun one f q x a takes asks replies number me life requests }
+
   -- or it stays open
-  opens : r.begun ≡ true → AreDifferent (ids_asked asked) → (f : Effect) (q : Router) (p : Open) → f.replies ≡ [] → p.count ≡ r.count + 1 → q.me ≡ r.me
+  opens_all : r.begun ≡ true → AreDifferent (ids_asked asked) → (f : Effect) (q : Router) (p : Open) → f.replies ≡ [] → p.count ≡ r.count + 1 → q.me ≡ r.me
       → q.life ≡ r.life → q.requests ≡ r.requests ++ p ∷ []
-      → StepOnce (asked ++ asked_by now f.taken) answered (answered_by now f.replies) at q
-  opens begun one f q p quiet count me life requests =
-      subst (λ l. StepOnce (asked ++ asked_by now f.taken) answered (answered_by now l) at q) (sym quiet) (record {
+      → RepliesOnce (asked ++ asked_by now f.taken) answered (answered_by now f.replies) at q
+  opens_all begun one f q p quiet count me life requests =
+      subst (λ l. RepliesOnce (asked ++ asked_by now f.taken) answered (answered_by now l) at q) (sym quiet) (record {
         node = record {
           different = subst (λ l. AreDifferentCounts (counts_of l)) (sym requests)
               (counts_push r.requests p own.different
@@ -193,10 +211,15 @@ module _ (asked : List Asked) (history : List Entry) (answered : List Answered) 
         once = subst (λ l. AreDifferent (ids_told l)) (sym (append-nil answered)) once;
       })
 
+  opens : r.begun ≡ true → AreDifferent (ids_asked asked) → (f : Effect) (q : Router) (p : Open) → f.replies ≡ [] → p.count ≡ r.count + 1 → q.me ≡ r.me
+      → q.life ≡ r.life → q.requests ≡ r.requests ++ p ∷ []
+      → StepOnce asked answered now at f q
+  opens begun one f q p quiet count me life requests = record { all = opens_all begun one f q p quiet count me life requests }
+
   -- an open request is answered, or proceeds
   closes : (f : Effect) (q : Router) (x : Reply) (p : Open) (id : RequestId) → open_of r id ≡ Some p → f.taken ≡ [] → f.replies ≡ x ∷ []
       → x.id ≡ id_of r p.count → q.me ≡ r.me → q.life ≡ r.life → q.requests ≡ without p.count r.requests
-      → StepOnce (asked ++ asked_by now f.taken) answered (answered_by now f.replies) at q
+      → StepOnce asked answered now at f q
   closes f q x p id found none replies number me life requests =
       let place = open_of_found r id p found in
       parted f q none me life
@@ -208,7 +231,7 @@ module _ (asked : List Asked) (history : List Entry) (answered : List Answered) 
 
   goes_on : (f : Effect) (q : Router) (p y : Open) (id : RequestId) → open_of r id ≡ Some p → y.count ≡ p.count → f.taken ≡ [] → f.replies ≡ [] → q.me ≡ r.me
       → q.life ≡ r.life → q.requests ≡ replaced y r.requests
-      → StepOnce (asked ++ asked_by now f.taken) answered (answered_by now f.replies) at q
+      → StepOnce asked answered now at f q
   goes_on f q p y id found count none quiet me life requests =
       let place = open_of_found r id p found in
       parted f q none me life
@@ -226,7 +249,7 @@ module _ (asked : List Asked) (history : List Entry) (answered : List Answered) 
 pub router_once : (asked : List Asked) (history : List Entry) (answered : List Answered) (now at : ℕ) (r q : Router) (i : Input) (f : Effect)
     → RouterStays asked history at r → AreDifferent (ids_asked asked) → RouterOnce answered r
     → AllByRecursion (λ (t : Answered). IsIn t.id (ids_asked asked)) answered → AreDifferent (ids_told answered) → RouterRow r i f q
-    → StepOnce (asked ++ asked_by now f.taken) answered (answered_by now f.replies) at q
+    → StepOnce asked answered now at f q
 router_once asked history answered now at _ _ _ _ mine one own told once (router_begin r not_begun) =
     none_told asked history answered now at r mine own told once _ (begins r) refl refl refl refl own.different own.silent
 router_once asked history answered now at _ _ _ _ mine one own told once (router_opened r begun) =

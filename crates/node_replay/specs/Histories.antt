@@ -1,4 +1,5 @@
--- What the records of a journal store, where they replay.
+-- What the records of a journal store, where they replay (MongoDB manual, "Retryable Writes": a statement is applied once; "Sharded
+-- Cluster Balancer" and "Split Chunks in a Sharded Cluster": what changes there are).
 use Rattle.std.specs.Prelude.{◌≡◌, ◌≤◌, ℕ, List, [], ◌∷◌, true}
 use Rattle.std.specs.List.{AllByRecursion}
 use Rattle.value_model.specs.Keys.{is_key}

@@ -1,4 +1,5 @@
--- What every node holds by itself, at every moment of a run; and that its journal replays to its durable part.
+-- What every node holds by itself, at every moment of a run, whatever it is sent (own: the invariants that the laws on replays need); and
+-- that its journal replays to its durable part.
 use Rattle.std.specs.Prelude.{◌≡◌, ◌⊎◌, ◌≤◌, ℕ, [], true, Some}
 use Rattle.node_model.specs.States.{Catalogue, Shard, Router, NodeState, catalogue_state, shard_state, router_state}
 use Rattle.node_model.specs.World.{Held}

@@ -1,4 +1,5 @@
--- What a journal replays to: its records are taken in one after another, from an empty journal on, if each may follow.
+-- What a journal replays to: its records are taken in one after another, from an empty journal on, if each may follow (docs/JOURNAL.md,
+-- "Records": kinds and fields).
 use Rattle.std.specs.Prelude.{ℕ, max, List, [], ◌∷◌, map, Option, Some, None}
 use Rattle.std.specs.Option.{option_map}
 use Rattle.chunk_model.specs.Tables.{Owned, Chunk, Table}

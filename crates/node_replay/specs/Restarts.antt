@@ -1,5 +1,5 @@
 -- Nodes that stop and are started again, among the events of a run: between two steps, or in a step, after its records are stored and
--- before its messages and replies are sent.
+-- before its messages and replies are sent (docs/JOURNAL.md, "Why a crash leaves it whole": the records of a step are stored all or not at all).
 use Rattle.std.specs.Prelude.{◌≡◌, ℕ, ℤ, List, [], ◌∷◌, ◌++◌, Some}
 use Rattle.std.specs.List.{slice_get}
 use Rattle.reply_model.specs.Requests.{Request}
