@@ -1,22 +1,21 @@
 -- No request is answered twice, in whichever runs with stops.
-use Rattle.std.proofs.Common.{◌≡◌, ◌≢◌, ◌⊎◌, inl, inr, ℕ, ℤ, ◌+◌, ◌<◌, ◌≤◌, List, [], ◌∷◌, ◌++◌, refl, sym, ap, subst, ◌∙◌, arith, append-nil}
-use Rattle.std.specs.Prelude.{Bool, true, false, Option, Some, None}
+use Rattle.std.proofs.Common.{◌≡◌, ◌≢◌, ℕ, ◌+◌, List, [], ◌∷◌, ◌++◌, refl, sym, ap, subst, ◌∙◌, append-nil}
+use Rattle.std.specs.Prelude.{true, Some}
 use Rattle.std.specs.List.{AllByRecursion}
 use Rattle.base_model.specs.Identities.{RequestId}
-use Rattle.history_model.proofs.Lists.{all_weaken, all_append, all_at, all_both, in_back, in_first, in_prefix}
+use Rattle.history_model.proofs.Lists.{all_weaken, all_append, all_at, all_both, in_back, in_first}
 use Rattle.history_model.specs.History.{Entry, IsIn}
-use Rattle.reply_model.specs.Requests.{Request}
 use Rattle.reply_model.specs.Exchanges.{Asked, Answered}
 use Rattle.reply_model.specs.OneHistory.{ids_asked, ids_told, AreDifferent}
 use Rattle.node_model.specs.Letters.{Input, Effect, Reply}
-use Rattle.node_model.specs.RouterRows.{heard, id_of, next_of, adopted, was_created, reply_to, going_on, open_of, Next, stays, is_told, stay_in, begins, opened_request, RouterRow, router_begin, router_opened, router_plain, router_more, router_no_cursor, router_kill, router_take, router_learn, router_split, router_not_sharded, router_reach, router_ahead, router_note, router_wrote, router_read, router_excess, router_overflow, router_late, router_skip, router_moment}
+use Rattle.node_model.specs.RouterRows.{heard, id_of, next_of, adopted, was_created, open_of, Next, stays, is_told, stay_in, begins, opened_request, RouterRow, router_begin, router_opened, router_plain, router_more, router_no_cursor, router_kill, router_take, router_learn, router_split, router_not_sharded, router_reach, router_ahead, router_note, router_wrote, router_read, router_excess, router_overflow, router_late, router_skip, router_moment}
 use Rattle.node_model.specs.States.{Open, Router, without, replaced}
 use Rattle.node_model.specs.World.{asked_by, answered_by}
 use Rattle.node_laws.proofs.Facts.{counts_of, AreDifferentCounts}
 use Rattle.node_laws.proofs.Lists.{all_mapped}
 use Rattle.node_laws.proofs.NextFacts.{next_keeps}
-use Rattle.node_laws.proofs.NextRequests.{KeepsCount, NextIs, left_by, told_by, each_next, parted_next}
-use Rattle.node_laws.proofs.OpenRequests.{IsOpenWith, open_of_found, all_without, all_replaced, IsParted, parted_same, parted_replaced, parted_without}
+use Rattle.node_laws.proofs.NextRequests.{KeepsCount, left_by, parted_next}
+use Rattle.node_laws.proofs.OpenRequests.{open_of_found, all_without, all_replaced, IsParted, parted_replaced, parted_without}
 use Rattle.node_laws.proofs.RouterAnswers.{as_answered}
 use Rattle.node_laws.proofs.RouterLater.{once_more}
 use Rattle.node_replay.proofs.RouterNext.{new_number}
