@@ -9,14 +9,15 @@ use Rattle.node_model.specs.Letters.{Letter, Input, client_input, letter_input, 
 use Rattle.node_model.specs.World.{World, IsRouter}
 use Rattle.driver_steps.specs.declared.seat.Seat.{Seat}
 use Rattle.driver_steps.specs.Crashes.{Since}
-use Rattle.driver_steps.specs.OneSeat.{StandsAt}
+use Rattle.outside.specs.Logs.{LogFacts}
+use Rattle.driver_steps.specs.OneSeat.{NamesFault, StandsAt}
 use Rattle.driver_steps.proofs.Seats.{held_len}
 use Rattle.driver_steps.proofs.Stepping.{same_stands}
 use Rattle.history_model.proofs.Lists.{all_weaken}
 use Rattle.node_cell.specs.declared.view.Placed.{Placed}
 use Rattle.node_cell.specs.declared.view.View.{View}
-use Rattle.node_cell.specs.Courses.{NodeFacts, Goes, Holds, Saw, WasSent, WasTaken, WasTold, view_by}
-use Rattle.node_cell.specs.Standing.{AllSit, Among, AreAmong, AreFrom, AreRun, Ends, IsAsKnown, IsHalted, IsKept, IsKnown, IsPart, Sits, StoppedAt}
+use Rattle.node_cell.specs.Courses.{IsCalm, IsCalmAt, NodeFacts, Goes, Holds, Saw, WasSent, WasTaken, WasTold, view_by}
+use Rattle.node_cell.specs.Standing.{AllSit, Among, AreAmong, AreFrom, AreRun, Ends, HasFailed, IsAsKnown, IsHalted, IsKept, IsKnown, IsPart, Sits, StaysAt, StoppedAt}
 use Rattle.node_cell.specs.Views.{both_views, holder}
 use Rattle.node_cell.proofs.Lists.{all_at, all_map, all_of_part, are_among_front, are_among_map, are_among_self, sits}
 use Rattle.node_cell.proofs.Routers.{run_stays}
@@ -68,14 +69,21 @@ known_on routers seen more at (letter_input m) part known =
 known_on routers seen more at (moment_input moment) part known = tt
 known_on routers seen more at opened_input part known = tt
 
+still_failed : {L : Type 0} (facts : LogFacts L) (faults : ℕ) (first old log : L) → IsCalm facts first old → HasFailed facts faults old log
+    → HasFailed facts faults first log
+still_failed facts faults first old log calm h = record {
+  place = h.place ∙ calm.place;
+  rose = subst (λ (n : ℕ). NamesFault faults n (facts.fault_count log)) calm.faults h.rose;
+}
+
 module _ {N L M I : Type 0} (f : NodeFacts N L M I) (routers : ℕ) where
   pub kept_on : (seen more : List Letter) (old : Seat N L) (p : Placed N L) → AreAmong seen more → IsKept f routers seen old p → IsKept f routers more old p
   kept_on seen more old p part is = by_failed p.failed is
     where
-      by_failed : (failed : Option ℕ) → MatchOption failed (IsAsKnown f old p.seat) (λ faults. IsHalted f routers p.at seen old p.seat)
-          → MatchOption failed (IsAsKnown f old p.seat) (λ faults. IsHalted f routers p.at more old p.seat)
+      by_failed : (failed : Option ℕ) → MatchOption failed (IsAsKnown f old p.seat) (λ faults. IsHalted f routers p.at seen faults old p.seat)
+          → MatchOption failed (IsAsKnown f old p.seat) (λ faults. IsHalted f routers p.at more faults old p.seat)
       by_failed None is = is
-      by_failed (Some faults) h = record { input = h.input; known = known_on routers seen more p.at h.input part h.known; breaks = h.breaks }
+      by_failed (Some faults) h = record { input = h.input; known = known_on routers seen more p.at h.input part h.known; failed = h.failed; breaks = h.breaks }
 
   pub sit_on : (seen more : List Letter) (k : ℕ) (held : List (ℕ × Seat N L)) (ended : List (Placed N L)) → AreAmong seen more
       → AllSit f routers seen k held ended → AllSit f routers more k held ended
@@ -117,18 +125,31 @@ module _ {N L M I : Type 0} (f : NodeFacts N L M I) (routers : ℕ) where
   -- THE END
 
   node_ends : (since : Since L) (w : World) (seen : List Letter) → AllByRecursion (λ m. WasSent w m) seen → (old : Seat N L) (p : Placed N L)
-      → (routers ≤ p.at → IsRouter w.nodes p.at) → IsKept f routers seen old p → StandsAt (view_by f since old) w p.at → Ends f since w p
-  node_ends since w seen sent old p router is here = by_failed p.failed is
+      → (routers ≤ p.at → IsRouter w.nodes p.at) → IsKept f routers seen old p → StandsAt (view_by f since old) w p.at
+      → IsCalmAt f.facts since.logs p.at old.log → Ends f since w p
+  node_ends since w seen sent old p router is here calm = by_failed p.failed is
     where
-      by_failed : (failed : Option ℕ) → MatchOption failed (IsAsKnown f old p.seat) (λ faults. IsHalted f routers p.at seen old p.seat)
-          → MatchOption failed (StandsAt (view_by f since p.seat) w p.at) (λ faults. StoppedAt f since w p.at p.seat)
-      by_failed None known = same_stands f.state f.facts since w p.at old p.seat (sym known.state, sym known.log) here
+      by_failed : (failed : Option ℕ) → MatchOption failed (IsAsKnown f old p.seat) (λ faults. IsHalted f routers p.at seen faults old p.seat)
+          → MatchOption failed (StaysAt f since w p.at p.seat) (λ faults. StoppedAt f since w p.at faults p.seat)
+      by_failed None known = record {
+        stands = same_stands f.state f.facts since w p.at old p.seat (sym known.state, sym known.log) here;
+        calm = subst (λ (l : L). IsCalmAt f.facts since.logs p.at l) known.log calm;
+        is_open = known.is_open;
+      }
       by_failed (Some faults) h =
           let e = event_of routers w p.at seen sent router h.input h.known in
-          record { input = h.input; event = e.event; is = e.is; breaks = h.breaks since w here }
+          record {
+            first = calm.first;
+            here = calm.here;
+            failed = still_failed f.facts faults calm.first old.log p.seat.log calm.calm h.failed;
+            input = h.input;
+            event = e.event;
+            is = e.is;
+            breaks = h.breaks since w here;
+          }
 
   all_end : (since : Since L) (w : World) (seen : List Letter) → AllByRecursion (λ m. WasSent w m) seen → (k : ℕ) (held : List (ℕ × Seat N L))
-      (ended : List (Placed N L)) → ((at : ℕ) (s : Seat N L) → k ≤ at → holder at held ≡ Some s → StandsAt (view_by f since s) w at)
+      (ended : List (Placed N L)) → ((at : ℕ) (s : Seat N L) → k ≤ at → holder at held ≡ Some s → StandsAt (view_by f since s) w at × IsCalmAt f.facts since.logs at s.log)
       → ((at : ℕ) → at < k + length ended → routers ≤ at → IsRouter w.nodes at) → AllSit f routers seen k held ended
       → AllByRecursion (λ p. Ends f since w p) ended
   all_end since w seen sent k [] [] look router all = tt
@@ -137,9 +158,9 @@ module _ {N L M I : Type 0} (f : NodeFacts N L M I) (routers : ℕ) where
   all_end since w seen sent k (h ∷ held) (p ∷ ended) look router all =
       let number = all.0.number_is in
       let place = all.0.place in
-      let here : (h.0 == p.at) ≡ true = grind (arith, nat_tests, number, place) in (
-        node_ends since w seen sent h.1 p (λ far. router p.at (omega (arith, place)) far) all.0.is
-            (look p.at h.1 (omega (arith, place)) (ap (λ (c : Bool). if c then Some h.1 else holder p.at held) here)),
+      let here : (h.0 == p.at) ≡ true = grind (arith, nat_tests, number, place) in
+      let both = look p.at h.1 (omega (arith, place)) (ap (λ (c : Bool). if c then Some h.1 else holder p.at held) here) in (
+        node_ends since w seen sent h.1 p (λ far. router p.at (omega (arith, place)) far) all.0.is both.0 both.1,
         all_end since w seen sent (k + 1) held ended
             (λ at s far got.
             let no : (h.0 == at) ≡ false = grind (arith, nat_tests, number, far) in
@@ -161,7 +182,7 @@ module _ {N L M I : Type 0} (f : NodeFacts N L M I) (routers : ℕ) where
         world = c.world;
         run = h.is.run;
         nodes = all_end since c.world (map f.letter v.seen) (all_map f.letter (λ m. WasSent c.world m) v.seen mine.saw.seen) 0 v.held ended
-            (λ at s far got. (mine.held at s got).stands)
+            (λ at s far got. ((mine.held at s got).stands, (mine.held at s got).calm))
             (λ at below far. run_stays first c.events c.world at h.is.run (opened.are_routers at far (omega (arith, below, many, long)))) all;
         noted = all_weaken (λ n. IsPart n v) (λ n. Saw f first.now c.events c.world n)
             notes (λ n part. record {

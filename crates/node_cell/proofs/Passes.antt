@@ -36,7 +36,7 @@ module _ {N L M I : Type 0} (f : NodeFacts N L M I) (since : Since L) (first : �
   reseated : (c : Course) (owner : ℕ → ℕ) (id : ℕ) (u : View N L M I)
       → ((k : ℕ) (s : Seat N L) → holder k u.held ≡ Some s → c.owner k ≡ id → owner k ≡ id) → Fits f since first c id u → Fits f since first (with_owner c owner) id u
   reseated c owner id u keep fit = record {
-    held = λ k s e. let has = fit.held k s e in record { mine = keep k s e has.mine; stands = has.stands; count = has.count };
+    held = λ k s e. let has = fit.held k s e in record { mine = keep k s e has.mine; stands = has.stands; calm = has.calm; count = has.count };
     saw = fit.saw;
   }
 
@@ -113,7 +113,7 @@ module _ {N L M I : Type 0} (f : NodeFacts N L M I) (routers : ℕ) (start : Lis
           let out = holder_without k0 k n rest e in
           let no : (k0 == k) ≡ false = grind (arith, nat_tests, out.0) in
           let has = mine.held k n (ap (λ (c : Bool). if c then Some s0 else holder k rest) no ∙ out.1) in
-          record { mine = owners_other k out.0 ∙ has.mine; stands = has.stands; count = has.count };
+          record { mine = owners_other k out.0 ∙ has.mine; stands = has.stands; calm = has.calm; count = has.count };
       saw = record { seen = mine.saw.seen; told = mine.saw.told; taken = mine.saw.taken };
     }
 
@@ -122,7 +122,7 @@ module _ {N L M I : Type 0} (f : NodeFacts N L M I) (routers : ℕ) (start : Lis
       held = λ k n e.
           let one = holder_one k0 k s0 n e in
           subst (λ (x : ℕ × Seat N L). Has f since next (length s.views) x.0 x.1) (λ i. (one.0 i, one.1 i))
-          (record { mine = owners_first; stands = first_has.stands; count = first_has.count });
+          (record { mine = owners_first; stands = first_has.stands; calm = first_has.calm; count = first_has.count });
       saw = record { seen = tt; told = tt; taken = tt };
     }
 
@@ -175,8 +175,8 @@ module _ {N L M I : Type 0} (f : NodeFacts N L M I) (routers : ℕ) (start : Lis
       let both_fit : Fits f since first.now next id both = record {
         held = λ k n e. ⊎_elim
             (λ (x : holder k v.held ≡ Some n). let has = mine.held k n x in
-            record { mine = stay k id (λ (same : id ≡ other). apart (sym same)) has.mine; stands = has.stands; count = has.count })
-            (λ (x : holder k w.held ≡ Some n). let has = theirs.held k n x in record { mine = moved k has.mine; stands = has.stands; count = has.count })
+            record { mine = stay k id (λ (same : id ≡ other). apart (sym same)) has.mine; stands = has.stands; calm = has.calm; count = has.count })
+            (λ (x : holder k w.held ≡ Some n). let has = theirs.held k n x in record { mine = moved k has.mine; stands = has.stands; calm = has.calm; count = has.count })
             (holder_both k n v.held w.held e);
         saw = saw_both f since first.now c v w mine.saw theirs.saw;
       } in
@@ -209,6 +209,11 @@ module _ {N L M I : Type 0} (f : NodeFacts N L M I) (routers : ℕ) (start : Lis
         record {
           mine = refl;
           stands = stands_at (view_by f since) start first k s opened.nodes opened.crashes there;
+          calm = record {
+            first = s.log;
+            here = ap (λ (l : List L). slice_get l k) opened.logs ∙ slice_get_map (λ (x : Seat N L). x.log) start k s there;
+            calm = record { place = refl; faults = refl };
+          };
           count = slice_get_map (λ (x : Seat N L). f.steps x.node) start k s there;
         };
     saw = record { seen = tt; told = tt; taken = tt };

@@ -13,14 +13,14 @@ use Rattle.node_traits.specs.declared.outputs.StepFault.TheVariants.{Disk, Steps
 use Rattle.node_traits.specs.declared.outputs.ToLink.{ToLink}
 use Rattle.driver_steps.specs.declared.seat.Seat.{Seat}
 use Rattle.driver_steps.specs.Crashes.{Since}
-use Rattle.driver_steps.specs.OneSeat.{BreaksAt, StandsAt, StepsAt}
+use Rattle.driver_steps.specs.OneSeat.{BreaksAt, NamesFault, StandsAt, StepsAt}
 use Rattle.driver_steps.specs.Seats.{AreOpen}
 use Rattle.driver_steps.proofs.Stepping.{same_stands}
 use Rattle.node_cell.specs.declared.view.Placed.{Placed}
 use Rattle.node_cell.specs.declared.view.Taken.{Taken}
 use Rattle.node_cell.specs.declared.view.View.{View}
-use Rattle.node_cell.specs.Courses.{NodeFacts, view_by}
-use Rattle.node_cell.specs.Standing.{AllSit, Among, AreSeen, AreTold, IsAsKnown, IsHalted, IsKept, IsKnown, IsPart, MayTake, Sits, faults_in, step_of}
+use Rattle.node_cell.specs.Courses.{IsCalm, NodeFacts, view_by}
+use Rattle.node_cell.specs.Standing.{AllSit, Among, AreSeen, AreTold, HasFailed, IsAsKnown, IsHalted, IsKept, IsKnown, IsPart, MayTake, Sits, faults_in, step_of}
 use Rattle.node_cell.specs.Views.{Given, after_step, both_views, first_alone, first_off, given_by, nothing_seen, numbered, renewed, view_of}
 use Rattle.node_cell.proofs.Lists.{all_unmap, among_behind, are_among_map, first_numbered, get_seam, rest_numbered, sits}
 use Rattle.node_cell.proofs.Closing.{kept_on, part_front, part_self, sit_joined, sit_on}
@@ -29,21 +29,21 @@ module _ {N L M I : Type 0} (f : NodeFacts N L M I) (routers : ℕ) where
   -- a node whose disk did not fail
   as_known : (seen : List Letter) (old : Seat N L) (p : Placed N L) → p.failed ≡ None → IsKept f routers seen old p → IsAsKnown f old p.seat
   as_known seen old p none is =
-      subst (λ (o : Option ℕ). MatchOption o (IsAsKnown f old p.seat) (λ faults. IsHalted f routers p.at seen old p.seat)) none is
+      subst (λ (o : Option ℕ). MatchOption o (IsAsKnown f old p.seat) (λ faults. IsHalted f routers p.at seen faults old p.seat)) none is
 
   is_kept : (seen : List Letter) (old t : Seat N L) (p : Placed N L) → p.failed ≡ None → IsAsKnown f old t
       → IsKept f routers seen old (record { at = p.at; failed = p.failed; seat = t })
   is_kept seen old t p none known =
-      subst (λ (o : Option ℕ). MatchOption o (IsAsKnown f old t) (λ faults. IsHalted f routers p.at seen old t)) (sym none) known
+      subst (λ (o : Option ℕ). MatchOption o (IsAsKnown f old t) (λ faults. IsHalted f routers p.at seen faults old t)) (sym none) known
 
   -- its pass may take the step that it took
   pub seat_may : (p : Placed N L) (t : Seat N L) (v : View N L M I) (input taken : I) (mail : List M) (replies : List ToLink) → taken ≡ input
       → p.failed ≡ None → Sits f routers p v
       → ((since : Since L) (w : World) (k : ℕ) → StandsAt (view_by f since p.seat) w k
       → StepsAt (view_by f since t) w k (f.meaning input) (map f.letter mail) replies)
-      → f.steps t.node ≡ f.steps p.seat.node + 1 → f.steps t.node < 2 ^ 56 → IsKnown routers (map f.letter v.seen) p.at (f.meaning input)
-      → MayTake f routers v (given_by p.at taken t mail replies)
-  seat_may p t v input taken mail replies same none here step counted below known =
+      → f.steps t.node ≡ f.steps p.seat.node + 1 → f.steps t.node < 2 ^ 56 → IsCalm f.facts p.seat.log t.log
+      → IsKnown routers (map f.letter v.seen) p.at (f.meaning input) → MayTake f routers v (given_by p.at taken t mail replies)
+  seat_may p t v input taken mail replies same none here step counted below calm known =
       let is : IsAsKnown f here.old p.seat = as_known (map f.letter v.seen) here.old p none here.is in
       subst (λ (i : I). MayTake f routers v (given_by p.at i t mail replies)) (sym same)
       (record {
@@ -52,6 +52,7 @@ module _ {N L M I : Type 0} (f : NodeFacts N L M I) (routers : ℕ) where
         steps = λ since w stands. step since w p.at (same_stands f.state f.facts since w p.at here.old p.seat (sym is.state, sym is.log) stands);
         more = omega (arith, is.steps, counted);
         below = below;
+        calm = subst (λ (l : L). IsCalm f.facts l t.log) (sym is.log) calm;
         known = known;
       })
 
@@ -73,8 +74,10 @@ module _ {N L M I : Type 0} (f : NodeFacts N L M I) (routers : ℕ) where
       → ByStepFault fault (λ faults. BreaksAt (view_by f since t) w k i) (StandsAt (view_by f since t) w k))
       → ByStepFault fault (λ faults. Unit {0}) ((f.state t.node ≡ f.state p.seat.node) × (t.log ≡ p.seat.log))
       → f.steps t.node ≡ steps_after fault (f.steps p.seat.node) → ByStepFault fault (λ faults. Unit {0}) (IsTrue (f.facts.is_open t.log))
+      → ByStepFault fault (λ faults. NamesFault faults (f.facts.fault_count p.seat.log) (f.facts.fault_count t.log))
+      (f.facts.fault_count t.log ≡ f.facts.fault_count p.seat.log) → f.facts.place t.log ≡ f.facts.place p.seat.log
       → Sits f routers (record { at = p.at; failed = faults_in fault; seat = t }) v
-  sits_failed p t v i (Disk faults) none here known failed same count is_open =
+  sits_failed p t v i (Disk faults) none here known failed same count is_open rose place =
       let is : IsAsKnown f here.old p.seat = as_known (map f.letter v.seen) here.old p none here.is in
       record {
         old = here.old;
@@ -82,17 +85,18 @@ module _ {N L M I : Type 0} (f : NodeFacts N L M I) (routers : ℕ) where
         is = record {
           input = i;
           known = known;
+          failed = subst (λ (l : L). HasFailed f.facts faults l t.log) (sym is.log) (record { place = place; rose = rose });
           breaks = λ since w stands. failed since w p.at (same_stands f.state f.facts since w p.at here.old p.seat (sym is.state, sym is.log) stands);
         };
       }
-  sits_failed p t v i Steps none here known failed same count is_open =
+  sits_failed p t v i Steps none here known failed same count is_open faults_are place =
       let is : IsAsKnown f here.old p.seat = as_known (map f.letter v.seen) here.old p none here.is in
       record {
         old = here.old;
         held = here.held;
         is = record { state = is.state ∙ sym same.0; log = is.log ∙ sym same.1; steps = omega (arith, is.steps, count); is_open = is_open };
       }
-  sits_failed p t v i Memory none here known failed same count is_open =
+  sits_failed p t v i Memory none here known failed same count is_open faults_are place =
       let is : IsAsKnown f here.old p.seat = as_known (map f.letter v.seen) here.old p none here.is in
       record {
         old = here.old;

@@ -26,7 +26,8 @@ use Rattle.driver_steps.proofs.Seats.{held_len}
 use Rattle.history_model.proofs.Lists.{all_append, all_weaken}
 use Rattle.node_cell.specs.declared.view.Taken.{Taken}
 use Rattle.node_cell.specs.declared.view.View.{View}
-use Rattle.node_cell.specs.Courses.{NodeFacts, Course, Fits, Goes, Has, Holds, IsStepOn, Saw, WasSent, WasTaken, WasTold, view_by}
+use Rattle.outside.specs.Logs.{LogFacts}
+use Rattle.node_cell.specs.Courses.{NodeFacts, Course, Fits, Goes, Has, Holds, IsCalm, IsCalmAt, IsStepOn, Saw, WasSent, WasTaken, WasTold, view_by}
 use Rattle.node_cell.specs.Standing.{AreAmong, IsKnown, MayTake}
 use Rattle.node_cell.specs.Views.{Given, after_step, holder, renewed, takes}
 use Rattle.node_cell.proofs.Lists.{all_at, all_map, all_set, all_unmap, each_set, get_front, get_seam, get_set_other, get_set_same, holder_one}
@@ -196,11 +197,17 @@ module _ {N L M I : Type 0} (f : NodeFacts N L M I) (since : Since L) (first : W
             is = has.stands.is;
             leaves = leaves_on f.facts since s.log k c.world v has.stands.leaves (leads_by e c.world v happens);
           };
+          calm = has.calm;
           count = get_set_other c.counts at k count other ∙ has.count;
         };
     saw = still_saw f first.now c.events e c.world v moves.f.mail (answered_by c.world.now moves.f.replies) (ap (λ (x : World). x.sent) moves.then)
         (ap (λ (x : World). x.answered) moves.then) u fit.saw;
   }
+
+still_calm : {L : Type 0} (facts : LogFacts L) (firsts : List L) (at : ℕ) (old new : L) → IsCalmAt facts firsts at old → IsCalm facts old new
+    → IsCalmAt facts firsts at new
+still_calm facts firsts at old new was is =
+    record { first = was.first; here = was.here; calm = record { place = is.place ∙ was.calm.place; faults = is.faults ∙ was.calm.faults } }
 
 module _ {N L M I : Type 0} (f : NodeFacts N L M I) (routers nodes : ℕ) (since : Since L) (first : World)
     (there : (at : ℕ) → routers ≤ at → at < nodes → IsRouter first.nodes at) where
@@ -250,6 +257,7 @@ module _ {N L M I : Type 0} (f : NodeFacts N L M I) (routers nodes : ℕ) (since
                   (record {
                     mine = has.mine;
                     stands = record { held = step.held; here = step.here; is = step.is; leaves = step.crashes e known.is };
+                    calm = still_calm f.facts since.logs g.at may.old.log g.new.log has.calm may.calm;
                     count = get_set_same c.counts g.at count (f.steps may.old.node) has.count;
                   });
               saw = now_saw f first.now c.events e c.world w step.moves.f.mail (answered_by c.world.now step.moves.f.replies)

@@ -1,5 +1,5 @@
 -- What ties the numbers of the steps, and what is known of them, to one run of the machine (own).
-use Rattle.std.specs.Prelude.{⊤, ◌≡◌, ℕ, ◌+◌, ◌<◌, ◌≤◌, ◌^◌, List, [], ◌∷◌, length, Some}
+use Rattle.std.specs.Prelude.{⊤, ◌≡◌, ℕ, ◌+◌, ◌<◌, ◌≤◌, ◌^◌, List, [], ◌∷◌, length, map, Some}
 use Rattle.std.specs.List.{slice_get, AllByRecursion}
 use mathlib.Core.Option.{some}
 use lib.ListN.{get_elem?}
@@ -74,10 +74,22 @@ pub record Saw {N L M I : Type 0} (f : NodeFacts N L M I) (first : ℕ) (events 
   pub told : AllByRecursion (λ r. WasTold first w r) v.told
   pub taken : AllByRecursion (λ t. WasTaken f.meaning events w t) v.taken
 
+-- the disk of a log is where it was at first, and its count of faults is the same
+pub record IsCalm {L : Type 0} (facts : LogFacts L) (first log : L) : Type 0 where
+  pub place : facts.place log ≡ facts.place first
+  pub faults : facts.fault_count log ≡ facts.fault_count first
+
+-- so is that of the log at a place, since these
+pub record IsCalmAt {L : Type 0} (facts : LogFacts L) (firsts : List L) (at : ℕ) (log : L) : Type 0 where
+  pub first : L
+  pub here : slice_get firsts at ≡ Some first
+  pub calm : IsCalm facts first log
+
 -- this pass has the node that is at a place, with its log
 pub record Has {N L M I : Type 0} (f : NodeFacts N L M I) (since : Since L) (c : Course) (id at : ℕ) (s : Seat N L) : Type 0 where
   pub mine : c.owner at ≡ id
   pub stands : StandsAt (view_by f since s) c.world at
+  pub calm : IsCalmAt f.facts since.logs at s.log
   pub count : slice_get c.counts at ≡ Some (f.steps s.node)
 
 -- what a pass knows is so
@@ -104,8 +116,9 @@ pub record Goes {N L M I : Type 0} (f : NodeFacts N L M I) (since : Since L) (fi
 abbrev pub RoutersFrom : (number : ℕ) → List Held → Type 0
 RoutersFrom number nodes = (at : ℕ) → number ≤ at → at < length nodes → IsRouter nodes at
 
--- The nodes with their logs are those of a world, of which those from a number on are routers, also as for crashes.
+-- The nodes with their logs are those of a world, of which those from a number on are routers, also as for crashes, which are counted from these logs on.
 pub record OpenedAs {N L M I : Type 0} (f : NodeFacts N L M I) (since : Since L) (routers : ℕ) (seats : List (Seat N L)) (w : World) : Type 0 where
+  pub logs : since.logs ≡ map (λ s. s.log) seats
   pub nodes : AreHeld (view_by f since) seats w.nodes
   pub crashes : LeaveKept (view_by f since) seats w
   pub are_routers : RoutersFrom routers w.nodes

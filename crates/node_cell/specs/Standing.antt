@@ -10,12 +10,13 @@ use Rattle.node_traits.specs.declared.outputs.ToLink.{ToLink}
 use Rattle.driver_steps.specs.declared.seat.Seat.{Seat}
 use Rattle.driver_steps.specs.Crashes.{Since}
 use Rattle.driver_steps.specs.Moves.{IsEvent}
-use Rattle.driver_steps.specs.OneSeat.{BreaksAt, StandsAt, StepsAt}
+use Rattle.outside.specs.Logs.{LogFacts}
+use Rattle.driver_steps.specs.OneSeat.{BreaksAt, NamesFault, StandsAt, StepsAt}
 use Rattle.node_cell.specs.declared.view.Placed.{Placed}
 use Rattle.node_cell.specs.declared.view.Taken.{Taken}
 use Rattle.node_cell.specs.declared.view.View.{View}
 use Rattle.node_cell.specs.Views.{Given}
-use Rattle.node_cell.specs.Courses.{NodeFacts, OpenedAs, Saw, view_by}
+use Rattle.node_cell.specs.Courses.{IsCalm, IsCalmAt, NodeFacts, OpenedAs, Saw, view_by}
 
 abbrev pub Among : {A : Type 0} → A → List A → Type 0
 Among x all = (which : ℕ) × (slice_get all which ≡ Some x)
@@ -35,6 +36,7 @@ pub record MayTake {N L M I : Type 0} (f : NodeFacts N L M I) (routers : ℕ) (v
       → StepsAt (view_by f since g.new) w g.at (f.meaning g.input) (map f.letter g.mail) g.replies
   pub more : f.steps old.node + 1 ≤ f.steps g.new.node
   pub below : f.steps g.new.node < 2 ^ 56
+  pub calm : IsCalm f.facts old.log g.new.log
   pub known : IsKnown routers (map f.letter v.seen) g.at (f.meaning g.input)
 
 -- the node is in this state, and has this log, to which records can be appended; a step that met a fault may have been counted
@@ -44,15 +46,21 @@ pub record IsAsKnown {N L M I : Type 0} (f : NodeFacts N L M I) (old seat : Seat
   pub steps : f.steps old.node ≤ f.steps seat.node
   pub is_open : IsTrue (f.facts.is_open seat.log)
 
+-- the count of faults of a log's disk rose to this number since then
+pub record HasFailed {L : Type 0} (facts : LogFacts L) (faults : ℕ) (first log : L) : Type 0 where
+  pub place : facts.place log ≡ facts.place first
+  pub rose : NamesFault faults (facts.fault_count first) (facts.fault_count log)
+
 -- The disk failed in a step of the node at a place, which has no number.
-pub record IsHalted {N L M I : Type 0} (f : NodeFacts N L M I) (routers at : ℕ) (seen : List Letter) (old seat : Seat N L) : Type 0 where
+pub record IsHalted {N L M I : Type 0} (f : NodeFacts N L M I) (routers at : ℕ) (seen : List Letter) (faults : ℕ) (old seat : Seat N L) : Type 0 where
   pub input : Input
   pub known : IsKnown routers seen at input
+  pub failed : HasFailed f.facts faults old.log seat.log
   pub breaks : (since : Since L) (w : World) → StandsAt (view_by f since old) w at → BreaksAt (view_by f since seat) w at input
 
 -- the node is as it was known, or its disk failed since
 abbrev pub IsKept : {N L M I : Type 0} → NodeFacts N L M I → (routers : ℕ) → (seen : List Letter) → Seat N L → Placed N L → Type 0
-IsKept f routers seen old p = MatchOption p.failed (IsAsKnown f old p.seat) (λ faults. IsHalted f routers p.at seen old p.seat)
+IsKept f routers seen old p = MatchOption p.failed (IsAsKnown f old p.seat) (λ faults. IsHalted f routers p.at seen faults old p.seat)
 
 -- the pass has this node alone
 pub record Sits {N L M I : Type 0} (f : NodeFacts N L M I) (routers : ℕ) (p : Placed N L) (v : View N L M I) : Type 0 where
@@ -74,8 +82,17 @@ AreSeen letter seen mail = AllByRecursion (λ m. Among (letter m) (map letter se
 abbrev pub AreTold : (told : List (ℕ × ToLink)) → (number : ℕ) → List ToLink → Type 0
 AreTold told number replies = AllByRecursion (λ r. Among (number, r) told) replies
 
+-- The node is at its place with its log, to which records can be appended; its disk met no fault.
+pub record StaysAt {N L M I : Type 0} (f : NodeFacts N L M I) (since : Since L) (w : World) (at : ℕ) (seat : Seat N L) : Type 0 where
+  pub stands : StandsAt (view_by f since seat) w at
+  pub calm : IsCalmAt f.facts since.logs at seat.log
+  pub is_open : IsTrue (f.facts.is_open seat.log)
+
 -- A disk failed in a step of the node at a place that is one more event of the run; its records are stored or they are not.
-pub record StoppedAt {N L M I : Type 0} (f : NodeFacts N L M I) (since : Since L) (w : World) (at : ℕ) (seat : Seat N L) : Type 0 where
+pub record StoppedAt {N L M I : Type 0} (f : NodeFacts N L M I) (since : Since L) (w : World) (at faults : ℕ) (seat : Seat N L) : Type 0 where
+  pub first : L
+  pub here : slice_get since.logs at ≡ Some first
+  pub failed : HasFailed f.facts faults first seat.log
   pub input : Input
   pub event : Event
   pub is : IsEvent w at input event
@@ -83,7 +100,7 @@ pub record StoppedAt {N L M I : Type 0} (f : NodeFacts N L M I) (since : Since L
 
 -- the node is at its place with its log, or its disk failed in one step more
 abbrev pub Ends : {N L M I : Type 0} → NodeFacts N L M I → Since L → World → Placed N L → Type 0
-Ends f since w p = MatchOption p.failed (StandsAt (view_by f since p.seat) w p.at) (λ faults. StoppedAt f since w p.at p.seat)
+Ends f since w p = MatchOption p.failed (StaysAt f since w p.at p.seat) (λ faults. StoppedAt f since w p.at faults p.seat)
 
 -- these are at the places from one on
 abbrev pub AreFrom : {N L : Type 0} → ℕ → List (Placed N L) → Type 0

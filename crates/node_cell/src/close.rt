@@ -102,33 +102,28 @@ fn learn<N: Node, L: Log, K: Numbering>(
     }
 }
 
-/// Closes the numbering, and returns the nodes in order of their places. From each world whose nodes they were at the start there is one run, in which each step
-/// that a note has seen was taken, to a world in which they are the nodes, with their logs.
-///
-/// # Errors
-/// The cells, if memory runs out.
+/// Closes the numbering, and returns the nodes in order of their places, in the list that has room for them. From each world whose nodes they were at the start
+/// there is one run, in which each step that a note has seen was taken, to a world in which they are the nodes, with their logs.
 pub fn close_cells<N: Node, L: Log, K: Numbering, R: Wait>(
     rt: &R,
-    alloc: Global,
     book: Book<N, L, K>,
     mut pass: Pass<N, L>,
     cells: Vec<Cell<N, L, K>>,
     notes: Vec<Note<N, L, K>>,
-) -> Result<Vec<Placed<N, L>>, Vec<Cell<N, L, K>>>
+    mut ended: Vec<Placed<N, L>>,
+) -> Vec<Placed<N, L>>
     requires table { pass.table_id ≡ K.table }
     requires pass { pass.me ≡ (nothing_seen, []) }
     requires all { vec_len cells ≡ length book.table.shared.key.seats.value.items }
-    ensures len { IfOk result (λ ended. vec_len ended ≡ vec_len cells) }
-    ensures places { IfOk result (λ ended. AreFrom 0 ended.items) }
-    ensures run { IfOk result (λ ended. AreRun (node_facts N.state N.steps (λ m. N.Mail.letter m) N.meaning L.facts) book.routers
-        book.table.shared.key.seats.value.items ended.items notes.items) }
+    requires none { ended.items ≡ [] }
+    requires room { vec_len cells ≤ vec_capacity ended }
+    ensures len { vec_len result ≡ vec_len cells }
+    ensures places { AreFrom 0 result.items }
+    ensures run { AreRun (node_facts N.state N.steps (λ m. N.Mail.letter m) N.meaning L.facts) book.routers
+        book.table.shared.key.seats.value.items result.items notes.items }
 {
-    let mut ended = match Vec::with_capacity(alloc, cells.len()) {
-        Ok(ended) => ended,
-        Err(_) => return Err(cells),
-    };
     gather(rt, &book, &mut pass, cells, &mut ended);
     learn(&book, &mut pass, notes);
     book.close(pass);
-    Ok(ended)
+    ended
 }

@@ -32,6 +32,19 @@ impl<N: Node, L: Log, K: Numbering> Model for Note<N, L, K> {
 }
 
 impl<N: Node, L: Log, K: Numbering> Note<N, L, K> {
+    /// Returns a note of all that a pass has seen.
+    pub fn of(book: &Book<N, L, K>, pass: &mut Pass<N, L>) -> Note<N, L, K>
+        requires table { pass.old.table_id ≡ K.table }
+        ensures pass { (pass.new.table_id ≡ K.table) × (pass.new.me ≡ pass.old.me) }
+        ensures note { result ≡ noted pass.old.me.0 }
+    {
+        let pass = book.note(pass);
+        Note {
+            pass,
+            of: PhantomData,
+        }
+    }
+
     /// Returns another note of all that this one has seen.
     pub fn split(&mut self, book: &Book<N, L, K>) -> Note<N, L, K>
         ensures same { self.new ≡ self.old }
@@ -103,6 +116,13 @@ impl<N: Node, L: Log, K: Numbering> Model for Reply<N, L, K> {
 }
 
 impl<N: Node, L: Log, K: Numbering> Reply<N, L, K> {
+    /// Returns the number of the link that it is for.
+    pub fn link(&self) -> u32
+        ensures { result ≡ self.now.1.link }
+    {
+        self.reply.link
+    }
+
     /// Returns the number of the step, the reply, and the note that has seen that step return it.
     pub fn into_parts(self) -> (u64, ToLink, Note<N, L, K>)
         ensures reply { (result.0, result.1) ≡ self }

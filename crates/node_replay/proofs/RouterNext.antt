@@ -1,37 +1,38 @@
 -- Each transition of a router keeps the facts that stay: the rows.
-use Rattle.std.proofs.Common.{◌≡◌, ◌≢◌, inl, inr, ℕ, ℤ, ◌+◌, ◌≤◌, List, [], ◌∷◌, ◌++◌, refl, sym, ap, subst, ◌∙◌, arith, append-nil}
-use Rattle.std.specs.Prelude.{max, length, Bool, true, false, ◌==◌, Some, if◌then◌else◌}
+use Rattle.std.proofs.Common.{◌≡◌, ◌≢◌, ◌⊎◌, inl, inr, ℕ, ℤ, ◌+◌, ◌<◌, ◌≤◌, List, [], ◌∷◌, ◌++◌, refl, sym, ap, subst, ◌∙◌, arith, append-nil}
+use Rattle.std.specs.Prelude.{max, length, Bool, true, false, ◌==◌, Option, Some, None, if◌then◌else◌}
 use Rattle.std.specs.List.{AllByRecursion, flat_map}
 use Rattle.base_model.specs.Errors.{cursor_not_found, namespace_not_sharded, overflow}
 use Rattle.base_model.specs.Identities.{RequestId}
 use Rattle.base_model.specs.Refusals.{cursor_evidence, time_ahead, without_evidence}
 use Rattle.base_model.specs.Times.{time_of_moment}
-use Rattle.chunk_model.specs.Tables.{table_of}
+use Rattle.chunk_model.specs.Tables.{Table, first_shard, table_of}
 use Rattle.command_model.specs.Answers.{Answer, next_answer, killed_answer, changed_answer, refusal_answer, answer_document}
 use Rattle.command_model.specs.Command.{command_of}
 use Rattle.command_model.specs.Writes.{WriteCommand, WriteKind}
 use Rattle.history_model.proofs.Lists.{all_weaken, all_append, all_at, in_back, in_first, in_prefix}
-use Rattle.history_model.specs.History.{Entry}
+use Rattle.history_model.specs.History.{Entry, IsIn}
 use Rattle.reply_model.specs.Requests.{Request}
 use Rattle.pipeline_model.specs.Stages.{Stage}
 use Rattle.bson_model.specs.Tree.{Datum}
-use Rattle.reply_model.specs.Exchanges.{Asked}
+use Rattle.reply_model.specs.Exchanges.{Asked, Answered}
 use Rattle.reply_model.specs.OneHistory.{ids_asked, AreDifferent}
 use Rattle.reply_model.specs.Outcomes.{Done, answer_of}
-use Rattle.node_model.specs.Letters.{Statement, Input, Effect}
-use Rattle.node_model.specs.RouterRows.{heard, id_of, needs, at_once, needs_batch, needs_end, asks_for, noted, reply_to, going_on, reached, next_of, adopted, was_created, asks_again, open_of, begins, takes, Next, wait_of, opened_request, taken_now, too_much, RouterRow, router_begin, router_opened, router_plain, router_more, router_no_cursor, router_kill, router_take, router_learn, router_split, router_not_sharded, router_reach, router_ahead, router_note, router_wrote, router_read, router_excess, router_overflow, router_late, router_skip, router_moment}
-use Rattle.node_model.specs.States.{Telling, Work, writing, reading, splitting, Open, Router, without, replaced}
-use Rattle.node_model.specs.World.{asked_by}
+use Rattle.node_model.specs.Letters.{At, Statement, Body, write_done, Letter, Input, Effect, Reply, Taken}
+use Rattle.node_model.specs.RouterRows.{heard, id_of, needs, at_once, needs_batch, needs_end, plan_of, statements_from, asks_for, noted, reply_to, going_on, reached, next_of, stay_in, letters_in, replies_in, adopted, was_created, asks_again, open_of, begins, takes, Next, knows, with_work, wait_of, opened_request, taken_now, too_much, RouterRow, router_begin, router_opened, router_plain, router_more, router_no_cursor, router_kill, router_take, router_learn, router_split, router_not_sharded, router_reach, router_ahead, router_note, router_wrote, router_read, router_excess, router_overflow, router_late, router_skip, router_moment}
+use Rattle.node_model.specs.States.{Telling, Work, writing, reading, sharding, splitting, Open, Router, without, replaced}
+use Rattle.node_model.specs.World.{asked_by, answered_by}
 use Rattle.node_laws.proofs.Facts.{IsBy}
-use Rattle.node_laws.proofs.NextRequests.{NextIs, each_next}
+use Rattle.node_laws.proofs.Lists.{all_of}
+use Rattle.node_laws.proofs.NextRequests.{NextIs, AreNext, each_next}
 use Rattle.node_laws.proofs.OpenFacts.{by_weaken}
-use Rattle.node_laws.proofs.OpenRequests.{open_of_found, all_without, all_replaced}
+use Rattle.node_laws.proofs.OpenRequests.{IsOpenWith, open_of_found, all_without, all_replaced}
 use Rattle.node_laws.proofs.RouterAnswers.{as_answered, same_write}
 use Rattle.reply_facts.proofs.Requests.{one_asked}
-use Rattle.node_replay.specs.Acknowledged.{IsOutcomeAt, IsStored}
-use Rattle.node_replay.proofs.StayFacts.{AreDone, BodyStays, LetterStays, IsNoWrite, WorkStays, OpenStays, RouterStays, Grows, open_grows}
+use Rattle.node_replay.specs.Acknowledged.{IsOutcomeAt, IsAcknowledged, IsStored}
+use Rattle.node_replay.proofs.StayFacts.{AreDone, BodyStays, LetterStays, IsNoWrite, WorkStays, id_in, OpenStays, RouterStays, Grows, open_grows}
 use Rattle.node_replay.proofs.ShardStays.{InputStays}
-use Rattle.node_replay.proofs.RouterStays.{planned, asks_stay, again_stays, IsOwn, IsTold, working, goes_on, plain_told, split_no_write, next_stays}
+use Rattle.node_replay.proofs.RouterStays.{planned, IsWorking, asks_stay, again_stays, IsOwn, IsTold, working, goes_on, plain_told, split_no_write, next_stays}
 
 -- what a step of a router has to show, for what was requested after it
 pub record RouterNext (asked : List Asked) (history : List Entry) (now at : ℕ) (f : Effect) (q : Router) : Type 0 where

@@ -1,14 +1,14 @@
 -- Facts of nodes, messages and replies that stay true where nodes stop: they speak of what is stored and of what was requested, and not of
 -- the times of nodes.
-use Rattle.std.proofs.Common.{◌≡◌, ℕ, ◌<◌, ◌≤◌, List, [], ◌∷◌}
-use Rattle.std.specs.Prelude.{Ok, true}
+use Rattle.std.proofs.Common.{◌≡◌, ◌≢◌, ◌⊎◌, inl, inr, ℕ, ◌<◌, ◌≤◌, List, [], ◌∷◌, ◌++◌, refl, sym, ap, subst, ◌∙◌, Bool}
+use Rattle.std.specs.Prelude.{Result, Ok, true, int_lt}
 use Rattle.std.specs.List.{AllByRecursion}
 use Rattle.value_model.specs.Keys.{is_key}
 use Rattle.base_model.specs.Identities.{RequestId}
-use Rattle.command_model.specs.Command.{write_command, split_command, command_of}
+use Rattle.command_model.specs.Command.{Command, write_command, split_command, command_of}
 use Rattle.command_model.specs.Writes.{WriteCommand}
 use Rattle.chunk_model.specs.Tables.{first_shard}
-use Rattle.history_model.proofs.Lists.{all_weaken}
+use Rattle.history_model.proofs.Lists.{all_weaken, in_prefix}
 use Rattle.history_model.specs.History.{StatementNumber, Entry, IsIn}
 use Rattle.reply_model.specs.Exchanges.{Asked, Answered, number_for}
 use Rattle.reply_model.specs.Outcomes.{StatementOutcome, Done}

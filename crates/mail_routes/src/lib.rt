@@ -1,0 +1,6 @@
+//! Mailboxes between threads.
+#![tactic(auto)]
+
+mod routes;
+
+pub use routes::{Posted, Routes};
