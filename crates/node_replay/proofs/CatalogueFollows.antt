@@ -1,5 +1,5 @@
 -- The record of each transition of the catalogue may follow, and leads to its durable part after it.
-use Rattle.std.proofs.Common.{◌≡◌, ℕ, ◌+◌, ◌<◌, ◌≤◌, List, [], ◌∷◌, refl, sym, ap, subst, ◌∙◌, arith}
+use Rattle.std.proofs.Common.{◌≡◌, ℕ, ◌+◌, ◌<◌, ◌≤◌, List, [], ◌∷◌, refl, ap, subst, ◌∙◌, arith}
 use Rattle.std.specs.Prelude.{max, Bool, true, false, ◌&&◌, ◌==◌, Option, Some, None, is_none, nat_lt, if◌then◌else◌}
 use Rattle.std.specs.Option.{option_map}
 use Rattle.std.proofs.lemmas.Bool.{and_from, lt-ltb, eq-eqb}
@@ -11,10 +11,10 @@ use Rattle.chunk_model.specs.Requests.{CatalogueAnswer, changed, unchanged, no_c
 use Rattle.chunk_model.specs.Tables.{Table}
 use Rattle.node_model.specs.CatalogueRows.{heard, CatalogueRow, catalogue_create, catalogue_tell, catalogue_split, catalogue_bound, catalogue_none, catalogue_skip, catalogue_moment, catalogue_opened, catalogue_client}
 use Rattle.node_model.specs.Journal.{kept_change}
-use Rattle.node_model.specs.Letters.{Letter, Input, Effect}
+use Rattle.node_model.specs.Letters.{Input, Effect}
 use Rattle.node_model.specs.States.{Catalogue, catalogue_state}
-use Rattle.node_replay.specs.Durable.{DurableCatalogue, DurableState, durable_catalogue, latest_change, durable_of}
-use Rattle.node_replay.specs.Follow.{may_create, may_split, is_inside, with_change}
+use Rattle.node_replay.specs.Durable.{DurableCatalogue, durable_catalogue, latest_change, durable_of}
+use Rattle.node_replay.specs.Follow.{is_inside, with_change}
 use Rattle.node_replay.specs.Replays.{replayed, records_of}
 use Rattle.node_replay.specs.Holds.{Holds}
 

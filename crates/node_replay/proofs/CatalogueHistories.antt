@@ -1,6 +1,6 @@
 -- A journal of the catalogue that replays stores changes of which each may follow those before it.
-use Rattle.std.proofs.Common.{◌≡◌, ℕ, ◌+◌, ◌<◌, ◌≤◌, List, [], ◌∷◌, ◌++◌, refl, sym, ap, subst, ◌∙◌, arith}
-use Rattle.std.specs.Prelude.{max, Bool, true, false, ◌&&◌, ◌==◌, Option, Some, None, is_none, nat_lt, if◌then◌else◌}
+use Rattle.std.proofs.Common.{◌≡◌, ℕ, ◌+◌, ◌<◌, ◌≤◌, List, [], ◌∷◌, refl, ap, subst, arith}
+use Rattle.std.specs.Prelude.{max, Bool, true, false, ◌==◌, Option, Some, None, is_none, nat_lt, if◌then◌else◌}
 use Rattle.std.specs.List.{AllByRecursion}
 use Rattle.std.specs.Option.{option_map}
 use Rattle.std.proofs.lemmas.Bool.{ltb-true, eqb-true}
@@ -13,10 +13,10 @@ use Rattle.chunk_model.specs.Tables.{Table}
 use Rattle.history_model.proofs.Lists.{all_weaken}
 use Rattle.record_model.specs.Records.{Record, create_record, split_record, catalogue_ceiling_record}
 use Rattle.node_replay.specs.Durable.{DurableCatalogue, durable_catalogue, empty_catalogue}
-use Rattle.node_replay.specs.Follow.{may_create, may_split, is_inside, with_change, catalogue_follow}
+use Rattle.node_replay.specs.Follow.{may_create, may_split, is_inside, with_change}
 use Rattle.node_replay.specs.Histories.{changes_over, HasKey, AreChanges}
 use Rattle.node_replay.specs.Replays.{replayed}
-use Rattle.node_replay.proofs.ShardHistories.{picked, none_is}
+use Rattle.node_replay.proofs.ShardHistories.{none_is}
 
 -- what is known before the records that are left
 record Grows (older : List Change) (d : DurableCatalogue) : Type 0 where

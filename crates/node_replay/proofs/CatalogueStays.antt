@@ -12,7 +12,7 @@ use Rattle.history_model.specs.History.{Entry}
 use Rattle.reply_model.specs.Exchanges.{Asked}
 use Rattle.node_model.specs.CatalogueRows.{CatalogueRow, catalogue_create, catalogue_tell, catalogue_split, catalogue_bound, catalogue_none, catalogue_skip, catalogue_moment, catalogue_opened, catalogue_client}
 use Rattle.node_model.specs.Journal.{Kept, kept_change, change_record, record_kept, changes_kept}
-use Rattle.node_model.specs.Letters.{Letter, Input, Effect}
+use Rattle.node_model.specs.Letters.{Input, Effect}
 use Rattle.node_model.specs.States.{Catalogue}
 use Rattle.node_laws.proofs.Lists.{map_longer}
 use Rattle.node_laws.proofs.LongerJournals.{changes_longer}

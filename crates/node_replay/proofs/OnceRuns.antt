@@ -1,10 +1,9 @@
 -- No request is answered twice: over runs with stops.
-use Rattle.std.proofs.Common.{◌≡◌, ◌≢◌, ◌⊎◌, inl, inr, ℕ, zero, suc, ◌+◌, ◌<◌, List, [], ◌∷◌, ◌++◌, refl, sym, ap, subst, ◌∙◌, arith, append-nil}
-use Rattle.std.specs.Prelude.{Option, Some, None, false}
+use Rattle.std.proofs.Common.{◌≡◌, ◌≢◌, ℕ, zero, suc, ◌+◌, List, [], ◌∷◌, ◌++◌, refl, sym, ap, subst, ◌∙◌, arith, append-nil}
+use Rattle.std.specs.Prelude.{Option, Some, None}
 use Rattle.std.specs.List.{AllByRecursion, slice_get, slice_set}
 use Rattle.std.specs.Option.{option_map}
 use Rattle.base_model.specs.Identities.{RequestId}
-use Rattle.chunk_model.specs.Tables.{first_shard}
 use Rattle.history_model.proofs.Lists.{all_weaken, all_append, in_prefix}
 use Rattle.history_model.specs.History.{Entry, IsIn}
 use Rattle.reply_model.specs.Exchanges.{Asked, Answered}
@@ -21,12 +20,12 @@ use Rattle.node_laws.proofs.Lists.{map_longer}
 use Rattle.node_laws.proofs.Places.{EachAt, each_get, each_set}
 use Rattle.node_replay.specs.Durable.{DurableState, durable_catalogue, durable_shard, durable_router}
 use Rattle.node_replay.specs.Openings.{opened}
-use Rattle.node_replay.specs.Restarts.{Restarts, Stops, EventOrStop, Occurs, occurs, restarts, stops, RunWithStops, stays, proceeds}
+use Rattle.node_replay.specs.Restarts.{EventOrStop, Occurs, occurs, restarts, stops, RunWithStops, stays, proceeds}
 use Rattle.node_replay.proofs.OnceStays.{IsSilent, RouterOnce, StepOnce, router_once}
 use Rattle.node_replay.proofs.Restarts.{occurs_replays}
 use Rattle.node_replay.proofs.RouterNext.{begins_stays}
 use Rattle.node_replay.proofs.Runs.{NodeReplays, start_replays}
-use Rattle.node_replay.proofs.StayFacts.{id_in, StateStays, HeldStays, RouterStays}
+use Rattle.node_replay.proofs.StayFacts.{id_in, StateStays, HeldStays}
 use Rattle.node_replay.proofs.StopStays.{here_stays, occurs_stays, start_stays}
 use Rattle.node_replay.proofs.WorldStays.{stored_in, WorldStays}
 
@@ -109,7 +108,8 @@ opened_once answered time (durable_catalogue d) = tt
 opened_once answered time (durable_shard d) = tt
 opened_once answered time (durable_router d) = record { different = tt; silent = tt }
 
-started_once : (answered : List Answered) (time : ℕ) (o : Option DurableState) (new : NodeState) → option_map (opened time) o ≡ Some new → StateOnce answered new
+started_once : (answered : List Answered) (time : ℕ) (o : Option DurableState) (new : NodeState) → option_map (opened time) o ≡ Some new
+    → StateOnce answered new
 started_once answered time None new same = absurd (cc)
 started_once answered time (Some d) new same =
     let is : opened time d ≡ new = cc in

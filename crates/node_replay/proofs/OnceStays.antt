@@ -1,22 +1,21 @@
 -- No request is answered twice, in whichever runs with stops.
-use Rattle.std.proofs.Common.{◌≡◌, ◌≢◌, ◌⊎◌, inl, inr, ℕ, ℤ, ◌+◌, ◌<◌, ◌≤◌, List, [], ◌∷◌, ◌++◌, refl, sym, ap, subst, ◌∙◌, arith, append-nil}
-use Rattle.std.specs.Prelude.{Bool, true, false, Option, Some, None}
+use Rattle.std.proofs.Common.{◌≡◌, ◌≢◌, ℕ, ◌+◌, List, [], ◌∷◌, ◌++◌, refl, sym, ap, subst, ◌∙◌, append-nil}
+use Rattle.std.specs.Prelude.{true, Some}
 use Rattle.std.specs.List.{AllByRecursion}
 use Rattle.base_model.specs.Identities.{RequestId}
-use Rattle.history_model.proofs.Lists.{all_weaken, all_append, all_at, all_both, in_back, in_first, in_prefix}
+use Rattle.history_model.proofs.Lists.{all_weaken, all_append, all_at, all_both, in_back, in_first}
 use Rattle.history_model.specs.History.{Entry, IsIn}
-use Rattle.reply_model.specs.Requests.{Request}
 use Rattle.reply_model.specs.Exchanges.{Asked, Answered}
 use Rattle.reply_model.specs.OneHistory.{ids_asked, ids_told, AreDifferent}
 use Rattle.node_model.specs.Letters.{Input, Effect, Reply}
-use Rattle.node_model.specs.RouterRows.{heard, id_of, next_of, adopted, was_created, reply_to, going_on, open_of, Next, stays, is_told, stay_in, begins, opened_request, RouterRow, router_begin, router_opened, router_plain, router_more, router_no_cursor, router_kill, router_take, router_learn, router_split, router_not_sharded, router_reach, router_ahead, router_note, router_wrote, router_read, router_excess, router_overflow, router_late, router_skip, router_moment}
+use Rattle.node_model.specs.RouterRows.{heard, id_of, next_of, adopted, was_created, open_of, Next, stays, is_told, stay_in, begins, opened_request, RouterRow, router_begin, router_opened, router_plain, router_more, router_no_cursor, router_kill, router_take, router_learn, router_split, router_not_sharded, router_reach, router_ahead, router_note, router_wrote, router_read, router_excess, router_overflow, router_late, router_skip, router_moment}
 use Rattle.node_model.specs.States.{Open, Router, without, replaced}
 use Rattle.node_model.specs.World.{asked_by, answered_by}
 use Rattle.node_laws.proofs.Facts.{counts_of, AreDifferentCounts}
 use Rattle.node_laws.proofs.Lists.{all_mapped}
 use Rattle.node_laws.proofs.NextFacts.{next_keeps}
-use Rattle.node_laws.proofs.NextRequests.{KeepsCount, NextIs, left_by, told_by, each_next, parted_next}
-use Rattle.node_laws.proofs.OpenRequests.{IsOpenWith, open_of_found, all_without, all_replaced, IsParted, parted_same, parted_replaced, parted_without}
+use Rattle.node_laws.proofs.NextRequests.{KeepsCount, left_by, parted_next}
+use Rattle.node_laws.proofs.OpenRequests.{open_of_found, all_without, all_replaced, IsParted, parted_replaced, parted_without}
 use Rattle.node_laws.proofs.RouterAnswers.{as_answered}
 use Rattle.node_laws.proofs.RouterLater.{once_more}
 use Rattle.node_replay.proofs.RouterNext.{new_number}
@@ -186,7 +185,8 @@ module _ (asked : List Asked) (history : List Entry) (answered : List Answered) 
   answers : r.begun ≡ true → AreDifferent (ids_asked asked) → (f : Effect) (q : Router) (x : Reply) (a : Asked) → asked_by now f.taken ≡ a ∷ []
       → a.id ≡ id_of r (r.count + 1) → f.replies ≡ x ∷ [] → x.id ≡ id_of r (r.count + 1) → q.me ≡ r.me → q.life ≡ r.life → q.requests ≡ r.requests ++ []
       → StepOnce asked answered now at f q
-  answers begun one f q x a takes asks replies number me life requests = record { all = answers_all begun one f q x a takes asks replies number me life requests }
+  answers begun one f q x a takes asks replies number me life requests =
+      record { all = answers_all begun one f q x a takes asks replies number me life requests }
 
   -- or it stays open
   opens_all : r.begun ≡ true → AreDifferent (ids_asked asked) → (f : Effect) (q : Router) (p : Open) → f.replies ≡ [] → p.count ≡ r.count + 1 → q.me ≡ r.me
@@ -277,11 +277,14 @@ router_once asked history answered now at _ _ _ _ mine one own told once (router
     goes_on asked history answered now at r mine own told once _ _ q _ id found refl refl refl refl refl refl
 router_once asked history answered now at _ _ _ _ mine one own told once (router_ahead r m id q named time stages telling tells found work waits ahead) =
     closes asked history answered now at r mine own told once _ _ _ q id found refl refl refl refl refl refl
-router_once asked history answered now at _ _ _ _ mine one own told once (router_note r m id dones q kind ordered statements answers tells found work news more) =
+router_once asked history answered now at _ _ _ _ mine one own told once
+    (router_note r m id dones q kind ordered statements answers tells found work news more) =
     goes_on asked history answered now at r mine own told once _ _ q _ id found refl refl refl refl refl refl
-router_once asked history answered now at _ _ _ _ mine one own told once (router_wrote r m id dones q kind ordered statements answers tells found work news all) =
+router_once asked history answered now at _ _ _ _ mine one own told once
+    (router_wrote r m id dones q kind ordered statements answers tells found work news all) =
     closes asked history answered now at r mine own told once _ _ _ q id found refl refl refl refl refl refl
-router_once asked history answered now at _ _ _ _ mine one own told once (router_read r m id rows q named time stages telling out answer f tells found work merges shown) =
+router_once asked history answered now at _ _ _ _ mine one own told once
+    (router_read r m id rows q named time stages telling out answer f tells found work merges shown) =
     closes asked history answered now at r mine own told once _ _ _ q id found refl refl refl refl refl refl
 router_once asked history answered now at _ _ _ _ mine one own told once (router_excess r m id n q named time stages telling tells found work) =
     closes asked history answered now at r mine own told once _ _ _ q id found refl refl refl refl refl refl

@@ -1,5 +1,5 @@
 -- Records that are taken in one after another, and times.
-use Rattle.std.proofs.Common.{◌≡◌, ℕ, ◌<◌, ◌≤◌, List, [], ◌∷◌, ◌++◌, refl, sym, ap, ◌∙◌, arith}
+use Rattle.std.proofs.Common.{◌≡◌, ◌<◌, List, [], ◌∷◌, ◌++◌, refl, ap, ◌∙◌, arith}
 use Rattle.std.specs.Prelude.{max, Option, Some, None}
 use Rattle.history_model.specs.History.{Entry}
 use Rattle.record_model.specs.Records.{Record}

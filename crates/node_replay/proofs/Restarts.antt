@@ -7,12 +7,12 @@ use Rattle.chunk_model.specs.Changes.{create_change, split_change}
 use Rattle.chunk_model.specs.Tables.{table_of}
 use Rattle.record_model.specs.Records.{Record, table_record, entry_record, ceiling_record, create_record, split_record, catalogue_ceiling_record, life_record, block_record}
 use Rattle.node_model.specs.Journal.{Kept}
-use Rattle.node_model.specs.Letters.{Input, Effect}
+use Rattle.node_model.specs.Letters.{Input}
 use Rattle.node_model.specs.ShardRows.{is_news}
 use Rattle.node_model.specs.States.{NodeState, catalogue_state, shard_state, router_state}
 use Rattle.node_model.specs.World.{Held, World, start}
 use Rattle.node_replay.specs.Durable.{DurableState, durable_catalogue, durable_shard, durable_router, next_life, durable_of, empty_of}
-use Rattle.node_replay.specs.Follow.{may_create, with_change, may_split, catalogue_follow, entry_from, may_enter, has_table, with_entry, shard_follow, router_follow}
+use Rattle.node_replay.specs.Follow.{may_create, with_change, may_split, entry_from, may_enter, has_table, with_entry}
 use Rattle.node_replay.specs.Replays.{follow, replayed, records_of, time_in, latest_time}
 use Rattle.node_replay.specs.Openings.{opened, opened_on}
 use Rattle.node_replay.specs.Holds.{Holds, Replays, MayOpen}

@@ -1,6 +1,6 @@
 -- The records of each transition of a router may follow, and lead to its durable part after it.
-use Rattle.std.proofs.Common.{◌≡◌, ◌⊎◌, inl, inr, ℕ, ◌+◌, ◌*◌, ◌<◌, ◌≤◌, List, [], ◌∷◌, ◌++◌, refl, sym, ap, subst, ◌∙◌, arith, ℤ}
-use Rattle.std.specs.Prelude.{max, length, drop, Bool, true, false, ◌&&◌, ◌==◌, Option, Some, None, nat_lt, if◌then◌else◌}
+use Rattle.std.proofs.Common.{◌≡◌, ◌⊎◌, inl, inr, ℕ, ◌+◌, ◌*◌, ◌≤◌, List, [], ◌∷◌, ◌++◌, refl, sym, ap, subst, ◌∙◌, arith}
+use Rattle.std.specs.Prelude.{length, drop, Bool, true, false, ◌&&◌, ◌==◌, Option, Some, None, nat_lt, if◌then◌else◌}
 use Rattle.std.specs.List.{flat_map}
 use Rattle.std.specs.Option.{option_map}
 use Rattle.std.proofs.lemmas.Bool.{and_from, lt-ltb, eq-eqb}
@@ -8,12 +8,11 @@ use Rattle.base_model.specs.Identities.{RequestId, same_request}
 use Rattle.pipeline_model.specs.Runs.{Outcome}
 use Rattle.reply_model.specs.Answers.{Answer}
 use Rattle.reply_model.specs.Cursors.{Cursor}
-use Rattle.chunk_model.specs.Tables.{Table}
-use Rattle.node_model.specs.Journal.{Kept, kept_block, kept_life}
-use Rattle.node_model.specs.Letters.{Letter, Input, Effect}
-use Rattle.node_model.specs.States.{Telling, Open, Router, router_state, open_with, without, replaced}
-use Rattle.node_model.specs.RouterRows.{heard, id_of, open_of, new_cursor, next_of, stay_in, adopted, was_created, knows, begins, Opened, opens, as_before, gives_number, block_size, Tells, tells_overflow, tells_excess, tells_number, tells_batch, tells_cursor, RouterRow, router_begin, router_opened, router_plain, router_more, router_no_cursor, router_kill, router_take, router_learn, router_split, router_not_sharded, router_reach, router_ahead, router_note, router_wrote, router_read, router_excess, router_overflow, router_late, router_skip, router_moment}
-use Rattle.node_replay.specs.Durable.{DurableRouter, DurableState, durable_router, next_life, durable_of}
+use Rattle.node_model.specs.Journal.{kept_block, kept_life}
+use Rattle.node_model.specs.Letters.{Input, Effect}
+use Rattle.node_model.specs.States.{Telling, Open, Router, router_state, open_with}
+use Rattle.node_model.specs.RouterRows.{heard, id_of, open_of, new_cursor, next_of, stay_in, adopted, was_created, begins, Opened, block_size, Tells, tells_overflow, tells_excess, tells_number, tells_batch, tells_cursor, RouterRow, router_begin, router_opened, router_plain, router_more, router_no_cursor, router_kill, router_take, router_learn, router_split, router_not_sharded, router_reach, router_ahead, router_note, router_wrote, router_read, router_excess, router_overflow, router_late, router_skip, router_moment}
+use Rattle.node_replay.specs.Durable.{durable_router, next_life, durable_of}
 use Rattle.node_replay.specs.Replays.{replayed, records_of}
 use Rattle.node_replay.specs.Holds.{Holds}
 

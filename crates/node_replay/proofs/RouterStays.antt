@@ -1,36 +1,32 @@
 -- Each transition of a router keeps the facts that stay.
-use Rattle.std.proofs.Common.{◌≡◌, ◌≢◌, ◌⊎◌, inl, inr, ℕ, zero, suc, ℤ, ◌+◌, ◌≤◌, List, [], ◌∷◌, ◌++◌, refl, sym, ap, subst, ◌∙◌, arith, append-nil}
-use Rattle.std.specs.Prelude.{max, length, drop, Bool, true, false, ◌==◌, ◌&&◌, Option, Some, None, Result, Ok, Err, if◌then◌else◌}
+use Rattle.std.proofs.Common.{◌≡◌, ℕ, zero, suc, List, [], ◌∷◌, refl, sym, subst, ◌∙◌}
+use Rattle.std.specs.Prelude.{length, drop, Bool, true, false, ◌&&◌, Option, Some, None, Result, Ok, Err, if◌then◌else◌}
 use Rattle.std.specs.List.{AllByRecursion}
 use Rattle.base_model.specs.Identities.{RequestId}
 use Rattle.base_model.specs.Refusals.{Refusal}
 use Rattle.bson_model.specs.Tree.{Datum}
-use Rattle.chunk_model.specs.Tables.{Table, first_shard, table_of}
+use Rattle.chunk_model.specs.Tables.{Table}
 use Rattle.chunk_model.specs.Verdicts.{sent_by}
-use Rattle.command_model.specs.Answers.{Answer, sharded_answer, answer_document}
+use Rattle.command_model.specs.Answers.{Answer, sharded_answer}
 use Rattle.command_model.specs.Command.{Command, hello_command, legacy_command, ping_command, end_sessions_command, write_command, find_command, count_command, more_command, kill_command, shard_collection_command, split_command, command_of}
 use Rattle.command_model.specs.Writes.{WriteCommand, WriteKind}
 use Rattle.command_model.proofs.Taken.{middle_is_key}
-use Rattle.history_model.proofs.Lists.{all_weaken, all_append, all_at, all_from, in_back, in_first, in_prefix}
+use Rattle.history_model.proofs.Lists.{all_from}
 use Rattle.history_model.specs.History.{Entry, IsIn}
 use Rattle.reply_model.specs.Requests.{Request}
 use Rattle.pipeline_model.specs.Halves.{Half}
 use Rattle.pipeline_model.specs.Split.{split}
 use Rattle.pipeline_model.specs.Stages.{Stage}
 use Rattle.std.specs.Str.{bytes_eq}
-use Rattle.reply_model.specs.Exchanges.{Asked, Answered}
-use Rattle.reply_model.specs.OneHistory.{ids_asked, AreDifferent}
-use Rattle.reply_model.specs.Outcomes.{Done, answer_of}
-use Rattle.node_model.specs.Letters.{At, Statement, write_ask, read_ask, Letter, Input, Effect, Reply, Taken}
-use Rattle.node_model.specs.RouterRows.{is_on, says, id_of, RequestPlan, at_once, needs, needs_batch, needs_end, plan_of, statements_from, owner_of_statement, run_to, asks_to_write, asks_to_read, asks_shards, asks_catalogue, owner_of_span, unanswered, asks_times, is_ahead, table_for, asks_by, asks_for, noted, reply_to, Next, stays, is_told, empty_answer, is_for_catalogue, next_without, next_waiting, next_of, is_for, with_work}
-use Rattle.node_model.specs.States.{Telling, Work, writing, reading, sharding, splitting, Wait, for_time, for_catalogue, for_shards, Open, Router, open_with, without, replaced}
-use Rattle.node_model.specs.World.{asked_by, answered_by}
-use Rattle.node_laws.proofs.RouterAnswers.{as_answered, same_write}
+use Rattle.reply_model.specs.Exchanges.{Asked}
+use Rattle.reply_model.specs.Outcomes.{Done}
+use Rattle.node_model.specs.Letters.{At, Statement, write_ask, read_ask, Letter, Reply}
+use Rattle.node_model.specs.RouterRows.{is_on, says, id_of, RequestPlan, at_once, needs, needs_batch, needs_end, plan_of, statements_from, owner_of_statement, run_to, asks_to_write, asks_to_read, asks_shards, asks_catalogue, owner_of_span, unanswered, asks_times, is_ahead, table_for, asks_by, asks_for, reply_to, Next, stays, is_told, empty_answer, is_for_catalogue, next_waiting, next_of, is_for, with_work}
+use Rattle.node_model.specs.States.{Telling, Work, writing, reading, sharding, splitting, Wait, for_time, for_catalogue, for_shards, Open, Router}
+use Rattle.node_laws.proofs.RouterAnswers.{as_answered}
 use Rattle.node_laws.proofs.NextRequests.{NextIs}
-use Rattle.node_laws.proofs.OpenRequests.{open_of_found, all_without, all_replaced}
-use Rattle.reply_facts.proofs.Requests.{one_asked}
-use Rattle.node_replay.specs.Acknowledged.{IsOutcomeAt, IsAcknowledged, IsStored}
-use Rattle.node_replay.proofs.StayFacts.{AreSent, AreDone, LetterStays, IsNoWrite, WorkStays, id_in, OpenStays, RouterStays}
+use Rattle.node_replay.specs.Acknowledged.{IsStored}
+use Rattle.node_replay.proofs.StayFacts.{AreSent, LetterStays, IsNoWrite, WorkStays, OpenStays}
 
 -- WHAT A COMMAND HAS TO DO
 
@@ -59,7 +55,7 @@ module _ (history : List Entry) (r : Router) (id : RequestId) (request : Request
   plan_stays (Ok (legacy_command legacy)) is = other_command _ is (λ write e. cc)
   plan_stays (Ok ping_command) is = other_command _ is (λ write e. cc)
   plan_stays (Ok end_sessions_command) is = other_command _ is (λ write e. cc)
-  plan_stays (Ok (write_command write)) is = (write, is, refl, refl, refl, tt)
+  plan_stays (Ok (write_command write)) is = (write, is, refl, refl, refl, tt, refl, tt)
   plan_stays (Ok (find_command find)) is =
       plan_read_stays (other_command _ is (λ write e. cc)) find.reading.namespace find.reading.at _ find.reading.stages _
   plan_stays (Ok (count_command read)) is = plan_read_stays (other_command _ is (λ write e. cc)) read.namespace read.at _ read.stages _

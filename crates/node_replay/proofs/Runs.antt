@@ -1,14 +1,11 @@
 -- In every run, also one in which nodes stop and are started again, the journal of each node replays to its durable part.
-use Rattle.std.proofs.Common.{◌≡◌, ◌⊎◌, inl, inr, ℕ, zero, suc, ◌+◌, ◌≤◌, List, [], ◌∷◌, ◌++◌, refl, sym, ap, subst, ◌∙◌, arith, append-nil}
-use Rattle.std.specs.Prelude.{max, Bool, true, false, ◌&&◌, Option, Some, None, nat_lt, if◌then◌else◌}
+use Rattle.std.proofs.Common.{◌≡◌, inr, ℕ, zero, suc, ◌+◌, List, [], ◌∷◌, ◌++◌, refl, sym, subst, arith}
+use Rattle.std.specs.Prelude.{Some}
 use Rattle.std.specs.List.{AllByRecursion, slice_get, slice_set}
-use Rattle.std.specs.Option.{option_map}
-use Rattle.std.proofs.lemmas.Bool.{ltb-true}
-use Rattle.node_model.specs.Journal.{Kept}
-use Rattle.node_model.specs.Letters.{Input, client_input, letter_input, moment_input, opened_input, Effect, nothing}
-use Rattle.node_model.specs.States.{NodeState, catalogue_state, shard_state, router_state, new_router}
+use Rattle.node_model.specs.Letters.{Input, client_input, letter_input, moment_input, opened_input, Effect}
+use Rattle.node_model.specs.States.{NodeState}
 use Rattle.node_model.specs.World.{Held, World, Moves, Event, Happens, comes, delivers, passes, begins, Run, stands, goes, routers_from, start}
-use Rattle.node_replay.specs.Durable.{DurableState, durable_of, empty_of}
+use Rattle.node_replay.specs.Durable.{durable_of, empty_of}
 use Rattle.node_replay.specs.Replays.{replayed, records_of}
 use Rattle.node_replay.specs.Holds.{Holds, Replays}
 use Rattle.node_replay.proofs.Replay.{replayed_then}

@@ -1,22 +1,22 @@
 -- The records of each transition of a shard may follow, and lead to the durable part of the shard after it.
-use Rattle.std.proofs.Common.{◌≡◌, ◌≢◌, ℕ, ◌+◌, ◌<◌, ◌≤◌, List, [], ◌∷◌, ◌++◌, map, refl, sym, ap, subst, ◌∙◌, arith, append_assoc, append-nil}
-use Rattle.std.specs.Prelude.{max, Bool, true, false, ◌&&◌, Option, Some, None, is_some, is_none, nat_lt, if◌then◌else◌}
+use Rattle.std.proofs.Common.{◌≡◌, ℕ, ◌+◌, ◌<◌, ◌≤◌, List, [], ◌∷◌, ◌++◌, map, refl, sym, ap, subst, ◌∙◌, arith, append_assoc, append-nil}
+use Rattle.std.specs.Prelude.{max, Bool, true, ◌&&◌, Option, Some, None, is_some, is_none, nat_lt, if◌then◌else◌}
 use Rattle.std.specs.Option.{option_map}
 use Rattle.std.proofs.lemmas.Bool.{and_from, lt-ltb}
 use Rattle.base_model.specs.Times.{time_of_moment}
 use Rattle.chunk_model.specs.Tables.{Table, table_of, with_table}
-use Rattle.chunk_model.specs.Verdicts.{Sent, Verdict, fits, shard_is_old, verdict_of}
+use Rattle.chunk_model.specs.Verdicts.{Sent, fits, verdict_of}
 use Rattle.history_model.specs.History.{Entry}
 use Rattle.record_model.specs.Records.{outcome_words}
-use Rattle.reply_model.specs.Outcomes.{Done, done_of}
-use Rattle.node_model.specs.Journal.{Kept, kept_table, kept_entry}
+use Rattle.reply_model.specs.Outcomes.{Done}
+use Rattle.node_model.specs.Journal.{kept_table, kept_entry}
 use Rattle.node_model.specs.Letters.{Statement, Letter, Input, Effect}
 use Rattle.node_model.specs.Service.{seen_before, entry_for, Serves, serves_no_more, serves_again, serves_new, ends_again, ends_new}
 use Rattle.node_model.specs.ShardRows.{is_news, heard, ShardRow, shard_write, shard_repeat, shard_empty, shard_park, shard_waits, shard_stale, shard_read, shard_rows, shard_excess, shard_overflow, shard_time, shard_learn, shard_known, shard_skip, shard_moment, shard_opened, shard_client}
 use Rattle.node_model.specs.States.{Shard, shard_state}
 use Rattle.node_replay.specs.SameData.{same_words}
-use Rattle.node_replay.specs.Durable.{DurableShard, DurableState, durable_shard, latest_entry, durable_of}
-use Rattle.node_replay.specs.Follow.{may_enter, with_entry, with_new_table, shard_follow}
+use Rattle.node_replay.specs.Durable.{DurableShard, durable_shard, latest_entry, durable_of}
+use Rattle.node_replay.specs.Follow.{with_entry, with_new_table}
 use Rattle.node_replay.specs.Replays.{replayed, records_of}
 use Rattle.node_replay.specs.Holds.{Holds}
 use Rattle.node_replay.proofs.SameWords.{words_itself}

@@ -1,24 +1,23 @@
 -- A journal of a shard that replays is one legal history.
 use Rattle.std.proofs.Common.{◌≡◌, inl, ℕ, ◌<◌, ◌≤◌, List, [], ◌∷◌, ◌++◌, refl, sym, ap, subst, ◌∙◌, arith, append_assoc, append-nil}
-use Rattle.std.specs.Prelude.{Bool, true, false, ◌&&◌, Option, Some, None, is_some, is_none, not, nat_lt, if◌then◌else◌}
+use Rattle.std.specs.Prelude.{Bool, true, false, ◌&&◌, Option, Some, None, is_some, is_none, nat_lt, if◌then◌else◌}
 use Rattle.std.specs.List.{AllByRecursion}
 use Rattle.std.specs.Option.{option_map}
 use Rattle.std.proofs.lemmas.Bool.{ltb-true}
 use Rattle.bson_model.proofs.Booleans.{both}
 use Rattle.chunk_model.specs.Tables.{table_of}
-use Rattle.history_model.specs.History.{Entry, IsBefore, IsSameStatement, Follows, LegalAfter, Legal, key_written, document_left}
+use Rattle.history_model.specs.History.{Entry, IsBefore, IsSameStatement, Legal, key_written, document_left}
 use Rattle.history_model.proofs.Lists.{all_weaken, all_append}
-use Rattle.record_model.specs.RecordContents.{Keeps, KeepEntries, IsKnown, known_errors, error_among}
-use Rattle.record_model.specs.Records.{EntryWords, OutcomeWords, outcome_words, Record, table_record, entry_record, ceiling_record, record_of}
+use Rattle.record_model.specs.RecordContents.{Keeps, KeepEntries, known_errors, error_among}
+use Rattle.record_model.specs.Records.{EntryWords, OutcomeWords, outcome_words, Record, table_record, entry_record, ceiling_record}
 use Rattle.record_model.proofs.Entries.{in_parts, known_effect}
 use Rattle.reply_model.specs.OneHistory.{KeepsNumbers, AreNumbered}
-use Rattle.reply_model.specs.Outcomes.{Done}
 use Rattle.node_model.specs.Service.{seen_before}
 use Rattle.node_model.specs.ShardRows.{is_news}
 use Rattle.node_laws.proofs.SeenStatements.{IsNewBehind, unseen_new}
 use Rattle.node_laws.proofs.ServedStatements.{legal_joined}
 use Rattle.node_replay.specs.SameData.{same_words}
-use Rattle.node_replay.specs.Durable.{DurableShard, DurableState, durable_shard, empty_shard}
+use Rattle.node_replay.specs.Durable.{DurableShard, durable_shard, empty_shard}
 use Rattle.node_replay.specs.Follow.{entry_from, may_enter, has_table, with_new_table, with_entry, shard_follow}
 use Rattle.node_replay.specs.Histories.{IsHistory}
 use Rattle.node_replay.specs.Replays.{replayed}

@@ -6,12 +6,12 @@ use Rattle.base_model.specs.Identities.{RequestId}
 use Rattle.base_model.specs.Times.{time_of_moment}
 use Rattle.chunk_model.specs.Tables.{Table, with_table}
 use Rattle.command_model.specs.Writes.{WriteCommand}
-use Rattle.history_model.proofs.Lists.{all_weaken, all_append, all_at, all_filter, in_prefix}
+use Rattle.history_model.proofs.Lists.{all_weaken, all_append, all_at, all_filter}
 use Rattle.history_model.specs.History.{StatementNumber, Entry, IsIn}
 use Rattle.reply_model.specs.Exchanges.{Asked, number_for}
 use Rattle.reply_model.specs.Outcomes.{StatementOutcome, Done}
 use Rattle.node_model.specs.Journal.{Kept, kept_table, kept_entry, entries_kept}
-use Rattle.node_model.specs.Letters.{Statement, Body, write_done, Letter, Input, client_input, letter_input, moment_input, opened_input, Effect, sends, writes}
+use Rattle.node_model.specs.Letters.{Statement, write_done, Letter, Input, client_input, letter_input, moment_input, opened_input, Effect, sends, writes}
 use Rattle.node_model.specs.RouterRows.{statements_from}
 use Rattle.node_model.specs.Service.{Serves, Repeats}
 use Rattle.node_model.specs.ShardRows.{heard, at_later, Ask, ask_in, wants_table, says, asks_table, tries, asks_again, ShardRow, shard_write, shard_repeat, shard_empty, shard_park, shard_waits, shard_stale, shard_read, shard_rows, shard_excess, shard_overflow, shard_time, shard_learn, shard_known, shard_skip, shard_moment, shard_opened, shard_client}

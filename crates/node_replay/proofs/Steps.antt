@@ -1,9 +1,9 @@
 -- The records of each step of a node may follow, and lead to its durable part after it.
-use Rattle.std.proofs.Common.{◌≡◌, ℕ, List, [], ◌∷◌, ◌++◌, refl, sym, ap, ◌∙◌}
-use Rattle.std.specs.Prelude.{Some, false}
-use Rattle.node_model.specs.Journal.{Kept, kept_life}
-use Rattle.node_model.specs.Letters.{Letter, Input, opened_input, Effect, writes, both}
-use Rattle.node_model.specs.States.{Router, NodeState, catalogue_state, shard_state, router_state}
+use Rattle.std.proofs.Common.{◌≡◌, [], ◌∷◌, refl, ap}
+use Rattle.std.specs.Prelude.{Some}
+use Rattle.node_model.specs.Journal.{kept_life}
+use Rattle.node_model.specs.Letters.{Input, opened_input, Effect, writes}
+use Rattle.node_model.specs.States.{NodeState, router_state}
 use Rattle.node_model.specs.Steps.{Step, catalogue_step, shard_step, router_step, begin_step, other_step}
 use Rattle.node_model.specs.RouterRows.{begins, router_begin}
 use Rattle.node_replay.specs.Durable.{durable_of, durable_catalogue, durable_shard, durable_router, empty_catalogue, empty_shard, empty_router, empty_of}

@@ -1,7 +1,7 @@
 -- What was stored and acknowledged stays in every run with stops.
 use Rattle.std.proofs.Common.{◌≡◌, ◌⊎◌, inl, inr, ℕ, zero, suc, ◌+◌, ◌<◌, ◌≤◌, List, [], ◌∷◌, ◌++◌, refl, sym, ap, subst, ◌∙◌, arith, append-nil}
-use Rattle.std.specs.Prelude.{Bool, true, false, Option, Some, None, length}
-use Rattle.std.specs.List.{AllByRecursion, slice_get, slice_set}
+use Rattle.std.specs.Prelude.{Bool, true, false, Option, Some, length}
+use Rattle.std.specs.List.{AllByRecursion, slice_get}
 use Rattle.std.specs.Option.{option_map}
 use Rattle.base_model.specs.Identities.{RequestId}
 use Rattle.chunk_model.specs.Placement.{AreFitting}
@@ -9,21 +9,20 @@ use Rattle.chunk_model.specs.Tables.{first_shard}
 use Rattle.command_model.specs.Writes.{ClientNumber}
 use Rattle.history_model.proofs.Lists.{all_weaken, all_at, in_cons, in_none}
 use Rattle.history_model.specs.History.{Operation, Entry, IsIn, Legal}
-use Rattle.reply_model.specs.Exchanges.{Asked, Answered, number_for}
+use Rattle.reply_model.specs.Exchanges.{Asked, number_for}
 use Rattle.reply_model.specs.OneHistory.{ids_asked, AreDifferent, AreNumbered}
 use Rattle.node_model.specs.Journal.{Kept, entries_kept, changes_kept}
 use Rattle.node_model.specs.Letters.{Statement, Letter, Input, client_input, letter_input, moment_input, opened_input, Effect, nothing}
 use Rattle.node_model.specs.RouterRows.{statements_from}
-use Rattle.node_model.specs.States.{NodeState, catalogue_state, shard_state, router_state, new_router}
+use Rattle.node_model.specs.States.{NodeState, catalogue_state, shard_state, router_state}
 use Rattle.node_model.specs.Steps.{Step}
 use Rattle.node_model.specs.World.{Held, World, Moves, Event, Happens, comes, delivers, passes, begins, routers_from, start, journal_at, asked_by}
 use Rattle.node_laws.proofs.Facts.{IsBy}
 use Rattle.node_laws.proofs.Places.{EachAt, each_get}
 use Rattle.node_laws.proofs.ServedStatements.{statement_of}
 use Rattle.node_laws.proofs.StepsKeep.{got_is_in}
-use Rattle.node_replay.specs.Acknowledged.{IsStored, WasSentBy, KeepsWrites}
-use Rattle.node_replay.specs.Durable.{durable_of, empty_of, next_life, durable_catalogue, durable_shard, latest_change, latest_entry}
-use Rattle.node_replay.specs.Holds.{Holds, Replays}
+use Rattle.node_replay.specs.Acknowledged.{WasSentBy, KeepsWrites}
+use Rattle.node_replay.specs.Durable.{durable_of, next_life, latest_change, latest_entry}
 use Rattle.node_replay.specs.Openings.{opened, opened_on}
 use Rattle.node_replay.specs.Replays.{replayed, records_of, latest_time}
 use Rattle.node_replay.specs.Restarts.{Restarts, Stops, Gives, gives_request, gives_message, gives_moment, gives_opening, cut_off, EventOrStop, Occurs, occurs, restarts, stops, RunWithStops, stays, proceeds}
@@ -32,7 +31,7 @@ use Rattle.node_replay.proofs.Restarts.{opened_is, occurs_replays}
 use Rattle.node_replay.proofs.Runs.{NodeReplays, all_got, step_replays, start_replays}
 use Rattle.node_replay.proofs.ShardHistories.{shard_history}
 use Rattle.node_replay.proofs.ShardStays.{InputStays}
-use Rattle.node_replay.proofs.StayFacts.{AreSent, LetterStays, EntryStays, CatalogueStays, ShardStays, StateStays, HeldStays, Grows}
+use Rattle.node_replay.proofs.StayFacts.{LetterStays, EntryStays, StateStays, HeldStays, Grows}
 use Rattle.node_replay.proofs.Steps.{StepFollows, step_follows}
 use Rattle.node_replay.proofs.WorldStays.{StepStays, step_stays, state_grows, stored_in, WorldStays, with_step, stored_stays, stored_here, world_after}
 

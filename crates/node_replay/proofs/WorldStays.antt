@@ -1,11 +1,10 @@
 -- In every run in which nodes stop and are started again, what was stored and acknowledged stays.
-use Rattle.std.proofs.Common.{◌≡◌, ◌≢◌, ◌⊎◌, inl, inr, ℕ, zero, suc, ◌+◌, ◌<◌, ◌≤◌, List, [], ◌∷◌, ◌++◌, refl, sym, ap, subst, ◌∙◌, arith, append-nil}
-use Rattle.std.specs.Prelude.{Bool, true, false, Some}
+use Rattle.std.proofs.Common.{◌≡◌, ◌≢◌, ◌⊎◌, inl, inr, ℕ, zero, suc, ◌+◌, ◌≤◌, List, [], ◌∷◌, ◌++◌, refl, sym, ap, subst, ◌∙◌, arith, append-nil}
+use Rattle.std.specs.Prelude.{Some}
 use Rattle.std.specs.List.{AllByRecursion, slice_get, slice_set}
-use Rattle.chunk_model.specs.Placement.{AreFitting}
 use Rattle.chunk_model.specs.Tables.{first_shard}
-use Rattle.history_model.proofs.Lists.{all_weaken, all_append, all_at, in_prefix}
-use Rattle.history_model.specs.History.{Entry, IsIn, Legal}
+use Rattle.history_model.proofs.Lists.{all_weaken, all_append, in_prefix}
+use Rattle.history_model.specs.History.{Entry, IsIn}
 use Rattle.reply_model.specs.Exchanges.{Asked, Answered}
 use Rattle.reply_model.specs.OneHistory.{Dated, ids_asked, AreDifferent, changes_in as changes_of}
 use Rattle.node_model.proofs.Journals.{journal_here}
@@ -18,12 +17,11 @@ use Rattle.node_model.specs.World.{Held, World, asked_by, answered_by, dated_ont
 use Rattle.node_laws.proofs.Causes.{router_aside}
 use Rattle.node_laws.proofs.Dates.{IsNoChange, dated_same}
 use Rattle.node_laws.proofs.LongerJournals.{entries_longer}
-use Rattle.node_laws.proofs.Places.{EachAt, each_get, each_set}
-use Rattle.node_laws.proofs.RouterAnswers.{as_answered}
+use Rattle.node_laws.proofs.Places.{EachAt, each_set}
 use Rattle.node_laws.proofs.RouterLater.{of_answers}
 use Rattle.node_replay.specs.Acknowledged.{IsStored}
 use Rattle.node_replay.specs.Holds.{Holds}
-use Rattle.node_replay.proofs.StayFacts.{LetterStays, StateStays, HeldStays, CatalogueStays, ShardStays, RouterStays, OpenStays, Grows, body_grows, letters_grow, entries_grow, open_grows, stored_grows}
+use Rattle.node_replay.proofs.StayFacts.{LetterStays, StateStays, HeldStays, CatalogueStays, RouterStays, OpenStays, Grows, body_grows, letters_grow, entries_grow, open_grows, stored_grows}
 use Rattle.node_replay.proofs.CatalogueStays.{catalogue_stays}
 use Rattle.node_replay.proofs.ShardStays.{InputStays, shard_stays}
 use Rattle.node_replay.proofs.RouterNext.{begins_stays, RouterSteps, router_steps}
@@ -125,7 +123,8 @@ module _ (asked : List Asked) (history longer : List Entry) (stays : (e : Entry)
 -- OTHER NODES
 
 -- what is true of a node stays where another one steps
-pub state_grows : (asked more : List Asked) (history longer : List Entry) → Grows asked (asked ++ more) history longer → (j : ℕ) (kept : List Kept) (s : NodeState)
+pub state_grows : (asked more : List Asked) (history longer : List Entry) → Grows asked (asked ++ more) history longer → (j : ℕ) (kept : List Kept)
+    (s : NodeState)
     → AllByRecursion (λ (a : Asked). a.id.router ≢ j) more → StateStays asked history j kept s → StateStays (asked ++ more) longer j kept s
 state_grows asked more history longer g j kept (catalogue_state c) other s = s
 state_grows asked more history longer g j kept (shard_state x) other s = record {

@@ -4,7 +4,7 @@ use Rattle.std.specs.Prelude.{ℕ, ◌+◌, max, List, [], ◌∷◌, Bool, if�
 use Rattle.chunk_model.specs.Changes.{Change, time_of}
 use Rattle.chunk_model.specs.Tables.{Table}
 use Rattle.history_model.specs.History.{Entry}
-use Rattle.node_model.specs.States.{Catalogue, Shard, Router, NodeState, catalogue_state, shard_state, router_state}
+use Rattle.node_model.specs.States.{NodeState, catalogue_state, shard_state, router_state}
 
 -- `top`: the greatest time in the journal; `changes`: newest first
 pub record DurableCatalogue : Type 0 where

@@ -1,6 +1,6 @@
 -- Which record may be the next of a node's journal, and the durable part of the node after it: a record may follow where a step of the
 -- node could have stored it. Every other record is refused (docs/JOURNAL.md, "Records").
-use Rattle.std.specs.Prelude.{ℕ, ◌+◌, max, List, [], ◌∷◌, ◌++◌, Bool, true, false, not, ◌&&◌, ◌==◌, Option, Some, None, is_some, is_none, nat_lt, if◌then◌else◌}
+use Rattle.std.specs.Prelude.{ℕ, ◌+◌, max, List, [], ◌∷◌, ◌++◌, Bool, true, false, ◌&&◌, ◌==◌, Option, Some, None, is_some, is_none, nat_lt, if◌then◌else◌}
 use Rattle.bson_model.specs.Tree.{Datum}
 use Rattle.chunk_model.specs.Catalogue.{Creation, Split}
 use Rattle.chunk_model.specs.Changes.{Change, create_change, split_change, known_table, creations, can_split}

@@ -1,6 +1,6 @@
 -- What the records of a journal store, where they replay (MongoDB manual, "Retryable Writes": a statement is applied once; "Sharded
 -- Cluster Balancer" and "Split Chunks in a Sharded Cluster": what changes there are).
-use Rattle.std.specs.Prelude.{◌≡◌, ◌≤◌, ℕ, List, [], ◌∷◌, true}
+use Rattle.std.specs.Prelude.{◌≡◌, ◌≤◌, List, [], ◌∷◌, true}
 use Rattle.std.specs.List.{AllByRecursion}
 use Rattle.value_model.specs.Keys.{is_key}
 use Rattle.chunk_model.specs.Changes.{Change, create_change, split_change, time_of}

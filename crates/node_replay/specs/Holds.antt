@@ -1,7 +1,7 @@
 -- What every node holds by itself, at every moment of a run, whatever it is sent (own: the invariants that the laws on replays need); and
 -- that its journal replays to its durable part.
-use Rattle.std.specs.Prelude.{◌≡◌, ◌⊎◌, ◌≤◌, ℕ, [], true, Some}
-use Rattle.node_model.specs.States.{Catalogue, Shard, Router, NodeState, catalogue_state, shard_state, router_state}
+use Rattle.std.specs.Prelude.{◌≡◌, ◌⊎◌, ◌≤◌, [], true, Some}
+use Rattle.node_model.specs.States.{NodeState, catalogue_state, shard_state, router_state}
 use Rattle.node_model.specs.World.{Held}
 use Rattle.node_replay.specs.Durable.{latest_change, latest_entry, durable_of, empty_of}
 use Rattle.node_replay.specs.Replays.{replayed, records_of}

@@ -1,5 +1,5 @@
 -- What a node holds after it is opened on its journal (docs/JOURNAL.md, "The program's journals").
-use Rattle.std.specs.Prelude.{ℕ, ◌*◌, List, [], false, Option, Some, None}
+use Rattle.std.specs.Prelude.{ℕ, ◌*◌, List, [], false, Option, Some}
 use Rattle.std.specs.Option.{option_map}
 use Rattle.node_model.specs.Journal.{Kept}
 use Rattle.node_model.specs.RouterRows.{block_size}

@@ -3,9 +3,9 @@ use Rattle.std.specs.Prelude.{◌≡◌, ℕ, List, [], ◌∷◌, ◌++◌, cod
 use Rattle.base_model.specs.Errors.{duplicate_key}
 use Rattle.base_model.specs.Times.{timestamp}
 use Rattle.bson_model.specs.Tree.{int32_value}
-use Rattle.chunk_model.specs.Catalogue.{Creation, Split}
+use Rattle.chunk_model.specs.Catalogue.{Split}
 use Rattle.chunk_model.specs.SampleCollections.{creation}
-use Rattle.chunk_model.specs.Tables.{Table, first_table}
+use Rattle.chunk_model.specs.Tables.{first_table}
 use Rattle.history_model.specs.History.{Entry, client_session, fails_with}
 use Rattle.history_model.specs.SampleEntries.{first_entry, second_entry, entry_at}
 use Rattle.record_model.specs.Records.{Record, table_record, create_record, split_record, life_record, block_record, record_of}
