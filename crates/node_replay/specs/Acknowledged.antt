@@ -55,7 +55,7 @@ pub record KeepsWrites (w : World) : Type 0 where
   pub legal : Legal (entries_kept (journal_at w.nodes first_shard))
   pub numbers : AreNumbered (entries_kept (journal_at w.nodes first_shard))
   pub sent : AllByRecursion (WasSentBy w.asked) (entries_kept (journal_at w.nodes first_shard))
-  pub told : AllByRecursion (IsStored (entries_kept (journal_at w.nodes first_shard))) w.answered
+  pub acknowledged : AllByRecursion (IsStored (entries_kept (journal_at w.nodes first_shard))) w.answered
   pub fitting : AreFitting (changes_kept (journal_at w.nodes 0))
   pub one : AreDifferent (ids_asked w.asked)
   pub dated : changes_in w.changed ≡ changes_kept (journal_at w.nodes 0)
