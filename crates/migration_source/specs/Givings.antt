@@ -1,7 +1,8 @@
 -- What contracts see of a source's part: which move it is, what is stored of the copy, which keys have a place among the changed ones, and
 -- whether the next batch and the next section have room.
-use Rattle.std.specs.Prelude.{◌≡◌, Bool, Option, Some, None, is_some, false}
+use Rattle.std.specs.Prelude.{◌≡◌, Bool, Option, Some, is_some, false}
 use Rattle.std.specs.BTreeMap.{get_by}
+use Rattle.std.specs.Option.{option_map}
 use Rattle.std.specs.Ordering.{is_lt}
 use Rattle.bson_values.specs.Tree.{Datum}
 use Rattle.cluster_base.specs.declared.identity.RequestId.{RequestId}
@@ -17,7 +18,6 @@ use Rattle.migration_source.specs.Changed.{changed_among}
 use Rattle.migration_source.specs.declared.giving.GiveStage.{GiveStage}
 use Rattle.migration_source.specs.declared.giving.GiveStage.TheVariants.{Unanswered, Ready, AtEnd}
 use Rattle.migration_source.specs.declared.giving.Giving.{Giving}
-use Rattle.migration_source.specs.declared.giving.Prepared.{Prepared}
 
 abbrev pub id_of : Giving → RequestId
 id_of g = g.id
@@ -35,25 +35,21 @@ source_of g = record {
 abbrev pub has_place : Giving → Datum → Bool
 has_place g key = is_some (get_by (order key) g.marks)
 
--- this batch, with the cursor after it
-abbrev pub IsPrepared : Prepared → Batch → Type 0
-IsPrepared p b = (batch_view p.batch ≡ b) × (bound_of p.cursor ≡ b.upto)
-
-abbrev pub IsReady : Option Prepared → Batch → Type 0
-IsReady None b = ⊥
-IsReady (Some p) b = IsPrepared p b
+-- the batch that is ready to be handed out next, if there is one
+abbrev pub ready_of : Giving → Option Batch
+ready_of g = option_map (λ p. batch_view p.batch) g.prepared
 
 -- the next `next_batch` over these documents has room
 abbrev pub HasBatch : Giving → Rows → Type 0
-HasBatch g rows = IsReady g.prepared (batch_of (source_of g) rows)
+HasBatch g rows = ready_of g ≡ Some (batch_of (source_of g) rows)
 
-abbrev pub IsSpare : Option Range → Range → Type 0
-IsSpare None range = ⊥
-IsSpare (Some spare) range = spare ≡ range
+-- the range that is ready for the next section, if there is one
+abbrev pub spare_of : Giving → Option Range
+spare_of g = g.spare
 
 -- the next `enter_section` has room
 abbrev pub HasSection : Giving → Type 0
-HasSection g = IsSpare g.spare g.range
+HasSection g = spare_of g ≡ Some g.range
 
 -- the cursor reached the end of the range
 abbrev pub IsAtEnd : Source → Type 0

@@ -1,10 +1,9 @@
 //! A part in a move as its source.
 
-ghost use Rattle.std.specs.Prelude.{◌≡◌, OnOk, true};
+ghost use Rattle.std.specs.Prelude.{◌≡◌, None, OnOk, true};
 ghost use Rattle.bson_values.specs.Tree.{Datum};
 ghost use Rattle.value_compare.specs.Bounds.{bound_of};
 ghost use Rattle.move_model.specs.Sources.{Marks, has_some, is_up_to, source_answered, source_start, stage_of};
-ghost use Rattle.history_model.specs.Documents.{Rows};
 ghost use Rattle.migration_source.specs.Changed.{changed_among};
 
 mod batches;
@@ -35,6 +34,7 @@ pub enum GiveStage {
 pub(crate) struct Prepared {
     batch: MoveBatch,
     cursor: Bound,
+    ghost same: { bound_of cursor ≡ bound_of batch.upto },
 }
 
 /// What the source of a range keeps of its copy. Each key that has room among the changed ones has a place, and whether it changed. The next
@@ -53,7 +53,7 @@ pub struct Giving {
 }
 
 impl Giving {
-    ghost use Rattle.migration_source.specs.Givings.{HasBatch, HasSection, has_place, id_of, source_of, stage_view};
+    ghost use Rattle.migration_source.specs.Givings.{has_place, id_of, ready_of, source_of, spare_of, stage_view};
 
     /// A part of which no batch was handed out. Takes no memory.
     pub fn start(alloc: Global, id: RequestId, range: KeyRange) -> Giving
@@ -85,8 +85,8 @@ impl Giving {
     pub fn reserve(&mut self, key: &Key) -> Result<(), Memory>
         ensures room { OnOk result (has_place self.new key.now ≡ true) }
         ensures rooms { (k : Datum) → has_place self.old k ≡ true → has_place self.new k ≡ true }
-        ensures batch { (rows : Rows) → HasBatch self.old rows → HasBatch self.new rows }
-        ensures section { HasSection self.old → HasSection self.new }
+        ensures ready { ready_of self.new ≡ ready_of self.old }
+        ensures spare { spare_of self.new ≡ spare_of self.old }
         ensures source { source_of self.new ≡ source_of self.old }
         ensures id { id_of self.new ≡ id_of self.old }
     {
@@ -102,7 +102,8 @@ impl Giving {
     pub fn changed(&mut self, key: &Key)
         requires room { has_place self.old key.now ≡ true }
         ensures marks { Marks key.now (source_of self.old) (source_of self.new) }
-        ensures section { HasSection self.old → HasSection self.new }
+        ensures ready { ready_of self.new ≡ None }
+        ensures spare { spare_of self.new ≡ spare_of self.old }
         ensures rooms { (k : Datum) → has_place self.new k ≡ has_place self.old k }
         ensures id { id_of self.new ≡ id_of self.old }
     {
@@ -119,8 +120,8 @@ impl Giving {
     /// The batch of that number is answered. A number that is not that of the unanswered batch changes nothing.
     pub fn acked(&mut self, number: u64)
         ensures source { source_of self.new ≡ source_answered number (source_of self.old) }
-        ensures batch { (rows : Rows) → HasBatch self.old rows → HasBatch self.new rows }
-        ensures section { HasSection self.old → HasSection self.new }
+        ensures ready { ready_of self.new ≡ ready_of self.old }
+        ensures spare { spare_of self.new ≡ spare_of self.old }
         ensures rooms { (k : Datum) → has_place self.new k ≡ has_place self.old k }
         ensures id { id_of self.new ≡ id_of self.old }
     {

@@ -1,12 +1,11 @@
 //! The next batch, which is prepared while memory may run out and handed out later; and the section at the end.
 
-ghost use Rattle.std.specs.Prelude.{◌≡◌, ◌++◌, [], List, MatchOption, IfOk, OnErr, OnOk, is_some, filter, false, map, not};
+ghost use Rattle.std.specs.Prelude.{◌≡◌, ◌++◌, [], List, None, MatchOption, IfOk, OnErr, OnOk, is_some, filter, false, map, not};
 ghost use Rattle.std.specs.BTreeMap.{get_by};
 ghost use Rattle.std.specs.Option.{option_map};
 ghost use Rattle.bson_values.specs.Tree.{Datum};
 ghost use Rattle.value_compare.specs.Bounds.{bound_of};
 ghost use Rattle.value_compare.specs.Order.{order};
-ghost use Rattle.history_model.specs.Documents.{Rows};
 ghost use Rattle.record_model.specs.Moves as moves;
 ghost use Rattle.shard_records.specs.Batches.{batch_view, moved_view};
 ghost use Rattle.mvcc_collection.specs.Present.{rows_of};
@@ -28,7 +27,7 @@ use std::collections::BTreeMap;
 use value_compare::{Bound, Key};
 
 impl Giving {
-    ghost use Rattle.migration_source.specs.Givings.{HasBatch, HasSection, IsAtEnd, IsPrepared, has_place, id_of, source_of};
+    ghost use Rattle.migration_source.specs.Givings.{HasBatch, HasSection, IsAtEnd, has_place, id_of, ready_of, source_of, spare_of};
 
     /// Makes room for the next `next_batch` over the collection, if no `changed` comes between, and for the next `enter_section`; also
     /// where a batch is unanswered. Returns `Memory` if memory runs out, and after 2^64 - 1 batches, and then changes nothing.
@@ -55,7 +54,8 @@ impl Giving {
         requires answered { (source_of self.old).unanswered ≡ false }
         ensures batch { batch_view result ≡ batch_of (source_of self.old) (rows_of _c.now) }
         ensures source { source_of self.new ≡ source_after (source_of self.old) (batch_of (source_of self.old) (rows_of _c.now)) }
-        ensures section { HasSection self.old → HasSection self.new }
+        ensures ready { ready_of self.new ≡ None }
+        ensures spare { spare_of self.new ≡ spare_of self.old }
         ensures rooms { (k : Datum) → has_place self.new k ≡ has_place self.old k }
         ensures id { id_of self.new ≡ id_of self.old }
     {
@@ -77,7 +77,8 @@ impl Giving {
         requires end { IsAtEnd (source_of self.old) }
         ensures section { section_view result ≡ record { namespace = namespace; range = (source_of self.old).range; time = time.0; parked = [] } }
         ensures source { source_of self.new ≡ source_of self.old }
-        ensures batch { (rows : Rows) → HasBatch self.old rows → HasBatch self.new rows }
+        ensures ready { ready_of self.new ≡ ready_of self.old }
+        ensures spare { spare_of self.new ≡ None }
         ensures rooms { (k : Datum) → has_place self.new k ≡ has_place self.old k }
         ensures id { id_of self.new ≡ id_of self.old }
     {
@@ -89,7 +90,7 @@ impl Giving {
 
     // Returns the next batch over the collection with the cursor after it. Returns `Memory` if memory runs out, and after 2^64 - 1 batches.
     fn prepare(&self, c: &Collection) -> Result<Prepared, Memory>
-        ensures { IfOk result (λ p. IsPrepared p (batch_of (source_of self.now) (rows_of c.now))) }
+        ensures { IfOk result (λ p. batch_view p.batch ≡ batch_of (source_of self.now) (rows_of c.now)) }
     {
         let Some(number) = self.number.checked_add(1) else {
             return Err(Memory);

@@ -49,8 +49,9 @@ impl Collection {
         ensures present { (k : Datum) → document_under k (rows_of self.now) ≡ at_in self.now k newest }
     {
         let _places = self.places.len();
+        let greatest = upper_edge(range.max());
         let least = least_edge(range, after)?;
-        for (key, place) in self.places.range((least, upper_edge(range.max()))) {
+        for (key, place) in self.places.range((least, greatest)) {
             let _value = key.value();
             if let Some(document) = self.document_at(*place as usize, NEWEST) {
                 return Some((key, document));
