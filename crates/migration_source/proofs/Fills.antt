@@ -1,5 +1,5 @@
 -- What finds room in a batch.
-use Rattle.std.proofs.Common.{◌≡◌, ℕ, ◌+◌, ◌≤◌, ◌^◌, ◌-◌, List, [], ◌∷◌, ◌++◌, length, length-append, refl, sym, ap, ◌∙◌, arith, append_assoc}
+use Rattle.std.proofs.Common.{◌≡◌, ℕ, ◌+◌, ◌≤◌, ◌^◌, ◌-◌, List, [], ◌∷◌, ◌++◌, length, length-append, refl, sym, ap, ◌∙◌, subst, arith, append_assoc}
 use Rattle.std.specs.Prelude.{Bool, true, false, ◌||◌, ◌&&◌, ◌==◌, Option, Some, None, map, min, nat_le, nat_lt, if◌then◌else◌}
 use Rattle.std.proofs.lemmas.Bool.{le-leb, leb-true}
 use Rattle.std.proofs.lemmas.List.{append-nil}
@@ -12,7 +12,9 @@ use Rattle.shard_records.specs.declared.batch.MovedDocument as code
 use Rattle.move_model.specs.Sources.{Source}
 use Rattle.move_model.specs.Batches.{cursor_after, document_bytes, documents_after, fitting, has_room, last_bound, members_bytes, members_next, most_bytes, most_keys, moved}
 use Rattle.move_model.proofs.Batches.{cursor_ends, cursor_goes_on}
+use Rattle.migration_source.specs.Changed.{changed_among}
 use Rattle.migration_source.specs.Fills.{AllFit, IsCut, members_of, members_under}
+use Rattle.migration_source.proofs.Changes.{Entries}
 
 -- ONE MEMBER MORE
 
@@ -110,15 +112,6 @@ pub record Adds (rows : Rows) (old now : List MovedDocument) (all left : List Da
 pub adds_none : (rows : Rows) (old : List MovedDocument) (all : List Datum) → Adds rows old old all all
 adds_none rows old all = record { found = []; grown = sym (append-nil old); whole = refl }
 
-pub adds_more : (rows : Rows) (old now : List MovedDocument) (all : List Datum) (key : Datum) (left : List Datum) (document : Option Fields) →
-    document ≡ document_under key rows → Adds rows old now all (key ∷ left) → Adds rows old (now ++ moved key document ∷ []) all left
-adds_more rows old now all key left document is adds = record {
-  found = adds.found ++ moved key document ∷ [];
-  grown = ap (λ (l : List MovedDocument). l ++ moved key document ∷ []) adds.grown ∙ append_assoc old adds.found (moved key document ∷ []);
-  whole = adds.whole ∙ ap (λ (d : Option Fields). now ++ (moved key d ∷ members_under rows left)) (sym is)
-      ∙ sym (append_assoc now (moved key document ∷ []) (members_under rows left));
-}
-
 pub adds_full : (rows : Rows) (old now : List MovedDocument) (all : List Datum) (key : Datum) (left : List Datum) (document : Option Fields) →
     document ≡ document_under key rows → AllFit now → has_room (length now) (members_bytes now) (document_bytes document) ≡ false →
     Adds rows old now all (key ∷ left) → fitting 0 0 (old ++ members_under rows all) ≡ now
@@ -131,3 +124,27 @@ pub adds_all : (rows : Rows) (old now : List MovedDocument) (all : List Datum) �
     fitting 0 0 (old ++ members_under rows all) ≡ now
 adds_all rows old now all fit adds =
     ap (λ (l : List MovedDocument). fitting 0 0 l) (adds.whole ∙ append-nil now) ∙ fit_all now fit
+
+-- one entry of the marks more
+one_entry : (rows : Rows) (now : List MovedDocument) (key : Datum) (changed : Bool) (rest : Entries) →
+    now ++ members_under rows (changed_among ((key, changed) ∷ rest))
+    ≡ (now ++ members_under rows (if changed then key ∷ [] else [])) ++ members_under rows (changed_among rest)
+one_entry rows now key true rest = sym (append_assoc now (moved key (document_under key rows) ∷ []) (members_under rows (changed_among rest)))
+one_entry rows now key false rest = ap (λ (l : List MovedDocument). l ++ members_under rows (changed_among rest)) (sym (append-nil now))
+
+pub adds_next : (rows : Rows) (old now new : List MovedDocument) (all : List Datum) (key : Datum) (changed : Bool) (rest : Entries) →
+    new ≡ now ++ members_under rows (if changed then key ∷ [] else []) → Adds rows old now all (changed_among ((key, changed) ∷ rest)) →
+    Adds rows old new all (changed_among rest)
+adds_next rows old now new all key changed rest is adds = record {
+  found = adds.found ++ members_under rows (if changed then key ∷ [] else []);
+  grown = is ∙ ap (λ (l : List MovedDocument). l ++ members_under rows (if changed then key ∷ [] else [])) adds.grown
+      ∙ append_assoc old adds.found (members_under rows (if changed then key ∷ [] else []));
+  whole = adds.whole ∙ one_entry rows now key changed rest ∙ ap (λ (l : List MovedDocument). l ++ members_under rows (changed_among rest)) (sym is);
+}
+
+pub adds_stop : (rows : Rows) (old now : List MovedDocument) (all : List Datum) (key : Datum) (changed : Bool) (rest : Entries) → AllFit now → changed ≡ true →
+    has_room (length now) (members_bytes now) (document_bytes (document_under key rows)) ≡ false →
+    Adds rows old now all (changed_among ((key, changed) ∷ rest)) → fitting 0 0 (old ++ members_under rows all) ≡ now
+adds_stop rows old now all key changed rest fit is full adds =
+    adds_full rows old now all key (changed_among rest) (document_under key rows) refl fit full
+    (subst (λ (b : Bool). Adds rows old now all (changed_among ((key, b) ∷ rest))) is adds)

@@ -1,15 +1,19 @@
 //! The next batch, which is prepared while memory may run out and handed out later; and the section at the end.
 
-ghost use Rattle.std.specs.Prelude.{◌≡◌, ◌++◌, [], List, None, MatchOption, IfOk, OnErr, OnOk, is_some, filter, false, map, not};
-ghost use Rattle.std.specs.BTreeMap.{get_by};
+ghost use Rattle.std.specs.Prelude.{◌≡◌, ◌++◌, ◌∷◌, [], List, None, MatchOption, IfOk, OnErr, OnOk, is_some, filter, false, length, map, not, true, if◌then◌else◌};
+ghost use Rattle.std.specs.BTreeMap.{get_by, is_at};
+ghost use Rattle.std.specs.List.Sorted.{IsStrictlySortedBy};
+ghost use Rattle.std.specs.Map.{keys_of, set_value};
 ghost use Rattle.std.specs.Option.{option_map};
 ghost use Rattle.bson_values.specs.Tree.{Datum};
 ghost use Rattle.value_compare.specs.Bounds.{bound_of};
+ghost use Rattle.value_compare.specs.Keys.{max_bound};
 ghost use Rattle.value_compare.specs.Order.{order};
+ghost use Rattle.history_model.specs.Documents.{document_under};
 ghost use Rattle.record_model.specs.Moves as moves;
 ghost use Rattle.shard_records.specs.Batches.{batch_view, moved_view};
 ghost use Rattle.mvcc_collection.specs.Present.{rows_of};
-ghost use Rattle.move_model.specs.Batches.{batch_of, cursor_after, documents_after, fitting, keys_of_members, members_next, source_after};
+ghost use Rattle.move_model.specs.Batches.{batch_of, cursor_after, document_bytes, documents_after, fitting, has_room, keys_of_members, members_bytes, members_next, source_after};
 ghost use Rattle.move_model.specs.Sources.{has_key};
 ghost use Rattle.critical_section.specs.Sections.{section_view};
 ghost use Rattle.migration_source.specs.Changed.{changed_among};
@@ -110,11 +114,13 @@ impl Giving {
         ensures upto { IfOk result (λ b. bound_of b
             ≡ cursor_after (source_of self.now) (rows_of c.now) (members_next (source_of self.now) (rows_of c.now))) }
     {
-        match self.add_documents(c, filling)? {
+        let last = self.add_documents(c, filling)?;
+        match last {
             Some(last) => Ok(last),
             None => {
                 add_changed(&self.marks, c, filling)?;
-                self.range.max().copy()
+                let end = self.range.max().copy()?;
+                Ok(end)
             }
         }
     }
@@ -127,19 +133,30 @@ impl Giving {
             (members_in filling.new ≡ members_of (documents_after (source_of self.now) (rows_of c.now)))
             (λ b. IsCut (source_of self.now) (rows_of c.now) (members_in filling.new) (bound_of b))) }
     {
-        let mut after = match &self.cursor {
-            Bound::MinKey => None,
-            Bound::At(key) => Some(key),
-            Bound::MaxKey => return Ok(None),
+        let Some(start) = key_at(&self.cursor) else {
+            return Ok(None);
         };
+        let mut after = start;
         while let Some((key, document)) = c.next_document(&self.range, after) {
             let _value = key.value();
-            if !filling.add(key, Some(document))? {
+            let found = filling.add(key, Some(document))?;
+            if !found {
                 return Ok(Some(bound_at(after)?));
             }
             after = Some(key);
         }
         Ok(None)
+    }
+}
+
+// Returns the key at the bound, if there is one; nothing where the bound is above all keys.
+fn key_at(bound: &Bound) -> Option<Option<&Key>>
+    ensures { MatchOption result (bound_of bound.now ≡ max_bound) (λ key. bound_at (option_map (λ k. k.now) key) ≡ bound_of bound.now) }
+{
+    match bound {
+        Bound::MinKey => Some(None),
+        Bound::At(key) => Some(Some(key)),
+        Bound::MaxKey => None,
     }
 }
 
@@ -161,11 +178,26 @@ fn add_changed(marks: &BTreeMap<Key, bool>, c: &Collection, filling: &mut Fillin
         ≡ members_in filling.new) }
 {
     for (key, changed) in marks.iter() {
-        if *changed && !filling.add(key, c.get(key))? {
+        let found = add_if(*changed, key, c, filling)?;
+        if !found {
             return Ok(());
         }
     }
     Ok(())
+}
+
+// Appends the key with its present document, if it changed. Returns `false` where it changed and finds no room, and `Memory` if memory runs out.
+fn add_if(changed: bool, key: &Key, c: &Collection, filling: &mut Filling) -> Result<bool, Memory>
+    ensures added { IfOk result (λ found. found ≡ true
+        → members_in filling.new ≡ members_in filling.old ++ members_under (rows_of c.now) (if changed then key.now ∷ [] else [])) }
+    ensures full { IfOk result (λ found. found ≡ false → (changed ≡ true) × (members_in filling.new ≡ members_in filling.old)
+        × (has_room (length (members_in filling.old)) (members_bytes (members_in filling.old)) (document_bytes (document_under key.now (rows_of c.now))) ≡ false)) }
+{
+    if changed {
+        filling.add(key, c.get(key))
+    } else {
+        Ok(true)
+    }
 }
 
 // Takes the keys of these members out of the changed ones. Their places stay.
@@ -176,8 +208,18 @@ fn unmark(marks: &mut BTreeMap<Key, bool>, docs: &[MovedDocument])
 {
     let _places = marks.len();
     for moved in docs {
-        if let Some(mark) = marks.get_mut(&moved.key) {
-            *mark = false;
-        }
+        unmark_one(marks, &moved.key);
+    }
+}
+
+// Takes the key out of the changed ones, if it is there. Its place stays.
+#[tactic(auto, using(crate::proofs::Unmarks::unplaced))]
+fn unmark_one(marks: &mut BTreeMap<Key, bool>, key: &Key)
+    ensures entries { marks.new.entries ≡ set_value (is_at (order key.now)) marks.old.entries false }
+    ensures sorted { IsStrictlySortedBy order (keys_of marks.new.entries) }
+{
+    let _places = marks.len();
+    if let Some(mark) = marks.get_mut(key) {
+        *mark = false;
     }
 }

@@ -4,7 +4,7 @@ use Rattle.mvcc_collection.specs.Present.{rows_after, rows_of}
 use Rattle.migration_source.specs.Filled.{members_in}
 use Rattle.migration_source.specs.Givings.{source_of}
 use Rattle.migration_source.proofs.Nexts.{Reaches}
-use Rattle.migration_source.proofs.giving.batches.Giving.add_documents.Given as goal
+use Rattle.migration_source.proofs.giving.Giving.add_documents.Given as goal
 
 -- the documents up to the key were appended
 abbrev pub invariant-loop-key : goal.invariant-loop-key
