@@ -4,7 +4,7 @@ use Rattle.std.specs.Prelude.{Bool, true, false, cond, not, ◌&&◌, Option, So
 use Rattle.std.specs.BTreeMap.Range.{IsLeBy, IsLtBy, is_past_end, range_contains, entries_between}
 use Rattle.std.specs.Bound.{IsForward}
 use Rattle.std.specs.declared.ops.Bound as edges
-use Rattle.std.specs.declared.ops.Bound.TheVariants.{Included, Excluded, Unbounded}
+use Rattle.std.specs.declared.ops.Bound.TheVariants.{Excluded}
 use Rattle.std.specs.List.{slice_get}
 use Rattle.std.specs.Ordering.{is_le, is_lt, is_gt, ordering_reverse}
 use Rattle.bson_values.specs.Tree.{Datum, Fields}

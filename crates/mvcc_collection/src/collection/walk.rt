@@ -42,7 +42,11 @@ impl Collection {
 
     /// Returns the first document of the range at present in the order of keys, with its key: of all, or of those after a key; `None` where
     /// there is none. Takes no memory, and the logarithm of the keys in time, and one step for each key without a document on the way.
-    pub fn next_document(&self, range: &KeyRange, after: Option<&Key>) -> Option<(&Key, &Arc<Document, Global>)>
+    pub fn next_document(
+        &self,
+        range: &KeyRange,
+        after: Option<&Key>,
+    ) -> Option<(&Key, &Arc<Document, Global>)>
         ensures next { MatchOption result (first_row (rows_after range.now (option_map (λ k. k.now) after.entry) (rows_of self.now)) ≡ None)
             (λ r. first_row (rows_after range.now (option_map (λ k. k.now) after.entry) (rows_of self.now)) ≡ Some (r.0.now, arc_value r.1.now)) }
         ensures ordered { AreInOrder (rows_of self.now) }

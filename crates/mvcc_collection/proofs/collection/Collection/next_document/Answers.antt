@@ -1,5 +1,5 @@
 -- A search between edges meets the first document, or none.
-use Rattle.std.proofs.Common.{◌≡◌, ◌∙◌, ◌∷◌, ◌++◌, List, Option, Some, refl, sym, ap, subst}
+use Rattle.std.proofs.Common.{◌≡◌, ◌∙◌, ◌∷◌, ◌++◌, Option, Some, sym, ap, subst}
 use Rattle.std.specs.Arc.{arc_value}
 use Rattle.std.specs.Bound.{IsForward, bound_map}
 use Rattle.std.specs.BTreeMap.Range.{IsLeBy, IsLtBy, entries_between}
