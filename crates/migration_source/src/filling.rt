@@ -43,7 +43,11 @@ impl Filling {
 
     /// Appends a member, its document shared, where it finds room after the others, and returns whether it does. Returns `Memory` if memory
     /// runs out.
-    pub(crate) fn add(&mut self, key: &Key, document: Option<&Arc<Document, Global>>) -> Result<bool, Memory>
+    pub(crate) fn add(
+        &mut self,
+        key: &Key,
+        document: Option<&Arc<Document, Global>>,
+    ) -> Result<bool, Memory>
         ensures room { IfOk result (λ found. found ≡ has_room (length (members_in self.old)) (members_bytes (members_in self.old))
             (document_bytes (option_map (λ d. arc_value d.now) document.entry))) }
         ensures members { IfOk result (λ found. members_in self.new

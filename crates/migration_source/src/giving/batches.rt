@@ -172,7 +172,11 @@ fn bound_at(key: Option<&Key>) -> Result<Bound, Memory>
 
 // Appends the changed keys that find room, each with its present document, up to the first that does not. Returns `Memory` if memory
 // runs out.
-fn add_changed(marks: &BTreeMap<Key, bool>, c: &Collection, filling: &mut Filling) -> Result<(), Memory>
+fn add_changed(
+    marks: &BTreeMap<Key, bool>,
+    c: &Collection,
+    filling: &mut Filling,
+) -> Result<(), Memory>
     ensures more { OnOk result ((found : List moves.MovedDocument) × (members_in filling.new ≡ members_in filling.old ++ found)) }
     ensures fit { OnOk result (fitting 0 0 (members_in filling.old ++ members_under (rows_of c.now) (changed_among marks.now.entries))
         ≡ members_in filling.new) }
