@@ -1,6 +1,7 @@
 //! The next batch, which is prepared while memory may run out and handed out later; and the section at the end.
 
-ghost use Rattle.std.specs.Prelude.{◌≡◌, ◌++◌, ◌∷◌, [], List, None, MatchOption, IfOk, OnErr, OnOk, is_some, filter, false, length, map, not, true, if◌then◌else◌};
+ghost use Rattle.std.specs.Prelude.{◌≡◌, ◌++◌, ◌∷◌, [], List, None, MatchOption, IfOk, OnErr};
+ghost use Rattle.std.specs.Prelude.{OnOk, is_some, filter, false, length, map, not, true, if◌then◌else◌};
 ghost use Rattle.std.specs.BTreeMap.{get_by, is_at};
 ghost use Rattle.std.specs.List.Sorted.{IsStrictlySortedBy};
 ghost use Rattle.std.specs.Map.{keys_of, set_value};
@@ -13,7 +14,8 @@ ghost use Rattle.history_model.specs.Documents.{document_under};
 ghost use Rattle.record_model.specs.Moves as moves;
 ghost use Rattle.shard_records.specs.Batches.{batch_view, moved_view};
 ghost use Rattle.mvcc_collection.specs.Present.{rows_of};
-ghost use Rattle.move_model.specs.Batches.{batch_of, cursor_after, document_bytes, documents_after, fitting, has_room, keys_of_members, members_bytes, members_next, source_after};
+ghost use Rattle.move_model.specs.Batches.{batch_of, cursor_after, document_bytes, documents_after, fitting};
+ghost use Rattle.move_model.specs.Batches.{has_room, keys_of_members, members_bytes, members_next, source_after};
 ghost use Rattle.move_model.specs.Sources.{has_key};
 ghost use Rattle.critical_section.specs.Sections.{section_view};
 ghost use Rattle.migration_source.specs.Changed.{changed_among};
