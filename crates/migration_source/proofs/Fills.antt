@@ -2,7 +2,7 @@
 use Rattle.std.proofs.Common.{◌≡◌, ℕ, ◌+◌, ◌≤◌, ◌^◌, ◌-◌, List, [], ◌∷◌, ◌++◌, length, length-append, refl, sym, ap, ◌∙◌, subst, arith, append_assoc}
 use Rattle.std.specs.Prelude.{Bool, true, false, ◌||◌, ◌&&◌, ◌==◌, Option, Some, None, map, min, nat_le, nat_lt, if◌then◌else◌}
 use Rattle.std.proofs.lemmas.Bool.{le-leb, leb-true}
-use Rattle.std.proofs.lemmas.List.{append-nil}
+use Rattle.std.proofs.lemmas.List.{append-nil, length-map}
 use Rattle.bson_values.specs.Tree.{Datum, Fields}
 use Rattle.value_model.specs.Keys.{Bound}
 use Rattle.history_model.specs.Documents.{Rows, document_under}
@@ -64,6 +64,30 @@ fit_more ms m fit room = λ rest.
 pub seen_more : (before : List code.MovedDocument) (m : code.MovedDocument) → map moved_view (before ++ m ∷ []) ≡ map moved_view before ++ moved_view m ∷ []
 seen_more [] m = refl
 seen_more (x ∷ l) m = ap (λ (r : List MovedDocument). moved_view x ∷ r) (seen_more l m)
+
+-- one more, as the program counts
+module _ (docs : List code.MovedDocument) (document : Option Fields) (bytes own sum : ℕ) (b : bytes ≡ min (members_bytes (map moved_view docs)) cap)
+    (o : own ≡ min (document_bytes document) cap) (s : sum ≡ min (bytes + own) cap) where
+  pub room_seen : (n : ℕ) → n ≡ length docs → ((n == 0) || (nat_lt n most_keys && nat_le sum most_bytes))
+      ≡ has_room (length (map moved_view docs)) (members_bytes (map moved_view docs)) (document_bytes document)
+  room_seen n count =
+      room_is (length (map moved_view docs)) n (members_bytes (map moved_view docs)) (document_bytes document) bytes own sum
+      (count ∙ sym (length-map docs moved_view)) b o s
+
+  module _ (m : code.MovedDocument) (key : Datum) (is : moved_view m ≡ moved key document) (items : List code.MovedDocument) (pushed : items ≡ docs ++ m ∷ []) where
+    pub seen_pushed : map moved_view items ≡ map moved_view docs ++ moved key document ∷ []
+    seen_pushed =
+        ap (λ (l : List code.MovedDocument). map moved_view l) pushed ∙ seen_more docs m
+        ∙ ap (λ (x : MovedDocument). map moved_view docs ++ x ∷ []) is
+
+    pub counted_pushed : sum ≡ min (members_bytes (map moved_view items)) cap
+    counted_pushed =
+        counted_more (map moved_view docs) (moved key document) bytes own sum b o s
+        ∙ ap (λ (l : List MovedDocument). min (members_bytes l) cap) (sym seen_pushed)
+
+    pub fit_pushed : AllFit (map moved_view docs) → has_room (length (map moved_view docs)) (members_bytes (map moved_view docs)) (document_bytes document) ≡ true →
+        AllFit (map moved_view items)
+    fit_pushed fit room = subst AllFit (sym seen_pushed) (fit_more (map moved_view docs) (moved key document) fit room)
 
 -- ALL MEMBERS
 

@@ -5,16 +5,18 @@ use Rattle.std.specs.BTreeMap.{is_at}
 use Rattle.std.specs.List.{AllByRecursion}
 use Rattle.std.specs.List.Sorted.{IsStrictlySortedBy}
 use Rattle.std.specs.Map.{keys_of, lookup, set_value}
+use Rattle.std.specs.Option.{option_map}
 use Rattle.std.specs.Ordering.{is_eq}
 use Rattle.query_model.proofs.Entries.{equal_is}
 use Rattle.bson_values.specs.Tree.{Datum}
 use Rattle.value_compare.specs.Order.{order, same_value}
+use Rattle.value_model.specs.Keys.{Bound}
 use Rattle.value_model.proofs.Flat.{order_total}
-use Rattle.record_model.specs.Moves.{MovedDocument}
+use Rattle.record_model.specs.Moves.{Batch, MovedDocument}
 use Rattle.shard_records.specs.Batches.{moved_view}
 use Rattle.shard_records.specs.declared.batch.MovedDocument as code
-use Rattle.move_model.specs.Sources.{has_key}
-use Rattle.move_model.specs.Batches.{keys_of_members}
+use Rattle.move_model.specs.Sources.{Source, has_key}
+use Rattle.move_model.specs.Batches.{keys_of_members, source_after}
 use Rattle.migration_source.specs.Changed.{changed_among}
 use Rattle.migration_source.proofs.Changes.{Entries, above_changed}
 
@@ -115,3 +117,16 @@ module _ (docs : List code.MovedDocument) (i : ℕ) (m : code.MovedDocument) (le
       ∙ ap (λ (l : List Datum). without (keys_left (drop (i + 1) docs)) l) (unmarked m.key es sorted)
       ∙ without_two m.key (keys_left (drop (i + 1) docs)) (changed_among es)
       ∙ ap (λ (l : List code.MovedDocument). without (keys_left l) (changed_among es)) (sym next_is) ∙ whole
+
+-- A BATCH THAT IS HANDED OUT
+
+pub prepared_is : {X : Type 0} (f : X → Batch) (ready : Option X) (x : X) (b : Batch) → option_map f ready ≡ Some b → ready ≡ Some x → f x ≡ b
+prepared_is f ready x b has is = let same : Some (f x) ≡ Some b = sym (ap (λ r. option_map f r) is) ∙ has in cc
+
+pub handed_out : (s : Source) (b prepared : Batch) (cursor : Bound) (changed : List Datum) → prepared ≡ b → cursor ≡ prepared.upto →
+    changed ≡ without (keys_of_members prepared.docs) s.changed →
+    record { range = s.range; number = prepared.number; cursor = cursor; changed = changed; unanswered = true } ≡ source_after s b
+handed_out s b prepared cursor changed is at left =
+    let with_both : Bound → List Datum → Source =
+    λ upto keys. record { range = s.range; number = prepared.number; cursor = upto; changed = keys; unanswered = true } in
+    ap (λ (upto : Bound). with_both upto changed) at ∙ ap (with_both prepared.upto) left ∙ ap (source_after s) is
