@@ -1,5 +1,6 @@
 -- The changed keys without those of members.
-use Rattle.std.proofs.Common.{◌≡◌, ℕ, suc, ◌+◌, ◌<◌, List, [], ◌∷◌, length, get_or, drop, drop-cons, map, refl, sym, ap, ◌∙◌, add-one, Less}
+use Rattle.std.proofs.Common.{◌≡◌, ℕ, suc, ◌+◌, ◌<◌, ◌≤◌, List, [], ◌∷◌, length, get_or, drop, drop-cons, map, refl, sym, ap, ◌∙◌, add-one, Less}
+use Rattle.std.proofs.lemmas.List.{drop_all}
 use Rattle.std.specs.Prelude.{Bool, true, false, cond, not, ◌||◌, Option, Some, None, filter}
 use Rattle.std.specs.BTreeMap.{is_at}
 use Rattle.std.specs.List.{AllByRecursion}
@@ -117,6 +118,13 @@ module _ (docs : List code.MovedDocument) (i : ℕ) (m : code.MovedDocument) (le
       ∙ ap (λ (l : List Datum). without (keys_left (drop (i + 1) docs)) l) (unmarked m.key es sorted)
       ∙ without_two m.key (keys_left (drop (i + 1) docs)) (changed_among es)
       ∙ ap (λ (l : List code.MovedDocument). without (keys_left l) (changed_among es)) (sym next_is) ∙ whole
+
+-- the keys of all members are
+pub all_unmarked : (docs : List code.MovedDocument) (i : ℕ) (es : Entries) (all : List Datum) → length docs ≤ i →
+    without (keys_left (drop i docs)) (changed_among es) ≡ all → changed_among es ≡ all
+all_unmarked docs i es all past whole =
+    sym (without_none (changed_among es))
+    ∙ ap (λ (l : List code.MovedDocument). without (keys_left l) (changed_among es)) (sym (drop_all i docs past)) ∙ whole
 
 -- A BATCH THAT IS HANDED OUT
 

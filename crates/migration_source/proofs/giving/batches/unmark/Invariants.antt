@@ -12,7 +12,7 @@ use Rattle.migration_source.proofs.giving.batches.unmark.Given as goal
 -- without the keys that are left, the changed ones are those without all
 abbrev pub invariant-loop-moved : goal.invariant-loop-moved
 invariant-loop-moved l = record {
-  whole : without (keys_left (drop l.moved-index l.moved-items)) (changed_among l.marks.entries)
+  whole : without (keys_left (drop l.moved-index l.docs)) (changed_among l.marks.entries)
       ≡ without (keys_left l.docs) (changed_among l.fn.marks.entries);
   places : (k : Datum) → is_some (get_by (order k) l.marks) ≡ is_some (get_by (order k) l.fn.marks);
   sorted : IsStrictlySortedBy order (keys_of l.marks.entries);
