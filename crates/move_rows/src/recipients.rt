@@ -77,7 +77,8 @@ impl Recipients {
                     return Ok(false);
                 }
                 self.taking.reserve(&batch, &mut self.collection)?;
-                self.taking.apply(batch, &mut self.collection, Time(self.next));
+                self.taking
+                    .apply(batch, &mut self.collection, Time(self.next));
                 self.next += 1;
                 Ok(fit == "next")
             }

@@ -94,14 +94,23 @@ impl Sources {
         self.put(&key, None)
     }
 
-    fn put_document(&mut self, alloc: Global, id: Plain<'_>, bytes: usize) -> Result<bool, RowFault> {
+    fn put_document(
+        &mut self,
+        alloc: Global,
+        id: Plain<'_>,
+        bytes: usize,
+    ) -> Result<bool, RowFault> {
         let key = key_of(alloc, id)?;
         let document = Arc::new(alloc, document_with(alloc, id, bytes)?)?;
         self.put(&key, Some(document))
     }
 
     // Stores the document, or none, and tells the source; returns whether there is a time left for it.
-    fn put(&mut self, key: &Key, document: Option<Arc<Document, Global>>) -> Result<bool, RowFault> {
+    fn put(
+        &mut self,
+        key: &Key,
+        document: Option<Arc<Document, Global>>,
+    ) -> Result<bool, RowFault> {
         let Some(giving) = &mut self.giving else {
             return Err(RowFault::Form);
         };

@@ -55,7 +55,11 @@ pub fn are_members(alloc: Global, docs: &[MovedDocument], words: &str) -> Result
 }
 
 // Returns the members after those of the word, or `None` where they begin with others.
-fn after_members<'a>(alloc: Global, docs: &'a [MovedDocument], word: &str) -> Result<Option<&'a [MovedDocument]>, RowFault> {
+fn after_members<'a>(
+    alloc: Global,
+    docs: &'a [MovedDocument],
+    word: &str,
+) -> Result<Option<&'a [MovedDocument]>, RowFault> {
     if let Some(key) = word.strip_suffix("!") {
         let n = number(key)?;
         return after_keys(alloc, docs, n, n, false);
