@@ -1,13 +1,16 @@
 #!/usr/bin/env -S python3 -B
 """Plays random scripts on the built program, and looks whether its journals tell one history that explains every reply.
 
-Scripts have clients of one to four routers, moments, messages held back by kind, delivered late or again, links that are closed by bytes that are no
-request, and retries of numbered writes by other routers. Of what the program printed and of what its journals hold, read by the account of the formats
-in rows/, it checks:
+Scripts have clients of one to four routers, moments, messages held back by kind, delivered late or again, links that are closed by bytes that are no request,
+retries of numbered writes by other routers, and collections that are created and split. Of what the program printed and of what its journals hold, read by
+the account of the formats in rows/, it checks:
 
 - the shard's entries rise in time, no two have one number, and each has the outcome of its operation on what the entries before it left;
 - each write's reply shows the entry of each statement, or 225 where its session has a greater transaction; after the first error of an ordered write
   under a number of the router's own nothing was applied;
+- the catalogue's changes rise in time, and each was requested; a collection is created once, and split where no chunk begins; each table of the shard is
+  what the first so many of them make, each longer than the last;
+- what a reply says of a collection or a chunk was so by its time, and 118 comes only where no earlier reply showed the collection;
 - each read at T is the answer of its pipeline on the entries up to T, and T is not before what its router returned earlier;
 - each request has one reply at most, and has one at the end, where its link is still open.
 
@@ -24,14 +27,15 @@ sys.path.insert(0, str(pathlib.Path(__file__).resolve().parent / "rows"))
 
 from bson import DOCUMENT, STRING, doc, field, read_fields, shown, time  # noqa: E402
 from changing import applied, key_of  # noqa: E402
-from cluster import write_error  # noqa: E402
-from commands import stages_of  # noqa: E402
+from cluster import WHOLE, begins_at, split_at, table_record, write_error  # noqa: E402
+from commands import CHUNKS, stages_of  # noqa: E402
 from inserts import records  # noqa: E402
 from order import order_of  # noqa: E402
 from pipelines import Ambiguous, answer  # noqa: E402
 from wire import Request, message  # noqa: E402
 
-KINDS = ["TableAsk", "TableTold", "WriteAsk", "ReadAsk", "TimeAsk", "HalfAsk", "WriteDone", "ReadRows", "TimeTold", "Refused", "Batch", "SplitAsk"]
+KINDS = ["TableAsk", "TableTold", "WriteAsk", "ReadAsk", "TimeAsk", "HalfAsk", "WriteDone", "ReadRows", "TimeTold", "Refused", "Batch",
+    "SplitAsk", "SplitDone"]
 FIRST_ROUTER = 2
 
 
@@ -95,6 +99,13 @@ class Script:
             '{aggregate: "c", pipeline: [{$group: {_id: null, total: {$sum: "$x"}}}], cursor: {}, $db: "d"}',
         ])
 
+    def change(self):
+        name = self.rng.choice(["c", "c", "c", "e"])
+        if self.rng.random() < 0.3:
+            return f'{{shardCollection: "d.{name}", key: {{_id: 1}}, $db: "admin"}}'
+        key = self.rng.choice([f"{self.key()}", f"{self.key()}L", f"{self.key()}", "null", '"k"'])
+        return f'{{split: "d.{name}", middle: {{_id: {key}}}, $db: "admin"}}'
+
     def client(self, router, source):
         self.counts[router] += 1
         bytes_ = message(len(self.requests) + 1, source)
@@ -107,7 +118,8 @@ class Script:
         router, rng = self.rng.randrange(self.routers), self.rng
         if self.numbered and rng.random() < 0.25:
             return self.client(router, rng.choice(self.numbered))
-        self.client(router, self.write() if rng.random() < 0.6 else self.read())
+        choice = rng.random()
+        self.client(router, self.write() if choice < 0.5 else self.read() if choice < 0.8 else self.change())
 
     def line(self):
         choice, rng = self.rng.random(), self.rng
@@ -119,7 +131,8 @@ class Script:
             self.add(f"moment {node} {self.moment[node]}")
         elif choice < 0.75:
             self.add("settle")
-            self.settled = sum(field(asked.request.body, "find") != (STRING, "none") for asked in self.requests)
+            # so many requests at least sent the shard a message
+            self.settled = sum(body[0][0] not in CHUNKS and body[0] != ("find", (STRING, "none")) for body in (asked.request.body for asked in self.requests))
         elif choice < 0.9:
             self.add(f"settle except {rng.choice(KINDS)}")
         elif choice < 0.94 and self.settled:
@@ -180,6 +193,47 @@ class Entry:
             at += 1
         self.reply = (count, modified, upserted, struct.unpack_from("<i", record, at)[0])
         want(at + 4 == len(record), "an entry has bytes left")
+
+
+class Catalogue:
+    """The changes of a catalogue's journal, which must fit: for each name when it was created, and its chunks after each change with the times."""
+
+    def __init__(self, path, requests):
+        self.made, last = {}, 0
+        commands = [asked.request.command() for asked in requests]
+        wanted = {command["own"] for command in commands if command["name"] in ("insert", "update", "delete", "shardCollection")}
+        asked_for = [(command["own"], command["middle"]) for command in commands if command["name"] == "split"]
+        for record in records(path):
+            length = struct.unpack_from("<I", record, 2)[0]
+            namespace, at = record[6 : 6 + length].decode(), struct.unpack("<Q", record[-8:])[0]
+            want(at > last, "the times of changes do not rise")
+            last = at
+            if record[1] == 0x20:
+                want(namespace not in self.made, f"{namespace} is created twice")
+                want(namespace in wanted, f"{namespace} is created for nobody")
+                self.made[namespace] = [(at, WHOLE)]
+                continue
+            want(record[1] == 0x21 and namespace in self.made, f"a split of {namespace}, which is not there")
+            middle = field(read_fields(record, 6 + length)[0], "_id")
+            want((namespace, middle) in asked_for, f"a split of {namespace} at {shown(middle)} for nobody")
+            chunks = self.made[namespace][-1][1]
+            want(not begins_at(chunks, middle), f"a split of {namespace} at {shown(middle)}, where a chunk begins")
+            self.made[namespace].append((at, split_at(chunks, middle)))
+
+    def chunks_at(self, namespace, at):
+        """The chunks by the changes up to a time, or None."""
+        return ([chunks for when, chunks in self.made.get(namespace, []) if when <= at] or [None])[-1]
+
+    def check_tables(self, path):
+        """The tables of the shard's journal."""
+        seen = {}
+        for record in records(path):
+            if record[:2] == b"\1\1":
+                namespace = record[6 : 6 + struct.unpack_from("<I", record, 2)[0]].decode()
+                made = self.made.get(namespace, [])
+                found = [count for count, (_, chunks) in enumerate(made) if table_record(namespace, made[0][0], chunks) == record]
+                want(found and found[0] > seen.get(namespace, -1), f"a table of {namespace} that the changes do not make, or no longer one")
+                seen[namespace] = found[0]
 
 
 class History:
@@ -263,8 +317,23 @@ def check_read(history, command, fields):
     want(found == wanted, f"at {at} {shown((0x04, [(DOCUMENT, one) for one in wanted]))} is right")
 
 
-def check_reply(history, asked):
+def check_change(catalogue, asked, command, fields):
+    if field(fields, "code") == (0x10, 118):
+        want(command["name"] == "split" and command["own"] not in asked.seen, "118, though the collection was there")
+        return
+    want(field(fields, "ok") == (0x10, 1), "a refusal")
+    chunks = catalogue.chunks_at(command["own"], field(fields, "operationTime")[1])
+    want(chunks is not None, "the collection was not created by then")
+    if command["name"] == "split":
+        want(begins_at(chunks, command["middle"]), "no chunk begins there by then")
+    else:
+        want(field(fields, "collectionsharded") == (STRING, command["own"]), "another name")
+
+
+def check_reply(history, catalogue, asked):
     command, fields = asked.request.command(), asked.reply
+    if command["name"] in CHUNKS:
+        return check_change(catalogue, asked, command, fields)
     want(field(fields, "ok") == (0x10, 1), "a refusal")
     at = field(fields, "operationTime")[1]
     if command["name"] in ("insert", "update", "delete"):
@@ -296,14 +365,17 @@ def known_times(script, printed):
             want(asked.router == int(router), "a reply on another link")
             asked.reply, _ = read_fields(bytes_, 21)
     # what is known before a request: prefix plays would tell exactly; here what earlier requests returned before a `settle` that came before it
-    known = [0] * script.routers
+    known, seen = [0] * script.routers, set()
     pending = []
     for line, asked in script.lines:
         if asked is not None:
-            asked.known = known[asked.router]
+            asked.known, asked.seen = known[asked.router], set(seen)
             pending.append(asked)
         elif line == "settle":
             for one in pending:
+                command = one.request.command()
+                if one.reply is not None and field(one.reply, "ok") == (0x10, 1) and command["name"] in (*CHUNKS, "insert", "update", "delete"):
+                    seen.add(command["own"])
                 if one.reply is not None and field(one.reply, "operationTime") is not None:
                     known[one.router] = max(known[one.router], field(one.reply, "operationTime")[1])
             pending = []
@@ -314,6 +386,8 @@ def one(program, seed, length):
     with tempfile.TemporaryDirectory() as folder:
         status, printed = play(program, folder, script)
         history = History(pathlib.Path(folder) / "node01.journal")
+        catalogue = Catalogue(pathlib.Path(folder) / "node00.journal", script.requests)
+        catalogue.check_tables(pathlib.Path(folder) / "node01.journal")
         want(status == 0, f"status {status}")
         known_times(script, printed)
         replies = 0
@@ -323,23 +397,23 @@ def one(program, seed, length):
             if asked.reply is not None:
                 replies += 1
                 try:
-                    check_reply(history, asked)
+                    check_reply(history, catalogue, asked)
                 except Wrong as wrong:
                     raise Wrong(f"request {place + 1} {shown((DOCUMENT, asked.request.body))}\n  {shown((DOCUMENT, asked.reply))}\n  {wrong}") from None
-        return len(script.requests), replies, len(history.entries)
+        return len(script.requests), replies, len(history.entries), sum(len(made) for made in catalogue.made.values())
 
 
 def main():
     program = str(pathlib.Path(sys.argv[1]).resolve())
     count = int(sys.argv[2]) if len(sys.argv) > 2 else 200
     first = int(sys.argv[3]) if len(sys.argv) > 3 else 1
-    totals = [0, 0, 0]
+    totals = [0, 0, 0, 0]
     for seed in range(first, first + count):
         try:
             totals = [a + b for a, b in zip(totals, one(program, seed, 40))]
         except Wrong as wrong:
             sys.exit(f"random_scripts: script {seed}: {wrong}")
-    print(f"random_scripts: {count} scripts, {totals[0]} requests, {totals[1]} replies, {totals[2]} entries: one history each")
+    print(f"random_scripts: {count} scripts, {totals[0]} requests, {totals[1]} replies, {totals[2]} entries, {totals[3]} changes: one history each")
 
 
 main()

@@ -6,14 +6,14 @@ import struct
 
 from bson import BOOLEAN, DATE, DOCUMENT, array, doc, int32, int64, size, text, time, whole, written
 from changing import applied, key_of
-from commands import GREETINGS, STATEMENTS, Refused, stages_of
+from commands import CHUNKS, GREETINGS, STATEMENTS, Refused, stages_of
 from order import order_of
 from pipelines import LONGEST, Overflow, TooMuch, answer
 
 NAMES = {
     2: "BadValue", 9: "FailedToParse", 14: "TypeMismatch", 15: "Overflow", 22: "InvalidBSON", 28: "PathNotViable", 43: "CursorNotFound",
-    59: "CommandNotFound", 61: "ShardKeyNotFound", 66: "ImmutableField", 72: "InvalidOptions", 73: "InvalidNamespace", 225: "TransactionTooOld",
-    292: "QueryExceededMemoryLimitNoDiskUseAllowed", 10334: "BSONObjectTooLarge", 11000: "DuplicateKey",
+    59: "CommandNotFound", 61: "ShardKeyNotFound", 66: "ImmutableField", 72: "InvalidOptions", 73: "InvalidNamespace", 118: "NamespaceNotSharded",
+    225: "TransactionTooOld", 292: "QueryExceededMemoryLimitNoDiskUseAllowed", 10334: "BSONObjectTooLarge", 11000: "DuplicateKey",
 }
 FIRST_BATCH = 101
 SHARD, ROUTER = 1, 2
@@ -34,6 +34,26 @@ def done(at=None):
     return [("ok", int32(1))] + ([("operationTime", time(at))] if at is not None else [])
 
 
+# chunks: where each begins and ends, a key or None, and its minor number; a table has seen one change for each of its chunks
+
+WHOLE = ((None, None, 0),)
+
+
+def begins_at(chunks, key):
+    return any(low is not None and order_of(low) == order_of(key) for low, _, _ in chunks)
+
+
+def split_at(chunks, key):
+    """The chunks after a split: the halves get the next two minor numbers."""
+    greatest, found = max(minor for _, _, minor in chunks), []
+    for low, high, minor in chunks:
+        if (low is None or order_of(low) < order_of(key)) and (high is None or order_of(key) < order_of(high)):
+            found += [(low, key, greatest + 1), (key, high, greatest + 2)]
+        else:
+            found.append((low, high, minor))
+    return tuple(found)
+
+
 # records
 
 
@@ -45,9 +65,19 @@ def create_record(namespace, at):
     return b"\1\x20" + record_text(namespace) + struct.pack("<QQ", 1, at)
 
 
-def table_record(namespace, at):
-    head = b"\1\1" + record_text(namespace) + struct.pack("<QQQ", 1, 1, 0)
-    return head + struct.pack("<I", 1) + b"\0\2" + struct.pack("<QQQIQI", 1, 1, 0, 1, at, SHARD)
+def split_record(namespace, middle, at):
+    return b"\1\x21" + record_text(namespace) + written([("_id", middle)]) + struct.pack("<Q", at)
+
+
+def bound(key, end):
+    return end if key is None else b"\1" + written([("_id", key)])
+
+
+def table_record(namespace, at, chunks=WHOLE):
+    found = b"\1\1" + record_text(namespace) + struct.pack("<QQQI", 1, len(chunks), 0, len(chunks))
+    for low, high, minor in chunks:
+        found += bound(low, b"\0") + bound(high, b"\2") + struct.pack("<QQQIQI", 1, 1, minor, 1, at, SHARD)
+    return found
 
 
 def session_bytes(session):
@@ -108,6 +138,8 @@ class Cluster:
             return self.greeted(command)
         if name in STATEMENTS:
             return self.write(command)
+        if name in CHUNKS:
+            return self.shard(command) if name == "shardCollection" else self.split(command)
         if name == "getMore":
             return self.more(command, is_silent)
         return self.kill(command) if name == "killCursors" else self.read(command, is_silent)
@@ -123,15 +155,38 @@ class Cluster:
         fields += [(field, int32(number)) for field, number in numbers] + [("readOnly", (BOOLEAN, False))]
         return fields + ([("helloOk", (BOOLEAN, True))] if command["helloOk"] and not is_hello else []) + done()
 
-    # writes
+    # collections and their chunks
 
     def begin(self, namespace):
         """The collection, which begins where it is not there."""
         if namespace not in self.collections:
             self.time += 1
-            self.collections[namespace] = {"at": self.time, "keys": {}, "table": False}
+            self.collections[namespace] = {"at": self.time, "keys": {}, "chunks": WHOLE, "table": False}
             self.journals[0].append(create_record(namespace, self.time))
         return self.collections[namespace]
+
+    def shard(self, command):
+        self.begin(command["own"])
+        return [("collectionsharded", text(command["own"]))] + done(self.time)
+
+    def split(self, command):
+        namespace, middle = command["own"], command["middle"]
+        if namespace not in self.collections:
+            raise Refused(118)
+        collection = self.collections[namespace]
+        if not begins_at(collection["chunks"], middle):
+            self.time += 1
+            collection["chunks"] = split_at(collection["chunks"], middle)
+            self.journals[0].append(split_record(namespace, middle, self.time))
+        return done(self.time)
+
+    def learn(self, collection, namespace):
+        """The shard is asked for the collection, and stores its table where it has none; it is not asked for another while no chunk moves."""
+        if not collection["table"]:
+            collection["table"] = True
+            self.journals[1].append(table_record(namespace, collection["at"], collection["chunks"]))
+
+    # writes
 
     def write(self, command):
         kind, namespace = command["name"], command["own"]
@@ -174,9 +229,7 @@ class Cluster:
         before = versions[-1][1] if versions else None
         after, reply = applied(kind, statement, before)
         versions.append((self.time, after))
-        if not collection["table"]:
-            collection["table"] = True
-            self.journals[1].append(table_record(namespace, collection["at"]))
+        self.learn(collection, namespace)
         self.journals[1].append(entry_record(self.time, namespace, number, kind, statement, reply))
         return self.time, reply
 
@@ -211,6 +264,8 @@ class Cluster:
 
     def read(self, command, is_silent):
         namespace, at = command["own"], self.time_of(command)
+        if namespace in self.collections and self.collections[namespace]["at"] <= at:
+            self.learn(self.collections[namespace], namespace)
         try:
             found = answer(stages_of(command), self.documents_at(namespace, at))
         except Overflow:

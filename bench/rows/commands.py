@@ -9,6 +9,7 @@ GREETINGS = ("hello", "isMaster", "ismaster", "ping", "endSessions")
 STATEMENTS = {"insert": "documents", "update": "updates", "delete": "deletes"}
 LEVELS = ("local", "majority", "available", "snapshot")
 RESERVED = ("admin", "config", "local")
+CHUNKS = ("shardCollection", "split")
 ONLY_FALSE = ("returnKey", "showRecordId", "tailable", "awaitData")
 
 
@@ -32,6 +33,11 @@ def is_database(name):
 def is_namespace(database, collection):
     is_collection = collection and not set(collection) & set("$\0") and not collection.startswith(".")
     return is_database(database) and is_collection and len(f"{database}.{collection}".encode()) <= 255
+
+
+def is_full_name(name):
+    database, _, collection = name.partition(".")
+    return is_namespace(database, collection)
 
 
 # the types of fields: each takes a value and gives it, or refuses it
@@ -132,6 +138,23 @@ def cursor(value):
     return inner_fields(of_kind(DOCUMENT)(value), {"batchSize": natural}).get("batchSize")
 
 
+def only_id(value):
+    """The value of a document's one field, which is _id."""
+    fields = of_kind(DOCUMENT)(value)
+    want([name for name, _ in fields] == ["_id"], 2)
+    return fields[0][1]
+
+
+def shard_key(value):
+    want(is_number(only_id(value)) and only_id(value)[1] == 1, 2)
+    return value[1]
+
+
+def middle(value):
+    want(is_key(only_id(value)), 2)
+    return only_id(value)
+
+
 def limit_of_one(value):
     want(is_number(value), 14)
     want(value[1] in (0, 1), 2)
@@ -160,10 +183,12 @@ FIELDS = {
     "count": {"query": FILTER, "skip": natural, "limit": natural, **READ},
     "getMore": {"collection": of_kind(STRING), "batchSize": natural, **COMMON},
     "killCursors": {"cursors": numbers, **COMMON},
+    "shardCollection": {"key": shard_key, **COMMON},
+    "split": {"middle": middle, **COMMON},
 }
 NEEDED = {
     "insert": ["documents"], "update": ["updates"], "delete": ["deletes"], "find": [], "aggregate": ["pipeline", "cursor"], "count": [],
-    "getMore": ["collection"], "killCursors": ["cursors"],
+    "getMore": ["collection"], "killCursors": ["cursors"], "shardCollection": ["key"], "split": ["middle"],
 }
 PARTS = {
     "update": ({"q": of_kind(DOCUMENT), "u": of_kind(DOCUMENT), "upsert": of_kind(BOOLEAN), "multi": of_kind(BOOLEAN)}, ["q", "u"]),
@@ -203,6 +228,9 @@ def own_field(name, value, database):
         want(is_database(database), 73)
         return value[1]
     want(value[0] == STRING, 14)
+    if name in CHUNKS:
+        want(database == "admin" and is_full_name(value[1]), 73)
+        return value[1]
     want(is_namespace(database, value[1]), 73)
     return f"{database}.{value[1]}"
 

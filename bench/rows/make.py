@@ -8,6 +8,8 @@ The pages of the examples go to examples-README-parts.md at the top, to be put i
 """
 import pathlib
 
+import chunk_scripts
+import chunks
 import cursors
 import drivers
 import languages
@@ -29,6 +31,8 @@ def main():
     put_file(DATA / "reads.rows", lines + refusals.fields() + sizes.rows() + refusals.refusals() + sessions.rows())
     put_file(DATA / "cursors.rows", cursors.rows())
     put_file(DATA / "retries.rows", retries.rows())
+    put_file(DATA / "chunks.rows", chunks.rows())
+    put_file(DATA / "chunks.script.rows", chunk_scripts.rows())
     put_file(DATA / "retries.script.rows", scripts.rows() + routers.one_router())
     put_file(DATA / "routers.rows", routers.rows())
     put_file(DATA / "drivers.reads.rows", drivers.rows(DATA / "drivers.rows"))

@@ -32,7 +32,8 @@ class Play:
         bytes_ = ask.bytes(identifier)
         self.notes.append(f"note router {router}: {ask.source}")
         self.add(f"client {router} {bytes_.hex()}", "client")
-        return router, ask, bytes_
+        self.replies[router] += 1
+        return router, ask, bytes_, self.replies[router]
 
     def add(self, *lines):
         line = lines[-1]
@@ -44,10 +45,13 @@ class Play:
             self.add(line)
 
     def gets(self, asked):
-        router, ask, bytes_ = asked
-        self.replies[router] += 1
-        self.printed.append(f"reply {router} {reply_bytes(Request(bytes_), self.replies[router], fields_of(ask.says)).hex()}")
+        router, ask, bytes_, number = asked
+        self.printed.append(f"reply {router} {reply_bytes(Request(bytes_), number, fields_of(ask.says)).hex()}")
         self.notes.append(f"note gets {ask.says}")
+
+    def settled(self, asked):
+        self.play("settle")
+        self.gets(asked)
 
     def closed(self, router):
         self.printed.append(f"closed {router}")

@@ -2,7 +2,7 @@
 import re
 import struct
 
-from bson import DOCUMENT, Fault, fields_of, int64, read_fields, shown, size, written
+from bson import DOCUMENT, INT32, INT64, NULL, STRING, Fault, fields_of, int64, read_fields, shown, size, written
 from cluster import Cluster, refusal
 from commands import GREETINGS, STATEMENTS, Refused, command_of
 
@@ -95,6 +95,10 @@ def read_words(command):
     return f"{name} {command['own']}{told}" + (" single" if command.get("singleBatch") else "")
 
 
+def key_words(key):
+    return shown(key) if key[0] in (INT32, INT64, STRING, NULL) else "another key"
+
+
 def command_words(command):
     name = command["name"]
     if name in GREETINGS:
@@ -107,6 +111,10 @@ def command_words(command):
         return f"getMore {command['database']}.{command['collection']} {command['own']}{told}"
     if name == "killCursors":
         return f"killCursors {command['own']}" + "".join(f" {number}" for number in command["cursors"])
+    if name == "shardCollection":
+        return f"shardCollection {command['own']}"
+    if name == "split":
+        return f"split {command['own']} at {key_words(command['middle'])}"
     return read_words(command)
 
 

@@ -1,19 +1,20 @@
 -- Files keep one history.
-use Rattle.std.specs.Prelude.{◌≡◌, ℕ, zero, suc, List, [], ◌∷◌, ◌++◌, map}
+use Rattle.std.specs.Prelude.{◌≡◌, ℕ, zero, suc, List, [], ◌∷◌, ◌++◌, map, Option, Some, None}
 use Rattle.std.proofs.Common.{refl, ap, sym, ◌∙◌, subst}
+use Rattle.std.proofs.lemmas.Option.{same_Some}
 use Rattle.std.specs.List.{AllByRecursion}
-use Rattle.chunk_model.proofs.FirstTables.{only_at}
-use Rattle.history_model.specs.History.{Entry, LegalAfter, key_written, document_left}
+use Rattle.chunk_model.specs.Changes.{Change, create_change, split_change, commit_change}
+use Rattle.chunk_model.specs.Placement.{owner}
+use Rattle.history_model.specs.History.{Operation, Entry, LegalAfter, key_written, document_left}
 use Rattle.journal_frames.specs.Files.{Stands}
 use Rattle.journal_frames.proofs.Unique as unique
-use Rattle.node_model.specs.Catalogue.{Creation}
-use Rattle.node_model.specs.Journal.{Kept, kept_table, kept_entry, kept_creation, kept_life, kept_block, record_kept, entries_kept, creations_kept}
+use Rattle.node_model.specs.Journal.{Kept, kept_table, kept_entry, kept_change, kept_life, kept_block, record_kept, entries_kept, changes_onto, changes_kept}
 use Rattle.node_model.specs.OneHistory.{IsPlaced}
 use Rattle.node_model.specs.World.{Held, journal_at}
 use Rattle.node_traits.specs.Effects.{AreSound, spellings}
-use Rattle.record_model.specs.RecordContents.{IsKnown, KeepEntries, creates_of}
-use Rattle.record_model.specs.Records.{Record}
-use Rattle.record_model.proofs.Entries.{known_effect, one_list}
+use Rattle.record_model.specs.RecordContents.{IsKnown, KeepEntries}
+use Rattle.record_model.specs.Records.{EntryWords, Record, create_record, split_record, commit_record, entry_record, record_of}
+use Rattle.record_model.proofs.Entries.{known_effect, one_list, own_entries}
 use Rattle.record_model.proofs.OneRecord.{one_record}
 use Rattle.cluster_top.specs.Journals.{IsJournal, AreJournals, IsHistory}
 
@@ -40,42 +41,87 @@ one_at (file ∷ files) (h ∷ nodes) [] at p q = absurd q
 one_at (file ∷ files) (h ∷ nodes) (k ∷ others) zero p q = one_journal file h.kept k.kept p.0 q.0
 one_at (file ∷ files) (h ∷ nodes) (k ∷ others) (suc at) p q = one_at files nodes others at p.1 q.1
 
-begun : (kept : List Kept) → creations_kept kept ≡ creates_of (map record_kept kept)
-begun [] = refl
-begun (kept_creation c ∷ kept) = ap (λ (cs : List Creation). c ∷ cs) (begun kept)
-begun (kept_table t ∷ kept) = begun kept
-begun (kept_entry e ∷ kept) = begun kept
-begun (kept_life n ∷ kept) = begun kept
-begun (kept_block n ∷ kept) = begun kept
+-- the changes of the catalogue among records, after these, newest first
+abbrev changes_among : List Change → List Record → List Change
+changes_among older [] = older
+changes_among older (create_record c ∷ records) = changes_among (create_change c ∷ older) records
+changes_among older (split_record s ∷ records) = changes_among (split_change s ∷ older) records
+changes_among older (commit_record c ∷ records) = changes_among (commit_change c ∷ older) records
+changes_among older (other ∷ records) = changes_among older records
 
-written : (kept : List Kept) → AllByRecursion (λ e. (e.shard ≡ 1) × IsKnown e.outcome.error) (entries_kept kept) → KeepEntries 1 (map record_kept kept) (entries_kept kept)
-written [] all = refl
-written (kept_entry e ∷ kept) all = (e, entries_kept kept, refl, record { own = refl; place = all.0.0; error = all.0.1 }, written kept all.1)
-written (kept_table t ∷ kept) all = written kept all
-written (kept_creation c ∷ kept) all = written kept all
-written (kept_life n ∷ kept) all = written kept all
-written (kept_block n ∷ kept) all = written kept all
+begun : (older : List Change) (kept : List Kept) → changes_onto older kept ≡ changes_among older (map record_kept kept)
+begun older [] = refl
+begun older (kept_change (create_change c) ∷ kept) = begun (create_change c ∷ older) kept
+begun older (kept_change (split_change s) ∷ kept) = begun (split_change s ∷ older) kept
+begun older (kept_change (commit_change c) ∷ kept) = begun (commit_change c ∷ older) kept
+begun older (kept_table t ∷ kept) = begun older kept
+begun older (kept_entry e ∷ kept) = begun older kept
+begun older (kept_life n ∷ kept) = begun older kept
+begun older (kept_block n ∷ kept) = begun older kept
 
--- an entry that is placed and legal is of the first shard, with an error that has a name
-known : (creations : List Creation) (earlier entries : List Entry) → LegalAfter earlier entries → AllByRecursion (IsPlaced creations) entries
-    → AllByRecursion (λ e. (e.shard ≡ 1) × IsKnown e.outcome.error) entries
-known creations earlier [] legal placed = tt
-known creations earlier (e ∷ entries) legal placed = (
-  (
-    (only_at placed.0.creation placed.0.key e.time e.shard placed.0.owner).0,
-    subst (λ o. IsKnown o.error) (sym legal.0.told) (known_effect e.operation (document_left e.namespace (key_written e.operation) earlier)),
-  ),
-  known creations (earlier ++ e ∷ []) entries legal.1 placed.1,
-)
+-- the entries among records
+abbrev entries_among : List Record → List Record
+entries_among [] = []
+entries_among (entry_record w ∷ records) = entry_record w ∷ entries_among records
+entries_among (other ∷ records) = entries_among records
 
-all_known : (nodes : List Held) → IsHistory nodes → AllByRecursion (λ e. (e.shard ≡ 1) × IsKnown e.outcome.error) (entries_kept (journal_at nodes 1))
-all_known nodes is = known (creations_kept (journal_at nodes 0)) [] (entries_kept (journal_at nodes 1)) is.legal is.placed
+written : (kept : List Kept) → entries_among (map record_kept kept) ≡ map record_of (entries_kept kept)
+written [] = refl
+written (kept_entry e ∷ kept) = ap (λ (rs : List Record). record_of e ∷ rs) (written kept)
+written (kept_change (create_change c) ∷ kept) = written kept
+written (kept_change (split_change s) ∷ kept) = written kept
+written (kept_change (commit_change c) ∷ kept) = written kept
+written (kept_table t ∷ kept) = written kept
+written (kept_life n ∷ kept) = written kept
+written (kept_block n ∷ kept) = written kept
+
+abbrev words_in : Record → Option EntryWords
+words_in (entry_record w) = Some w
+words_in other = None
+
+-- an entry that is legal has an error with a name
+known : (earlier : List Entry) (e : Entry) (later : List Entry) → LegalAfter earlier (e ∷ later) → IsKnown e.outcome.error
+known earlier e later legal =
+    subst (λ o. IsKnown o.error) (sym legal.0.told) (known_effect e.operation (document_left e.namespace (key_written e.operation) earlier))
+
+-- the changes say on which shard an entry is
+same_shard : (changes : List Change) (a b : Entry) → record_of a ≡ record_of b → IsPlaced changes a → IsPlaced changes b → a.shard ≡ b.shard
+same_shard changes a b same p q =
+    let words = same_Some _ _ (ap words_in same) in
+    let times : a.time ≡ b.time = ap (λ (w : EntryWords). w.time) words in
+    let names : a.namespace ≡ b.namespace = ap (λ (w : EntryWords). w.namespace) words in
+    let operations : a.operation ≡ b.operation = ap (λ (w : EntryWords). w.operation) words in
+    let keys : p.key ≡ q.key = same_Some _ _ (sym p.writes ∙ ap (λ (o : Operation). key_written o) operations ∙ q.writes) in
+    let owners : owner a.namespace p.key a.time changes ≡ owner b.namespace q.key b.time changes = λ i. owner (names i) (keys i) (times i) changes in
+    same_Some _ _ (sym p.owner ∙ owners ∙ q.owner)
+
+same_entry : (a b : Entry) → record_of a ≡ record_of b → a.shard ≡ b.shard → IsKnown a.outcome.error → IsKnown b.outcome.error → a ≡ b
+same_entry a b same place p q =
+    let own : KeepEntries b.shard (record_of b ∷ []) (a ∷ []) =
+    subst (λ (r : Record). KeepEntries b.shard (r ∷ []) (a ∷ [])) same (own_entries b.shard (a ∷ []) ((place, p), tt)) in
+    let one : a ∷ [] ≡ b ∷ [] = one_list b.shard (record_of b ∷ []) (a ∷ []) (b ∷ []) own (own_entries b.shard (b ∷ []) ((refl, q), tt)) in cc
+
+-- entries that are legal, and placed by the same changes, are those of their records
+same_entries : (changes : List Change) (earlier before a b : List Entry) → LegalAfter earlier a → LegalAfter before b → AllByRecursion (IsPlaced changes) a
+    → AllByRecursion (IsPlaced changes) b → map record_of a ≡ map record_of b → a ≡ b
+same_entries changes earlier before [] [] legal right p q same = refl
+same_entries changes earlier before [] (d ∷ b) legal right p q same = cc
+same_entries changes earlier before (e ∷ a) [] legal right p q same = cc
+same_entries changes earlier before (e ∷ a) (d ∷ b) legal right p q same =
+    let one : record_of e ≡ record_of d = cc in
+    let others : map record_of a ≡ map record_of b = cc in
+    let first : e ≡ d = same_entry e d one (same_shard changes e d one p.0 q.0) (known earlier e a legal) (known before d b right) in
+    let rest : a ≡ b = same_entries changes (earlier ++ e ∷ []) (before ++ d ∷ []) a b legal.1 right.1 p.1 q.1 others in
+    λ i. first i ∷ rest i
 
 pub one_history : (files : List (List ℕ)) (nodes others : List Held) → AreJournals files nodes → AreJournals files others → IsHistory nodes → IsHistory others
-    → (creations_kept (journal_at nodes 0) ≡ creations_kept (journal_at others 0)) × (entries_kept (journal_at nodes 1) ≡ entries_kept (journal_at others 1))
-one_history files nodes others p q a b = (
-  begun (journal_at nodes 0) ∙ ap creates_of (one_at files nodes others 0 p q) ∙ sym (begun (journal_at others 0)),
-  one_list 1 (map record_kept (journal_at others 1)) _ _
-      (subst (λ (rs : List Record). KeepEntries 1 rs (entries_kept (journal_at nodes 1))) (one_at files nodes others 1 p q) (written (journal_at nodes 1) (all_known nodes a)))
-      (written (journal_at others 1) (all_known others b)),
-)
+    → (changes_kept (journal_at nodes 0) ≡ changes_kept (journal_at others 0)) × (entries_kept (journal_at nodes 1) ≡ entries_kept (journal_at others 1))
+one_history files nodes others p q a b =
+    let changes : changes_kept (journal_at nodes 0) ≡ changes_kept (journal_at others 0) =
+    begun [] (journal_at nodes 0) ∙ ap (λ (rs : List Record). changes_among [] rs) (one_at files nodes others 0 p q) ∙ sym (begun [] (journal_at others 0)) in
+    let records : map record_of (entries_kept (journal_at nodes 1)) ≡ map record_of (entries_kept (journal_at others 1)) =
+    sym (written (journal_at nodes 1)) ∙ ap (λ (rs : List Record). entries_among rs) (one_at files nodes others 1 p q) ∙ written (journal_at others 1) in (
+      changes,
+      same_entries (changes_kept (journal_at others 0)) [] [] (entries_kept (journal_at nodes 1)) (entries_kept (journal_at others 1)) a.legal b.legal
+          (subst (λ (xs : List Change). AllByRecursion (IsPlaced xs) (entries_kept (journal_at nodes 1))) changes a.placed) b.placed records,
+    )

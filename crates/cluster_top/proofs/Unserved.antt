@@ -11,9 +11,9 @@ use Rattle.pipe_driver.specs.Rounds.{first_router}
 use Rattle.pipe_driver.specs.Schedules.{came_opening}
 use Rattle.pipe_driver.specs.declared.status.Status as connections
 use Rattle.pipe_driver.specs.declared.status.Status.TheVariants as ended
-use Rattle.pipe_driver.proofs.Histories.{piped_history}
+use Rattle.pipe_driver.proofs.Histories.{piped_changes, piped_history}
 use Rattle.sim_driver.specs.Simulations.{IsSimulated, CameTo, came_opening as began, disk_failed as script_disk_failed, no_memory as script_no_memory}
-use Rattle.sim_driver.proofs.Histories.{simulated_history}
+use Rattle.sim_driver.proofs.Histories.{simulated_changes, simulated_history}
 use Rattle.cluster_top.specs.Arguments.{routers_of}
 use Rattle.cluster_top.specs.Disks.{AllEmpty, IsEmptyAll, SomeFile}
 use Rattle.cluster_top.specs.Drivers.{IsDriven}
@@ -68,7 +68,10 @@ module _ (source : SourceCall) (sink : SinkCall) (tells : Bool) (files_after : L
       → Headline source sink tells files_after leaves owed gives ending rest
   headline_from ending piped = record {
     piped = piped;
-    history = piped_history source sink gives first_router (λ nodes. IsTrue tells → AreJournals files_after nodes) leaves owed 1 most_taken ending rest piped;
+    history = (
+      piped_changes source sink gives first_router (λ nodes. IsTrue tells → AreJournals files_after nodes) leaves owed 1 most_taken ending rest piped,
+      piped_history source sink gives first_router (λ nodes. IsTrue tells → AreJournals files_after nodes) leaves owed 1 most_taken ending rest piped,
+    );
   }
 
   none_played : (routers : ℕ) → CameTo routers [] [] [] (start routers)
@@ -78,7 +81,10 @@ module _ (source : SourceCall) (sink : SinkCall) (tells : Bool) (files_after : L
       → rest ≡ 0 → ScriptHeadline routers source sink tells files_after leaves owed ending rest
   script_from routers ending simulated none = record {
     simulated = simulated;
-    history = simulated_history source sink (λ nodes. IsTrue tells → AreJournals files_after nodes) leaves owed routers most_taken ending simulated;
+    history = (
+      simulated_changes source sink (λ nodes. IsTrue tells → AreJournals files_after nodes) leaves owed routers most_taken ending simulated,
+      simulated_history source sink (λ nodes. IsTrue tells → AreJournals files_after nodes) leaves owed routers most_taken ending simulated,
+    );
     no_rest = none;
   }
 

@@ -13,7 +13,7 @@ use Rattle.cluster_top.specs.Journals.{AreJournals}
 use Rattle.cluster_top.specs.declared.arguments.Command.{Command}
 use Rattle.cluster_top.specs.declared.arguments.Command.TheVariants.{Pipe, Sim}
 
--- what the catalogue and the shard of a world store, and the requests and replies, are one history
+-- what the catalogue and the shard of a world store, and the requests and replies, are one history, where the changes have the steps in which they were made
 abbrev pub MakesOneHistory : World → Type 0
 MakesOneHistory end =
     (changes_in end.changed ≡ changes_kept (journal_at end.nodes 0))

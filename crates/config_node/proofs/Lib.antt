@@ -1,1 +1,5 @@
+mod Copies
+mod Planned
 mod Plans
+mod Ready
+mod Rows

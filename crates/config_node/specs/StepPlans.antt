@@ -9,7 +9,7 @@ use Rattle.node_traits.specs.Effects.{StepPlanned}
 use Rattle.protocol_model.specs.Messages.{letter_of}
 use Rattle.config_node.specs.Plans.{at_then}
 use Rattle.config_node.specs.State.{state_of}
-use Rattle.config_node.specs.declared.node.ConfigNode.{ConfigNode}
+use Rattle.config_node.specs.declared.state.ConfigNode.{ConfigNode}
 use Rattle.config_node.specs.declared.plan.StepPlan.{StepPlan}
 
 -- the plan is a step: its messages and records are those of the step

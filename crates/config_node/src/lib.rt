@@ -1,7 +1,9 @@
 //! The catalogue: the node that knows which shard has which keys of each collection.
 #![tactic(auto)]
 
+mod keys;
 mod node;
 mod plan;
+mod state;
 
-pub use node::ConfigNode;
+pub use state::ConfigNode;

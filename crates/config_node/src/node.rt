@@ -1,14 +1,13 @@
 //! The node, and its steps.
 
-ghost use Rattle.std.specs.Prelude.{◌≡◌, ◌<◌, ◌≤◌, [], IfOk, IfSome, None, max, true};
-ghost use Rattle.std.specs.List.{AllByRecursion};
+ghost use Rattle.std.specs.Prelude.{◌≡◌, ◌⊎◌, ◌<◌, ◌≤◌, ◌∷◌, [], IfOk, IfSome, IsSome, None, Some, false, max, true};
 ghost use Rattle.std.specs.Arc.{arc_value};
 ghost use Rattle.std.specs.Option.{option_map};
 ghost use Rattle.chunk_catalogue.specs.Catalogues.{IsNext, changes_of};
 ghost use Rattle.chunk_catalogue.specs.Views.{change_view};
 ghost use Rattle.chunk_model.specs.Changes.{known_table, time_of};
-ghost use Rattle.chunk_table.specs.Whole.{IsWritableBound};
-ghost use Rattle.node_traits.specs.Effects.{StepPlanned, last_time, time_in};
+ghost use Rattle.chunk_model.specs.Requests.{changed, create_answer};
+ghost use Rattle.node_traits.specs.Effects.{last_time, time_in};
 ghost use Rattle.node_model.specs.States.{catalogue_state, new_catalogue};
 ghost use Rattle.node_model.specs.CatalogueRows.{AsksNothing};
 ghost use Rattle.node_model.specs.Letters.{Letter, letter_input};
@@ -16,15 +15,16 @@ ghost use Rattle.protocol_model.specs.Bodies.{body_view, split_ask_view, table_a
 ghost use Rattle.protocol_model.specs.Inputs.{input_of};
 ghost use Rattle.protocol_model.specs.Requests.{request_of};
 ghost use Rattle.protocol_model.specs.Messages.{letter_of};
-ghost use Rattle.value_model.specs.Keys.{key_bound};
-ghost use Rattle.config_node.specs.Plans.{at_then};
+ghost use Rattle.config_node.specs.Plans.{IsWritableChange, at_then};
 ghost use Rattle.config_node.specs.Asks.{ask_view};
 ghost use Rattle.config_node.specs.StepPlans.{IsPlanned, IsReady};
 ghost use Rattle.config_node.specs.State.{state_of};
 
+use crate::keys::is_writable;
 use crate::plan::{StepPlan, split_answer, table_answer};
-use bson_values::{Document, Memory, Name};
-use chunk_catalogue::{CatFault, Catalogue};
+use crate::state::ConfigNode;
+use bson_values::Memory;
+use chunk_catalogue::{CatFault, Catalogue, Change};
 use chunk_table::Table;
 use cluster_base::{Namespace, NodeId, Time, moment_time};
 use node_traits::{Node, Outputs, ReplyList, StepCount, StepFault, append_records};
@@ -35,23 +35,6 @@ use std::alloc::Global;
 use std::marker::Sync;
 use std::sync::Arc;
 use std::thread::Threads;
-use value_compare::Key;
-
-/// The greatest depth of a key at which chunks are divided, and its most bytes: no message holds more.
-const MOST_LEVELS: usize = 100;
-
-const MOST_BYTES: usize = 240_000_000;
-
-/// The catalogue.
-#[derive(Drop)]
-pub struct ConfigNode {
-    alloc: Global,
-    me: NodeId,
-    steps: StepCount,
-    time: Time,
-    catalogue: Catalogue,
-    ghost past: { AllByRecursion (λ x. time_of x ≤ time.0) (changes_of catalogue) },
-}
 
 /// What is requested of the catalogue.
 #[derive(Drop)]
@@ -79,16 +62,6 @@ fn ask_in(body: Body) -> Option<Ask>
         | Body::TimeAsk(_)
         | Body::TimeTold(_) => None,
     }
-}
-
-// Returns whether a chunk may begin at a key: the document of the key can be written. A key of a client's message always is such. Returns `Memory` if
-// memory runs out.
-fn is_writable(alloc: Global, key: &Key) -> Result<bool, Memory>
-    ensures { IfOk result (λ b. b ≡ true → IsWritableBound (key_bound key.now)) }
-{
-    let mut document = Document::new(alloc);
-    document.push(Name::of(alloc, "_id")?, key.value().copy()?)?;
-    Ok(document.levels() <= MOST_LEVELS && document.size() <= MOST_BYTES)
 }
 
 impl ConfigNode {
@@ -158,35 +131,60 @@ impl ConfigNode {
     // its name; else the present table, or none, is returned.
     fn plan_table(&mut self, heard: Time, sender: NodeId, ask: TableAsk) -> Result<StepPlan, Memory>
         requires early { heard.0 < last_time }
+        requires late { self.old.time.0 ≤ heard.0 }
         ensures planned { (m : Letter) → heard.0 ≡ max self.old.time.0 m.time → sender.0 ≡ m.sender → m.body ≡ table_ask_view ask → m.receiver ≡ self.old.me.0 →
             IfOk result (λ p. IsPlanned self.old (letter_input m) p) }
-        ensures ready { self.old.time.0 ≤ heard.0 → IfOk result (λ p. IsReady self.new p) }
+        ensures ready { IfOk result (λ p. IsReady self.new p) }
+        ensures same { state_of self.new ≡ state_of self.old }
+        ensures steps { self.new.steps ≡ self.old.steps }
+    {
+        let me = self.me;
+        let next = Time(heard.0 + 1);
+        match self.creation(&ask, next)? {
+            Some(change) => {
+                let table = Arc::try_clone(&change.table)?;
+                let answer = table_answer(me, next, sender, ask, Some(table));
+                StepPlan::make(self.alloc, change, answer)
+            }
+            None => {
+                let table = self.known(&ask.namespace)?;
+                let answer = table_answer(me, heard, sender, ask, table);
+                Ok(StepPlan::tell(self.alloc, answer))
+            }
+        }
+    }
+
+    // Returns the change that creates the collection of a request at a time, and makes room for its table. `None` where that is not requested, or where the
+    // collection exists. Returns `Memory` if memory runs out.
+    fn creation(&mut self, ask: &TableAsk, at: Time) -> Result<Option<Change>, Memory>
+        requires late { self.old.time.0 < at.0 }
+        ensures requested { IfOk result (λ change. IfSome change (λ _. ask.now.create ≡ true)) }
+        ensures answer { IfOk result (λ change. IfSome change (λ x. create_answer ask.now.namespace at.0 (changes_of self.old.catalogue) ≡ changed (change_view x.fields))) }
+        ensures none { IfOk result (λ change. change ≡ None → (ask.now.create ≡ false) ⊎ IsSome (known_table ask.now.namespace (changes_of self.old.catalogue))) }
+        ensures writable { IfOk result (λ change. IfSome change (λ x. IsWritableChange (change_view x.fields))) }
+        ensures table { IfOk result (λ change. IfSome change (λ x. known_table ask.now.namespace (change_view x.fields ∷ changes_of self.old.catalogue) ≡ Some (arc_value x.table))) }
+        ensures next { IfOk result (λ change. IfSome change (λ x. IsNext self.new.catalogue x)) }
+        ensures time { IfOk result (λ change. IfSome change (λ x. time_of (change_view x.fields) ≡ at.0)) }
         ensures same { state_of self.new ≡ state_of self.old }
         ensures steps { self.new.steps ≡ self.old.steps }
     {
         if ask.create {
-            let next = Time(heard.0 + 1);
-            if let Some(change) = self.catalogue.create(&ask.namespace, next)? {
-                let table = Arc::try_clone(&change.table)?;
-                let answer = table_answer(self.me, next, sender, ask, Some(table));
-                return StepPlan::make(self.alloc, change, answer);
-            }
+            self.catalogue.create(&ask.namespace, at)
+        } else {
+            Ok(None)
         }
-        let table = self.known(&ask.namespace)?;
-        let answer = table_answer(self.me, heard, sender, ask, table);
-        Ok(StepPlan::tell(self.alloc, answer))
     }
 
     // Returns the plan for a request for a split, at the time that the message carries: a chunk is split, or one begins there, or there is no such collection.
-    fn plan_split(&mut self, heard: Time, sender: NodeId, ask: SplitAsk) -> Result<StepPlan, Memory>
+    fn plan_split(&self, heard: Time, sender: NodeId, ask: SplitAsk) -> Result<StepPlan, Memory>
         requires early { heard.0 < last_time }
-        ensures planned { (m : Letter) → heard.0 ≡ max self.old.time.0 m.time → sender.0 ≡ m.sender → m.body ≡ split_ask_view ask → m.receiver ≡ self.old.me.0 →
-            IfOk result (λ p. IsPlanned self.old (letter_input m) p) }
-        ensures ready { self.old.time.0 ≤ heard.0 → IfOk result (λ p. IsReady self.new p) }
-        ensures same { state_of self.new ≡ state_of self.old }
-        ensures steps { self.new.steps ≡ self.old.steps }
+        requires late { self.now.time.0 ≤ heard.0 }
+        ensures planned { (m : Letter) → heard.0 ≡ max self.now.time.0 m.time → sender.0 ≡ m.sender → m.body ≡ split_ask_view ask → m.receiver ≡ self.now.me.0 →
+            IfOk result (λ p. IsPlanned self.now (letter_input m) p) }
+        ensures ready { IfOk result (λ p. IsReady self.now p) }
     {
-        if !is_writable(self.alloc, &ask.middle)? {
+        let writable = is_writable(self.alloc, &ask.middle)?;
+        if !writable {
             // No message of a router has such a key.
             return Err(Memory);
         }
@@ -232,13 +230,25 @@ impl ConfigNode {
             mail,
             records: _,
         } = plan;
-        self.time = time;
-        if let Some(change) = change {
-            self.catalogue.admit(change);
-        }
+        self.pass(time, change);
         Outputs {
             mail,
             replies: ReplyList::new(self.alloc),
+        }
+    }
+
+    // Goes on to a time, with a change, if there is one. Takes no memory.
+    fn pass(&mut self, time: Time, change: Option<Change>)
+        requires later { self.old.time.0 ≤ time.0 }
+        requires next { IfSome change (λ c. IsNext self.old.catalogue c) }
+        requires past { IfSome change (λ c. time_of (change_view c.fields) ≤ time.0) }
+        ensures state { state_of self.new ≡ at_then self.old.me.0 time.0 (option_map (λ c. change_view c.fields) change) (changes_of self.old.catalogue) }
+        ensures steps { self.new.steps ≡ self.old.steps }
+    {
+        self.time = time;
+        match change {
+            Some(change) => self.catalogue.admit(change),
+            None => {}
         }
     }
 }

@@ -5,10 +5,8 @@ use Rattle.std.specs.List.{AllByRecursion, flat_map}
 use Rattle.std.specs.Str.{bytes_eq}
 use Rattle.history_model.proofs.Lists.{all_weaken, all_append, all_at}
 use Rattle.history_model.specs.History.{Entry}
-use Rattle.base_model.specs.Errors.{namespace_not_sharded}
 use Rattle.base_model.specs.Identities.{RequestId}
-use Rattle.base_model.specs.Refusals.{Refusal, without_evidence}
-use Rattle.base_model.specs.ReplyParts.{operation_time}
+use Rattle.base_model.specs.Refusals.{Refusal}
 use Rattle.bson_model.specs.Tree.{Fields}
 use Rattle.command_model.specs.Split.{SplitCommand}
 use Rattle.command_model.specs.Command.{Command, write_command, find_command, count_command, shard_collection_command, split_command, command_of}
@@ -16,13 +14,12 @@ use Rattle.command_model.specs.Reading.{Reading}
 use Rattle.command_model.specs.GetMore.{GetMore}
 use Rattle.command_model.specs.KillCursors.{KillCursors}
 use Rattle.pipeline_model.specs.Runs.{Outcome}
-use Rattle.command_model.specs.Answers.{Answer, changed_answer, sharded_answer, answer_document}
-use Rattle.command_model.proofs.AnswerTimes.{time_of_changed, time_refused}
+use Rattle.command_model.specs.Answers.{Answer, sharded_answer}
 use Rattle.chunk_model.specs.Tables.{Table}
 use Rattle.chunk_model.specs.Changes.{known_table}
 use Rattle.opmsg_model.specs.Requests.{Request}
 use Rattle.reply_model.specs.Exchanges.{Asked, Answered}
-use Rattle.reply_model.specs.OneHistory.{Dated, changes_before, IsCaused, ids_asked, AreDifferent}
+use Rattle.reply_model.specs.OneHistory.{Dated, changes_before, WasAbsent, IsReplyTo, IsCaused, ids_asked, AreDifferent}
 use Rattle.reply_model.specs.Right.{not_sharded}
 use Rattle.reply_model.specs.Cursors.{Cursor}
 use Rattle.reply_facts.proofs.Requests.{one_asked}
@@ -39,6 +36,7 @@ use Rattle.node_laws.proofs.SplitFacts.{WasMissing}
 use Rattle.node_laws.proofs.Facts.{WorkFits, IsOpenOf, TimeFits, AnswersFit, no_answer, one_answer}
 use Rattle.node_laws.proofs.Owes.{InputFits}
 use Rattle.node_laws.proofs.Dates.{IsNoChange, missing_grows}
+use Rattle.node_laws.proofs.ReplySteps.{changed_differs, IsBased}
 use Rattle.node_laws.proofs.OpenRequests.{open_of_found}
 use Rattle.node_laws.proofs.RouterAnswers.{as_answered}
 use Rattle.node_laws.proofs.RouterLater.{of_answers}
@@ -181,13 +179,6 @@ other_work a namespace (splitting middle) split w other e = absurd other
 
 none_split : (q : Open) (split : SplitCommand) → HasWork q → IsNoSplitting q.work → command_of q.request ≡ Ok (split_command split) → ⊥
 none_split q split h other e = other_work h.request q.namespace q.work split h.work other (ap (λ r. command_of r) h.same ∙ e)
-
-some_none : {X : Type 0} {x : X} → Some x ≡ None → ⊥
-some_none e = cc
-
-changed_differs : (time : ℕ) → answer_document (changed_answer time) ≡ not_sharded → ⊥
-changed_differs time same =
-    some_none (sym (time_of_changed time) ∙ ap (λ (d : Fields). operation_time (Some d)) same ∙ time_refused (without_evidence namespace_not_sharded))
 
 module _ (dated : List Dated) (asked : List Asked) (r : Router) where
   abbrev True : Reply → Type 0
@@ -340,22 +331,33 @@ all_still_true now dated written asked more answered replies came old new =
 same_split : (a b : SplitCommand) (command : Result Command Refusal) → command ≡ Ok (split_command a) → command ≡ Ok (split_command b) → a ≡ b
 same_split a b command e f = cc
 
--- so there was none in a step from the request to the reply
-pub is_caused : (v : View) (dated : List Dated) (asked : List Asked) (answered : List Answered) (cursors last : List Cursor) (told : List Answered)
-    → AreDifferent (ids_asked asked) → AnswersFit v asked answered cursors told last → AllByRecursion (IsTrueAnswer dated asked) told
-    → AllByRecursion (IsCaused dated asked) told
-is_caused v dated asked answered _ _ _ different (no_answer cursors) all = tt
-is_caused v dated asked answered _ _ _ different (one_answer cursors next last t rest f others) all =
-    (caused, is_caused v dated asked answered next last rest different others all.1)
+-- so what it says was so by the reply, or else there was none in a step from the request to the reply
+pub is_caused : (v : View) (now : ℕ) (dated : List Dated) (asked : List Asked) (answered : List Answered) (cursors last : List Cursor)
+    (told : List Answered) → AreDifferent (ids_asked asked) → AnswersFit v asked answered cursors told last → AllByRecursion (IsTrueAnswer dated asked) told
+    → AllByRecursion (IsBased now dated) told → AllByRecursion (IsCaused dated asked) told
+is_caused v now dated asked answered _ _ _ different (no_answer cursors) all based = tt
+is_caused v now dated asked answered _ _ _ different (one_answer cursors next last t rest f others) all based = (
+  record {
+    written = λ a write to. based.0.rests.written write (its a (write_command write) to);
+    created = λ a namespace to says. based.0.rests.created namespace (its a (shard_collection_command namespace) to);
+    begins = λ a split to says. based.0.rests.begins split (its a (split_command split) to) says;
+    absent = absent;
+  },
+  is_caused v now dated asked answered next last rest different others all.1 based.1,
+)
   where
-    caused : IsCaused dated asked t
-    caused a split taken own asks none =
-        let first : f.request ≡ a = one_asked f.request a asked different f.taken taken (f.own ∙ sym own) in
-        let its : command_of t.request ≡ Ok (split_command split) = ap (λ r. command_of r) (sym f.same)
-        ∙ ap (λ (b : Asked). command_of b.request) first ∙ asks in
-        let m : WasMissing dated asked t.id = all.0 split its none in
-        let same : m.request ≡ a = one_asked m.request a asked different m.taken taken (m.own ∙ sym own) in
-        let one : m.split ≡ split = same_split m.split split (command_of a.request) (ap (λ (b : Asked). command_of b.request) (sym same) ∙ m.asks) asks in
+    its : (a : Asked) (command : Command) → IsReplyTo asked a command t → command_of t.request ≡ Ok command
+    its a command to =
+        let first : f.request ≡ a = one_asked f.request a asked different f.taken to.taken (f.own ∙ sym to.own) in
+        ap (λ r. command_of r) (sym f.same) ∙ ap (λ (b : Asked). command_of b.request) first ∙ to.asks
+
+    absent : (a : Asked) (split : SplitCommand) → IsReplyTo asked a (split_command split) t → t.document ≡ not_sharded
+        → WasAbsent dated split.namespace a.came t.step
+    absent a split to none =
+        let first : f.request ≡ a = one_asked f.request a asked different f.taken to.taken (f.own ∙ sym to.own) in
+        let m : WasMissing dated asked t.id = all.0 split (its a (split_command split) to) none in
+        let same : m.request ≡ a = one_asked m.request a asked different m.taken to.taken (m.own ∙ sym to.own) in
+        let one : m.split ≡ split = same_split m.split split (command_of a.request) (ap (λ (b : Asked). command_of b.request) (sym same) ∙ m.asks) to.asks in
         let came : a.came ≤ t.step = subst (λ (b : Asked). b.came ≤ t.step) first f.came in
         record {
           step = a.came;

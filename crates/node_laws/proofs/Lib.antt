@@ -51,6 +51,7 @@ pub mod RequestParts
 pub mod CatalogueRows
 pub mod Moments
 pub mod ShardSteps
+pub mod ReplySteps
 pub mod Causes
 pub mod ShardWrites
 pub mod ShardRows

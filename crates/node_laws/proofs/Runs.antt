@@ -88,6 +88,9 @@ moments_none at (suc n) = ((refl, refl, omega arith), moments_none (at + 1) n)
 pub start_moments : (routers : ℕ) → Moments (start routers)
 start_moments routers = record { nodes = (tt, (tt, moments_none 2 routers)); asked = tt; givens = tt }
 
+pub start_true : (routers : ℕ) → StaysTrue (start routers)
+start_true routers = (start_good routers, start_moments routers, tt, record { steps = tt; replies = tt })
+
 -- ONE HISTORY
 
 -- the catalogue, where its journal says all collections
@@ -132,7 +135,7 @@ all_right v given asked answered _ _ _ (one_answer cursors next last t rest f ot
 
 pub makes_one_history : (w : World) → StaysTrue w
     → OneHistory w.given w.changed (entries_kept (journal_at w.nodes first_shard)) w.asked w.answered
-makes_one_history w (known, moments, told) =
+makes_one_history w (known, moments, told, based) =
     let good = known.good in
     let v : View = view_of w.nodes known.book in
     let s = the_shard v w.asked w.answered w.given w.nodes good.order good.nodes in
@@ -155,7 +158,7 @@ makes_one_history w (known, moments, told) =
       parts = subst (λ l. AllByRecursion (StandsInPart l) w.asked) entries s.fits.parts;
       wanted = subst (λ l. AllByRecursion (WasWanted w.asked) l) changes c.fits.wanted;
       fitting = subst (λ l. AreFitting l) changes c.fits.fitting;
-      caused = is_caused v w.changed w.asked w.answered [] known.book.cursors w.answered good.one good.answers told;
+      caused = is_caused v w.now w.changed w.asked w.answered [] known.book.cursors w.answered good.one good.answers told based.replies;
       right = subst (λ l. AreRight w.given l history w.asked w.answered [] w.answered) (sym good.dated)
           (all_right v w.given w.asked w.answered [] known.book.cursors w.answered good.answers good.met);
       one = good.one;
@@ -170,4 +173,11 @@ makes_one_history w (known, moments, told) =
 
 pub run_makes_one_history : (routers : ℕ) (events : List Event) (w : World) → Run (start routers) events w
     → OneHistory w.given w.changed (entries_kept (journal_at w.nodes first_shard)) w.asked w.answered
-run_makes_one_history routers events w run = makes_one_history w (run_keeps (start routers) w events (start_good routers, start_moments routers, tt) run)
+run_makes_one_history routers events w run = makes_one_history w (run_keeps (start routers) w events (start_true routers) run)
+
+-- THE CHANGES OF THE CATALOGUE
+
+-- those that were made, newest first, are those that the catalogue's journal stores
+pub run_keeps_changes : (routers : ℕ) (events : List Event) (w : World) → Run (start routers) events w
+    → changes_of w.changed ≡ changes_kept (journal_at w.nodes 0)
+run_keeps_changes routers events w run = (run_keeps (start routers) w events (start_true routers) run).0.good.dated

@@ -21,6 +21,7 @@ use Rattle.node_laws.proofs.Growth.{met_grows, met_later}
 use Rattle.node_laws.proofs.Journals.{with_more, with_news, later_self, views_later}
 use Rattle.node_laws.proofs.Dates.{dated_more}
 use Rattle.node_laws.proofs.Causes.{IsTrueReply, IsTrueAnswer, no_replies, shard_aside, router_aside, row_true, works_of, input_truly, all_still_true}
+use Rattle.node_laws.proofs.ReplySteps.{AreBased, move_based}
 use Rattle.node_laws.proofs.Keeps.{good_after}
 use Rattle.node_laws.proofs.CatalogueRows.{catalogue_owes}
 use Rattle.node_laws.proofs.ShardRows.{shard_owes}
@@ -252,31 +253,24 @@ move_true w v book at i good there old m =
     subst (λ x. AreTrue x) (sym m.then)
     (all_still_true w.now w.changed m.f.written w.asked (asked_by w.now m.f.taken) w.answered m.f.replies good.came old new)
 
--- the facts, what routers know of moments, and that replies are true
+-- the facts, what routers know of moments, that replies are true, and what they rest on
 abbrev pub StaysTrue : World → Type 0
-StaysTrue w = HasBook w × Moments w × AreTrue w
+StaysTrue w = HasBook w × Moments w × AreTrue w × AreBased w
+
+move_stays : (w v : World) (at : ℕ) (i : Input) → WasPosted w i → StaysTrue w → Moves w at i v → StaysTrue v
+move_stays w v at i there (known, moments, told, based) m =
+    let next = move_keeps w v known.book at i known.good there m in (
+      next,
+      moments_move w v at i moments m,
+      move_true w v known.book at i known.good there told m,
+      move_based w v next.book at i based next.good m,
+    )
 
 pub happens_keeps : (w v : World) (e : Event) → StaysTrue w → Happens w e v → StaysTrue v
-happens_keeps _ _ _ (known, moments, told) (comes w v at link number request is m) = (
-  move_keeps w v known.book at (client_input link number request) known.good tt m,
-  moments_move w v at (client_input link number request) moments m,
-  move_true w v known.book at (client_input link number request) known.good tt told m,
-)
-happens_keeps _ _ _ (known, moments, told) (delivers w v at which letter got to m) = (
-  move_keeps w v known.book at (letter_input letter) known.good (got_is_in w.sent which letter got) m,
-  moments_move w v at (letter_input letter) moments m,
-  move_true w v known.book at (letter_input letter) known.good (got_is_in w.sent which letter got) told m,
-)
-happens_keeps _ _ _ (known, moments, told) (passes w v at moment m) = (
-  move_keeps w v known.book at (moment_input moment) known.good tt m,
-  moments_move w v at (moment_input moment) moments m,
-  move_true w v known.book at (moment_input moment) known.good tt told m,
-)
-happens_keeps _ _ _ (known, moments, told) (was_opened w v at m) = (
-  move_keeps w v known.book at opened_input known.good tt m,
-  moments_move w v at opened_input moments m,
-  move_true w v known.book at opened_input known.good tt told m,
-)
+happens_keeps _ _ _ kept (comes w v at link number request is m) = move_stays w v at (client_input link number request) tt kept m
+happens_keeps _ _ _ kept (delivers w v at which letter got to m) = move_stays w v at (letter_input letter) (got_is_in w.sent which letter got) kept m
+happens_keeps _ _ _ kept (passes w v at moment m) = move_stays w v at (moment_input moment) tt kept m
+happens_keeps _ _ _ kept (was_opened w v at m) = move_stays w v at opened_input tt kept m
 
 pub run_keeps : (w v : World) (es : List Event) → StaysTrue w → Run w es v → StaysTrue v
 run_keeps _ _ _ kept (stands w) = kept

@@ -3,4 +3,4 @@
 
 mod laws;
 
-pub use laws::run_makes_one_history;
+pub use laws::{run_keeps_changes, run_makes_one_history};

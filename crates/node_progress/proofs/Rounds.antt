@@ -20,7 +20,7 @@ use Rattle.node_laws.proofs.Lists.{all_within}
 use Rattle.node_laws.proofs.Others.{told_more}
 use Rattle.reply_facts.proofs.Freshness.{told_to, told_write}
 use Rattle.node_laws.proofs.StepsKeep.{StaysTrue, happens_keeps, run_keeps}
-use Rattle.node_laws.proofs.Runs.{start_good, start_moments, makes_one_history}
+use Rattle.node_laws.proofs.Runs.{start_true, makes_one_history}
 use Rattle.node_progress.specs.Completion.{IsAnswered, IsServed, AreAnswered}
 use Rattle.node_progress.proofs.Idle.{Idle, IsStillEvent, run_idle, start_idle}
 use Rattle.node_progress.proofs.Stages.{Stage, delivery_keeps}
@@ -63,7 +63,7 @@ round_idle u next r events w good idle round =
 pub pipes_idle : (routers : ℕ) (rounds : List Round) (events : List Event) (w : World) (next : ℕ) → Pipes routers rounds events w next
     → StaysTrue w × Idle w next
 pipes_idle routers _ _ _ _ (opens w run) = (
-  run_keeps (start routers) w (openings 0 (length (start routers).nodes)) (start_good routers, start_moments routers, tt) run,
+  run_keeps (start routers) w (openings 0 (length (start routers).nodes)) (start_true routers) run,
   run_idle (start routers) (openings 0 (length (start routers).nodes)) w 0 (openings_still 0 (length (start routers).nodes)) (start_idle routers) run,
 )
 pipes_idle routers _ _ _ _ (serves rounds r before events u w next pipes round) =

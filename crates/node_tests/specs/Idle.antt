@@ -12,7 +12,7 @@ use Rattle.node_tests.specs.declared.idle.Silent.{Silent}
 use Rattle.node_tests.specs.declared.state.Idle.{Idle}
 
 abbrev pub idle_state : Idle → NodeState
-idle_state node = catalogue_state (record { me = node.me.0; time = 0; tables = [] })
+idle_state node = catalogue_state (record { me = node.me.0; time = 0; changes = [] })
 
 abbrev pub silent_letter : Silent → Letter
 silent_letter m = record { sender = 0; receiver = m.to.0; time = 0; body = read_rows (record { router = 0; life = 0; count = 0 }) 0 (Err half_overflow) }

@@ -3,14 +3,14 @@ use Rattle.std.proofs.Common.{◌≡◌, ℕ, ◌+◌, List, [], ◌∷◌, ◌+
 use Rattle.std.specs.Prelude.{Option}
 use Rattle.outside.specs.Devices.{SourceCall, SinkCall}
 use Rattle.opmsg_frames.specs.Outline.{FrameFault}
-use Rattle.node_model.specs.Journal.{entries_kept}
-use Rattle.node_model.specs.OneHistory.{OneHistory}
+use Rattle.node_model.specs.Journal.{changes_kept, entries_kept}
+use Rattle.node_model.specs.OneHistory.{OneHistory, changes_in}
 use Rattle.node_model.specs.Requests.{Request}
 use Rattle.node_model.specs.Schedule.{Round, serves}
 use Rattle.node_model.specs.Tables.{first_shard}
 use Rattle.node_model.specs.World.{Held, World, Event, Run, journal_at, start}
 use Rattle.node_model.proofs.Schedules.{pipes_run, run_then}
-use Rattle.node_laws.proofs.Runs.{run_makes_one_history}
+use Rattle.node_laws.proofs.Runs.{run_keeps_changes, run_makes_one_history}
 use Rattle.pipe_driver.specs.Schedules.{Came, came_whole, came_opening, came_part}
 use Rattle.pipe_driver.specs.Endings.{AllServed, SomeServed, LastCutShort, Cause, input_ended, read_failed, write_failed}
 use Rattle.pipe_driver.specs.Endings.{disk_failed, no_memory, no_request, too_long, IsPiped}
@@ -60,3 +60,8 @@ module _ (source : SourceCall) (sink : SinkCall) (gives : ℕ → Type 0) (route
       → OneHistory piped.end.given piped.end.changed (entries_kept (journal_at piped.end.nodes first_shard))
       piped.end.asked piped.end.answered
   piped_history piped = let run = piped_run piped in run_makes_one_history routers run.0 piped.end run.1
+
+  -- its changes of the catalogue are those that the catalogue's journal stores
+  pub piped_changes : (piped : IsPiped source sink gives router kept leaves owed routers limit status rest)
+      → changes_in piped.end.changed ≡ changes_kept (journal_at piped.end.nodes 0)
+  piped_changes piped = let run = piped_run piped in run_keeps_changes routers run.0 piped.end run.1

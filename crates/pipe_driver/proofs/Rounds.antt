@@ -9,7 +9,7 @@ use Rattle.opmsg_frames.specs.Requests.{Request, IsRequest}
 use Rattle.node_model.specs.World.{World, Event, client_event, IsRouter, Happens, Run, goes, start}
 use Rattle.node_model.specs.Schedule.{moments_given, Round, IsRound, Pipes}
 use Rattle.node_model.proofs.Schedules.{run_then}
-use Rattle.node_laws.proofs.Runs.{happens_keeps, run_keeps}
+use Rattle.node_laws.proofs.StepsKeep.{happens_keeps, run_keeps}
 use Rattle.node_progress.proofs.Idle.{run_idle}
 use Rattle.node_progress.proofs.Rounds.{moments_still, pipes_idle}
 use Rattle.node_progress.proofs.Takes.{request_stage}

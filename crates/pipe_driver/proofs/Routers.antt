@@ -11,7 +11,7 @@ use Rattle.node_model.specs.World.{Held, World, IsRouter, Moves, Event, deliver_
 use Rattle.node_model.specs.World.{goes, start}
 use Rattle.node_model.specs.Schedule.{Round, Pipes, Delivers}
 use Rattle.node_model.proofs.Schedules.{pipes_run}
-use Rattle.node_laws.proofs.Runs.{StaysTrue, fits_here, happens_keeps}
+use Rattle.node_laws.proofs.StepsKeep.{StaysTrue, fits_here, happens_keeps}
 use Rattle.node_progress.proofs.Leads.{Leads}
 use Rattle.node_progress.proofs.Receivers.{goes_to}
 use Rattle.node_progress.proofs.Stages.{Stage, Waits, delivery_keeps}

@@ -1,8 +1,14 @@
 -- Replies to shardCollection and split, to try the definitions on: what is wrong.
-use Rattle.std.proofs.Common.{◌≡◌, ◌≢◌, ℕ, ◌≤◌, ◌⊎◌, inl, inr, List, [], ◌∷◌, ◌++◌, refl, ap, subst, ◌∙◌, codes}
+use Rattle.std.proofs.Common.{◌≡◌, ◌≢◌, ℕ, ◌≤◌, ◌⊎◌, inl, inr, List, [], ◌∷◌, ◌++◌, refl, sym, ap, subst, ◌∙◌, codes}
 use Rattle.std.specs.Prelude.{Bool, true, false, Option, Some, None, Ok}
 use Rattle.std.specs.List.{AllByRecursion}
+use Rattle.bson_model.specs.Tree.{Fields}
+use Rattle.base_model.specs.Errors.{namespace_not_sharded}
+use Rattle.base_model.specs.Refusals.{without_evidence}
+use Rattle.base_model.specs.ReplyParts.{operation_time}
 use Rattle.command_laws.specs.SampleRequests.{five}
+use Rattle.command_model.specs.Answers.{changed_answer, answer_document}
+use Rattle.command_model.proofs.AnswerTimes.{time_of_changed, time_refused}
 use Rattle.command_model.specs.Command.{shard_collection_command, split_command}
 use Rattle.chunk_model.specs.Tables.{Table}
 use Rattle.chunk_model.specs.Changes.{Change, create_change, split_change, commit_change, time_of, known_table, begins_at}
@@ -51,7 +57,7 @@ at_none (y ∷ later) (x ∷ changes) older time never all past begins =
     at_none later changes older time never.1 rest past begins
 
 module _ (changes : List Change) (t : Answered) (never : NeverBegins t.time changes) where
-  unsplit : WasSplit changes (codes "d.c") five t.time → ⊥
+  pub unsplit : WasSplit changes (codes "d.c") five t.time → ⊥
   unsplit was = at_none was.later changes was.older t.time never was.all was.past (ap begins_in was.known ∙ was.bound)
 
   pub wrongly_split : (next : List Cursor) → t.document ≢ not_sharded → IsRight changes [] [] [] [] splitting t next → ⊥
@@ -61,3 +67,12 @@ module _ (changes : List Change) (t : Answered) (never : NeverBegins t.time chan
       by_told : TellsSplit changes [] [] [] [] splitting t (record { namespace = codes "d.c"; middle = five }) ⊎ (t.document ≡ not_sharded) → ⊥
       by_told (inl changed) = unsplit changed.begins
       by_told (inr none) = told none
+
+-- WHICH REPLY IT IS
+
+some_none : {X : Type 0} {x : X} → Some x ≡ None → ⊥
+some_none e = cc
+
+pub changed_differs : (time : ℕ) → answer_document (changed_answer time) ≡ not_sharded → ⊥
+changed_differs time same =
+    some_none (sym (time_of_changed time) ∙ ap (λ (d : Fields). operation_time (Some d)) same ∙ time_refused (without_evidence namespace_not_sharded))

@@ -15,4 +15,5 @@ pub mod CursorBatches
 pub mod StandingDocuments
 pub mod StandingChanges
 pub mod ChunkReplies
+pub mod CausedReplies
 pub mod CreatedNames

@@ -60,3 +60,7 @@ split_once key = split_of key 2 ∷ created
 -- d.c was created in this step
 abbrev pub created_in : (step : ℕ) → List Dated
 created_in step = record { change = create_change creation; step = step } ∷ []
+
+-- it was created in step 3, and split at 5 in this step
+abbrev pub split_in : (step : ℕ) → List Dated
+split_in step = record { change = split_of five 2; step = step } ∷ created_in 3

@@ -7,9 +7,9 @@ ghost use Rattle.chunk_model.specs.Catalogue.{Commit};
 ghost use Rattle.chunk_model.specs.Changes.{commit_change, create_change};
 ghost use Rattle.chunk_model.specs.SampleCollections.{creation};
 ghost use Rattle.reply_model.specs.Exchanges.{Asked};
-ghost use Rattle.reply_model.specs.OneHistory.{IsCaused, WasWanted};
-ghost use Rattle.reply_laws.specs.SampleExchanges.{created};
-ghost use Rattle.reply_laws.specs.SampleChunks.{IsRightBy, IsWrongBy, created_in, created_other, sharding, split_of, split_once, splitting, told_none, told_sharded, told_split};
+ghost use Rattle.reply_model.specs.OneHistory.{IsCaused, WasWanted, changes_in};
+ghost use Rattle.reply_laws.specs.SampleExchanges.{created, first, first_told};
+ghost use Rattle.reply_laws.specs.SampleChunks.{IsRightBy, IsWrongBy, created_in, created_other, sharding, split_in, split_of, split_once, splitting, told_none, told_sharded, told_split};
 
 /// The reply to shardCollection is right from the time on at which the collection was created, whoever created it; not before, and not where another
 /// collection was created.
@@ -41,6 +41,19 @@ pub fn causes()
     ensures none { IsCaused [] (splitting ∷ []) told_none }
     ensures created_after { IsCaused (created_in 5) (splitting ∷ []) told_none }
     ensures created_before { IsCaused (created_in 3) (splitting ∷ []) told_none → ⊥ }
+{}
+
+/// What a reply says was so by its step: a reply about a collection or a split that is made in a later step is not caused, though it is right by all changes
+/// of the run. Nor is the reply to a write.
+pub fn changes_come_first()
+    ensures created { IsCaused (created_in 5) (sharding ∷ []) (told_sharded 2) }
+    ensures created_later { IsCaused (created_in 6) (sharding ∷ []) (told_sharded 2) → ⊥ }
+    ensures right_later { IsRightBy (changes_in (created_in 6)) sharding (told_sharded 2) }
+    ensures split { IsCaused (split_in 7) (splitting ∷ []) (told_split 3) }
+    ensures split_later { IsCaused (split_in 8) (splitting ∷ []) (told_split 3) → ⊥ }
+    ensures split_right { IsRightBy (changes_in (split_in 8)) splitting (told_split 3) }
+    ensures write { IsCaused (created_in 3) (first ∷ []) first_told }
+    ensures write_later { IsCaused (created_in 4) (first ∷ []) first_told → ⊥ }
 {}
 
 /// The changes that are made for a request: its collection is created, or a chunk is split at its key, as the client wrote it. None is made to move a chunk.

@@ -1,11 +1,11 @@
 -- What it means that the replies to clients are one history of an unsharded collection, over any number of routers.
-use Rattle.std.specs.Prelude.{◌≡◌, ◌≢◌, ◌⊎◌, ℕ, ◌<◌, ◌≤◌, List, [], ◌∷◌, map, Some, None, Ok, true, false, ◌==◌, ◌&&◌, nat_lt, int_lt, if◌then◌else◌}
+use Rattle.std.specs.Prelude.{◌≡◌, ◌≢◌, ◌⊎◌, ℕ, ◌+◌, ◌<◌, ◌≤◌, List, [], ◌∷◌, map, Some, None, Ok, true, false, ◌==◌, ◌&&◌, nat_lt, int_lt, if◌then◌else◌}
 use Rattle.std.specs.List.{AllByRecursion}
 use Rattle.bson_model.specs.Tree.{Datum}
 use Rattle.base_model.specs.Times.{time_of_moment}
 use Rattle.base_model.specs.ReplyParts.{operation_time}
 use Rattle.command_model.specs.Writes.{WriteCommand}
-use Rattle.command_model.specs.Command.{write_command, shard_collection_command, split_command, command_of}
+use Rattle.command_model.specs.Command.{Command, write_command, shard_collection_command, split_command, command_of}
 use Rattle.command_model.specs.Split.{SplitCommand}
 use Rattle.chunk_model.specs.Catalogue.{Creation}
 use Rattle.chunk_model.specs.Changes.{Change, create_change, split_change, commit_change, time_of, known_table}
@@ -14,9 +14,9 @@ use Rattle.history_model.specs.History.{Entry, Legal, IsIn, key_written}
 use Rattle.base_model.specs.Identities.{RequestId}
 use Rattle.reply_model.specs.Exchanges.{Asked, Answered}
 use Rattle.reply_model.specs.Cursors.{Cursor}
-use Rattle.reply_model.specs.Right.{IsPart, IsRight, Sends, AreTold, ends, not_sharded}
+use Rattle.reply_model.specs.Right.{IsPart, IsRight, Sends, AreTold, WasCreated, WasSplit, ends, not_sharded}
 use Rattle.reply_model.specs.Outcomes.{Done, WasDone, answer_of}
-use Rattle.command_model.specs.Answers.{answer_document}
+use Rattle.command_model.specs.Answers.{sharded_answer, changed_answer, answer_document}
 
 -- the request is a write in the namespace
 pub record IsWriteIn (namespace : List ℕ) (a : Asked) : Type 0 where
@@ -176,10 +176,26 @@ pub record WasAbsent (dated : List Dated) (namespace : List ℕ) (came told : �
   pub before : step ≤ told
   pub none : known_table namespace (changes_before step dated) ≡ None
 
--- where the reply to a split is that no such collection exists, there was none in a step after the request came, and not after the reply
-abbrev pub IsCaused : List Dated → List Asked → Answered → Type 0
-IsCaused dated asked t = (a : Asked) (split : SplitCommand) → IsIn a asked → a.id ≡ t.id → command_of a.request ≡ Ok (split_command split)
-    → t.document ≡ not_sharded → WasAbsent dated split.namespace a.came t.step
+-- the reply is to a request with this command
+pub record IsReplyTo (asked : List Asked) (a : Asked) (command : Command) (t : Answered) : Type 0 where
+  pub taken : IsIn a asked
+  pub own : a.id ≡ t.id
+  pub asks : command_of a.request ≡ Ok command
+
+-- the changes that were made by the step of a reply
+abbrev pub changes_by : List Dated → Answered → List Change
+changes_by dated t = changes_before (t.step + 1) dated
+
+-- What a reply says of the catalogue was so by its step: the collection of a write was created, or the one that is to be created, and a chunk begins where one
+-- is to be split. Where it says that there is no collection to split, there was none in a step after the request came, and not after the reply.
+pub record IsCaused (dated : List Dated) (asked : List Asked) (t : Answered) : Type 0 where
+  pub written : (a : Asked) (write : WriteCommand) → IsReplyTo asked a (write_command write) t → WasCreated (changes_by dated t) write.namespace t.time
+  pub created : (a : Asked) (namespace : List ℕ) → IsReplyTo asked a (shard_collection_command namespace) t
+      → t.document ≡ answer_document (sharded_answer namespace t.time) → WasCreated (changes_by dated t) namespace t.time
+  pub begins : (a : Asked) (split : SplitCommand) → IsReplyTo asked a (split_command split) t → t.document ≡ answer_document (changed_answer t.time)
+      → WasSplit (changes_by dated t) split.namespace split.middle t.time
+  pub absent : (a : Asked) (split : SplitCommand) → IsReplyTo asked a (split_command split) t → t.document ≡ not_sharded
+      → WasAbsent dated split.namespace a.came t.step
 
 -- the changes of the catalogue, newest first
 abbrev pub changes_in : List Dated → List Change
@@ -188,7 +204,8 @@ changes_in dated = map (λ (d : Dated). d.change) dated
 -- For all inputs: the entries are one legal history of an unsharded collection with each statement at most once; each belongs to a request that a router
 -- took, is on the shard that owns its key and is later than what its router knew; no shard uses a number again, nor applies an older transaction; each
 -- statement before a stored one was applied, where all requests that sent it are ordered; each change of the catalogue was made for a request, and follows
--- those before it; each request has at most one reply, a right one; and what its router knew then is not before what it had returned and taken.
+-- those before it; each request has at most one reply, a right one, and what this says of the catalogue was so by its step; and what its router knew then is
+-- not before what it had returned and taken.
 pub record OneHistory (given : List Given) (dated : List Dated) (history : List Entry) (asked : List Asked) (answered : List Answered) : Type 0 where
   pub legal : Legal history
   pub sent : AllByRecursion (WasSent history asked answered) history

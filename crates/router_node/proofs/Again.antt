@@ -15,3 +15,12 @@ shards_again r time q t waits known =
       | for_shards ↦ elim (table_of q.namespace r.tables) [ None ↦ [] | Some t ↦ asks_shards r time q.count q.namespace t q.work ]
     ]) waits
     ∙ ap (λ (o : Option Table). elim o [ None ↦ [] | Some t ↦ asks_shards r time q.count q.namespace t q.work ]) known
+
+-- one that waits for the catalogue sends its message
+pub catalogue_again : (r : Router) (time : ℕ) (q : Open) → q.wait ≡ for_catalogue → asks_again r time q ≡ asks_catalogue r time q.count q.namespace q.work ∷ []
+catalogue_again r time q waits =
+    ap (λ (w : Wait). elim w [
+      | for_time ↦ asks_times r time (id_of r q.count)
+      | for_catalogue ↦ asks_catalogue r time q.count q.namespace q.work ∷ []
+      | for_shards ↦ elim (table_of q.namespace r.tables) [ None ↦ [] | Some t ↦ asks_shards r time q.count q.namespace t q.work ]
+    ]) waits

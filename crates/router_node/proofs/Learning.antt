@@ -1,19 +1,24 @@
 -- The transition for a table that arrives.
-use Rattle.std.proofs.Common.{◌≡◌, refl, sym, subst, ℕ, List, [], Bool}
+use Rattle.std.proofs.Common.{◌≡◌, refl, ap, sym, subst, ◌∙◌, ℕ, List, [], Bool}
 use Rattle.std.specs.Arc.{arc_value}
 use Rattle.std.specs.List.{flat_map}
 use Rattle.std.specs.Option.{option_map}
 use Rattle.node_model.specs.Letters.{Letter, letter_input}
-use Rattle.node_model.specs.RouterRows.{router_learn, heard, letters_in, replies_in}
-use Rattle.node_model.specs.States.{Router}
+use Rattle.node_model.specs.RouterRows.{Next, next_of, router_learn, heard, letters_in, replies_in}
+use Rattle.node_model.specs.States.{Open, Router}
 use Rattle.node_traits.specs.Effects.{puts_of}
 use Rattle.node_traits.specs.declared.outputs.ToLink.{ToLink}
 use Rattle.protocol_model.specs.Bodies.{at_view, table_told_view}
 use Rattle.protocol_model.specs.declared.tables.TableTold.{TableTold}
-use Rattle.router_node.specs.Nexts.{made_by, next_at}
+use Rattle.router_node.specs.Nexts.{made_by, next_at, tables_told}
 use Rattle.router_node.specs.Rows.{TookRow}
 use Rattle.router_node.specs.StepPlans.{changed}
 use Rattle.router_node.specs.declared.step_plan.Change.TheVariants.{Learns}
+
+-- what becomes of an open request, where it was found whether its collection was created
+pub made_so : (r : Router) (time : ℕ) (told : TableTold) (q : Open) (made : Bool) (next : Next) → made ≡ made_by told
+    → next_of r time (tables_told told r.tables) told.namespace made (at_view told.at) q ≡ next → next_at r time told q ≡ next
+made_so r time told q made next same is = sym (ap (λ (b : Bool). next_of r time (tables_told told r.tables) told.namespace b (at_view told.at) q) same) ∙ is
 
 pub took_learn : (r : Router) (m : Letter) (told : TableTold) (made : Bool) (time : ℕ) (letters : List Letter) (replies : List ToLink) → made ≡ made_by told → m.body ≡ table_told_view told → time ≡ heard r m
     → letters ≡ flat_map (λ q. letters_in (next_at r time told q)) r.requests

@@ -1,12 +1,12 @@
 -- However a script ends, its nodes took part in one run, which makes one history.
-use Rattle.std.proofs.Common.{ℕ, List, ◌++◌}
+use Rattle.std.proofs.Common.{◌≡◌, ℕ, List, ◌++◌}
 use Rattle.outside.specs.Devices.{SourceCall, SinkCall}
-use Rattle.node_model.specs.Journal.{entries_kept}
-use Rattle.node_model.specs.OneHistory.{OneHistory}
+use Rattle.node_model.specs.Journal.{changes_kept, entries_kept}
+use Rattle.node_model.specs.OneHistory.{OneHistory, changes_in}
 use Rattle.node_model.specs.Tables.{first_shard}
 use Rattle.node_model.specs.World.{Held, World, Event, Run, journal_at, start}
 use Rattle.node_model.proofs.Schedules.{run_then}
-use Rattle.node_laws.proofs.Runs.{run_makes_one_history}
+use Rattle.node_laws.proofs.Runs.{run_keeps_changes, run_makes_one_history}
 use Rattle.pipe_driver.specs.declared.status.Status.{Status}
 use Rattle.sim_driver.specs.Simulations.{AllPlayed, CameTo, came_opening, came_lines, came_part, LastPutShort, Cause, IsSimulated}
 use Rattle.sim_driver.specs.Simulations.{input_ended, read_failed, write_failed, disk_failed, no_memory, line_refused, line_unended, too_long}
@@ -53,3 +53,8 @@ module _ (source : SourceCall) (sink : SinkCall) (kept : List Held → Type 0) (
   pub simulated_history : (s : IsSimulated source sink kept leaves owed routers limit status)
       → OneHistory s.end.given s.end.changed (entries_kept (journal_at s.end.nodes first_shard)) s.end.asked s.end.answered
   simulated_history s = let run = simulated_run s in run_makes_one_history routers run.0 s.end run.1
+
+  -- its changes of the catalogue are those that the catalogue's journal stores
+  pub simulated_changes : (s : IsSimulated source sink kept leaves owed routers limit status)
+      → changes_in s.end.changed ≡ changes_kept (journal_at s.end.nodes 0)
+  simulated_changes s = let run = simulated_run s in run_keeps_changes routers run.0 s.end run.1

@@ -15,7 +15,7 @@ use crate::names::{Databases, Names, Parts};
 use crate::numbers::{Codes, Moments};
 use crate::owners::{Owners, Versions};
 use crate::read_records::{Others, Records};
-use crate::records::{Creations, Entries};
+use crate::records::{Creations, Entries, Splits};
 use crate::steps::Steps;
 use crate::tables::Bounds;
 use crate::verdicts::Verdicts;
@@ -42,6 +42,7 @@ fn check_base(rt: &HostRuntime) -> io::Result<()> {
 fn check_records(rt: &HostRuntime) -> io::Result<()> {
     check_file(rt, "entries.txt", &mut Entries)?;
     check_file(rt, "creations.txt", &mut Creations)?;
+    check_file(rt, "splits.txt", &mut Splits)?;
     check_file(rt, "records.txt", &mut Records)?;
     check_file(rt, "no_records.txt", &mut Others)
 }

@@ -8,7 +8,7 @@ ghost use Rattle.shard_records.specs.Sizes.{FitsRecord, IsWritableOperation, IsW
 use bson_values::{Aligned, Document, Name, Value};
 use cluster_base::{NameFault, Namespace, NodeId, Session, Stmt, Time};
 use fixtures::{RowFault, Rows, bytes_of, field, number};
-use shard_records::{WordsRef, write_creation, write_entry};
+use shard_records::{SplitChange, WordsRef, write_creation, write_entry, write_split};
 use std::alloc::Global;
 use value_compare::{Key, OpWords, Reply};
 
@@ -182,6 +182,28 @@ impl Rows for Creations {
         let namespace = namespace(alloc)?;
         let mut out = Vec::from_slice(alloc, &[0xaa])?;
         write_creation(&namespace, epoch, at, &mut out)?;
+        is_spelled(alloc, &out, wanted)
+    }
+}
+
+/// `KEY | TIME | BYTES`: a chunk of the namespace `d.c` is split at a key.
+#[derive(Drop)]
+pub struct Splits;
+
+impl Rows for Splits {
+    fn holds(&mut self, alloc: Global, row: &str) -> Result<bool, RowFault> {
+        let (key, rest) = field(row);
+        let (time, wanted) = field(rest);
+        let Some(middle) = key_of(key)? else {
+            return Err(RowFault::Form);
+        };
+        let split = SplitChange {
+            namespace: namespace(alloc)?,
+            middle,
+            at: Time(number(time)?),
+        };
+        let mut out = Vec::from_slice(alloc, &[0xaa])?;
+        write_split(&split, &mut out)?;
         is_spelled(alloc, &out, wanted)
     }
 }

@@ -1,14 +1,14 @@
 //! The commands of requests, in words.
 
 use crate::faults::RowFault;
-use bson_values::Document;
+use bson_values::{Document, Value};
 use command_replies::{ClientNumber, Evidence, Refusal, WriteKind};
 use command_words::{
-    Command, CommandFault, Find, GetMore, KillCursors, Legacy, Reading, WriteCommand,
+    Command, CommandFault, Find, GetMore, KillCursors, Legacy, Reading, SplitCommand, WriteCommand,
 };
 use opmsg_frames::Request;
 use std::alloc::Global;
-use value_compare::OpWords;
+use value_compare::{Key, OpWords};
 
 fn put(line: &mut String, word: &str) -> Result<(), RowFault> {
     line.push_str(word)?;
@@ -151,6 +151,30 @@ fn put_kill_cursors(alloc: Global, line: &mut String, kill: &KillCursors) -> Res
     Ok(())
 }
 
+/// Appends a key, if it is a whole number, a text or null.
+fn put_key(alloc: Global, line: &mut String, key: &Key) -> Result<(), RowFault> {
+    match key.value() {
+        Value::Int32(number) => {
+            let number = number.content;
+            put(line, format!(in alloc; "{number}")?.as_str())
+        }
+        Value::Int64(number) => put(line, format!(in alloc; "{number}L")?.as_str()),
+        Value::Text(text) => {
+            let text = text.as_str();
+            put(line, format!(in alloc; "\"{text}\"")?.as_str())
+        }
+        Value::Null => put(line, "null"),
+        _ => put(line, "another key"),
+    }
+}
+
+fn put_split(alloc: Global, line: &mut String, split: &SplitCommand) -> Result<(), RowFault> {
+    put(line, "split ")?;
+    put(line, split.namespace.as_str())?;
+    put(line, " at ")?;
+    put_key(alloc, line, &split.middle)
+}
+
 fn legacy_words(legacy: &Legacy) -> &'static str {
     if legacy.shows_hello_ok {
         "isMaster helloOk"
@@ -171,6 +195,11 @@ fn put_asked(alloc: Global, line: &mut String, command: &Command) -> Result<(), 
         Command::Count(reading) => put_reading(alloc, line, "count", reading),
         Command::GetMore(more) => put_get_more(alloc, line, more),
         Command::KillCursors(kill) => put_kill_cursors(alloc, line, kill),
+        Command::ShardCollection(namespace) => {
+            put(line, "shardCollection ")?;
+            put(line, namespace.as_str())
+        }
+        Command::Split(split) => put_split(alloc, line, split),
     }
 }
 

@@ -152,7 +152,7 @@ fn check_file<R: Files + AllocGlobal + Print + Threads + Wait + Sync>(
 }
 
 /// The files, in the order in which they are checked.
-const FILES: [&str; 15] = [
+const FILES: [&str; 17] = [
     "frames.rows",
     "commands.rows",
     "refusals.rows",
@@ -161,12 +161,14 @@ const FILES: [&str; 15] = [
     "retries.rows",
     "reads.rows",
     "cursors.rows",
+    "chunks.rows",
     "drivers.rows",
     "drivers.reads.rows",
     "devices.rows",
     "scripts.rows",
     "retries.script.rows",
     "routers.rows",
+    "chunks.script.rows",
     "takings.rows",
 ];
 

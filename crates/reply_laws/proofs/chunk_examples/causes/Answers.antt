@@ -3,25 +3,33 @@ use Rattle.std.proofs.Common.{◌≡◌, ℕ, ◌≤◌, List, [], ◌∷◌, re
 use Rattle.std.specs.Prelude.{Bool, true, Some, None, nat_lt, if◌then◌else◌}
 use Rattle.std.proofs.lemmas.Bool.Decides.{nat_tests}
 use Rattle.command_laws.specs.SampleRequests.{five}
+use Rattle.command_model.specs.Answers.{changed_answer, answer_document}
 use Rattle.chunk_model.specs.Changes.{known_table}
 use Rattle.chunk_model.specs.SampleCollections.{creation}
 use Rattle.chunk_model.specs.Tables.{first_table}
-use Rattle.history_model.proofs.Lists.{all_at, in_first}
-use Rattle.reply_model.specs.Exchanges.{Asked}
-use Rattle.reply_model.specs.Right.{right_not_sharded}
-use Rattle.reply_model.specs.OneHistory.{Dated, IsCaused, WasAbsent, changes_before}
+use Rattle.history_model.proofs.Lists.{in_first}
+use Rattle.reply_model.specs.Right.{not_sharded, right_not_sharded}
+use Rattle.reply_model.specs.OneHistory.{Dated, IsCaused, changes_before}
 use Rattle.reply_laws.specs.SampleExchanges.{created}
 use Rattle.reply_laws.specs.SampleChunks.{created_in, splitting, told_none}
+use Rattle.reply_laws.proofs.CausedReplies.{by_split, caused_by}
+use Rattle.reply_laws.proofs.ChunkReplies.{changed_differs}
 use Rattle.reply_laws.proofs.chunk_examples.causes.Goals as goal
 
 pub returns-clause-right : goal.returns-clause-right
 returns-clause-right c = right_not_sharded (record { namespace = codes "d.c"; middle = five }) refl refl
 
+unchanged : (time : ℕ) → not_sharded ≡ answer_document (changed_answer time) → ⊥
+unchanged time same = changed_differs time (sym same)
+
 -- where no change was made before the request came
 caused : (dated : List Dated) → changes_before 4 dated ≡ [] → IsCaused dated (splitting ∷ []) told_none
-caused dated none a split i own asks says =
-    all_at (λ (b : Asked). WasAbsent dated split.namespace b.came 7) a (splitting ∷ [])
-    (record { step = 4; after = omega arith; before = omega arith; none = ap (known_table split.namespace) none }, tt) i
+caused dated none =
+    caused_by dated (splitting ∷ []) told_none (
+      by_split dated 4 told_none (record { namespace = codes "d.c"; middle = five }) (λ says. absurd (unchanged told_none.time says))
+          (λ says. record { step = 4; after = omega arith; before = omega arith; none = ap (known_table (codes "d.c")) none }),
+      tt,
+    )
 
 pub returns-clause-none : goal.returns-clause-none
 returns-clause-none c = caused [] refl
@@ -37,5 +45,6 @@ there step after none =
 
 pub returns-clause-created_before : goal.returns-clause-created_before
 returns-clause-created_before c is =
-    let absent = is splitting (record { namespace = codes "d.c"; middle = five }) (in_first splitting []) refl refl refl in
+    let absent = is.absent splitting (record { namespace = codes "d.c"; middle = five })
+    (record { taken = in_first splitting []; own = refl; asks = refl }) refl in
     there absent.step absent.after absent.none

@@ -11,11 +11,12 @@ use Rattle.chunk_model.specs.Changes.{create_change}
 use Rattle.history_model.specs.History.{Legal, IsIn, insert_operation, StatementNumber, router_session}
 use Rattle.history_model.proofs.Lists.{all_at, in_first, in_later, in_none}
 use Rattle.base_model.specs.Identities.{RequestId}
-use Rattle.reply_model.specs.Exchanges.{Asked}
-use Rattle.reply_model.specs.OneHistory.{AreDifferent, Given, WasMet, WasSent, WasWanted, IsRightOf, AreRight, nothing_told, then_told, IsKnown, IsPlaced}
+use Rattle.reply_model.specs.Exchanges.{Asked, Answered}
+use Rattle.reply_model.specs.OneHistory.{AreDifferent, Given, WasMet, WasSent, WasWanted, IsRightOf, AreRight, nothing_told, then_told, IsKnown, IsPlaced, IsCaused, changes_by}
 use Rattle.reply_model.specs.Right.{IsPart, IsRight, Sends}
 use Rattle.reply_model.specs.Reads.{own_time}
-use Rattle.reply_laws.specs.SampleExchanges.{all_told, all_asked, both_entries, first, first_entry, first_told, id_at, moments, second, second_entry, second_told, tells, third, third_told, created, created_dated}
+use Rattle.reply_laws.specs.SampleExchanges.{find_of, all_told, all_asked, both_entries, first, first_entry, first_told, id_at, moments, second, second_entry, second_told, tells, third, third_told, created, created_dated}
+use Rattle.reply_laws.proofs.CausedReplies.{by_find, by_write, caused_by, made_by}
 use Rattle.reply_laws.proofs.OwnWrites.{none_before, own_right, same_write}
 use Rattle.reply_facts.proofs.Requests.{number_same}
 use Rattle.reply_laws.proofs.KeyFinds.{key_find_right_among}
@@ -185,6 +186,14 @@ second_known = record {
 third_known : IsKnown moments created both_entries third
 third_known = record { moment = refl; time = inr (inr (inr (first_entry, in_first first_entry (second_entry ∷ []), refl))); reached = omega arith }
 
+-- the collection was created before all replies
+all_caused : (t : Answered) → changes_by created_dated t ≡ created → creation.at ≤ t.time → IsCaused created_dated all_asked t
+all_caused t same past =
+    caused_by created_dated all_asked t (
+      by_write created_dated 2 t inserts_five (made_by created_dated t same past),
+      (by_write created_dated 4 t inserts_long_five (made_by created_dated t same past), (by_find created_dated 6 t (find_of long_five None), tt)),
+    )
+
 another_count : id_at 2 2 ≡ id_at 2 1 → ⊥
 another_count e = let counts = ap (λ (id : RequestId). id.count) e in cc
 
@@ -225,7 +234,10 @@ returns-clause-whole c = record {
   );
   wanted = (wanted, tt);
   fitting = (record { later = tt; fits = record { absent = refl; next = refl } }, tt);
-  caused = ((λ a split i own asks says. absurd (cc)), ((λ a split i own asks says. absurd (cc)), ((λ a split i own asks says. absurd (cc)), tt)));
+  caused = (
+    all_caused first_told refl (omega arith),
+    (all_caused second_told refl (omega arith), (all_caused third_told refl (omega arith), tt)),
+  );
   right = all_right;
   one = all_different;
   once = all_different;

@@ -1,5 +1,5 @@
 -- The one entry is that of both requests.
-use Rattle.std.proofs.Common.{◌≡◌, ℕ, pos, inl, inr, [], ◌∷◌, refl, sym, ap, ◌∙◌, arith}
+use Rattle.std.proofs.Common.{◌≡◌, ◌≤◌, ℕ, pos, inl, inr, [], ◌∷◌, refl, sym, ap, ◌∙◌, arith}
 use Rattle.std.specs.Prelude.{true, Some, None, Ok}
 use Rattle.command_model.specs.Command.{command_of, write_command}
 use Rattle.command_laws.specs.SampleNumbers.{sevens}
@@ -11,13 +11,14 @@ use Rattle.chunk_model.specs.Changes.{create_change}
 use Rattle.history_model.specs.History.{IsIn, insert_operation}
 use Rattle.history_model.proofs.Lists.{in_first, in_later}
 use Rattle.base_model.specs.Identities.{RequestId}
-use Rattle.reply_model.specs.Exchanges.{Asked}
+use Rattle.reply_model.specs.Exchanges.{Asked, Answered}
 use Rattle.reply_model.specs.Outcomes.{answer_by}
-use Rattle.reply_model.specs.OneHistory.{AreDifferent, Given, IsKnown, IsRightOf, StandsInPart, nothing_told, then_told}
+use Rattle.reply_model.specs.OneHistory.{AreDifferent, Given, IsCaused, IsKnown, changes_by, IsRightOf, StandsInPart, nothing_told, then_told}
 use Rattle.reply_model.specs.Right.{IsRight, Sends, right_write, told_own}
-use Rattle.reply_laws.specs.SampleExchanges.{id_at, moments, tells, created}
+use Rattle.reply_laws.specs.SampleExchanges.{id_at, moments, tells, created, created_dated}
 use Rattle.reply_laws.specs.SampleRetries.{answer_again, both_answers, both_sent, first_answer, inserts_under, put_five, sent_again, sent_first}
 use Rattle.reply_laws.proofs.NumberedWrites.{gives_itself, gives_later, told_just, untold}
+use Rattle.reply_laws.proofs.CausedReplies.{by_write, caused_by, made_by}
 use Rattle.reply_laws.proofs.OwnWrites.{none_before, same_write}
 use Rattle.reply_laws.proofs.retry_examples.retried.Goals as goal
 
@@ -108,6 +109,14 @@ again_known = record {
   reached = omega arith;
 }
 
+-- the collection was created before both replies
+both_caused : (t : Answered) → changes_by created_dated t ≡ created → creation.at ≤ t.time → IsCaused created_dated both_sent t
+both_caused t same past =
+    caused_by created_dated both_sent t (
+      by_write created_dated sent_first.came t inserts (made_by created_dated t same past),
+      (by_write created_dated sent_again.came t inserts (made_by created_dated t same past), tt),
+    )
+
 different : AreDifferent (id_at 2 1 ∷ id_at 3 1 ∷ [])
 different = (((λ e. let routers = ap (λ (id : RequestId). id.router) e in cc), tt), (tt, tt))
 
@@ -133,7 +142,7 @@ returns-clause-whole c = record {
   parts = (no_part sent_first refl, (no_part sent_again refl, tt));
   wanted = (record { request = sent_first; taken = first_taken; asks = inl (record { write = inserts; asks = refl; name = refl }); later = omega arith }, tt);
   fitting = (record { later = tt; fits = record { absent = refl; next = refl } }, tt);
-  caused = ((λ a split i own asks says. absurd (cc)), ((λ a split i own asks says. absurd (cc)), tt));
+  caused = (both_caused first_answer refl (omega arith), (both_caused answer_again refl (omega arith), tt));
   right = then_told [] [] first_answer (answer_again ∷ []) first_right (then_told [] [] answer_again [] again_right (nothing_told []));
   one = different;
   once = different;

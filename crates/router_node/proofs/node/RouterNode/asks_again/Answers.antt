@@ -1,17 +1,28 @@
-use Rattle.std.proofs.Common.{◌≡◌, ap, sym, subst, ◌∙◌, List}
+use Rattle.std.proofs.Common.{◌≡◌, ap, sym, subst, ◌∙◌, List, [], ◌∷◌}
 use Rattle.std.specs.Prelude.{IfOk, Some}
 use Rattle.std.specs.Option.{option_map}
 use Rattle.node_model.specs.Letters.{Letter}
 use Rattle.node_model.specs.RouterRows as rows
 use Rattle.node_model.specs.States as states
 use Rattle.chunk_model.specs.Tables.{table_of}
-use Rattle.router_requests.proofs.Askers.{shards_alike}
+use Rattle.router_requests.proofs.Askers.{shards_alike, table_alike}
 use Rattle.router_requests.specs.Askers.{letters_of}
 use Rattle.router_requests.specs.Works.{open_view, wait_view, work_view}
 use Rattle.router_node.specs.RouterStates.{router_of}
 use Rattle.router_node.specs.Rows.{started}
-use Rattle.router_node.proofs.Again.{shards_again}
+use Rattle.router_node.proofs.Again.{catalogue_again, shards_again}
 use Rattle.router_node.proofs.node.RouterNode.asks_again.Goals as goal
+
+pub returns-in_ok-letter-in-ForCatalogue : goal.returns-in_ok-letter-in-ForCatalogue
+returns-in_ok-letter-in-ForCatalogue c =
+    let n = c.args.self.now in
+    let r = started (router_of n) in
+    let q = open_view n.me.0 n.life c.args.request.now in
+    let time = c.args.time.0 in
+    c.in_ok-letter-in-ForCatalogue.ensures (rows.id_of r q.count)
+    ∙ ap (λ (x : states.Router). rows.asks_catalogue x time q.count q.namespace q.work ∷ []) c.asker-asker.ensures
+    ∙ ap (λ (l : Letter). l ∷ []) (table_alike r time q.count q.namespace q.work)
+    ∙ sym (catalogue_again r time q (ap wait_view c.in-ForCatalogue.is))
 
 pub returns-in-Some : goal.returns-in-Some
 returns-in-Some c =

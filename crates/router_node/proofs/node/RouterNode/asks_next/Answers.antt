@@ -11,22 +11,32 @@ use Rattle.std.specs.Option.{option_map}
 use Rattle.chunk_model.specs.Tables.{Table}
 use Rattle.router_requests.proofs.Askers.{shards_alike}
 use Rattle.router_node.specs.Nexts.{tables_told}
+use Rattle.router_node.proofs.Learning.{made_so}
 use Rattle.router_node.proofs.node.RouterNode.asks_next.Goals as goal
 
 pub returns-in-Stays : goal.returns-in-Stays
 returns-in-Stays c =
-    let r = router_of c.args.self.now in
-    sym (ap (λ (x : rows.Next). rows.letters_in x) (c.in-Stays.ensures r c.args.time.0 (tables_told c.args.told.now r.tables) c.requires))
+    let n = c.args.self.now in
+    let r = router_of n in
+    let q = open_view n.me.0 n.life c.args.request.now in
+    sym (ap (λ (x : rows.Next). rows.letters_in x)
+    (made_so r c.args.time.0 c.args.told.now q _ _ c.was_created.ensures (c.in-Stays.ensures r c.args.time.0 (tables_told c.args.told.now r.tables) c.requires)))
 
 pub returns-in-IsTold : goal.returns-in-IsTold
 returns-in-IsTold c =
-    let r = router_of c.args.self.now in
-    sym (ap (λ (x : rows.Next). rows.letters_in x) (c.in-IsTold.ensures r c.args.time.0 (tables_told c.args.told.now r.tables) c.requires))
+    let n = c.args.self.now in
+    let r = router_of n in
+    let q = open_view n.me.0 n.life c.args.request.now in
+    sym (ap (λ (x : rows.Next). rows.letters_in x)
+    (made_so r c.args.time.0 c.args.told.now q _ _ c.was_created.ensures (c.in-IsTold.ensures r c.args.time.0 (tables_told c.args.told.now r.tables) c.requires)))
 
 pub returns-in-IsSharded : goal.returns-in-IsSharded
 returns-in-IsSharded c =
-    let r = router_of c.args.self.now in
-    sym (ap (λ (x : rows.Next). rows.letters_in x) (c.in-IsSharded.ensures r c.args.time.0 (tables_told c.args.told.now r.tables) c.requires))
+    let n = c.args.self.now in
+    let r = router_of n in
+    let q = open_view n.me.0 n.life c.args.request.now in
+    sym (ap (λ (x : rows.Next). rows.letters_in x)
+    (made_so r c.args.time.0 c.args.told.now q _ _ c.was_created.ensures (c.in-IsSharded.ensures r c.args.time.0 (tables_told c.args.told.now r.tables) c.requires)))
 
 pub returns-in-Some : goal.returns-in-Some
 returns-in-Some c =
@@ -40,5 +50,5 @@ returns-in-Some c =
     (ap (λ (x : states.Router). rows.asks_shards x time q.count q.namespace c.in-Some.table.now (work_view (rows.id_of x q.count) c.args.request.now.work)) c.asker.ensures
     ∙ shards_alike r time q.count q.namespace c.in-Some.table.now q.work
     ∙ ap (λ (t : Table). rows.asks_shards r time q.count q.namespace t q.work) same
-    ∙ sym (ap (λ (x : rows.Next). rows.letters_in x) next.2))
+    ∙ sym (ap (λ (x : rows.Next). rows.letters_in x) (made_so r time c.args.told.now q _ _ c.was_created.ensures next.2)))
     c.asks_shards.ensures

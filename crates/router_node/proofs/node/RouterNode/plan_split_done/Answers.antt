@@ -34,7 +34,7 @@ returns-in-Sharding c = λ m is late.
     heard_late (router_of n) m c.late-in-Sharding.result c.args.time.0 late c.late-in-Sharding.ensures
     (split_late (router_of n) m (id_view c.args.told.id) q (sym c.in-Some.ensures) _ _ is (ap (λ (w : Work). work_view (rows.id_of (router_of n) c.in-Some.request.now.count) w) c.in-Sharding.is) tt)
 
-pub returns : goal.returns
-returns c = λ m is late.
+pub returns-in-Splitting : goal.returns-in-Splitting
+returns-in-Splitting c = λ m is late.
     let n = c.args.self.now in
     c.plan_found.ensures m _ is late (ap (λ (w : Work). work_view (rows.id_of (router_of n) c.in-Some.request.now.count) w) c.in-Splitting.is)
