@@ -1,22 +1,25 @@
 //! Steps on the source of a move.
 
-ghost use Rattle.std.specs.Prelude.{◌≡◌, ◌<◌, ℕ, Some};
+ghost use Rattle.std.specs.Prelude.{◌≡◌, ◌<◌, ℕ, IsTrue, Some, false};
 ghost use Rattle.bson_values.specs.Tree.{Datum};
 ghost use Rattle.mvcc_collection.specs.Collections.{last_in};
+ghost use Rattle.migration_source.specs.Givings.{IsAtEnd, source_of};
 
-use crate::words::{are_members, bound_of, document_with, key_of, number_of};
+use crate::words::{are_members, bound_of, document_with, key_of, namespace_of, number_of};
 use bson_values::Document;
 use cluster_base::{NodeId, RequestId, Time};
+use critical_section::{Section, Want};
 use fixtures::{Plain, RowFault, Rows, field, number};
 use migration_source::{GiveStage, Giving};
 use mvcc_collection::Collection;
 use std::alloc::Global;
 use std::sync::Arc;
-use value_compare::{Key, KeyRange};
+use value_compare::{Key, KeyRange, Span};
 
 /// One step after another on a collection and a part in a move of it: `start | BOUND | BOUND` begins with none and a range; `fill | FROM | TO`
 /// stores a document of 14 bytes under each number; `write | KEY | BYTES` stores one of so many bytes, and `delete | KEY` none;
-/// `batch | NUMBER | UPTO | MEMBERS` holds where the next batch is that; `acked | NUMBER`; `stage | STAGE`.
+/// `batch | NUMBER | UPTO | MEMBERS` holds where the next batch is that; `acked | NUMBER`; `stage | STAGE`; `section | TIME | TIME | KEY | yes`
+/// or `no` holds where the section of the first time is entered and makes a read of the key at the second time wait, or not.
 #[derive(Drop)]
 pub struct Sources {
     collection: Collection,
@@ -37,6 +40,7 @@ impl Rows for Sources {
             "batch" => self.batch(alloc, rest),
             "acked" => self.acked(rest),
             "stage" => self.stage(rest),
+            "section" => self.section(alloc, rest),
             _ => Err(RowFault::Form),
         }
     }
@@ -134,7 +138,7 @@ impl Sources {
             return Err(RowFault::Form);
         };
         giving.reserve_batch(&self.collection)?;
-        if let GiveStage::Unanswered(_) = giving.stage() {
+        if !is_answered(giving) {
             return Ok(false);
         }
         let batch = giving.next_batch(&self.collection);
@@ -162,5 +166,47 @@ impl Sources {
             GiveStage::AtEnd { left: true } => word == "left",
             GiveStage::AtEnd { left: false } => word == "end",
         })
+    }
+    fn section(&mut self, alloc: Global, row: &str) -> Result<bool, RowFault> {
+        let (time, rest) = field(row);
+        let (at, rest) = field(rest);
+        let (key, answer) = field(rest);
+        let time = Time(number(time)?);
+        let want = Want::Read(Time(number(at)?));
+        let span = Span::Point(key_of(alloc, number_of(key)?)?);
+        let namespace = namespace_of(alloc, "d.c")?;
+        let Some(giving) = &mut self.giving else {
+            return Err(RowFault::Form);
+        };
+        giving.reserve_batch(&self.collection)?;
+        if !is_at_end(giving) {
+            return Ok(false);
+        }
+        let section: Section<u64> = giving.enter_section(namespace_of(alloc, "d.c")?, time);
+        Ok(section.covers(&namespace, &span, want) == (answer == "yes"))
+    }
+}
+
+// Returns whether no batch is unanswered.
+#[tactic(auto, using(crate::proofs::Stages::ready, crate::proofs::Stages::ended))]
+fn is_answered(giving: &Giving) -> bool
+    ensures { IsTrue result → (source_of giving.now).unanswered ≡ false }
+{
+    match giving.stage() {
+        GiveStage::Unanswered(_) => false,
+        GiveStage::Ready => true,
+        GiveStage::AtEnd { left: _ } => true,
+    }
+}
+
+// Returns whether the cursor reached the end of the range, and no batch is unanswered.
+#[tactic(auto, using(crate::proofs::Stages::at_end))]
+fn is_at_end(giving: &Giving) -> bool
+    ensures { IsTrue result → IsAtEnd (source_of giving.now) }
+{
+    match giving.stage() {
+        GiveStage::Unanswered(_) => false,
+        GiveStage::Ready => false,
+        GiveStage::AtEnd { left: _ } => true,
     }
 }

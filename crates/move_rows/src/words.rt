@@ -1,6 +1,7 @@
 //! Keys, documents and members in few words.
 
 use bson_values::Document;
+use cluster_base::{NameFault, Namespace};
 use fixtures::{Plain, RowFault, document_of, number, plain_value};
 use shard_records::MovedDocument;
 use std::alloc::Global;
@@ -25,6 +26,15 @@ pub fn bound_of(alloc: Global, word: &str) -> Result<Bound, RowFault> {
         "min" => Ok(Bound::MinKey),
         "max" => Ok(Bound::MaxKey),
         _ => Ok(Bound::At(key_of(alloc, number_of(word)?)?)),
+    }
+}
+
+/// Returns the namespace of the full name. Returns `Form` where it is none, and `Memory` if memory runs out.
+pub fn namespace_of(alloc: Global, name: &str) -> Result<Namespace, RowFault> {
+    match Namespace::read(alloc, name) {
+        Ok(namespace) => Ok(namespace),
+        Err(NameFault::Form) => Err(RowFault::Form),
+        Err(NameFault::Memory) => Err(RowFault::Memory),
     }
 }
 
