@@ -5,7 +5,7 @@ ghost use Rattle.std.specs.Arc.{arc_value};
 ghost use Rattle.std.specs.Option.{option_map};
 ghost use Rattle.move_model.specs.Batches.{document_bytes, has_room, members_bytes, most_bytes, most_keys, moved};
 ghost use Rattle.shard_records.specs.Batches.{moved_view};
-ghost use Rattle.migration_source.specs.Fills.{AllFit};
+ghost use Rattle.migration_source.specs.Fills.{AllFit, fit-prop};
 
 use bson_values::{Document, Memory};
 use shard_records::{MovedDocument, MovedList};
@@ -25,7 +25,7 @@ pub(crate) struct Filling {
     docs: Vec<MovedDocument>,
     bytes: usize,
     ghost counted: { bytes ≡ min (members_bytes (map moved_view docs.items)) (2 ^ 64 - 1) },
-    ghost fit: { AllFit (map moved_view docs.items) },
+    ghost fit: { AllFit (map moved_view docs.items) } by { fit-prop (map moved_view docs.items) },
 }
 
 impl Filling {

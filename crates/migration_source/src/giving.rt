@@ -1,8 +1,10 @@
 //! A part in a move as its source.
 
 ghost use Rattle.std.specs.Prelude.{◌≡◌, None, OnOk, true};
+ghost use Rattle.std.specs.Coded.{Coded-set};
 ghost use Rattle.bson_values.specs.Tree.{Datum};
 ghost use Rattle.value_compare.specs.Bounds.{bound_of};
+ghost use Rattle.value_compare.specs.Code.{bound_code};
 ghost use Rattle.move_model.specs.Sources.{Marks, has_some, is_up_to, source_answered, source_start, stage_of};
 ghost use Rattle.migration_source.specs.Changed.{changed_among};
 
@@ -34,7 +36,7 @@ pub enum GiveStage {
 pub(crate) struct Prepared {
     batch: MoveBatch,
     cursor: Bound,
-    ghost same: { bound_of cursor ≡ bound_of batch.upto },
+    ghost same: { bound_of cursor ≡ bound_of batch.upto } by { Coded-set bound_code (bound_of cursor) (bound_of batch.upto) },
 }
 
 /// What the source of a range keeps of its copy. Each key that has room among the changed ones has a place, and whether it changed. The next
