@@ -22,21 +22,21 @@ loop-key-preserved c =
     let r : Datum × Fields = (c.in-Some-next_document.key.now, arc_value c.in-Some-next_document.document.now) in
     let more = reach_more s rows _ _ (members_in c.loop-key.filling) c.loop-key.invariant c.next_document.ensures.ordered r c.in-Some-next_document.ensures.next
     c.value-value.ensures.key in
-    rw (c.in_ok-found.ensures.members, c.if-found.true) more
+    rw (c.in_ok-found.ensures.members, c.if-not-found.false) more
 
 pub loop-key-smaller : goal.loop-key-smaller
 loop-key-smaller c =
     let r : Datum × Fields = (c.in-Some-next_document.key.now, arc_value c.in-Some-next_document.document.now) in
     step_fewer c.args.self.now.range _ (rows_of c.args.c.now) r c.next_document.ensures.ordered c.in-Some-next_document.ensures.next
 
-pub returns-then-found : goal.returns-then-found
-returns-then-found c =
+pub returns-then-not-found : goal.returns-then-not-found
+returns-then-not-found c =
     let s = source_of c.args.self.now in
     let rows = rows_of c.args.c.now in
     let r : Datum × Fields = (c.in-Some-next_document.key.now, arc_value c.in-Some-next_document.document.now) in
     let cut = reach_cut s rows _ _ (members_in c.loop-key.filling) c.loop-key.invariant c.next_document.ensures.ordered c.in-Some.ensures r
-    c.in-Some-next_document.ensures.next c.value-value.ensures.key (sym c.in_ok-found.ensures.room ∙ c.if-found.false) in
-    rw (c.in_ok-found.ensures.members, c.if-found.false, c.in_ok-bound_at.ensures) cut
+    c.in-Some-next_document.ensures.next c.value-value.ensures.key (sym c.in_ok-found.ensures.room ∙ c.if-not-found.true) in
+    rw (c.in_ok-found.ensures.members, c.if-not-found.true, c.in_ok-bound_at.ensures) cut
 
 pub returns : goal.returns
 returns c =
