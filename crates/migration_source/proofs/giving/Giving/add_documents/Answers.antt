@@ -1,5 +1,5 @@
 -- A document that finds room is one more; the walk ends at one that finds none, or after the last.
-use Rattle.std.proofs.Common.{◌≡◌, ◌∙◌, ◌×◌, sym}
+use Rattle.std.proofs.Common.{◌≡◌, ◌∙◌, sym}
 use Rattle.std.specs.Arc.{arc_value}
 use Rattle.bson_values.specs.Tree.{Datum, Fields}
 use Rattle.mvcc_collection.specs.Present.{rows_of}
@@ -41,4 +41,4 @@ returns-then-not-found c =
 pub returns : goal.returns
 returns c =
     reach_all (source_of c.args.self.now) (rows_of c.args.c.now) _ _ (members_in c.loop-key.filling) c.loop-key.invariant c.next_document.ensures.ordered
-    c.in-Some.ensures c.in-None.ensures.next
+    c.in-Some.ensures c.in_default-next_document.ensures.next

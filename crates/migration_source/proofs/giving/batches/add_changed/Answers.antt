@@ -17,7 +17,7 @@ loop-key-preserved c =
     let now = members_in c.loop-key.filling in
     let all = changed_among c.into_iter-key-iterator.result in
     let adds = subst (λ (l : Entries). Adds rows old now all (changed_among l)) c.in-Some.ensures.steps c.loop-key.invariant in
-    adds_next rows old now (members_in c.add_if-found.new.filling) all c.in-Some.key.now c.in-Some.changed.now c.next.new.self
+    adds_next rows old now (members_in c.add_if.new.filling) all c.in-Some.key.now c.in-Some.changed.now c.next.new.self
     (c.in_ok-found.ensures.added c.if-not-found.false) adds
 
 pub returns-then-not-found-clause-more : goal.returns-then-not-found-clause-more
@@ -27,7 +27,7 @@ returns-then-not-found-clause-more c =
     let now = members_in c.loop-key.filling in
     let all = changed_among c.into_iter-key-iterator.result in
     let adds = subst (λ (l : Entries). Adds rows old now all (changed_among l)) c.in-Some.ensures.steps c.loop-key.invariant in
-    (adds.found, (c.in_ok-found.ensures.full c.if-not-found.true).1.0 ∙ adds.grown)
+    (adds.found, (c.in_ok-found.ensures.full c.if-not-found.true).1 ∙ adds.grown)
 
 pub returns-then-not-found-clause-fit : goal.returns-then-not-found-clause-fit
 returns-then-not-found-clause-fit c =
@@ -39,7 +39,7 @@ returns-then-not-found-clause-fit c =
     let full = c.in_ok-found.ensures.full c.if-not-found.true in
     let given = c.into_iter-key-iterator.ensures.into_iter_gives ∙ c.iter-key-items.ensures.rest in
     ap (λ (l : Entries). fitting 0 0 (old ++ members_under rows (changed_among l))) (sym given)
-    ∙ adds_stop rows old now all c.in-Some.key.now c.in-Some.changed.now c.next.new.self c.loop-key.filling.fit full.0 full.1.1 adds ∙ sym full.1.0
+    ∙ adds_stop rows old now all c.in-Some.key.now c.in-Some.changed.now c.next.new.self c.loop-key.filling.fit full.0 full.2 adds ∙ sym full.1
 
 pub loop-key-init : goal.loop-key-init
 loop-key-init c = adds_none _ _ _
