@@ -19,11 +19,11 @@ returns-in-Some-clause-upto c =
 pub returns-in_ok-end-in-None-clause-members : goal.returns-in_ok-end-in-None-clause-members
 returns-in_ok-end-in-None-clause-members c =
     sym (all_next (source_of c.args.self.now) (rows_of c.args.c.now) (members_in c.add_documents.new.filling) (members_in c.add_changed.new.filling)
-    (rw c.in-None.is at c.in_ok-last.ensures) c.in_ok-add_changed.ensures.fit)
+    (rw c.in-None.is at c.in_ok-last.ensures) c.in_ok-add_changed-in-None.ensures.fit)
 
 pub returns-in_ok-end-in-None-clause-upto : goal.returns-in_ok-end-in-None-clause-upto
 returns-in_ok-end-in-None-clause-upto c =
-    let more = c.in_ok-add_changed.ensures.more in
-    c.in_ok-end.ensures ∙ c.max.ensures.max
+    let more = c.in_ok-add_changed-in-None.ensures.more in
+    c.in_ok-end-in-None.ensures ∙ c.max.ensures.max
     ∙ all_cursor (source_of c.args.self.now) (rows_of c.args.c.now) (members_in c.add_documents.new.filling) more.0 (members_in c.add_changed.new.filling)
-    (rw c.in-None.is at c.in_ok-last.ensures) c.in_ok-add_changed.ensures.fit more.1
+    (rw c.in-None.is at c.in_ok-last.ensures) c.in_ok-add_changed-in-None.ensures.fit more.1
