@@ -17,7 +17,7 @@ use Rattle.migration_source.specs.Changed.{changed_among}
 abbrev pub Entries : Type 0
 Entries = List (Datum × Bool)
 
-above_changed : (low : Datum) (es : Entries) → AreAbove order_total low es → AllByRecursion (λ k. order low k ≡ Less) (changed_among es)
+pub above_changed : (low : Datum) (es : Entries) → AreAbove order_total low es → AllByRecursion (λ k. order low k ≡ Less) (changed_among es)
 above_changed low [] above = tt
 above_changed low (e ∷ es) above = by e.1 (above_changed low es above.1)
   where
@@ -100,24 +100,24 @@ pub none_is : {X : Type 0} (o : Option X) → is_some o ≡ false → o ≡ None
 none_is None e = refl
 none_is (Some x) e = absurd (cc e)
 
--- a key that is marked had a place, and others have theirs
-pub places_stay : (key q : Datum) (es : Entries) →
-    is_some (lookup (is_at (order q)) (set_value (is_at (order key)) es true)) ≡ is_some (lookup (is_at (order q)) es)
-places_stay key q [] = refl
-places_stay key q (e ∷ es) = by (is_eq (order key e.0)) (is_eq (order q e.0)) (places_stay key q es)
+-- a key that is marked or unmarked had a place, and others have theirs
+pub places_stay : (key q : Datum) (w : Bool) (es : Entries) →
+    is_some (lookup (is_at (order q)) (set_value (is_at (order key)) es w)) ≡ is_some (lookup (is_at (order q)) es)
+places_stay key q w [] = refl
+places_stay key q w (e ∷ es) = by (is_eq (order key e.0)) (is_eq (order q e.0)) (places_stay key q w es)
   where
-    by : (at own : Bool) → is_some (lookup (is_at (order q)) (set_value (is_at (order key)) es true)) ≡ is_some (lookup (is_at (order q)) es) →
-        is_some (lookup (is_at (order q)) (cond at ((e.0, true) ∷ es) (e ∷ set_value (is_at (order key)) es true)))
+    by : (at own : Bool) → is_some (lookup (is_at (order q)) (set_value (is_at (order key)) es w)) ≡ is_some (lookup (is_at (order q)) es) →
+        is_some (lookup (is_at (order q)) (cond at ((e.0, w) ∷ es) (e ∷ set_value (is_at (order key)) es w)))
         ≡ is_some (lookup (is_at (order q)) (e ∷ es))
     by true own rest = same (is_eq (order q e.0))
       where
-        same : (own : Bool) → is_some (cond own (Some true) (lookup (is_at (order q)) es)) ≡ is_some (cond own (Some e.1) (lookup (is_at (order q)) es))
+        same : (own : Bool) → is_some (cond own (Some w) (lookup (is_at (order q)) es)) ≡ is_some (cond own (Some e.1) (lookup (is_at (order q)) es))
         same true = refl
         same false = refl
     by false own rest = further (is_eq (order q e.0))
       where
         further : (own : Bool) →
-            is_some (cond own (Some e.1) (lookup (is_at (order q)) (set_value (is_at (order key)) es true)))
+            is_some (cond own (Some e.1) (lookup (is_at (order q)) (set_value (is_at (order key)) es w)))
             ≡ is_some (cond own (Some e.1) (lookup (is_at (order q)) es))
         further true = refl
         further false = rest

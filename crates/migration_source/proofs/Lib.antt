@@ -1,1 +1,4 @@
 pub mod Changes
+pub mod Fills
+pub mod Nexts
+pub mod Unmarks

@@ -1,13 +1,18 @@
 //! A part in a move as its source.
 
-ghost use Rattle.std.specs.Prelude.{◌≡◌, OnOk, true};
+ghost use Rattle.std.specs.Prelude.{◌≡◌, None, OnOk, true};
+ghost use Rattle.std.specs.Coded.{Coded-set};
 ghost use Rattle.bson_values.specs.Tree.{Datum};
 ghost use Rattle.value_compare.specs.Bounds.{bound_of};
+ghost use Rattle.value_compare.specs.Code.{bound_code};
 ghost use Rattle.move_model.specs.Sources.{Marks, has_some, is_up_to, source_answered, source_start, stage_of};
 ghost use Rattle.migration_source.specs.Changed.{changed_among};
 
+mod batches;
+
 use bson_values::{Memory, Value};
 use cluster_base::RequestId;
+use shard_records::MoveBatch;
 use std::alloc::Global;
 use std::collections::BTreeMap;
 use value_compare::{Bound, Key, KeyRange, compare};
@@ -26,19 +31,31 @@ pub enum GiveStage {
     },
 }
 
-/// What the source of a range keeps of its copy. Each key that has room among the changed ones has a place, and whether it changed.
+/// A batch that may be handed out next, and the cursor after it.
+#[derive(Drop)]
+pub(crate) struct Prepared {
+    batch: MoveBatch,
+    cursor: Bound,
+    ghost same: { bound_of cursor ≡ bound_of batch.upto } by { Coded-set bound_code (bound_of cursor) (bound_of batch.upto) },
+}
+
+/// What the source of a range keeps of its copy. Each key that has room among the changed ones has a place, and whether it changed. The next
+/// batch and the range of the next section are there while they have room.
 #[derive(Drop)]
 pub struct Giving {
+    alloc: Global,
     id: RequestId,
     range: KeyRange,
     number: u64,
     cursor: Bound,
     marks: BTreeMap<Key, bool>,
     unanswered: bool,
+    prepared: Option<Prepared>,
+    spare: Option<KeyRange>,
 }
 
 impl Giving {
-    ghost use Rattle.migration_source.specs.Givings.{has_place, id_of, source_of, stage_view};
+    ghost use Rattle.migration_source.specs.Givings.{has_place, id_of, ready_of, source_of, spare_of, stage_view};
 
     /// A part of which no batch was handed out. Takes no memory.
     pub fn start(alloc: Global, id: RequestId, range: KeyRange) -> Giving
@@ -46,12 +63,15 @@ impl Giving {
         ensures id { id_of result ≡ id }
     {
         Giving {
+            alloc,
             id,
             range,
             number: 0,
             cursor: Bound::MinKey,
             marks: BTreeMap::new(alloc),
             unanswered: false,
+            prepared: None,
+            spare: None,
         }
     }
 
@@ -62,10 +82,13 @@ impl Giving {
         self.id
     }
 
-    /// Makes room for the next `changed` of the key. Fails with `Memory` out of memory. Either way nothing else is to be seen of it.
+    /// Makes room for the next `changed` of the key. Returns `Memory` if memory runs out. Either way nothing else
+    /// is to be seen of it.
     pub fn reserve(&mut self, key: &Key) -> Result<(), Memory>
         ensures room { OnOk result (has_place self.new key.now ≡ true) }
         ensures rooms { (k : Datum) → has_place self.old k ≡ true → has_place self.new k ≡ true }
+        ensures ready { ready_of self.new ≡ ready_of self.old }
+        ensures spare { spare_of self.new ≡ spare_of self.old }
         ensures source { source_of self.new ≡ source_of self.old }
         ensures id { id_of self.new ≡ id_of self.old }
     {
@@ -77,13 +100,16 @@ impl Giving {
     }
 
     /// The key was written. It is among the changed keys from now on where it was handed out, also with the last batch, and not otherwise.
-    /// Takes no memory: there is room for it.
+    /// Takes no memory, since there is room for it. The next batch then has no room any more.
     pub fn changed(&mut self, key: &Key)
         requires room { has_place self.old key.now ≡ true }
         ensures marks { Marks key.now (source_of self.old) (source_of self.new) }
+        ensures ready { ready_of self.new ≡ None }
+        ensures spare { spare_of self.new ≡ spare_of self.old }
         ensures rooms { (k : Datum) → has_place self.new k ≡ has_place self.old k }
         ensures id { id_of self.new ≡ id_of self.old }
     {
+        self.prepared = None;
         if self.range.contains(key) && is_up_to(&self.cursor, key) {
             if let Some(mark) = self.marks.get_mut(key) {
                 *mark = true;
@@ -96,6 +122,8 @@ impl Giving {
     /// The batch of that number is answered. A number that is not that of the unanswered batch changes nothing.
     pub fn acked(&mut self, number: u64)
         ensures source { source_of self.new ≡ source_answered number (source_of self.old) }
+        ensures ready { ready_of self.new ≡ ready_of self.old }
+        ensures spare { spare_of self.new ≡ spare_of self.old }
         ensures rooms { (k : Datum) → has_place self.new k ≡ has_place self.old k }
         ensures id { id_of self.new ≡ id_of self.old }
     {

@@ -60,13 +60,13 @@ turned a Less e = rw e refl
 turned a Equal e = rw e refl
 turned a Greater e = rw e refl
 
-up_to_edge : (low high : Bound) (q : Datum) → order_bounds low high ≡ Less → is_key q ≡ true →
+pub up_to_edge : (low high : Bound) (q : Datum) → order_bounds low high ≡ Less → is_key q ≡ true →
     not (is_past_end order (upper_edge high) q) ≡ is_lt (order_bounds (key_bound q) high)
 up_to_edge low min_bound q less key = absurd (below_all low less)
 up_to_edge low (key_bound b) q less key = turned (order b q) (order q b) (order_total.antisymm b q)
 up_to_edge low max_bound q less key = sym (greatest q key)
 
-up_to_edge_too : (low high : Bound) (q : Datum) → order_bounds low high ≡ Less → is_lt (order_bounds (key_bound q) high) ≡ true →
+pub up_to_edge_too : (low high : Bound) (q : Datum) → order_bounds low high ≡ Less → is_lt (order_bounds (key_bound q) high) ≡ true →
     not (is_past_end order (upper_edge high) q) ≡ true
 up_to_edge_too low min_bound q less below = absurd (below_all low less)
 up_to_edge_too low (key_bound b) q less below = turned (order b q) (order q b) (order_total.antisymm b q) ∙ below
@@ -78,19 +78,19 @@ both Equal = refl
 both Greater = refl
 
 -- a key is between the edges where it is inside
-key_between : (span : Span) (q : Datum) → IsSpan span → is_key q ≡ true → range_contains order (first_edge span) (last_edge span) q ≡ inside span q
+pub key_between : (span : Span) (q : Datum) → IsSpan span → is_key q ≡ true → range_contains order (first_edge span) (last_edge span) q ≡ inside span q
 key_between (range_span range) q forward key =
     ap (λ (b : Bool). b && not (is_past_end order (upper_edge range.max) q)) (from_edge range.min range.max q forward)
     ∙ ap (λ (b : Bool). is_le (order_bounds range.min (key_bound q)) && b) (up_to_edge range.min range.max q forward key)
 key_between (point_span point) q forward key = both (order point q)
 
-and_both : (a b : Bool) → (a && b) ≡ true → (a ≡ true) × (b ≡ true)
+pub and_both : (a b : Bool) → (a && b) ≡ true → (a ≡ true) × (b ≡ true)
 and_both true true e = (refl, refl)
 and_both true false e = absurd (cc e)
 and_both false b e = absurd (cc e)
 
 -- what is inside is between the edges
-inside_between : (span : Span) (q : Datum) → IsSpan span → inside span q ≡ true → range_contains order (first_edge span) (last_edge span) q ≡ true
+pub inside_between : (span : Span) (q : Datum) → IsSpan span → inside span q ≡ true → range_contains order (first_edge span) (last_edge span) q ≡ true
 inside_between (range_span range) q forward in_span =
     let parts = and_both (is_le (order_bounds range.min (key_bound q))) (is_lt (order_bounds (key_bound q) range.max)) in_span in
     rw (from_edge range.min range.max q forward ∙ parts.0, up_to_edge_too range.min range.max q forward parts.1) refl

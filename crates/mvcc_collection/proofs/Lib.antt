@@ -5,3 +5,4 @@ pub mod SpanLists
 pub mod Edges
 pub mod Places
 pub mod Latest
+pub mod Walk

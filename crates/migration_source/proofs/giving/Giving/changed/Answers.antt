@@ -26,7 +26,7 @@ pub returns-in-Some-clause-rooms : goal.returns-in-Some-clause-rooms
 returns-in-Some-clause-rooms c = λ k.
     let g = c.args.self.now in
     let holds = c.get_mut.follows.holds true in
-    ap (λ (l : Entries). is_some (lookup (is_at (order k)) l)) holds.0 ∙ places_stay c.args.key.now k g.marks.entries
+    ap (λ (l : Entries). is_some (lookup (is_at (order k)) l)) holds.0 ∙ places_stay c.args.key.now k true g.marks.entries
 
 pub returns-else-contains-clause-marks : goal.returns-else-contains-clause-marks
 returns-else-contains-clause-marks c =
