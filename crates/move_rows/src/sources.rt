@@ -167,6 +167,7 @@ impl Sources {
             GiveStage::AtEnd { left: false } => word == "end",
         })
     }
+
     fn section(&mut self, alloc: Global, row: &str) -> Result<bool, RowFault> {
         let (time, rest) = field(row);
         let (at, rest) = field(rest);
