@@ -23,7 +23,7 @@ pub fn steps_store_what_may_follow()
     ensures { (stored : ℕ) (s : NodeState) (t : NodeState) (i : Input) (f : Effect) → Holds stored s → ComesInTime i → Step s i f t → (replayed (Some (durable_of stored s)) (records_of f.written) ≡ Some (durable_of (max stored (greatest_kept f.written)) t)) × Holds (max stored (greatest_kept f.written)) t }
 {}
 
-/// And none does, where nodes stop and are started again.
+/// Where nodes stop and are started again, no message that was sent reads at a time later than itself.
 pub fn no_message_reads_ahead()
     ensures { (routers : ℕ) (events : List EventOrStop) (w : World) → RunWithStops (start routers) events w → AllByRecursion IsInTime w.sent }
 {}
@@ -33,7 +33,7 @@ pub fn runs_replay()
     ensures { (routers : ℕ) (events : List Event) (w : World) → Run (start routers) events w → AllByRecursion Replays w.nodes }
 {}
 
-/// The same where nodes stop between two steps, or in one, and are started again: so no start is refused.
+/// The same where nodes stop between two steps, or in one, and are started again; and no start on such a journal is refused.
 pub fn runs_with_stops_replay()
     ensures { (routers : ℕ) (events : List EventOrStop) (w : World) → RunWithStops (start routers) events w → AllByRecursion Replays w.nodes × AllByRecursion MayOpen w.nodes }
 {}
@@ -48,17 +48,17 @@ pub fn replayed_catalogue_has_changes()
     ensures { (me : ℕ) (records : List Record) (d : DurableCatalogue) → AllByRecursion HasKey records → replayed (Some (durable_catalogue (empty_catalogue me))) records ≡ Some (durable_catalogue d) → AreChanges records d }
 {}
 
-/// Where nodes stop, in whichever step, and are started again: nothing that a client was told of a write is lost, and no statement is applied twice.
+/// Where nodes stop, in whichever step, and are started again: no write that was acknowledged is lost, and no statement is applied twice.
 pub fn runs_with_stops_keep_writes()
     ensures { (routers : ℕ) (events : List EventOrStop) (w : World) → RunWithStops (start routers) events w → KeepsWrites w }
 {}
 
-/// Nor is any record lost that was stored: from any world on, each journal grows at its end alone.
+/// Where nodes stop, no record that was stored is lost: from any world on, each journal grows at its end alone.
 pub fn runs_with_stops_keep_journals()
     ensures { (u : World) (events : List EventOrStop) (w : World) → RunWithStops u events w → KeepsJournals u w }
 {}
 
-/// Nor is any request answered twice.
+/// Where nodes stop, no request is answered twice.
 pub fn runs_with_stops_answer_once()
     ensures { (routers : ℕ) (events : List EventOrStop) (w : World) → RunWithStops (start routers) events w → AreDifferent (ids_told w.answered) }
 {}
