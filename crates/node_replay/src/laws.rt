@@ -12,15 +12,21 @@ ghost use Rattle.node_model.specs.World.{Event, Run, World, start};
 ghost use Rattle.node_replay.specs.Acknowledged.{KeepsJournals, KeepsWrites};
 ghost use Rattle.node_replay.specs.Durable.{DurableCatalogue, DurableShard, durable_catalogue, durable_of, durable_shard, empty_catalogue, empty_shard};
 ghost use Rattle.node_replay.specs.Histories.{AreChanges, HasKey, IsHistory};
-ghost use Rattle.node_replay.specs.Holds.{Holds, MayOpen, Replays};
+ghost use Rattle.node_replay.specs.Holds.{Holds, HoldsOwn, MayOpen, Replays};
 ghost use Rattle.node_replay.specs.ReadTimes.{ComesInTime, IsInTime};
 ghost use Rattle.node_replay.specs.Replays.{records_of, replayed};
-ghost use Rattle.node_replay.specs.Restarts.{EventOrStop, RunWithStops};
+ghost use Rattle.node_replay.specs.Restarts.{EventOrStop, Gives, RunWithStops};
 
 /// The records that a step stores may follow, one after another, in the durable part of the node before it, and lead to the durable part of the node
-/// after it, where no message reads at a time later than itself.
+/// after it. The node still holds what nodes hold, where its input reads at no time later than itself.
 pub fn steps_store_what_may_follow()
-    ensures { (stored : ℕ) (s : NodeState) (t : NodeState) (i : Input) (f : Effect) → Holds stored s → ComesInTime i → Step s i f t → (replayed (Some (durable_of stored s)) (records_of f.written) ≡ Some (durable_of (max stored (greatest_kept f.written)) t)) × Holds (max stored (greatest_kept f.written)) t }
+    ensures { (stored : ℕ) (s : NodeState) (t : NodeState) (i : Input) (f : Effect) → Holds stored s → Step s i f t → (replayed (Some (durable_of stored s)) (records_of f.written) ≡ Some (durable_of (max stored (greatest_kept f.written)) t)) × (ComesInTime i → Holds (max stored (greatest_kept f.written)) t) }
+{}
+
+/// Where nodes stop and are started again, each node holds what nodes hold, and each input that an event may give to one reads at no time later than itself.
+/// So the law on steps is true of every step of such a run.
+pub fn runs_with_stops_hold()
+    ensures { (routers : ℕ) (events : List EventOrStop) (w : World) → RunWithStops (start routers) events w → AllByRecursion HoldsOwn w.nodes × ((e : Event) (at : ℕ) (i : Input) → Gives w e at i → ComesInTime i) }
 {}
 
 /// Where nodes stop and are started again, no message that was sent reads at a time later than itself.
