@@ -5,7 +5,7 @@ ghost use Rattle.std.specs.List.{AllByRecursion};
 ghost use Rattle.record_model.specs.Records.{Record};
 ghost use Rattle.reply_model.specs.OneHistory.{AreDifferent, ids_told};
 ghost use Rattle.node_model.specs.Journal.{greatest_kept};
-ghost use Rattle.node_model.specs.Letters.{Effect, Input, Letter};
+ghost use Rattle.node_model.specs.Letters.{Effect, Input};
 ghost use Rattle.node_model.specs.States.{NodeState};
 ghost use Rattle.node_model.specs.Steps.{Step};
 ghost use Rattle.node_model.specs.World.{Event, Run, World, start};
