@@ -59,6 +59,17 @@ impl<T: Drop> Routes<T> {
         Posted::Dropped
     }
 
+    /// Puts a letter into a box, and waits until it has room.
+    pub fn post<R: Wait>(&self, rt: &R, to: usize, letter: T) -> Posted {
+        if let Some(mailbox) = self.boxes.get(to) {
+            if mailbox.to.send(rt, Some(letter)).is_ok() {
+                return Posted::Kept;
+            }
+        }
+        self.dropped.fetch_add(1, Ordering::SeqCst);
+        Posted::Dropped
+    }
+
     /// Takes the next letter out of a box, and waits for one; `None` at an end mark, or if there is no such box.
     pub fn take<R: Wait>(&self, rt: &R, me: usize) -> Option<T> {
         let mailbox = self.boxes.get(me)?;

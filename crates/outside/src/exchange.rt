@@ -1,9 +1,12 @@
 //! What was exchanged on a link.
 use bson_values::Blob;
+use std::snapshot::Snapshot;
 
 /// A link that ended, and what was exchanged on it.
 #[derive(Drop)]
 pub struct Spoken<L> {
+    /// The link, as it was opened. It is there for proofs alone.
+    pub opened: Snapshot<L>,
     /// The link, as it was at its end.
     pub link: L,
     /// Why it ended.

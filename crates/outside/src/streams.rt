@@ -1,5 +1,5 @@
 //! Streams of bytes: sources, sinks, and the links that clients open.
-ghost use Rattle.std.specs.Prelude.{◌≡◌, ℕ, ◌<◌, ◌≤◌, List, [], length, take, Bool, IsTrue, IfOk, OnOk, OnErr};
+ghost use Rattle.std.specs.Prelude.{◌≡◌, ℕ, ◌<◌, ◌≤◌, List, [], ◌++◌, length, take, option_to_list, Bool, IsTrue, IfOk, OnOk, OnErr};
 ghost use Rattle.outside.specs.Causes.{Rose};
 ghost use Rattle.outside.specs.Notes.{Note};
 ghost use Rattle.outside.specs.Streams.{Took, Put};
@@ -72,8 +72,8 @@ pub trait Sink {
         ensures aside { beside self.new ≡ beside self.old };
 }
 
-/// A client's link: requests are taken from it, and replies are written to it. Each direction has its own count of faults.
-pub trait Link: Source + Sink {
+/// A stream in both directions, each with its own count of faults.
+pub trait Stream: Source + Sink {
     // A take does not change what was written and the faults of writes.
     ghost take_is_apart: { (l : Self) → Self.Source.beside l ≡ (Self.Sink.held l, Self.Sink.fault_count l) };
 
@@ -81,10 +81,30 @@ pub trait Link: Source + Sink {
     ghost put_is_apart: { (l : Self) → Self.Sink.beside l ≡ (Self.Source.left l, Self.Source.fault_count l) };
 }
 
+/// A client's link: requests are taken from it, and replies are written to it.
+pub trait Link: Stream {
+    // Whether the link was closed.
+    ghost is_closed: { Self → Bool };
+
+    /// Closes the link in both directions: the client learns it, and no byte comes or goes any more.
+    fn close(&mut self)
+        ensures closed { IsTrue (is_closed self.new) }
+        ensures left { Self.Source.left self.new ≡ Self.Source.left self.old }
+        ensures held { Self.Sink.held self.new ≡ Self.Sink.held self.old }
+        ensures takes { Self.Source.fault_count self.new ≡ Self.Source.fault_count self.old }
+        ensures puts { Self.Sink.fault_count self.new ≡ Self.Sink.fault_count self.old };
+}
+
 /// A place where clients open links.
 pub trait Acceptor {
     /// The link that a client opens.
     type Link: Link + Drop;
+
+    // Whether the links that it returns are observable.
+    ghost tells: { Bool };
+
+    // The links that are to come, in order, where they are observable.
+    ghost left: { Self → List Self.Link };
 
     // How many faults the acceptor has met.
     ghost fault_count: { Self → ℕ };
@@ -94,15 +114,18 @@ pub trait Acceptor {
     /// # Errors
     /// `Failed` if the acceptor met a fault, which is counted.
     fn listen(&mut self, port: u16) -> Result<(), Failed>
+        ensures left { left self.new ≡ left self.old }
         ensures cause { OnErr result (Rose (fault_count self.old) (fault_count self.new)) }
         ensures calm { OnOk result (fault_count self.new ≡ fault_count self.old) }
         ensures later { fault_count self.old ≤ fault_count self.new };
 
-    /// Returns the next link that a client opens.
+    /// Returns the next link that a client opens; `None` if none was opened for a moment, so that the caller may do something else meanwhile.
     ///
     /// # Errors
     /// `Failed` if the acceptor met a fault, which is counted.
-    fn next(&mut self) -> Result<Self::Link, Failed>
+    fn next(&mut self) -> Result<Option<Self::Link>, Failed>
+        ensures took { IfOk result (λ link. IsTrue tells → left self.old ≡ option_to_list link ++ left self.new) }
+        ensures nothing { OnErr result (left self.new ≡ left self.old) }
         ensures cause { OnErr result (Rose (fault_count self.old) (fault_count self.new)) }
         ensures calm { OnOk result (fault_count self.new ≡ fault_count self.old) }
         ensures later { fault_count self.old ≤ fault_count self.new };

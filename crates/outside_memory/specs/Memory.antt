@@ -1,5 +1,5 @@
 -- What the memory forms are, as values.
-use Rattle.std.specs.Prelude.{ℕ, ◌+◌, ◌-◌, min, List, [], ◌∷◌, ◌++◌, length, map, take, drop, replicate}
+use Rattle.std.specs.Prelude.{Bool, ℕ, ◌+◌, ◌-◌, min, List, [], ◌∷◌, ◌++◌, length, map, take, drop, replicate}
 use Rattle.outside.specs.Notes.{Note}
 use Rattle.outside_memory.specs.FaultPlan.{PlanState, fresh_plan, after_call, after_fault}
 use Rattle.outside_memory.specs.declared.call.Call.{Call}
@@ -29,10 +29,11 @@ pub record SinkState : Type 0 where
   pub plan : PlanState
   pub noted : List (DiskState × ℕ)
 
--- a link: where it takes from, and where it puts to
+-- a link: where it takes from, where it puts to, and whether it was closed
 pub record LinkState : Type 0 where
   pub source : SourceState
   pub sink : SinkState
+  pub closed : Bool
 
 -- an acceptor: the links that are still to come, in order, and the plan of its calls
 pub record AcceptorState : Type 0 where

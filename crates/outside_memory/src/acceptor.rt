@@ -1,5 +1,5 @@
 //! An acceptor in memory.
-ghost use Rattle.std.specs.Prelude.{◌≡◌, ◌≤◌, ◌⊎◌, [], ◌∷◌, IsTrue, IsErr, IsOk, IfOk, OnOk, OnErr, if◌then◌else◌};
+ghost use Rattle.std.specs.Prelude.{◌≡◌, ◌≤◌, ◌⊎◌, [], ◌++◌, option_to_list, true, IsTrue, IsSome, IsErr, IsOk, IfOk, OnOk, OnErr, if◌then◌else◌};
 ghost use Rattle.std.specs.Bool.{MatchBool};
 ghost use Rattle.outside.specs.Causes.{Rose};
 ghost use Rattle.outside_memory.specs.FaultPlan.{fresh_plan, fails_now, after_call, after_fault};
@@ -43,9 +43,14 @@ impl MemAcceptor {
 impl Acceptor for MemAcceptor {
     type Link = MemLink;
 
+    ghost tells = { true };
+
+    ghost left = { λ a. a.links };
+
     ghost fault_count = { λ a. a.plan.faults };
 
     fn listen(&mut self, _port: u16) -> Result<(), Failed>
+        ensures left { self.new.links ≡ self.old.links }
         ensures cause { OnErr result (Rose self.old.plan.faults self.new.plan.faults) }
         ensures calm { OnOk result (self.new.plan.faults ≡ self.old.plan.faults) }
         ensures later { self.old.plan.faults ≤ self.new.plan.faults }
@@ -59,13 +64,14 @@ impl Acceptor for MemAcceptor {
         Ok(())
     }
 
-    fn next(&mut self) -> Result<MemLink, Failed>
+    fn next(&mut self) -> Result<Option<MemLink>, Failed>
+        ensures took { IfOk result (λ link. self.old.links ≡ option_to_list link ++ self.new.links) }
         ensures cause { OnErr result (Rose self.old.plan.faults self.new.plan.faults) }
         ensures calm { OnOk result (self.new.plan.faults ≡ self.old.plan.faults) }
         ensures later { self.old.plan.faults ≤ self.new.plan.faults }
 
         // It gives the links in order, and fails exactly where the plan says so or no link is left.
-        ensures gave { IfOk result (λ link. self.old.links ≡ link ∷ self.new.links) }
+        ensures some { IfOk result (λ link. IsSome link) }
         ensures nothing { OnErr result (self.new.links ≡ self.old.links) }
         ensures planned { IsTrue (fails_now self.old.plan) → IsErr result }
         ensures only { OnErr result (IsTrue (fails_now self.old.plan) ⊎ (self.old.links ≡ [])) }
@@ -76,7 +82,7 @@ impl Acceptor for MemAcceptor {
             return Err(Failed);
         }
         match self.links.next() {
-            Some(link) => Ok(link),
+            Some(link) => Ok(Some(link)),
             None => {
                 self.plan.fault();
                 Err(Failed)

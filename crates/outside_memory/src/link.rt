@@ -1,5 +1,5 @@
 //! A client's link in memory.
-ghost use Rattle.std.specs.Prelude.{refl, ◌≡◌, ◌+◌, ◌<◌, ◌≤◌, ◌++◌, ◌⊎◌, [], length, take, drop, true, IsTrue, IsErr, Ok, IfOk, OnOk, OnErr, if◌then◌else◌};
+ghost use Rattle.std.specs.Prelude.{refl, ◌≡◌, ◌+◌, ◌<◌, ◌≤◌, ◌++◌, ◌⊎◌, [], length, take, drop, true, false, IsTrue, IsErr, Ok, IfOk, OnOk, OnErr, if◌then◌else◌};
 ghost use Rattle.std.specs.Bool.{MatchBool};
 ghost use Rattle.outside.specs.Causes.{Rose};
 ghost use Rattle.outside_memory.specs.FaultPlan.{fresh_plan, fails_now, after_call, after_fault};
@@ -7,7 +7,7 @@ ghost use Rattle.outside_memory.specs.Memory.{fresh_sink, taken_count, source_af
 
 use super::sink::MemSink;
 use super::source::MemSource;
-use outside::streams::{Failed, Link, Sink, Source};
+use outside::streams::{Failed, Link, Sink, Source, Stream};
 use std::marker::Model;
 
 /// A link whose bytes come from memory, and that holds in memory what is put into it.
@@ -15,6 +15,7 @@ use std::marker::Model;
 pub struct MemLink {
     source: MemSource,
     sink: MemSink,
+    closed: bool,
 }
 
 impl Model for MemLink {
@@ -22,7 +23,7 @@ impl Model for MemLink {
 
     ghost Value = { LinkState };
 
-    ghost view = { λ l. record { source = l.source; sink = l.sink } };
+    ghost view = { λ l. record { source = l.source; sink = l.sink; closed = l.closed } };
 }
 
 impl MemLink {
@@ -31,10 +32,12 @@ impl MemLink {
     pub fn new(bytes: Vec<u8>, failing_takes: Vec<u64>, failing_puts: Vec<u64>) -> MemLink
         ensures source { result.source ≡ record { left = bytes.items; plan = fresh_plan failing_takes.items } }
         ensures sink { result.sink ≡ fresh_sink failing_puts.items }
+        ensures open { result.closed ≡ false }
     {
         MemLink {
             source: MemSource::new(bytes, failing_takes),
             sink: MemSink::new(failing_puts),
+            closed: false,
         }
     }
 
@@ -108,8 +111,22 @@ impl Sink for MemLink {
     }
 }
 
-impl Link for MemLink {
+impl Stream for MemLink {
     ghost take_is_apart = { λ _. refl };
 
     ghost put_is_apart = { λ _. refl };
+}
+
+impl Link for MemLink {
+    ghost is_closed = { λ l. l.closed };
+
+    fn close(&mut self)
+        ensures closed { self.new.closed ≡ true }
+
+        // It only notes that it was closed: what is left can still be taken.
+        ensures source { self.new.source ≡ self.old.source }
+        ensures sink { self.new.sink ≡ self.old.sink }
+    {
+        self.closed = true;
+    }
 }

@@ -1,9 +1,10 @@
 //! A link over a connection.
 
-ghost use Rattle.std.specs.Prelude.{refl, ◌≡◌, ◌<◌, ◌≤◌, [], length, false, IfOk, OnOk, OnErr};
+ghost use Rattle.std.specs.Prelude.{refl, ◌≡◌, ◌<◌, ◌≤◌, [], length, false, None, IfOk, OnOk, OnErr};
+ghost use Rattle.std.specs.Option.{is_none};
 ghost use Rattle.outside.specs.Causes.{Rose, next_count};
 
-use outside::streams::{Failed, Link, Sink, Source};
+use outside::streams::{Failed, Link, Sink, Source, Stream};
 use std::io::{Read, Write};
 
 /// A link over a connection. It counts the errors that it meets, those of taking and those of putting; its bytes are not observable. A write of no byte of a
@@ -107,8 +108,20 @@ impl<S: Read + Write + Drop> Sink for TcpLink<S> {
     }
 }
 
-impl<S: Read + Write + Drop> Link for TcpLink<S> {
+impl<S: Read + Write + Drop> Stream for TcpLink<S> {
     ghost take_is_apart = { λ l. refl };
 
     ghost put_is_apart = { λ l. refl };
+}
+
+impl<S: Read + Write + Drop> Link for TcpLink<S> {
+    ghost is_closed = { λ l. is_none l.stream };
+
+    fn close(&mut self)
+        ensures closed { self.new.stream ≡ None }
+        ensures takes { self.new.takes ≡ self.old.takes }
+        ensures puts { self.new.puts ≡ self.old.puts }
+    {
+        self.stream = None;
+    }
 }

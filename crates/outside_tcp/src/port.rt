@@ -1,13 +1,16 @@
 //! A port of this machine.
 
-ghost use Rattle.std.specs.Prelude.{◌≡◌, ◌≤◌, OnOk, OnErr};
+ghost use Rattle.std.specs.Prelude.{◌≡◌, ◌≤◌, [], false, OnOk, OnErr};
 ghost use Rattle.outside.specs.Causes.{Rose, next_count};
 
 use crate::link::TcpLink;
 use outside::streams::{Acceptor, Failed};
+use std::io;
+use std::io::ErrorKind;
 use std::net::{Ipv4Addr, Net, SocketAddr, TcpListener, TcpStream};
 
-/// A port on 127.0.0.1, on which it listens from its first call of `listen` on. It counts the errors that it meets; before it listens, `next` is one.
+/// A port on 127.0.0.1, on which it listens from its first call of `listen` on. It counts the errors that it meets; before it listens, `next` is one. `next`
+/// waits for no client.
 #[derive(Drop)]
 pub struct TcpPort<R: Net<Listener = TcpListener, Stream = TcpStream> + Drop> {
     runtime: R,
@@ -39,8 +42,30 @@ impl<R: Net<Listener = TcpListener, Stream = TcpStream> + Drop> TcpPort<R> {
     }
 }
 
+/// Listens on an address, so that to accept waits for nobody.
+fn bound<R: Net<Listener = TcpListener, Stream = TcpStream>>(
+    rt: &R,
+    address: SocketAddr,
+) -> io::Result<TcpListener> {
+    let listener = TcpListener::bind(rt, address)?;
+    listener.set_nonblocking(true)?;
+    Ok(listener)
+}
+
+/// Returns whether an error of accepting passes: no client was there, or one that left at once.
+fn is_passing(kind: ErrorKind) -> bool {
+    matches!(
+        kind,
+        ErrorKind::WouldBlock | ErrorKind::Interrupted | ErrorKind::ConnectionAborted
+    )
+}
+
 impl<R: Net<Listener = TcpListener, Stream = TcpStream> + Drop> Acceptor for TcpPort<R> {
     type Link = TcpLink<TcpStream>;
+
+    ghost tells = { false };
+
+    ghost left = { λ _. [] };
 
     ghost fault_count = { λ a. a.faults };
 
@@ -50,7 +75,7 @@ impl<R: Net<Listener = TcpListener, Stream = TcpStream> + Drop> Acceptor for Tcp
         ensures later { self.old.faults ≤ self.new.faults }
     {
         let address = SocketAddr::from((Ipv4Addr::LOCALHOST, port));
-        match TcpListener::bind(&self.runtime, address) {
+        match bound(&self.runtime, address) {
             Ok(listener) => {
                 self.listener = Some(listener);
                 Ok(())
@@ -59,22 +84,22 @@ impl<R: Net<Listener = TcpListener, Stream = TcpStream> + Drop> Acceptor for Tcp
         }
     }
 
-    fn next(&mut self) -> Result<TcpLink<TcpStream>, Failed>
+    fn next(&mut self) -> Result<Option<TcpLink<TcpStream>>, Failed>
         ensures cause { OnErr result (Rose self.old.faults self.new.faults) }
         ensures calm { OnOk result (self.new.faults ≡ self.old.faults) }
         ensures later { self.old.faults ≤ self.new.faults }
     {
-        let accepted = match &self.listener {
-            Some(listener) => listener.accept().ok(),
-            None => None,
+        let Some(listener) = &self.listener else {
+            return self.failed();
         };
-        match accepted {
-            Some((stream, _)) => {
+        match listener.accept() {
+            Ok((stream, _)) => {
                 // Replies are written whole, so nothing is gained by waiting for more.
                 let _ = stream.set_nodelay(true);
-                Ok(TcpLink::new(stream))
+                Ok(Some(TcpLink::new(stream)))
             }
-            None => self.failed(),
+            Err(e) if is_passing(e.kind()) => Ok(None),
+            Err(_) => self.failed(),
         }
     }
 }

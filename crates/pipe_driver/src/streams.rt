@@ -24,6 +24,7 @@ pub fn put_all<K: Sink>(out: &mut K, piece: &[u8]) -> Result<(), Failed>
     ensures calm { OnOk result (K.fault_count out.new ≡ K.fault_count out.old) }
     ensures later { K.fault_count out.old ≤ K.fault_count out.new }
     ensures noted { K.noted out.new ≡ K.noted out.old }
+    ensures aside { K.beside out.new ≡ K.beside out.old }
 {
     let mut at = 0;
     while at < piece.len() {

@@ -47,7 +47,8 @@ fn three_answers(alloc: Global, acceptor: &mut MemAcceptor) -> Result<String, Ro
 
 fn next_word(alloc: Global, acceptor: &mut MemAcceptor) -> Result<&'static str, RowFault> {
     match acceptor.next() {
-        Ok(link) => talk_word(alloc, link),
+        Ok(Some(link)) => talk_word(alloc, link),
+        Ok(None) => Ok("none"),
         Err(Failed) => Ok("failed"),
     }
 }

@@ -19,6 +19,7 @@ loop-at-preserved g c = record {
   put = put_more g.K.Sink.tells _ _ _ c.args.piece.now c.loop-at.at c.in_ok-at.field-0 c.loop-at.invariant.put c.in_ok-at.ensures.put;
   calm = c.in_ok-at.ensures.calm ∙ c.loop-at.invariant.calm;
   noted = c.put.ensures.noted ∙ c.loop-at.invariant.noted;
+  aside = c.put.ensures.aside ∙ c.loop-at.invariant.aside;
 }
 
 pub returns-in_err-at-clause-prefix : goal.returns-in_err-at-clause-prefix

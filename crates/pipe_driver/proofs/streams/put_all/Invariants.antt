@@ -12,4 +12,5 @@ invariant-loop-at g l = record {
   put : Put g.K.Sink.tells (g.K.Sink.held l.fn.out) (take l.at l.piece) (g.K.Sink.held l.out);
   calm : g.K.Sink.fault_count l.out ≡ g.K.Sink.fault_count l.fn.out;
   noted : g.K.Sink.noted l.out ≡ g.K.Sink.noted l.fn.out;
+  aside : g.K.Sink.beside l.out ≡ g.K.Sink.beside l.fn.out;
 }
