@@ -63,9 +63,10 @@ fn main(rt: HostRuntime) -> io::Result<()> {
 COPIES = """\
 //! Copies of a moving range, from one collection into another.
 
-ghost use Rattle.std.specs.Prelude.{◌≡◌, ◌<◌, ℕ, Some};
+ghost use Rattle.std.specs.Prelude.{◌≡◌, ◌<◌, ℕ, IsTrue, Some, false};
 ghost use Rattle.bson_values.specs.Tree.{Datum};
 ghost use Rattle.mvcc_collection.specs.Collections.{last_in};
+ghost use Rattle.migration_source.specs.Givings.{source_of};
 
 use bson_values::{Aligned, Document, Memory, Value};
 use cluster_base::{NodeId, RequestId, Time};
@@ -179,7 +180,7 @@ impl Sides {
     // Returns the next batch, if the one before is answered.
     fn next(&mut self) -> Result<Option<MoveBatch>, Memory> {
         self.giving.reserve_batch(&self.source.collection)?;
-        if let GiveStage::Unanswered(_) = self.giving.stage() {
+        if !is_answered(&self.giving) {
             return Ok(None);
         }
         Ok(Some(self.giving.next_batch(&self.source.collection)))
@@ -224,6 +225,18 @@ impl Sides {
             }
         }
         count
+    }
+}
+
+// Returns whether no batch is unanswered.
+#[tactic(auto, using(crate::proofs::Stages::ready, crate::proofs::Stages::ended))]
+fn is_answered(giving: &Giving) -> bool
+    ensures { IsTrue result → (source_of giving.now).unanswered ≡ false }
+{
+    match giving.stage() {
+        GiveStage::Unanswered(_) => false,
+        GiveStage::Ready => true,
+        GiveStage::AtEnd { left: _ } => true,
     }
 }
 
@@ -443,8 +456,9 @@ def program(top, rounds):
         "src/main.rt": MAIN.replace("ROUNDS", str(rounds)),
         "src/copies.rt": COPIES,
         "src/books.rt": BOOKS,
-        "proofs/Lib.antt": "pub mod Later\n",
+        "proofs/Lib.antt": "pub mod Later\npub mod Stages\n",
         "proofs/Later.antt": (TOP / "crates/move_rows/proofs/Later.antt").read_text(),
+        "proofs/Stages.antt": (TOP / "crates/move_rows/proofs/Stages.antt").read_text(),
         "proofs/copies/Growing/arrive/Answers.antt": ARRIVE,
     }
     for path, text in files.items():
