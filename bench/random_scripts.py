@@ -11,7 +11,8 @@ the account of the formats in rows/, it checks:
 - the catalogue's changes rise in time, and each was requested; a collection is created once, and split where no chunk begins; each table of the shard is
   what the first so many of them make, each longer than the last;
 - what a reply says of a collection or a chunk was so by its time, and 118 comes only where no earlier reply showed the collection;
-- each read at T is the answer of its pipeline on the entries up to T, and T is not before what its router returned earlier;
+- each read at T is the answer of its pipeline on the entries up to T, and T is not before what its router returned earlier, nor above all entries and
+  ceilings of the shard, or, of a name that was never created, all ceilings of the catalogue;
 - each request has one reply at most, and has one at the end, where its link is still open.
 
     bench/random_scripts.py PROGRAM [SCRIPTS] [SEED]
@@ -199,14 +200,14 @@ class Catalogue:
     """The changes of a catalogue's journal, which must fit: for each name when it was created, and its chunks after each change with the times."""
 
     def __init__(self, path, requests):
-        self.made, last = {}, 0
+        self.made, self.ceiling, last = {}, -1, 0
         commands = [asked.request.command() for asked in requests]
         wanted = {command["own"] for command in commands if command["name"] in ("insert", "update", "delete", "shardCollection")}
         asked_for = [(command["own"], command["middle"]) for command in commands if command["name"] == "split"]
         for record in records(path):
             at = struct.unpack("<Q", record[-8:])[0]
             if record[1] == 0x25:
-                last = max(last, at)
+                self.ceiling, last = max(self.ceiling, at), max(last, at)
                 continue
             length = struct.unpack_from("<I", record, 2)[0]
             namespace = record[6 : 6 + length].decode()
@@ -244,13 +245,13 @@ class History:
     """The entries of a shard, which must be legal, and what they leave."""
 
     def __init__(self, path):
-        self.entries, self.by_number, self.versions, last = [], {}, {}, 0
+        self.entries, self.by_number, self.versions, self.last = [], {}, {}, 0
         for record in records(path):
             if record[1] not in (2, 3):
                 continue
             at = struct.unpack_from("<Q", record, 2)[0]
-            want(at > last, "the times of entries and ceilings do not rise")
-            last = at
+            want(at > self.last, "the times of entries and ceilings do not rise")
+            self.last = at
             if record[1] == 3:
                 continue
             entry = Entry(record)
@@ -308,6 +309,14 @@ def check_write(history, asked, command, fields):
         want(field(fields, "operationTime") == time(max(times)), "another operationTime")
 
 
+def check_stored(history, catalogue, namespace, at):
+    """Whatever is stored later is above the time of a read."""
+    if catalogue.chunks_at(namespace, at) is not None:
+        want(at <= history.last, "a read above all that the shard stored")
+    elif namespace not in catalogue.made:
+        want(at <= catalogue.ceiling, "a read of no collection, above the ceilings of the catalogue")
+
+
 def check_read(history, command, fields):
     inner = fields if command["name"] == "count" else field(fields, "cursor")[1]
     at = field(inner, "atClusterTime")[1]
@@ -349,6 +358,7 @@ def check_reply(history, catalogue, asked):
     if command["name"] in ("insert", "update", "delete"):
         return check_write(history, asked, command, fields)
     want(at >= asked.known, "a read before what its router returned")
+    check_stored(history, catalogue, command["own"], at)
     check_read(history, command, fields)
 
 

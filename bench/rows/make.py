@@ -8,6 +8,7 @@ The pages of the examples go to examples-README-parts.md at the top, to be put i
 """
 import pathlib
 
+import ceilings
 import chunk_scripts
 import chunks
 import cursors
@@ -33,8 +34,8 @@ def main():
     put_file(DATA / "retries.rows", retries.rows())
     put_file(DATA / "chunks.rows", chunks.rows())
     put_file(DATA / "chunks.script.rows", chunk_scripts.rows())
-    put_file(DATA / "retries.script.rows", scripts.rows() + routers.one_router())
-    put_file(DATA / "routers.rows", routers.rows())
+    put_file(DATA / "retries.script.rows", scripts.rows() + routers.one_router() + ceilings.one_router())
+    put_file(DATA / "routers.rows", routers.rows() + ceilings.rows())
     put_file(DATA / "drivers.reads.rows", drivers.rows(DATA / "drivers.rows"))
     sessions.put(TOP / "examples", TOP / "examples-README-parts.md")
 
