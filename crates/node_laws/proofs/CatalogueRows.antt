@@ -229,7 +229,7 @@ makes w book at kept c now x mail good fits less n letters =
           let stores = greatest_both kept (kept_change x ∷ []) in
           let bound_is : v.bound 0 ≡ greatest_kept (kept ++ kept_change x ∷ []) = ap (λ p. v.bound p) (sym fits.state.place) ∙ time in
           let bound : now ≤ v.bound 0 = omega (arith, stores, bound_is, own) in
-          let met : IsMet v w.given now = inr (inr (inl (x, subst (λ l. IsIn x l) (sym s.same) (in_first x c.changes), sym n.at))) in
+          let met : IsMet v w.given now = inr (inr (inl (x, subst (λ l. IsIn x l) (sym s.same) (in_first x c.changes), (let h = n.at in omega (arith, h))))) in
           record {
             node = rw (append-nil w.asked, append-nil w.answered) (record { state = next; met = met; cursors = tt; within = within });
             letters = rw (append-nil w.asked) (letters v later s bound met);

@@ -107,7 +107,7 @@ last_met : (w : World) (book : Book) (at : ℕ) (v : View) (time last : ℕ) (ma
     → IsMet v w.given time → (last ≡ time) ⊎ ((e : Entry) × IsIn e made × (last ≡ e.time)) → IsMet v w.given last
 last_met w book at v time last made entries place same met (inl e) = subst (λ t. IsMet v w.given t) (sym e) met
 last_met w book at v time last made entries place same met (inr (e, i, t)) =
-    inr (inr (inr (e, entry_of_shard v at e place (subst (λ l. IsIn e l) (sym same) (in_back e entries made i)), t)))
+    inr (inr (inr (e, entry_of_shard v at e place (subst (λ l. IsIn e l) (sym same) (in_back e entries made i)), omega (arith, t))))
 
 module _ (w : World) (book : Book) (at : ℕ) (kept : List Kept) (s : Shard) (is : Stood w book at kept s)
     (receiver early now : ℕ) (id : RequestId) (ordered : Bool) (namespace : List ℕ) (statements : List Statement) (dones : List Done) (made : List Entry)

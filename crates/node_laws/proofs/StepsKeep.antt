@@ -73,7 +73,7 @@ input_fits w book at (moment_input moment) good there = inr
       record { node = at; moment = moment; step = w.now },
       in_back (record { node = at; moment = moment; step = w.now }) w.given
           (record { node = at; moment = moment; step = w.now } ∷ []) (in_first (record { node = at; moment = moment; step = w.now }) []),
-      refl,
+      omega arith,
     ))
 input_fits w book at opened_input good there = tt
 

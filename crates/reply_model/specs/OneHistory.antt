@@ -85,15 +85,15 @@ last_from node step moment (g ∷ given) =
 abbrev pub last_given : (node step : ℕ) → List Given → ℕ
 last_given node step given = last_from node step 0 given
 
--- the time occurs in the run: it is that of a moment that was given, of a change of the catalogue or of an entry
+-- the time has come in the run: it is not above that of a moment that was given, of a change of the catalogue or of an entry
 abbrev pub WasMet : Account → ℕ → Type 0
 WasMet account time =
     (time ≡ 0)
-    ⊎ (((g : Given) × IsIn g account.given × (time ≡ time_of_moment g.moment))
-    ⊎ (((x : Change) × IsIn x account.changes × (time ≡ time_of x))
-    ⊎ ((e : Entry) × IsIn e account.history × (time ≡ e.time))))
+    ⊎ (((g : Given) × IsIn g account.given × (time ≤ time_of_moment g.moment))
+    ⊎ (((x : Change) × IsIn x account.changes × (time ≤ time_of x))
+    ⊎ ((e : Entry) × IsIn e account.history × (time ≤ e.time))))
 
--- the reply is a right one to a request that was taken, on its link and with its number, not before it, and at a time that occurs in the run
+-- the reply is a right one to a request that was taken, on its link and with its number, not before it, and at a time that has come in the run
 pub record IsRightOf (account : Account) (cursors : List Cursor) (t : Answered) (next : List Cursor) : Type 0 where
   pub request : Asked
   pub taken : IsIn request account.asked
@@ -125,7 +125,7 @@ IsFresh answered a = AllByRecursion (IsNotBefore a) answered
 abbrev pub IsInOrder : List Asked → Asked → Type 0
 IsInOrder asked a = AllByRecursion (λ (b : Asked). b.id.router ≡ a.id.router → b.id.life ≡ a.id.life → b.came < a.came → b.time ≤ a.time) asked
 
--- what a router knew when it took a request: its last moment, and a time that occurs in the run and is not before that
+-- what a router knew when it took a request: its last moment, and a time that has come in the run and is not before that
 pub record IsKnown (account : Account) (a : Asked) : Type 0 where
   pub moment : a.moment ≡ last_given a.id.router a.came account.given
   pub time : WasMet account a.time

@@ -32,7 +32,7 @@ met_four : WasMet (account_of kept [] []) (timestamp 1000 4)
 met_four = inr (inr (inr (
   third_kept,
   in_later third_kept first_kept (second_kept ∷ third_kept ∷ []) (in_later third_kept second_kept (third_kept ∷ []) (in_first third_kept [])),
-  refl,
+  omega arith,
 )))
 
 first_turn : (asked : List Asked) (answered : List Answered)

@@ -145,10 +145,10 @@ right_of a step counter document there came risen met right =
     record { request = a; taken = there; own = refl; link = refl; number = refl; same = refl; came = came; risen = risen; met = met; right = right }
 
 met_first : WasMet (account_of both_entries all_asked all_told) (timestamp 1000 2)
-met_first = inr (inr (inr (first_entry, in_first first_entry (second_entry ∷ []), refl)))
+met_first = inr (inr (inr (first_entry, in_first first_entry (second_entry ∷ []), omega arith)))
 
 met_second : WasMet (account_of both_entries all_asked all_told) (timestamp 1000 3)
-met_second = inr (inr (inr (second_entry, in_later second_entry first_entry (second_entry ∷ []) (in_first second_entry []), refl)))
+met_second = inr (inr (inr (second_entry, in_later second_entry first_entry (second_entry ∷ []) (in_first second_entry []), omega arith)))
 
 first_right : IsRightOf (account_of both_entries all_asked all_told) [] first_told []
 first_right =

@@ -166,9 +166,9 @@ returns-clause-foretold c =
 never_met : WasMet (account_of (newer_entry ∷ []) [] []) (timestamp 2000 0) → ⊥
 never_met (inl zero) = omega (arith, zero)
 never_met (inr (inl (g, i, same))) =
-    all_at (λ (g : Given). timestamp 2000 0 ≡ time_of_moment g.moment → ⊥) g moments ((λ e. omega (arith, e)), ((λ e. omega (arith, e)), tt)) i same
-never_met (inr (inr (inl (x, i, same)))) = all_at (λ (x : Change). timestamp 2000 0 ≡ time_of x → ⊥) x created ((λ e. omega (arith, e)), tt) i same
-never_met (inr (inr (inr (e, i, same)))) = all_at (λ (e : Entry). timestamp 2000 0 ≡ e.time → ⊥) e (newer_entry ∷ []) ((λ e. omega (arith, e)), tt) i same
+    all_at (λ (g : Given). timestamp 2000 0 ≤ time_of_moment g.moment → ⊥) g moments ((λ e. omega (arith, e)), ((λ e. omega (arith, e)), tt)) i same
+never_met (inr (inr (inl (x, i, same)))) = all_at (λ (x : Change). timestamp 2000 0 ≤ time_of x → ⊥) x created ((λ e. omega (arith, e)), tt) i same
+never_met (inr (inr (inr (e, i, same)))) = all_at (λ (e : Entry). timestamp 2000 0 ≤ e.time → ⊥) e (newer_entry ∷ []) ((λ e. omega (arith, e)), tt) i same
 
 pub returns-clause-made_up : goal.returns-clause-made_up
 returns-clause-made_up c document next is = never_met is.met
