@@ -2,7 +2,7 @@
 use Rattle.std.proofs.Common.{◌≡◌, inl, inr, ℕ, ◌+◌, ◌<◌, ◌≤◌, List, [], ◌∷◌, ◌++◌, refl, sym, ap, subst, ◌∙◌, arith, append-nil, Bool}
 use Rattle.std.specs.Prelude.{Option, Some, None, true, false, max}
 use Rattle.std.specs.List.{AllByRecursion, slice_get}
-use Rattle.history_model.proofs.Lists.{all_weaken, in_first}
+use Rattle.history_model.proofs.Lists.{all_at, all_weaken, in_first}
 use Rattle.bson_model.specs.Tree.{Datum}
 use Rattle.base_model.specs.Identities.{RequestId}
 use Rattle.base_model.specs.Times.{time_of_moment}
@@ -23,7 +23,7 @@ use Rattle.node_model.specs.CatalogueRows.{told, split_told, none_at, at_later, 
 use Rattle.node_model.specs.World.{World}
 use Rattle.node_laws.proofs.Views.{Book, View, view_of, changes_in, MovesNothing, IsAbove, Later}
 use Rattle.node_laws.proofs.GreatestTimes.{greatest_both, within_more}
-use Rattle.node_laws.proofs.CatalogueTables.{IsNoCreation, none_created, table_name, wanted_still}
+use Rattle.node_laws.proofs.CatalogueTables.{some_created, IsNoCreation, none_created, table_name, wanted_still}
 use Rattle.node_laws.proofs.CatalogueAnswers.{created_is, splits, has_bound, no_table, split_known}
 use Rattle.node_laws.proofs.SplitTables.{split_bound, begins_already}
 use Rattle.node_laws.proofs.ReadFacts.{BeginsAfter}
@@ -60,12 +60,18 @@ record AreStored (v : View) (time : ℕ) (changes : List Change) : Type 0 where
 table_known : (v : View) (time : ℕ) (changes : List Change) (namespace : List ℕ) (t : Table) → AreStored v time changes
     → known_table namespace changes ≡ Some t → IsKnownTable v time t × (t.namespace ≡ namespace)
 table_known v time changes namespace t s known =
-    let name : t.namespace ≡ namespace = table_name namespace changes t known in (
+    let name : t.namespace ≡ namespace = table_name namespace changes t known in
+    let c = some_created namespace changes t known in (
       record {
         more = [];
         older = changes;
         all = s.same;
-        past = s.past;
+        begun = record {
+          creation = c.creation;
+          begun = c.begun;
+          name = c.name ∙ sym name;
+          before = all_at (λ x. time_of x ≤ time) (create_change c.creation) changes s.past c.begun;
+        };
         known = ap (λ n. known_table n changes) name ∙ known;
         fitting = s.fitting;
         still = subst (λ l. AllByRecursion MovesNothing l) (sym s.same) s.still;
@@ -151,7 +157,6 @@ quiet : (w : World) (book : Book) (at : ℕ) (kept : List Kept) (c d : Catalogue
 quiet w book at kept c d mail good fits le new met letters = record {
   kind = tt;
   rises = tt;
-  later = le;
   taken = tt;
   told = tt;
   one = one_still w good.one;
@@ -213,7 +218,6 @@ makes w book at kept c now x mail good fits less n letters =
     record {
       kind = tt;
       rises = ((omega arith, wanted_still w.asked x n.wanted), tt);
-      later = omega arith;
       taken = tt;
       told = tt;
       one = one_still w good.one;
@@ -308,7 +312,6 @@ tells_table w book at kept c m namespace create asked_at good fits comes early =
     record {
       kind = tt;
       rises = told_above at c.time asked_at (known_table namespace c.changes);
-      later = omega arith;
       taken = tt;
       told = tt;
       one = one_still w good.one;

@@ -31,12 +31,12 @@ use Rattle.node_laws.proofs.ReadFacts.{NoneBegan, WaitsFor, IsDecided, IsReading
 
 -- TABLES
 
--- a table that the catalogue had by a time: its changes up to one of them make it
+-- a table that the catalogue had: its changes up to one of them make it, and its collection was created by a time
 pub record IsKnownTable (v : View) (time : ℕ) (t : Table) : Type 0 where
   pub more : List Change
   pub older : List Change
   pub all : changes_in v ≡ more ++ older
-  pub past : AllByRecursion (λ x. time_of x ≤ time) older
+  pub begun : WasCreated older t.namespace time
   pub known : known_table t.namespace older ≡ Some t
   pub fitting : AreFitting older
   pub still : AllByRecursion MovesNothing (changes_in v)
@@ -233,12 +233,12 @@ IsMet v given time = WasMet (record (account_in v [] []) { given = given }) time
 
 -- CURSORS
 
--- the number is one of those that were given, and what it shows is of a time that is past
-pub record IsGiven (gave time : ℕ) (c : Cursor) : Type 0 where
+-- the number is one of those that were given, in this life or before it; and what a cursor of this life shows is of a time that is past
+pub record IsGiven (life : ℕ) (begun : Bool) (gave time : ℕ) (c : Cursor) : Type 0 where
   pub n : ℕ
   pub number : c.number ≡ pos n
   pub given : n ≤ gave
-  pub past : c.time ≤ time
+  pub past : IsBy c.life life begun (c.time ≤ time)
 
 -- the cursors of a router, and those of one of its lives
 abbrev pub is_of : (router : ℕ) → Cursor → Bool
@@ -249,7 +249,7 @@ is_of_life router life c = (c.router == router) && (c.life == life)
 
 pub record CursorsFit (cursors : List Cursor) (at : ℕ) (r : Router) : Type 0 where
   pub own : filter (is_of_life at r.life) cursors ≡ r.cursors
-  pub given : AllByRecursion (IsGiven r.gave r.time) (filter (is_of at) cursors)
+  pub given : AllByRecursion (IsGiven r.life r.begun r.gave r.time) (filter (is_of at) cursors)
   pub most : r.gave ≤ block_size * r.blocks
 
 abbrev pub OwnCursors : List Cursor → ℕ → NodeState → Type 0

@@ -51,7 +51,7 @@ known_grows v w a b t later le k =
       more = m.more ++ k.more;
       older = k.older;
       all = m.same ∙ ap (λ l. m.more ++ l) k.all ∙ sym (append_assoc m.more k.more k.older);
-      past = all_weaken (λ x. time_of x ≤ a) (λ x. time_of x ≤ b) k.older (λ x h. omega arith) k.past;
+      begun = (let c = k.begun in record { creation = c.creation; begun = c.begun; name = c.name; before = (let p = c.before in omega arith) });
       known = k.known;
       fitting = k.fitting;
       still = still_grows v w later k.still;

@@ -15,7 +15,7 @@ use Rattle.node_model.specs.RouterRows.{adopted}
 use Rattle.node_laws.proofs.Views.{View, changes_in, MovesNothing}
 use Rattle.node_laws.proofs.Facts.{IsKnownTable}
 use Rattle.node_laws.proofs.Lists.{all_behind}
-use Rattle.node_laws.proofs.CatalogueTables.{some_created, only_now, owns_now, only_at}
+use Rattle.node_laws.proofs.CatalogueTables.{only_now, owns_now, only_at}
 
 pub record FoundTable (namespace : List ℕ) (tables : List Table) (t : Table) : Type 0 where
   pub stands : IsIn t tables
@@ -77,12 +77,12 @@ table_there namespace t (u ∷ tables) name = by_test (bytes_eq u.namespace t.na
 -- a known table is that of a collection that was created by its time
 pub table_created : (v : View) (time : ℕ) (t : Table) → IsKnownTable v time t → WasCreated (changes_in v) t.namespace time
 table_created v time t k =
-    let c = some_created t.namespace k.older t k.known in
+    let c = k.begun in
     record {
       creation = c.creation;
       begun = subst (λ l. IsIn (create_change c.creation) l) (sym k.all) (in_back (create_change c.creation) k.more k.older c.begun);
       name = c.name;
-      before = all_at (λ x. time_of x ≤ time) (create_change c.creation) k.older k.past c.begun;
+      before = c.before;
     }
 
 -- no change that made it moved a chunk

@@ -165,7 +165,7 @@ other_cursors v w j at (catalogue_state c) other same own = own
 other_cursors v w j at (shard_state s) other same own = own
 other_cursors v w j at (router_state r) other same own = record {
   own = same_lives j r.life v w (same j other) ∙ own.own;
-  given = subst (λ l. AllByRecursion (IsGiven r.gave r.time) l) (sym (same j other)) own.given;
+  given = subst (λ l. AllByRecursion (IsGiven r.life r.begun r.gave r.time) l) (sym (same j other)) own.given;
   most = own.most;
 }
 

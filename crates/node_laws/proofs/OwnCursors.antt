@@ -50,12 +50,12 @@ filter_without P cursors c is =
     filter-append P cursors (c ∷ []) ∙ ap (λ (t : Bool). filter P cursors ++ (if t then c ∷ [] else [])) is ∙ append-nil (filter P cursors)
 
 -- a number above those that were given is new
-pub new_number : (id : RequestId) (gave time n : ℕ) (cursors : List Cursor) → AllByRecursion (IsGiven gave time) (filter (is_of id.router) cursors) → gave < n
+pub new_number : (id : RequestId) (life : ℕ) (begun : Bool) (gave time n : ℕ) (cursors : List Cursor) → AllByRecursion (IsGiven life begun gave time) (filter (is_of id.router) cursors) → gave < n
     → AllByRecursion (λ (c : Cursor). ((c.router == id.router) && int_eq c.number (pos n)) ≡ false) cursors
-new_number id gave time n [] all less = tt
-new_number id gave time n (c ∷ cursors) all less = by_router (c.router == id.router) refl all (λ g. new_number id gave time n cursors g less)
+new_number id life begun gave time n [] all less = tt
+new_number id life begun gave time n (c ∷ cursors) all less = by_router (c.router == id.router) refl all (λ g. new_number id life begun gave time n cursors g less)
   where
-    other : IsGiven gave time c → (t : Bool) → int_eq c.number (pos n) ≡ t → t ≡ false
+    other : IsGiven life begun gave time c → (t : Bool) → int_eq c.number (pos n) ≡ t → t ≡ false
     other g false h = refl
     other g true h =
         let same : pos g.n ≡ pos n = sym g.number ∙ (Decides-int_eq c.number (pos n)).0 h in
@@ -64,8 +64,8 @@ new_number id gave time n (c ∷ cursors) all less = by_router (c.router == id.r
         absurd (omega arith)
 
     by_router : (b : Bool) → (c.router == id.router) ≡ b
-        → AllByRecursion (IsGiven gave time) (if b then c ∷ filter (is_of id.router) cursors else filter (is_of id.router) cursors)
-        → (AllByRecursion (IsGiven gave time) (filter (is_of id.router) cursors)
+        → AllByRecursion (IsGiven life begun gave time) (if b then c ∷ filter (is_of id.router) cursors else filter (is_of id.router) cursors)
+        → (AllByRecursion (IsGiven life begun gave time) (filter (is_of id.router) cursors)
         → AllByRecursion (λ (d : Cursor). ((d.router == id.router) && int_eq d.number (pos n)) ≡ false) cursors)
         → (((c.router == id.router) && int_eq c.number (pos n)) ≡ false) × AllByRecursion
         (λ (d : Cursor). ((d.router == id.router) && int_eq d.number (pos n)) ≡ false) cursors
@@ -151,35 +151,35 @@ remaining_elsewhere id number remaining router (c ∷ cursors) other = by_number
     by_number false h more = ap (λ l. if c.router == router then c ∷ l else l) more
 
 -- their numbers and times stay
-pub remaining_given : (id : RequestId) (number : ℤ) (remaining : List Fields) (router gave time : ℕ) (cursors : List Cursor)
-    → AllByRecursion (IsGiven gave time) (filter (is_of router) cursors)
-    → AllByRecursion (IsGiven gave time) (filter (is_of router) (with_remaining id number remaining cursors))
-remaining_given id number remaining router gave time [] all = tt
-remaining_given id number remaining router gave time (c ∷ cursors) all =
-    by_number (has_number id number c) all (λ more. remaining_given id number remaining router gave time cursors more)
+pub remaining_given : (id : RequestId) (number : ℤ) (remaining : List Fields) (router life : ℕ) (begun : Bool) (gave time : ℕ) (cursors : List Cursor)
+    → AllByRecursion (IsGiven life begun gave time) (filter (is_of router) cursors)
+    → AllByRecursion (IsGiven life begun gave time) (filter (is_of router) (with_remaining id number remaining cursors))
+remaining_given id number remaining router life begun gave time [] all = tt
+remaining_given id number remaining router life begun gave time (c ∷ cursors) all =
+    by_number (has_number id number c) all (λ more. remaining_given id number remaining router life begun gave time cursors more)
   where
-    left : IsGiven gave time c → IsGiven gave time (left_with c remaining)
+    left : IsGiven life begun gave time c → IsGiven life begun gave time (left_with c remaining)
     left g = record { n = g.n; number = g.number; given = g.given; past = g.past }
 
-    by_first : (b : Bool) → AllByRecursion (IsGiven gave time) (if b then c ∷ filter (is_of router) cursors else filter (is_of router) cursors)
-        → AllByRecursion (IsGiven gave time) (if b then left_with c remaining ∷ filter (is_of router) cursors else filter (is_of router) cursors)
+    by_first : (b : Bool) → AllByRecursion (IsGiven life begun gave time) (if b then c ∷ filter (is_of router) cursors else filter (is_of router) cursors)
+        → AllByRecursion (IsGiven life begun gave time) (if b then left_with c remaining ∷ filter (is_of router) cursors else filter (is_of router) cursors)
     by_first true g = (left g.0, g.1)
     by_first false g = g
 
-    by_rest : (b : Bool) → AllByRecursion (IsGiven gave time) (if b then c ∷ filter (is_of router) cursors else filter (is_of router) cursors)
-        → (AllByRecursion (IsGiven gave time) (filter (is_of router) cursors)
-        → AllByRecursion (IsGiven gave time) (filter (is_of router) (with_remaining id number remaining cursors)))
-        → AllByRecursion (IsGiven gave time)
+    by_rest : (b : Bool) → AllByRecursion (IsGiven life begun gave time) (if b then c ∷ filter (is_of router) cursors else filter (is_of router) cursors)
+        → (AllByRecursion (IsGiven life begun gave time) (filter (is_of router) cursors)
+        → AllByRecursion (IsGiven life begun gave time) (filter (is_of router) (with_remaining id number remaining cursors)))
+        → AllByRecursion (IsGiven life begun gave time)
         (if b then c ∷ filter (is_of router) (with_remaining id number remaining cursors) else filter (is_of router)
         (with_remaining id number remaining cursors))
     by_rest true g more = (g.0, more g.1)
     by_rest false g more = more g
 
-    by_number : (t : Bool) → AllByRecursion (IsGiven gave time)
+    by_number : (t : Bool) → AllByRecursion (IsGiven life begun gave time)
         (if c.router == router then c ∷ filter (is_of router) cursors else filter (is_of router) cursors)
-        → (AllByRecursion (IsGiven gave time) (filter (is_of router) cursors)
-        → AllByRecursion (IsGiven gave time) (filter (is_of router) (with_remaining id number remaining cursors)))
-        → AllByRecursion (IsGiven gave time)
+        → (AllByRecursion (IsGiven life begun gave time) (filter (is_of router) cursors)
+        → AllByRecursion (IsGiven life begun gave time) (filter (is_of router) (with_remaining id number remaining cursors)))
+        → AllByRecursion (IsGiven life begun gave time)
         (filter (is_of router) (if t then left_with c remaining ∷ cursors else c ∷ with_remaining id number remaining cursors))
     by_number true g more = by_first (c.router == router) g
     by_number false g more = by_rest (c.router == router) g more
@@ -192,13 +192,13 @@ pub record KillsAll (id : RequestId) (namespace : List ℕ) (cursors : List Curs
   pub closes : Kills id namespace cursors numbers killed missing after
   pub own : filter (own_life id) after ≡ next
   pub elsewhere : (router : ℕ) → router ≢ id.router → filter (is_of router) after ≡ filter (is_of router) cursors
-  pub given : (gave time : ℕ) → AllByRecursion (IsGiven gave time) (filter (is_of id.router) cursors)
-      → AllByRecursion (IsGiven gave time) (filter (is_of id.router) after)
+  pub given : (life : ℕ) (begun : Bool) (gave time : ℕ) → AllByRecursion (IsGiven life begun gave time) (filter (is_of id.router) cursors)
+      → AllByRecursion (IsGiven life begun gave time) (filter (is_of id.router) after)
 
 pub kills_all : (id : RequestId) (namespace : List ℕ) (own all : List Cursor) (numbers killed missing : List ℤ) (next : List Cursor)
     → Kills id namespace own numbers killed missing next → filter (own_life id) all ≡ own → KillsAll id namespace all numbers killed missing next
 kills_all id namespace _ all _ _ _ _ (kills_none cursors) same = record
-    { after = all; closes = kills_none all; own = same; elsewhere = λ router other. refl; given = λ gave time g. g }
+    { after = all; closes = kills_none all; own = same; elsewhere = λ router other. refl; given = λ life begun gave time g. g }
 kills_all id namespace _ all _ _ _ _ (kills cursors next number numbers killed missing c found more) same =
     let open_all : open_cursor id number namespace all ≡ Some c = sym (open_own id number namespace all)
     ∙ ap (λ l. open_cursor id number namespace l) same ∙ found in
@@ -211,7 +211,7 @@ kills_all id namespace _ all _ _ _ _ (kills cursors next number numbers killed m
       closes = kills all k.after number numbers killed missing c open_all k.closes;
       own = k.own;
       elsewhere = λ router other. k.elsewhere router other ∙ remaining_elsewhere id number [] router all other;
-      given = λ gave time g. k.given gave time (remaining_given id number [] id.router gave time all g);
+      given = λ life begun gave time g. k.given life begun gave time (remaining_given id number [] id.router life begun gave time all g);
     }
 kills_all id namespace _ all _ _ _ _ (misses cursors next number numbers killed missing none more) same =
     let none_all : open_cursor id number namespace all ≡ None = sym (open_own id number namespace all)

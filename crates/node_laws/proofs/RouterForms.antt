@@ -104,7 +104,7 @@ module _ (w : World) (book : Book) (at : ℕ) (kept : List Kept) (r : Router) (g
   pub turns_stay : (time moment : ℕ) (tables : List Table) (requests : List Open) → r.time ≤ time
       → Turns book.cursors book.cursors at (goes_to r time moment tables requests (as_before r))
   turns_stay time moment tables requests later =
-      turns_same book.cursors at r (goes_to r time moment tables requests (as_before r)) h.cursors refl refl refl refl later
+      turns_same book.cursors at r (goes_to r time moment tables requests (as_before r)) h.cursors refl (λ e. e) refl refl refl later
 
   abbrev pub quiet : (time moment : ℕ) (tables : List Table) (requests : List Open) → r.time ≤ time
       → Leaves w book at r (goes_to r time moment tables requests (as_before r)) (as_before r)

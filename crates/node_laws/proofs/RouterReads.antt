@@ -1,5 +1,5 @@
 -- The rows of a read determine the reply of a router.
-use Rattle.std.proofs.Common.{◌≡◌, ◌≢◌, inl, inr, ℕ, ◌≤◌, ◌*◌, List, [], ◌∷◌, ◌++◌, refl, sym, subst, ◌∙◌, arith, Bool}
+use Rattle.std.proofs.Common.{◌≡◌, ◌≢◌, inl, inr, ℕ, ◌≤◌, ◌*◌, List, [], ◌∷◌, ◌++◌, refl, sym, ap, subst, ◌∙◌, arith, Bool}
 use Rattle.std.specs.Prelude.{pos, Some, None, Ok, Err, true, false, length, drop, codes, nat_lt}
 use Rattle.std.specs.List.{AllByRecursion}
 use Rattle.pipeline_model.specs.Batches.{IsBatch}
@@ -25,7 +25,7 @@ use Rattle.node_model.specs.RouterRows.{id_of, heard, Opened, as_before, too_muc
 use Rattle.node_model.specs.World.{World}
 use Rattle.node_laws.proofs.Views.{Book, View, view_of, chosen_time, history_in}
 use Rattle.node_laws.proofs.ReadFacts.{WaitsFor, IsDecided, IsReading, IsMade, IsTooMuch}
-use Rattle.node_laws.proofs.Facts.{WorkFits, HasTime, IsOpenOf, CursorsFit, HeldFits, NeighboursFit, SentFits, Good}
+use Rattle.node_laws.proofs.Facts.{WorkFits, HasTime, IsOpenOf, IsBy, CursorsFit, HeldFits, NeighboursFit, SentFits, Good}
 use Rattle.node_laws.proofs.Owes.{Owes}
 use Rattle.node_laws.proofs.Journals.{later_self}
 use Rattle.node_laws.proofs.Answers.{some_none, StaysRight}
@@ -35,7 +35,7 @@ use Rattle.node_laws.proofs.OwnCursors.{new_number}
 use Rattle.node_laws.proofs.ReadTimes.{read_int64}
 use Rattle.node_laws.proofs.RouterAnswers.{as_answered, answer_fits}
 use Rattle.node_laws.proofs.ReadAnswers.{MadeFor, made_for, rows_give, rows_exceed, told_alike, overflow_right, excess_right, number_right, batch_right}
-use Rattle.node_laws.proofs.Turns.{Turns, next_above, one_more_number, turns_one}
+use Rattle.node_laws.proofs.Turns.{Turns, began_by, next_above, one_more_number, turns_one}
 use Rattle.node_laws.proofs.RouterLater.{goes_to, tells, IsTimeless}
 use Rattle.node_laws.proofs.RouterForms.{IsBehind, came_by, turns_stay, told_owes}
 use Rattle.node_laws.proofs.RouterMessages.{body_in, later, heard_met}
@@ -151,6 +151,14 @@ module _ (w : World) (book : Book) (at : ℕ) (kept : List Kept) (r : Router) (g
       mine : CursorsFit book.cursors r.me r
       mine = subst (λ n. CursorsFit book.cursors n r) (sym h.state.own) h.cursors
 
+      began : r.begun ≡ true
+      began =
+          let o : IsOpenOf (view_of w.nodes book) w.asked w.answered r q = all_at (IsOpenOf (view_of w.nodes book) w.asked w.answered r) q r.requests
+          h.state.requests found.stands in
+          began_by o.request.id.life r.life r.begun (o.request.id.count ≤ r.count) (ap (λ (i : RequestId). i.life) o.own)
+          (all_at (λ (a : Asked). a.id.router ≡ at → IsBy a.id.life r.life r.begun (a.id.count ≤ r.count)) o.request w.asked h.state.counted o.taken
+          (ap (λ (i : RequestId). i.router) o.own ∙ h.state.own))
+
       reached_now : time ≤ heard r m
       reached_now =
           let u : View = view_of w.nodes book in
@@ -170,7 +178,7 @@ module _ (w : World) (book : Book) (at : ℕ) (kept : List Kept) (r : Router) (g
           (turns_one book.cursors r
           (goes_to r (heard r m) r.moment r.tables (without q.count r.requests)
           (gives_number r (r.cursors ++ new_cursor r q time (drop (length batch) documents) ∷ [])))
-          (new_cursor r q time (drop (length batch) documents)) mine refl refl refl reached refl up more.own more.gave more.most)
+          (new_cursor r q time (drop (length batch) documents)) mine refl refl refl reached refl began up more.own more.gave more.most)
 
       opened : (a : Asked) → a.id ≡ id_of r q.count
           → Opens a.id false q.namespace time book.cursors (drop (length batch) documents) (pos (next_number r))
@@ -178,7 +186,7 @@ module _ (w : World) (book : Book) (at : ℕ) (kept : List Kept) (r : Router) (g
       opened a own =
           let less = next_above r mine.most in
           let new : IsNewNumber (id_of r q.count) (pos (next_number r)) book.cursors =
-          ((next_number r, omega (arith, less), refl), new_number (id_of r q.count) r.gave r.time (next_number r) book.cursors mine.given less) in
+          ((next_number r, omega (arith, less), refl), new_number (id_of r q.count) r.life r.begun r.gave r.time (next_number r) book.cursors mine.given less) in
           subst (λ i. Opens i false q.namespace time book.cursors (drop (length batch) documents) (pos (next_number r))
           (book.cursors ++ new_cursor r q time (drop (length batch) documents) ∷ [])) (sym own)
           (opens_one (drop (length batch) documents) (pos (next_number r)) rest refl new)

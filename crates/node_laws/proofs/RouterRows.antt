@@ -174,7 +174,7 @@ module _ (w : World) (book : Book) (at : ℕ) (kept : List Kept) (r : Router) (g
 
   -- the cursors stay
   turns_kept : (more : List Open) → Turns book.cursors book.cursors at (took r r.cursors more)
-  turns_kept more = turns_same book.cursors at r (took r r.cursors more) h.cursors refl refl refl refl (omega arith)
+  turns_kept more = turns_same book.cursors at r (took r r.cursors more) h.cursors refl (λ e. e) refl refl refl (omega arith)
 
   plain_owes : (answer : Answer) → plan_of r (id_of r (r.count + 1)) request.more (command_of request) ≡ at_once answer
       → Owes w book at (record { state = router_state r; kept = kept })
@@ -240,7 +240,7 @@ module _ (w : World) (book : Book) (at : ℕ) (kept : List Kept) (r : Router) (g
       (unless_silent request book.cursors (with_remaining (id_of r (r.count + 1)) c.number (drop (length batch.documents) c.remaining) book.cursors))
       (turns request.more)
       (next_below r.time batch (subst (λ n. n ≤ r.time) (sym shows.time)
-      (open_past (id_of r (r.count + 1)) get.cursor get.namespace r.gave r.time book.cursors c (found_all get.cursor get.namespace (Some c) found) mine.given)))
+      (open_past (id_of r (r.count + 1)) get.cursor get.namespace r.begun r.gave r.time book.cursors c (found_all get.cursor get.namespace (Some c) found) mine.given)))
       (λ v. record {
         right = right_more get c batch (with_remaining (id_of r (r.count + 1)) c.number (drop (length batch.documents) c.remaining) book.cursors)
             (batch_asked get (command_of request) plan) (found_all get.cursor get.namespace (Some c) found)
@@ -256,7 +256,7 @@ module _ (w : World) (book : Book) (at : ℕ) (kept : List Kept) (r : Router) (g
           subst (λ n. Turns book.cursors (with_remaining (id_of r (r.count + 1)) c.number (drop (length batch.documents) c.remaining) book.cursors) n
           (took r next [])) h.state.own
           (turns_left book.cursors r (took r next []) (id_of r (r.count + 1)) c.number (drop (length batch.documents) c.remaining) mine refl refl refl
-          shows.rest refl refl (omega arith))
+          (λ e. e) shows.rest refl refl (omega arith))
 
   missing_owes : (get : GetMore) → plan_of r (id_of r (r.count + 1)) request.more (command_of request) ≡ needs_batch get
       → open_cursor (id_of r (r.count + 1)) get.cursor get.namespace r.cursors ≡ None
@@ -286,7 +286,7 @@ module _ (w : World) (book : Book) (at : ℕ) (kept : List Kept) (r : Router) (g
       let k = kills_all (id_of r (r.count + 1)) kill.namespace r.cursors book.cursors kill.cursors killed missing next ends mine.own in
       told_at_once (killed_answer killed missing) next k.after
       (subst (λ n. Turns book.cursors k.after n (took r next [])) h.state.own
-      (turns_closed book.cursors r (took r next []) (id_of r (r.count + 1)) kill.namespace kill.cursors killed missing next mine refl refl k refl refl refl
+      (turns_closed book.cursors r (took r next []) (id_of r (r.count + 1)) kill.namespace kill.cursors killed missing next mine refl refl k refl (λ e. e) refl refl
       refl (omega arith)))
       (killed_below r.time killed missing)
       (λ v. record { right = right_kill kill killed missing k.after (end_asked kill (command_of request) plan) k.closes refl; settled = tt })

@@ -1,6 +1,6 @@
 -- A router's life begins, and a request comes.
 use Rattle.std.proofs.Common.{◌≡◌, ◌≢◌, inl, inr, ℕ, ℤ, ◌+◌, ◌<◌, ◌≤◌, List, [], ◌∷◌, ◌++◌, refl, sym, ap, subst, ◌∙◌, arith, append-nil, Bool}
-use Rattle.std.specs.Prelude.{None, true, false}
+use Rattle.std.specs.Prelude.{None, true, false, filter}
 use Rattle.std.specs.List.{AllByRecursion}
 use Rattle.history_model.proofs.Lists.{all_weaken, all_append, all_at, in_back, in_first, in_prefix}
 use Rattle.opmsg_model.specs.Requests.{Request}
@@ -16,11 +16,11 @@ use Rattle.node_model.specs.RouterRows.{id_of, begins, takes, with_cursors, take
 use Rattle.node_model.specs.World.{World, answered_by}
 use Rattle.node_laws.proofs.Views.{Choice, Book, View, view_of, chosen_time}
 use Rattle.node_laws.proofs.GreatestTimes.{within_more}
-use Rattle.node_laws.proofs.Facts.{IsOpenOf, IsBy, ToldBelow, counts_of, AreDifferentCounts, IsClosedOrOpen, RouterFits, CursorsFit, HeldFits, AnswersFit, no_answer, one_answer, Good}
+use Rattle.node_laws.proofs.Facts.{IsOpenOf, IsBy, is_of, ToldBelow, counts_of, AreDifferentCounts, IsClosedOrOpen, RouterFits, CursorsFit, HeldFits, AnswersFit, no_answer, one_answer, Good}
 use Rattle.node_laws.proofs.Owes.{IsSaid, Owes}
 use Rattle.node_laws.proofs.Lists.{all_mapped, map_longer}
 use Rattle.node_laws.proofs.Choices.{none_longer, none_of_others}
-use Rattle.node_laws.proofs.Turns.{Turns}
+use Rattle.node_laws.proofs.Turns.{Turns, given_later}
 use Rattle.node_laws.proofs.Growth.{met_later}
 use Rattle.node_laws.proofs.Others.{open_grows, closed_grows}
 use Rattle.node_laws.proofs.RouterAnswers.{as_answered}
@@ -132,7 +132,6 @@ module _ (w : World) (book : Book) (at : ℕ) (kept : List Kept) (r : Router) (g
   begin_owes none = record {
     kind = tt;
     rises = (tt, tt);
-    later = omega arith;
     taken = tt;
     told = tt;
     one = rw (append-nil w.asked) good.one;
@@ -147,7 +146,12 @@ module _ (w : World) (book : Book) (at : ℕ) (kept : List Kept) (r : Router) (g
       node = rw (append-nil w.asked, append-nil w.answered) (record {
         state = begun_fits v (grows, others) chosen none;
         met = met_later (view_of w.nodes book) v w.given r.time grows h.met;
-        cursors = subst (λ l. CursorsFit l at (begins r)) (sym cursors) (record { own = h.cursors.own; given = h.cursors.given; most = h.cursors.most });
+        cursors = subst (λ l. CursorsFit l at (begins r)) (sym cursors) (record {
+          own = h.cursors.own;
+          given = given_later r.life r.begun true r.gave r.gave r.time r.time (filter (is_of at) book.cursors) (λ e. refl) (omega arith) (omega arith)
+              h.cursors.given;
+          most = h.cursors.most;
+        });
         within = within_more kept (kept_life r.life ∷ []) r.time r.time h.within (omega arith) (omega arith, tt);
       });
       letters = tt;
@@ -285,7 +289,6 @@ module _ (w : World) (book : Book) (at : ℕ) (kept : List Kept) (r : Router) (g
     takes_owes news own after more mail replies chose turns apart counts names once below times closed row = record {
       kind = tt;
       rises = tt;
-      later = omega arith;
       taken = (mine.own, tt);
       told = all_weaken (λ (x : Reply). x.id ≡ id_of r (r.count + 1)) (λ (x : Reply). x.id.router ≡ at) replies
           (λ x e. ap (λ (i : RequestId). i.router) e ∙ mine.own) names;

@@ -1,5 +1,5 @@
 -- What a router's step leaves of its cursors, and of those of all.
-use Rattle.std.proofs.Common.{◌≡◌, ◌≢◌, ℕ, ◌+◌, ◌<◌, ◌≤◌, ◌*◌, List, [], ◌∷◌, ◌++◌, refl, sym, ap, subst, ◌∙◌, arith, Bool}
+use Rattle.std.proofs.Common.{◌≡◌, ◌≢◌, inl, inr, ℕ, ◌+◌, ◌<◌, ◌≤◌, ◌*◌, List, [], ◌∷◌, ◌++◌, refl, sym, ap, subst, ◌∙◌, arith, Bool}
 use Rattle.std.specs.Prelude.{ℤ, pos, Some, true, false, filter, ◌==◌, ◌&&◌, nat_lt, if◌then◌else◌}
 use Rattle.std.specs.List.{AllByRecursion}
 use Rattle.std.specs.Ordering.{int_eq}
@@ -13,7 +13,7 @@ use Rattle.base_model.specs.Identities.{RequestId}
 use Rattle.reply_model.specs.Cursors.{Cursor, has_number, is_open, open_cursor, with_remaining}
 use Rattle.node_model.specs.States.{Router}
 use Rattle.node_model.specs.RouterRows.{Opened, block_size, gives_number, next_number}
-use Rattle.node_laws.proofs.Facts.{IsGiven, is_of, is_of_life, CursorsFit}
+use Rattle.node_laws.proofs.Facts.{IsBy, IsGiven, is_of, is_of_life, CursorsFit}
 use Rattle.node_laws.proofs.OwnCursors.{filter_with, filter_without, own_life, remaining_own, remaining_elsewhere, remaining_given, KillsAll}
 
 -- the router has these cursors of all, and those of other routers stay
@@ -21,20 +21,32 @@ pub record Turns (before after : List Cursor) (at : ℕ) (s : Router) : Type 0 w
   pub fits : CursorsFit after at s
   pub elsewhere : (router : ℕ) → router ≢ at → filter (is_of router) after ≡ filter (is_of router) before
 
-given_later : (gave more early late : ℕ) (cursors : List Cursor) → gave ≤ more → early ≤ late → AllByRecursion (IsGiven gave early) cursors
-    → AllByRecursion (IsGiven more late) cursors
-given_later gave more early late cursors up later all =
-    all_weaken (IsGiven gave early) (IsGiven more late) cursors
-    (λ c g. record { n = g.n; number = g.number; given = (let h = g.given in omega arith); past = (let h = g.past in omega arith) }) all
+-- what is in this life shows that it began
+pub began_by : (life now : ℕ) (begun : Bool) (P : Type 0) → life ≡ now → IsBy life now begun P → begun ≡ true
+began_by life now begun P same (inl less) = absurd (omega (arith, same))
+began_by life now begun P same (inr (e, began, p)) = began
+
+-- of a life that began, or not
+pub given_later : (life : ℕ) (begun is : Bool) (gave more early late : ℕ) (cursors : List Cursor) → (begun ≡ true → is ≡ true) → gave ≤ more → early ≤ late
+    → AllByRecursion (IsGiven life begun gave early) cursors
+    → AllByRecursion (IsGiven life is more late) cursors
+given_later life begun is gave more early late cursors goes_on up later all =
+    all_weaken (IsGiven life begun gave early) (IsGiven life is more late) cursors
+    (λ c g. record { n = g.n; number = g.number; given = (let h = g.given in omega arith); past = by_past c g.past }) all
+  where
+    by_past : (c : Cursor) → IsBy c.life life begun (c.time ≤ early) → IsBy c.life life is (c.time ≤ late)
+    by_past c (inl less) = inl less
+    by_past c (inr (same, began, past)) = inr (same, goes_on began, omega arith)
 
 -- a router at a later time, with the cursors that it had
-pub turns_same : (cursors : List Cursor) (at : ℕ) (r s : Router) → CursorsFit cursors at r → s.life ≡ r.life → s.cursors ≡ r.cursors → s.blocks ≡ r.blocks
-    → s.gave ≡ r.gave
+pub turns_same : (cursors : List Cursor) (at : ℕ) (r s : Router) → CursorsFit cursors at r → s.life ≡ r.life → (r.begun ≡ true → s.begun ≡ true)
+    → s.cursors ≡ r.cursors → s.blocks ≡ r.blocks → s.gave ≡ r.gave
     → r.time ≤ s.time → Turns cursors cursors at s
-turns_same cursors at r s fits life own blocks gave later = record {
+turns_same cursors at r s fits life goes_on own blocks gave later = record {
   fits = record {
     own = ap (λ l. filter (is_of_life at l) cursors) life ∙ fits.own ∙ sym own;
-    given = given_later r.gave s.gave r.time s.time (filter (is_of at) cursors) (omega (arith, gave)) later fits.given;
+    given = subst (λ n. AllByRecursion (IsGiven n s.begun s.gave s.time) (filter (is_of at) cursors)) (sym life)
+        (given_later r.life r.begun s.begun r.gave s.gave r.time s.time (filter (is_of at) cursors) goes_on (omega (arith, gave)) later fits.given);
     most = (let h = fits.most in omega (arith, h, ap (λ n. block_size * n) blocks, gave));
   };
   elsewhere = λ router other. refl;
@@ -68,9 +80,9 @@ one_more_number r cursors = by_test (nat_lt r.gave (block_size * r.blocks)) refl
 -- a cursor is opened
 pub turns_one : (cursors : List Cursor) (r s : Router) (c : Cursor) → CursorsFit cursors r.me r → c.router ≡ r.me → c.life ≡ r.life
     → c.number ≡ pos (next_number r) → c.time ≤ s.time
-    → s.life ≡ r.life → r.time ≤ s.time → s.cursors ≡ r.cursors ++ c ∷ [] → s.gave ≡ next_number r → s.gave ≤ block_size * s.blocks
+    → s.life ≡ r.life → s.begun ≡ true → r.time ≤ s.time → s.cursors ≡ r.cursors ++ c ∷ [] → s.gave ≡ next_number r → s.gave ≤ block_size * s.blocks
     → Turns cursors (cursors ++ c ∷ []) r.me s
-turns_one cursors r s c fits router life number past same later has gave most =
+turns_one cursors r s c fits router life number past same began later has gave most =
     let less = next_above r fits.most in
     let own : is_of_life r.me r.life c ≡ true = rw (router, life, (Decides-eqb r.me r.me).1 refl, (Decides-eqb r.life r.life).1 refl) refl in
     let here : is_of r.me c ≡ true = rw (router, (Decides-eqb r.me r.me).1 refl) refl in
@@ -78,10 +90,11 @@ turns_one cursors r s c fits router life number past same later has gave most =
       fits = record {
         own = ap (λ l. filter (is_of_life r.me l) (cursors ++ c ∷ [])) same ∙ filter_with (is_of_life r.me r.life) cursors c own
             ∙ ap (λ l. l ++ c ∷ []) fits.own ∙ sym has;
-        given = subst (λ l. AllByRecursion (IsGiven s.gave s.time) l) (sym (filter_with (is_of r.me) cursors c here))
-            (all_append (IsGiven s.gave s.time) (filter (is_of r.me) cursors) (c ∷ [])
-            (given_later r.gave s.gave r.time s.time (filter (is_of r.me) cursors) (omega (arith, less, gave)) later fits.given)
-            (record { n = next_number r; number = number; given = omega (arith, gave); past = past }, tt));
+        given = subst (λ l. AllByRecursion (IsGiven s.life s.begun s.gave s.time) l) (sym (filter_with (is_of r.me) cursors c here))
+            (subst (λ n. AllByRecursion (IsGiven n s.begun s.gave s.time) (filter (is_of r.me) cursors ++ c ∷ [])) (sym same)
+            (all_append (IsGiven r.life s.begun s.gave s.time) (filter (is_of r.me) cursors) (c ∷ [])
+            (given_later r.life r.begun s.begun r.gave s.gave r.time s.time (filter (is_of r.me) cursors) (λ e. began) (omega (arith, less, gave)) later fits.given)
+            (record { n = next_number r; number = number; given = omega (arith, gave); past = inr (life, began, past) }, tt)));
         most = most;
       };
       elsewhere = λ at other. filter_without (is_of at) cursors c (not_of c.router at (λ e. other (sym e ∙ router)));
@@ -97,17 +110,18 @@ turns_one cursors r s c fits router life number past same later has gave most =
 -- what remains of one changes
 pub turns_left : (cursors : List Cursor) (r s : Router) (id : RequestId) (number : ℤ) (remaining : List Fields) → CursorsFit cursors r.me r → id.router ≡ r.me
     → id.life ≡ r.life
-    → s.life ≡ r.life → s.cursors ≡ with_remaining id number remaining r.cursors → s.blocks ≡ r.blocks → s.gave ≡ r.gave → r.time ≤ s.time
+    → s.life ≡ r.life → (r.begun ≡ true → s.begun ≡ true) → s.cursors ≡ with_remaining id number remaining r.cursors → s.blocks ≡ r.blocks → s.gave ≡ r.gave → r.time ≤ s.time
     → Turns cursors (with_remaining id number remaining cursors) r.me s
-turns_left cursors r s id number remaining fits router life same left blocks gave later =
+turns_left cursors r s id number remaining fits router life same goes_on left blocks gave later =
     let own : filter (own_life id) cursors ≡ r.cursors = rw (router, life) fits.own in
     record {
       fits = record {
         own = ap (λ l. filter (is_of_life r.me l) (with_remaining id number remaining cursors)) (same ∙ sym life)
             ∙ ap (λ n. filter (is_of_life n id.life) (with_remaining id number remaining cursors)) (sym router)
             ∙ remaining_own id number remaining cursors ∙ ap (λ l. with_remaining id number remaining l) own ∙ sym left;
-        given = given_later r.gave s.gave r.time s.time (filter (is_of r.me) (with_remaining id number remaining cursors)) (omega (arith, gave)) later
-            (remaining_given id number remaining r.me r.gave r.time cursors fits.given);
+        given = subst (λ n. AllByRecursion (IsGiven n s.begun s.gave s.time) (filter (is_of r.me) (with_remaining id number remaining cursors))) (sym same)
+            (given_later r.life r.begun s.begun r.gave s.gave r.time s.time (filter (is_of r.me) (with_remaining id number remaining cursors)) goes_on
+            (omega (arith, gave)) later (remaining_given id number remaining r.me r.life r.begun r.gave r.time cursors fits.given));
         most = (let h = fits.most in omega (arith, h, ap (λ n. block_size * n) blocks, gave));
       };
       elsewhere = λ at other. remaining_elsewhere id number remaining at cursors (λ e. other (e ∙ router));
@@ -117,13 +131,15 @@ turns_left cursors r s id number remaining fits router life same left blocks gav
 pub turns_closed : (cursors : List Cursor) (r s : Router) (id : RequestId) (namespace : List ℕ) (numbers killed missing : List ℤ) (next : List Cursor)
     → CursorsFit cursors r.me r
     → id.router ≡ r.me → id.life ≡ r.life → (k : KillsAll id namespace cursors numbers killed missing next)
-    → s.life ≡ r.life → s.cursors ≡ next → s.blocks ≡ r.blocks → s.gave ≡ r.gave → r.time ≤ s.time → Turns cursors k.after r.me s
-turns_closed cursors r s id namespace numbers killed missing next fits router life k same left blocks gave later = record {
+    → s.life ≡ r.life → (r.begun ≡ true → s.begun ≡ true) → s.cursors ≡ next → s.blocks ≡ r.blocks → s.gave ≡ r.gave → r.time ≤ s.time → Turns cursors k.after r.me s
+turns_closed cursors r s id namespace numbers killed missing next fits router life k same goes_on left blocks gave later = record {
   fits = record {
     own = ap (λ l. filter (is_of_life r.me l) k.after) (same ∙ sym life) ∙ ap (λ n. filter (is_of_life n id.life) k.after) (sym router) ∙ k.own ∙ sym left;
-    given = subst (λ n. AllByRecursion (IsGiven s.gave s.time) (filter (is_of n) k.after)) router
-        (given_later r.gave s.gave r.time s.time (filter (is_of id.router) k.after) (omega (arith, gave)) later
-        (k.given r.gave r.time (subst (λ n. AllByRecursion (IsGiven r.gave r.time) (filter (is_of n) cursors)) (sym router) fits.given)));
+    given = subst (λ n. AllByRecursion (IsGiven n s.begun s.gave s.time) (filter (is_of r.me) k.after)) (sym same)
+        (subst (λ n. AllByRecursion (IsGiven r.life s.begun s.gave s.time) (filter (is_of n) k.after)) router
+        (given_later r.life r.begun s.begun r.gave s.gave r.time s.time (filter (is_of id.router) k.after) goes_on (omega (arith, gave)) later
+        (k.given r.life r.begun r.gave r.time
+        (subst (λ n. AllByRecursion (IsGiven r.life r.begun r.gave r.time) (filter (is_of n) cursors)) (sym router) fits.given))));
     most = (let h = fits.most in omega (arith, h, ap (λ n. block_size * n) blocks, gave));
   };
   elsewhere = λ at other. k.elsewhere at (λ e. other (e ∙ router));
@@ -132,27 +148,33 @@ turns_closed cursors r s id namespace numbers killed missing next fits router li
 -- THE CURSOR OF A REQUEST
 
 -- its documents are of a time that is past
-pub open_past : (id : RequestId) (number : ℤ) (namespace : List ℕ) (gave time : ℕ) (cursors : List Cursor) (c : Cursor)
+pub open_past : (id : RequestId) (number : ℤ) (namespace : List ℕ) (begun : Bool) (gave time : ℕ) (cursors : List Cursor) (c : Cursor)
     → open_cursor id number namespace cursors ≡ Some c
-    → AllByRecursion (IsGiven gave time) (filter (is_of id.router) cursors) → c.time ≤ time
-open_past id number namespace gave time [] c found all = absurd (cc)
-open_past id number namespace gave time (d ∷ cursors) c found all =
+    → AllByRecursion (IsGiven id.life begun gave time) (filter (is_of id.router) cursors) → c.time ≤ time
+open_past id number namespace begun gave time [] c found all = absurd (cc)
+open_past id number namespace begun gave time (d ∷ cursors) c found all =
     by_found (has_number id number d) refl (bytes_eq d.namespace namespace && is_open d) found all
-    (λ f g. open_past id number namespace gave time cursors c f g)
+    (λ f g. open_past id number namespace begun gave time cursors c f g)
   where
+    by_past : d.life ≡ id.life → IsBy d.life id.life begun (d.time ≤ time) → d.time ≤ time
+    by_past life (inl less) = absurd (omega (arith, life))
+    by_past life (inr (same, began, past)) = past
+
     by_router : (b : Bool) → (d.router == id.router) ≡ b
-        → AllByRecursion (IsGiven gave time) (if b then d ∷ filter (is_of id.router) cursors else filter (is_of id.router) cursors)
-        → ((b ≡ true → IsGiven gave time d) × AllByRecursion (IsGiven gave time) (filter (is_of id.router) cursors))
+        → AllByRecursion (IsGiven id.life begun gave time) (if b then d ∷ filter (is_of id.router) cursors else filter (is_of id.router) cursors)
+        → ((b ≡ true → IsGiven id.life begun gave time d) × AllByRecursion (IsGiven id.life begun gave time) (filter (is_of id.router) cursors))
     by_router true h g = (λ e. g.0, g.1)
     by_router false h g = (λ e. absurd (cc), g)
 
     by_found : (x : Bool) → has_number id number d ≡ x → (y : Bool) → (if x && y then Some d else open_cursor id number namespace cursors) ≡ Some c
-        → AllByRecursion (IsGiven gave time) (if d.router == id.router then d ∷ filter (is_of id.router) cursors else filter (is_of id.router) cursors)
-        → (open_cursor id number namespace cursors ≡ Some c → AllByRecursion (IsGiven gave time) (filter (is_of id.router) cursors) → c.time ≤ time)
+        → AllByRecursion (IsGiven id.life begun gave time) (if d.router == id.router then d ∷ filter (is_of id.router) cursors else filter (is_of id.router) cursors)
+        → (open_cursor id number namespace cursors ≡ Some c → AllByRecursion (IsGiven id.life begun gave time) (filter (is_of id.router) cursors) → c.time ≤ time)
         → c.time ≤ time
     by_found true h true found g more =
         let same : d ≡ c = cc in
-        let given = (by_router (d.router == id.router) refl g).0 (both (d.router == id.router) ((d.life == id.life) && int_eq d.number number) h).0 in
-        subst (λ (x : Cursor). x.time ≤ time) same given.past
+        let parts = both (d.router == id.router) ((d.life == id.life) && int_eq d.number number) h in
+        let given = (by_router (d.router == id.router) refl g).0 parts.0 in
+        let life : d.life ≡ id.life = eqb-true _ _ (both (d.life == id.life) (int_eq d.number number) parts.1).0 in
+        subst (λ (x : Cursor). x.time ≤ time) same (by_past life given.past)
     by_found true h false found g more = more found (by_router (d.router == id.router) refl g).1
     by_found false h y found g more = more found (by_router (d.router == id.router) refl g).1
