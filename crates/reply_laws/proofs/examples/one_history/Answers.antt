@@ -175,17 +175,17 @@ all_right =
 
 -- each router had its moment, and router 2 its own entry after that
 first_known : IsKnown (account_of both_entries all_asked all_told) first
-first_known = record { moment = refl; time = inr (inl (two_moment, in_first two_moment (three_moment ∷ []), refl)); reached = omega arith }
+first_known = record { moment = refl; time = inr (inl (two_moment, in_first two_moment (three_moment ∷ []), omega arith)); reached = omega arith }
 
 second_known : IsKnown (account_of both_entries all_asked all_told) second
 second_known = record {
   moment = refl;
-  time = inr (inl (three_moment, in_later three_moment two_moment (three_moment ∷ []) (in_first three_moment []), refl));
+  time = inr (inl (three_moment, in_later three_moment two_moment (three_moment ∷ []) (in_first three_moment []), omega arith));
   reached = omega arith;
 }
 
 third_known : IsKnown (account_of both_entries all_asked all_told) third
-third_known = record { moment = refl; time = inr (inr (inr (first_entry, in_first first_entry (second_entry ∷ []), refl))); reached = omega arith }
+third_known = record { moment = refl; time = inr (inr (inr (first_entry, in_first first_entry (second_entry ∷ []), omega arith))); reached = omega arith }
 
 -- the collection was created before all replies
 all_caused : (t : Answered) → changes_by created_dated t ≡ created → creation.at ≤ t.time → IsCaused (account_of both_entries all_asked all_told) t

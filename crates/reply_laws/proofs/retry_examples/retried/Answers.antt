@@ -70,7 +70,7 @@ first_right = record {
   same = refl;
   came = omega arith;
   risen = omega arith;
-  met = inr (inr (inr (put_five, in_first put_five [], refl)));
+  met = inr (inr (inr (put_five, in_first put_five [], omega arith)));
   right = both_right sent_first 3 refl;
 }
 
@@ -84,7 +84,7 @@ again_right = record {
   same = refl;
   came = omega arith;
   risen = omega arith;
-  met = inr (inr (inr (put_five, in_first put_five [], refl)));
+  met = inr (inr (inr (put_five, in_first put_five [], omega arith)));
   right = both_right sent_again 5 refl;
 }
 
@@ -101,12 +101,12 @@ abbrev three_moment : Given
 three_moment = record { node = 3; moment = 1000000; step = 1 }
 
 first_known : IsKnown (account_of (put_five ∷ []) both_sent both_answers) sent_first
-first_known = record { moment = refl; time = inr (inl (two_moment, in_first two_moment (three_moment ∷ []), refl)); reached = omega arith }
+first_known = record { moment = refl; time = inr (inl (two_moment, in_first two_moment (three_moment ∷ []), omega arith)); reached = omega arith }
 
 again_known : IsKnown (account_of (put_five ∷ []) both_sent both_answers) sent_again
 again_known = record {
   moment = refl;
-  time = inr (inl (three_moment, in_later three_moment two_moment (three_moment ∷ []) (in_first three_moment []), refl));
+  time = inr (inl (three_moment, in_later three_moment two_moment (three_moment ∷ []) (in_first three_moment []), omega arith));
   reached = omega arith;
 }
 
