@@ -101,7 +101,16 @@ impl Node for ShardNode {
     fn step<L: Log>(&mut self, log: &mut L, input: Input) -> Result<Outputs<Message>, StepFault> {
         self.steps.count(self.time, input.time())?;
         let plan = self.plan(input)?;
-        append_records(log, &plan.records)?;
-        Ok(self.take(plan))
+        match append_records(log, &plan.records) {
+            Ok(()) => Ok(self.take(plan)),
+            Err(fault) => Err(without(plan, fault)),
+        }
     }
+}
+
+// Lets a plan go that was not taken, and returns why.
+fn without<T: Drop>(_plan: T, fault: StepFault) -> StepFault
+    ensures { result ≡ fault }
+{
+    fault
 }
