@@ -157,7 +157,6 @@ quiet : (w : World) (book : Book) (at : ℕ) (kept : List Kept) (c d : Catalogue
 quiet w book at kept c d mail good fits le new met letters = record {
   kind = tt;
   rises = tt;
-  later = le;
   taken = tt;
   told = tt;
   one = one_still w good.one;
@@ -219,7 +218,6 @@ makes w book at kept c now x mail good fits less n letters =
     record {
       kind = tt;
       rises = ((omega arith, wanted_still w.asked x n.wanted), tt);
-      later = omega arith;
       taken = tt;
       told = tt;
       one = one_still w good.one;
@@ -314,7 +312,6 @@ tells_table w book at kept c m namespace create asked_at good fits comes early =
     record {
       kind = tt;
       rises = told_above at c.time asked_at (known_table namespace c.changes);
-      later = omega arith;
       taken = tt;
       told = tt;
       one = one_still w good.one;

@@ -57,7 +57,7 @@ pub record RowMoments (r : Router) (i : Input) (f : Effect) (q : Router) : Type 
   pub reached : time_of_moment r.moment ≤ r.time → time_of_moment q.moment ≤ q.time
   pub taken : AllByRecursion (TakenBy i r) f.taken
 
-row_moments : (r q : Router) (i : Input) (f : Effect) → RouterRow r i f q → RowMoments r i f q
+pub row_moments : (r q : Router) (i : Input) (f : Effect) → RouterRow r i f q → RowMoments r i f q
 row_moments _ _ _ _ (router_begin r nb) = record { me = refl; moment = refl; time = omega arith; reached = λ h. h; taken = tt }
 row_moments _ _ _ _ (router_opened r b) = record { me = refl; moment = refl; time = omega arith; reached = λ h. h; taken = tt }
 row_moments _ _ _ _ (router_plain r link number request answer b p) = record
@@ -137,7 +137,7 @@ nothing_moves (router_state r) m = record { me = refl; moment = refl; time = ome
 nothing_moves (catalogue_state c) m = refl
 nothing_moves (shard_state s) m = refl
 
-step_moments : (s t : NodeState) (i : Input) (f : Effect) → Step s i f t → StepMoments s i f t
+pub step_moments : (s t : NodeState) (i : Input) (f : Effect) → Step s i f t → StepMoments s i f t
 step_moments _ _ _ _ (catalogue_step c d i f for row) = no_taken_catalogue c d i f row
 step_moments _ _ _ _ (shard_step s t i f for row) = no_taken_shard s t i f row
 step_moments _ _ _ _ (router_step r q i f for row) = row_moments r q i f row
@@ -153,7 +153,7 @@ step_moments _ _ _ _ (other_step s m other) = nothing_moves s m
 
 -- MOMENTS THAT ARE GIVEN
 
-last_else : (node moment : ℕ) (given : List Given) (at now : ℕ) (i : Input) → node ≢ at
+pub last_else : (node moment : ℕ) (given : List Given) (at now : ℕ) (i : Input) → node ≢ at
     → last_after node moment (given ++ moment_in at now i) ≡ last_after node moment given
 last_else node moment [] at now (client_input link number request) other = refl
 last_else node moment [] at now (letter_input m) other = refl
@@ -173,7 +173,7 @@ last_else node moment (g ∷ given) at now i other = by_test (g.node == node) (l
     by_test true p q = p
     by_test false p q = q
 
-last_here : (at moment : ℕ) (given : List Given) (now : ℕ) (i : Input)
+pub last_here : (at moment : ℕ) (given : List Given) (now : ℕ) (i : Input)
     → last_after at moment (given ++ moment_in at now i) ≡ moment_after i (last_after at moment given)
 last_here at moment [] now (client_input link number request) = refl
 last_here at moment [] now (letter_input m) = refl
@@ -193,7 +193,7 @@ last_here at moment (g ∷ given) now i = by_test (g.node == at) (last_here at g
     by_test false p q = q
 
 -- a moment that comes after a request is none that it knew
-last_stays : (node step moment : ℕ) (given more : List Given) → AllByRecursion (λ (g : Given). step < g.step + 1) more
+pub last_stays : (node step moment : ℕ) (given more : List Given) → AllByRecursion (λ (g : Given). step < g.step + 1) more
     → last_from node step moment (given ++ more) ≡ last_from node step moment given
 last_stays node step moment [] [] all = refl
 last_stays node step moment [] (g ∷ more) all = by_test (g.node == node) (nat_lt g.step step) refl (last_stays node step moment [] more all.1)
@@ -214,7 +214,7 @@ last_stays node step moment (g ∷ given) more all = by_test ((g.node == node) &
     by_test false p q = q
 
 -- where all moments came before a step, the last before it is the last of all
-last_of_all : (node step moment : ℕ) (given : List Given) → AllByRecursion (λ (g : Given). g.step < step) given
+pub last_of_all : (node step moment : ℕ) (given : List Given) → AllByRecursion (λ (g : Given). g.step < step) given
     → last_from node step moment given ≡ last_after node moment given
 last_of_all node step moment [] all = refl
 last_of_all node step moment (g ∷ given) all = by_test (g.node == node) (nat_lt g.step step) refl (last_of_all node step g.moment given all.1)
@@ -228,7 +228,7 @@ last_of_all node step moment (g ∷ given) all = by_test (g.node == node) (nat_l
     by_test true false h p q = absurd (let k : step ≤ g.step = ltb-false _ _ h in let l = all.0 in omega arith)
     by_test false b h p q = q
 
-given_now : (at now : ℕ) (i : Input) → AllByRecursion (λ (g : Given). g.step ≡ now) (moment_in at now i)
+pub given_now : (at now : ℕ) (i : Input) → AllByRecursion (λ (g : Given). g.step ≡ now) (moment_in at now i)
 given_now at now (client_input link number request) = tt
 given_now at now (letter_input m) = tt
 given_now at now (moment_input moment) = (refl, tt)
@@ -236,12 +236,12 @@ given_now at now opened_input = tt
 
 -- A STEP
 
-other_has : (given : List Given) (at now : ℕ) (i : Input) (j : ℕ) (s : NodeState) → j ≢ at → HasMoment given j s → HasMoment (given ++ moment_in at now i) j s
+pub other_has : (given : List Given) (at now : ℕ) (i : Input) (j : ℕ) (s : NodeState) → j ≢ at → HasMoment given j s → HasMoment (given ++ moment_in at now i) j s
 other_has given at now i j (router_state r) other h = (h.0, h.1 ∙ sym (last_else j 0 given at now i other), h.2)
 other_has given at now i j (catalogue_state c) other h = tt
 other_has given at now i j (shard_state s) other h = tt
 
-this_has : (given : List Given) (at now : ℕ) (i : Input) (f : Effect) (s t : NodeState) → StepMoments s i f t → HasMoment given at s
+pub this_has : (given : List Given) (at now : ℕ) (i : Input) (f : Effect) (s t : NodeState) → StepMoments s i f t → HasMoment given at s
     → HasMoment (given ++ moment_in at now i) at t
 this_has given at now i f (router_state r) (router_state q) m h =
     (m.me ∙ h.0, m.moment ∙ (ap (λ x. moment_after i x) h.1 ∙ sym (last_here at 0 given now i)), m.reached h.2)
@@ -254,7 +254,7 @@ this_has given at now i f (catalogue_state r) (shard_state d) m h = absurd m
 this_has given at now i f (shard_state r) (router_state d) m h = absurd m
 this_has given at now i f (shard_state r) (catalogue_state d) m h = absurd m
 
-old_had : (given : List Given) (at now : ℕ) (i : Input) (a : Asked) → a.came < now + 1 → HadMoment given a → HadMoment (given ++ moment_in at now i) a
+pub old_had : (given : List Given) (at now : ℕ) (i : Input) (a : Asked) → a.came < now + 1 → HadMoment given a → HadMoment (given ++ moment_in at now i) a
 old_had given at now i a came h = (
   h.0 ∙ sym (last_stays a.id.router a.came 0 given (moment_in at now i)
       (all_weaken (λ (g : Given). g.step ≡ now) (λ (g : Given). a.came < g.step + 1) (moment_in at now i) (λ g e. omega arith) (given_now at now i))),
@@ -279,7 +279,7 @@ new_had given at now (client_input link number request) r (x ∷ taken) has befo
           (client_input link number request) r taken has before all.1,
     )
 
-asked_news : (given : List Given) (at now : ℕ) (i : Input) (f : Effect) (s t : NodeState) → StepMoments s i f t → HasMoment given at s
+pub asked_news : (given : List Given) (at now : ℕ) (i : Input) (f : Effect) (s t : NodeState) → StepMoments s i f t → HasMoment given at s
     → AllByRecursion (λ (g : Given). g.step < now) given
     → AllByRecursion (λ a. HadMoment (given ++ moment_in at now i) a × (a.came < now + 1 + 1)) (asked_by now f.taken)
 asked_news given at now i f (router_state r) (router_state q) m h before = new_had given at now i r f.taken h before m.taken

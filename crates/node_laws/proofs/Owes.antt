@@ -45,9 +45,8 @@ pub record OwesIn (v : View) (w : World) (book : Book) (at : ℕ) (old : Held) (
 
 pub record Owes (w : World) (book : Book) (at : ℕ) (old : Held) (f : Effect) (new : NodeState) : Type 0 where
   pub kind : SameKind old.state new
-  -- what it writes is above its time, which does not fall, and its entries are its own
+  -- what it writes is above its time, and its entries are its own
   pub rises : AllByRecursion (IsAbove at (time_of_node old.state)) f.written
-  pub later : time_of_node old.state ≤ time_of_node new
   -- what it takes and replies is its own, and new
   pub taken : AllByRecursion (λ (x : Taken). x.id.router ≡ at) f.taken
   pub told : AllByRecursion (λ (x : Reply). x.id.router ≡ at) f.replies

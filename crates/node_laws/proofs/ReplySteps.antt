@@ -103,7 +103,7 @@ module _ (account : Account) (cursors : List Cursor) (a : Asked) (t : Answered) 
     begins = λ split asks says. split_rests next split (ap (λ r. command_of r) same ∙ asks) right says;
   }
 
-all_rest : (v : View) (asked : List Asked) (answered : List Answered) (cursors last : List Cursor) (told : List Answered)
+pub all_rest : (v : View) (asked : List Asked) (answered : List Answered) (cursors last : List Cursor) (told : List Answered)
     → AnswersFit v asked answered cursors told last → AllByRecursion (RestsOn (changes_in v)) told
 all_rest v asked answered _ _ _ (no_answer cursors) = tt
 all_rest v asked answered _ _ _ (one_answer cursors next last t rest f others) = (
@@ -127,7 +127,7 @@ all_before step (d ∷ dated) all =
     by_test true is rest = ap (λ l. d.change ∷ l) rest
     by_test false is rest = absurd (cc)
 
-steps_after : (now : ℕ) (dated : List Dated) (written : List Kept) → AllByRecursion (λ (d : Dated). d.step < now + 1) dated
+pub steps_after : (now : ℕ) (dated : List Dated) (written : List Kept) → AllByRecursion (λ (d : Dated). d.step < now + 1) dated
     → AllByRecursion (λ (d : Dated). d.step < now + 1) (dated_onto now dated written)
 steps_after now dated [] all = all
 steps_after now dated (kept_change x ∷ written) all = steps_after now (record { change = x; step = now } ∷ dated) written (omega arith, all)
@@ -153,13 +153,13 @@ all_back P [] ys all = all
 all_back P (x ∷ xs) ys all = all_back P xs ys all.1
 
 -- replies that are made now
-based_now : (now : ℕ) (dated : List Dated) (replies : List Reply) → AllByRecursion (RestsOn (changes_before (now + 1) dated)) (answered_by now replies)
+pub based_now : (now : ℕ) (dated : List Dated) (replies : List Reply) → AllByRecursion (RestsOn (changes_before (now + 1) dated)) (answered_by now replies)
     → AllByRecursion (IsBased (now + 1) dated) (answered_by now replies)
 based_now now dated [] all = tt
 based_now now dated (x ∷ replies) all = (record { before = omega arith; rests = all.0 }, based_now now dated replies all.1)
 
 -- replies that were made before
-based_still : (now : ℕ) (dated : List Dated) (written : List Kept) (answered : List Answered) → AllByRecursion (IsBased now dated) answered
+pub based_still : (now : ℕ) (dated : List Dated) (written : List Kept) (answered : List Answered) → AllByRecursion (IsBased now dated) answered
     → AllByRecursion (IsBased (now + 1) (dated_onto now dated written)) answered
 based_still now dated written answered all =
     all_weaken (IsBased now dated) (IsBased (now + 1) (dated_onto now dated written)) answered

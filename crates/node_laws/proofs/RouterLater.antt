@@ -204,7 +204,6 @@ module _ (w : World) (book : Book) (at : ℕ) (r : Router) (fits : RouterFits (v
   goes_owes kept time moment tables requests f mail replies later within met parted left row = record {
     kind = tt;
     rises = all_weaken (IsTimeless at r.time) (IsAbove at r.time) f.written (λ k h. h.0) left.timeless;
-    later = later;
     taken = tt;
     told = of_replies (λ (t : Answered). t.id.router ≡ at) w.now replies
         (all_weaken IsOwn (λ (t : Answered). t.id.router ≡ at) (answered_by w.now replies) (λ t o. own_router t o) parted.own);

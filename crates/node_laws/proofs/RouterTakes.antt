@@ -132,7 +132,6 @@ module _ (w : World) (book : Book) (at : ℕ) (kept : List Kept) (r : Router) (g
   begin_owes none = record {
     kind = tt;
     rises = (tt, tt);
-    later = omega arith;
     taken = tt;
     told = tt;
     one = rw (append-nil w.asked) good.one;
@@ -290,7 +289,6 @@ module _ (w : World) (book : Book) (at : ℕ) (kept : List Kept) (r : Router) (g
     takes_owes news own after more mail replies chose turns apart counts names once below times closed row = record {
       kind = tt;
       rises = tt;
-      later = omega arith;
       taken = (mine.own, tt);
       told = all_weaken (λ (x : Reply). x.id ≡ id_of r (r.count + 1)) (λ (x : Reply). x.id.router ≡ at) replies
           (λ x e. ap (λ (i : RequestId). i.router) e ∙ mine.own) names;

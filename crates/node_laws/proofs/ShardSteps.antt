@@ -50,7 +50,6 @@ pub wrote : (w : World) (book : Book) (at : ℕ) (old : Held) (written : List Ke
 wrote w book at old written mail new good kind rises later within leaves = record {
   kind = kind;
   rises = rises;
-  later = later;
   taken = tt;
   told = tt;
   one = subst (λ l. AreDifferent (ids_asked l)) (sym (append-nil w.asked)) good.one;

@@ -31,7 +31,7 @@ use Rattle.node_laws.proofs.Moments.{Moments, moments_move}
 -- A MOMENT THAT IS GIVEN
 
 -- facts stay where a moment is given
-given_good : (w : World) (book : Book) (at : ℕ) (i : Input) → Good w book → Good (is_given w at i) book
+pub given_good : (w : World) (book : Book) (at : ℕ) (i : Input) → Good w book → Good (is_given w at i) book
 given_good w book at i good =
     let v : View = view_of w.nodes book in
     let more : List Given = moment_in at w.now i in
@@ -62,7 +62,7 @@ WasPosted w (client_input link number request) = Unit {0}
 WasPosted w (moment_input moment) = Unit {0}
 WasPosted w opened_input = Unit {0}
 
-input_fits : (w : World) (book : Book) (at : ℕ) (i : Input) → Good w book → WasPosted w i → InputFits (is_given w at i) book i
+pub input_fits : (w : World) (book : Book) (at : ℕ) (i : Input) → Good w book → WasPosted w i → InputFits (is_given w at i) book i
 input_fits w book at (letter_input m) good there =
     let v : View = view_of w.nodes book in
     let f = all_at (SentFits v w.changed w.asked w.answered w.given) m w.sent good.letters there in
@@ -86,7 +86,7 @@ fits_here w book at old good here =
     subst (λ k. HeldFits (view_of w.nodes book) w.asked w.answered w.given k old) zero_at
     (each_get (HeldFits (view_of w.nodes book) w.asked w.answered w.given) 0 at w.nodes old good.nodes here)
 
-set_set : {X : Type 0} (xs : List X) (k : ℕ) (x y : X) → slice_set (slice_set xs k x) k y ≡ slice_set xs k y
+pub set_set : {X : Type 0} (xs : List X) (k : ℕ) (x y : X) → slice_set (slice_set xs k x) k y ≡ slice_set xs k y
 set_set [] k x y = refl
 set_set (z ∷ xs) zero x y = refl
 set_set (z ∷ xs) (suc k) x y = ap (λ l. z ∷ l) (set_set xs k x y)
@@ -96,7 +96,7 @@ get_set [] k x y got = absurd (cc)
 get_set (z ∷ xs) zero x y got = refl
 get_set (z ∷ xs) (suc k) x y got = get_set xs k x y got
 
-set_same : {X : Type 0} (xs : List X) (k : ℕ) (x : X) → slice_get xs k ≡ Some x → slice_set xs k x ≡ xs
+pub set_same : {X : Type 0} (xs : List X) (k : ℕ) (x : X) → slice_get xs k ≡ Some x → slice_set xs k x ≡ xs
 set_same [] k x got = refl
 set_same (z ∷ xs) zero x got = let same : z ≡ x = cc in ap (λ y. y ∷ xs) (sym same)
 set_same (z ∷ xs) (suc k) x got = ap (λ l. z ∷ l) (set_same xs k x got)
@@ -112,7 +112,7 @@ answered_more now (x ∷ xs) ys = ap
     (λ l. record { id = x.id; link = x.link; number = x.number; request = x.request; step = now; time = x.time; document = x.document } ∷ l)
     (answered_more now xs ys)
 
-after_both : (w : World) (at : ℕ) (old : Held) (f g : Effect) (u t : NodeState)
+pub after_both : (w : World) (at : ℕ) (old : Held) (f g : Effect) (u t : NodeState)
     → after (after w at old f u) at (with_more old f.written u) g t ≡ after w at old (both f g) t
 after_both w at old f g u t =
     let n = set_set w.nodes at (with_more old f.written u) (record { state = t; kept = (old.kept ++ f.written) ++ g.written })
@@ -125,7 +125,7 @@ after_both w at old f g u t =
     λ i. record { nodes = n i; sent = s i; asked = a i; answered = d i; given = w.given; changed = c i; now = w.now }
 
 -- a step with no effect leaves the world
-after_nothing : (w : World) (at : ℕ) (old : Held) → slice_get w.nodes at ≡ Some old → after w at old nothing old.state ≡ w
+pub after_nothing : (w : World) (at : ℕ) (old : Held) → slice_get w.nodes at ≡ Some old → after w at old nothing old.state ≡ w
 after_nothing w at old here =
     let held : with_more old [] old.state ≡ old = λ i. record { state = old.state; kept = append-nil old.kept i } in
     let n : slice_set w.nodes at (with_more old [] old.state) ≡ w.nodes = ap (λ h. slice_set w.nodes at h) held ∙ set_same w.nodes at old here in
@@ -135,7 +135,7 @@ after_nothing w at old here =
     λ i. record { nodes = n i; sent = s i; asked = a i; answered = d i; given = w.given; changed = w.changed; now = w.now }
 
 -- an input that a life begins before says the same after the beginning
-fits_later : (w : World) (book : Book) (at : ℕ) (old : Held) (f : Effect) (new : NodeState) (next : Book) (i : Input) → BeginsBefore i
+pub fits_later : (w : World) (book : Book) (at : ℕ) (old : Held) (f : Effect) (new : NodeState) (next : Book) (i : Input) → BeginsBefore i
     → Later (view_of w.nodes book) (view_of (slice_set w.nodes at (with_more old f.written new)) next) → InputFits w book i
     → InputFits (after w at old f new) next i
 fits_later w book at old f new next (client_input link number request) before later fits = tt
@@ -149,7 +149,7 @@ pub record HasBook (w : World) : Type 0 where
   pub book : Book
   pub good : Good w book
 
-step_good : (w : World) (book : Book) (at : ℕ) (kept : List Kept) (s t : NodeState) (i : Input) (f : Effect) → Good w book
+pub step_good : (w : World) (book : Book) (at : ℕ) (kept : List Kept) (s t : NodeState) (i : Input) (f : Effect) → Good w book
     → slice_get w.nodes at ≡ Some (record { state = s; kept = kept }) → InputFits w book i → Step s i f t
     → HasBook (after w at (record { state = s; kept = kept }) f t)
 step_good w book at kept _ _ _ _ good here input (catalogue_step c d i f own row) =
@@ -192,7 +192,7 @@ step_good w book at kept _ _ _ _ good here input (begin_step r q i f nb before r
           good_v here_v (inr (router_aside (begins r) q i f row)) next;
     })
 
-tick_good : (w : World) (book : Book) → Good w book → Good (tick w) book
+pub tick_good : (w : World) (book : Book) → Good w book → Good (tick w) book
 tick_good w book good = record {
   order = good.order;
   dated = good.dated;
@@ -209,7 +209,7 @@ tick_good w book good = record {
   met = good.met;
 }
 
-move_keeps : (w v : World) (book : Book) (at : ℕ) (i : Input) → Good w book → WasPosted w i → Moves w at i v → HasBook v
+pub move_keeps : (w v : World) (book : Book) (at : ℕ) (i : Input) → Good w book → WasPosted w i → Moves w at i v → HasBook v
 move_keeps w v book at i good there m =
     let s = step_good (is_given w at i) book at m.old.kept m.old.state m.new i m.f (given_good w book at i good) m.here
     (input_fits w book at i good there) m.step in
@@ -229,7 +229,7 @@ got_is_in (y ∷ xs) (suc k) x got = behind_one (got_is_in xs k x got)
 -- REPLIES THAT NO COLLECTION EXISTS
 
 -- the node at a place replies so truly
-step_true : (w : World) (book : Book) (at : ℕ) (kept : List Kept) (s t : NodeState) (i : Input) (f : Effect) → Good w book
+pub step_true : (w : World) (book : Book) (at : ℕ) (kept : List Kept) (s t : NodeState) (i : Input) (f : Effect) → Good w book
     → slice_get w.nodes at ≡ Some (record { state = s; kept = kept }) → InputFits w book i → Step s i f t
     → AllByRecursion (IsTrueReply w.changed w.asked) f.replies
 step_true w book at kept _ _ _ _ good here input (catalogue_step c d i f own row) =

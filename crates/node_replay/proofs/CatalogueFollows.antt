@@ -16,18 +16,18 @@ use Rattle.node_model.specs.States.{Catalogue}
 use Rattle.node_replay.specs.Durable.{DurableCatalogue, durable_catalogue, catalogue_part}
 use Rattle.node_replay.specs.Follow.{is_inside, with_change}
 use Rattle.node_replay.specs.Replays.{replayed, records_of}
-use Rattle.node_replay.specs.ReadTimes.{IsNamedBy, ReadsBy, ComesInTime}
+use Rattle.node_replay.specs.ReadTimes.{IsNamedBy, ReadsBy, IsInTime, ComesInTime}
 
 -- the greatest time that is stored, after a step
 abbrev pub stored_with : (stored : ℕ) → Effect → ℕ
 stored_with stored f = max stored (greatest_kept f.written)
 
--- what a step of the catalogue has to show
-pub record CatalogueFollows (stored : ℕ) (c : Catalogue) (f : Effect) (d : Catalogue) : Type 0 where
+-- what a step of the catalogue has to show; that it holds what nodes hold, where its input comes in time
+pub record CatalogueFollows (stored : ℕ) (c : Catalogue) (i : Input) (f : Effect) (d : Catalogue) : Type 0 where
   pub own : d.me ≡ c.me
   pub leads : replayed (Some (durable_catalogue (catalogue_part stored c))) (records_of f.written)
       ≡ Some (durable_catalogue (catalogue_part (stored_with stored f) d))
-  pub holds : stored_with stored f ≤ d.time
+  pub holds : ComesInTime i → stored_with stored f ≤ d.time
 
 abbrev pub durable_from : (me stored : ℕ) → List Change → DurableCatalogue
 durable_from me stored changes = record { me = me; top = stored; changes = changes }
@@ -88,7 +88,8 @@ was_split : (me stored at : ℕ) (changes : List Change) (namespace : List ℕ) 
 was_split me stored at changes namespace middle x later answer = by_table (known_table namespace changes) refl answer
   where
     by_test : (t : Table) (b : Bool) → known_table namespace changes ≡ Some t → can_split middle t.chunks ≡ b
-        → (if b then changed (split_change (record { namespace = namespace; middle = middle; at = at })) else unchanged) ≡ changed x → Leads me stored at changes x
+        → (if b then changed (split_change (record { namespace = namespace; middle = middle; at = at })) else unchanged) ≡ changed x
+        → Leads me stored at changes x
     by_test t true some can same =
         let is : split_change (record { namespace = namespace; middle = middle; at = at }) ≡ x = cc in
         subst (λ y. Leads me stored at changes y) is (split_leads me stored at changes namespace middle t later some can)
@@ -127,37 +128,37 @@ named_later early late (at_time at) le by = omega (arith, le, by)
 
 -- TRANSITIONS
 
-still : (stored : ℕ) (c : Catalogue) (f : Effect) (time : ℕ) → f.written ≡ [] → c.time ≤ time → stored ≤ c.time
-    → CatalogueFollows stored c f (record { me = c.me; time = time; changes = c.changes })
-still stored c f time none le past =
+still : (stored : ℕ) (c : Catalogue) (i : Input) (f : Effect) (time : ℕ) → f.written ≡ [] → c.time ≤ time → stored ≤ c.time
+    → CatalogueFollows stored c i f (record { me = c.me; time = time; changes = c.changes })
+still stored c i f time none le past =
     let nothing_more : greatest_kept f.written ≡ 0 = ap (λ l. greatest_kept l) none in
     let same : stored ≡ max stored (greatest_kept f.written) = omega (arith, nothing_more) in
     record {
       own = refl;
       leads = ap (λ l. replayed (Some (durable_catalogue (durable_from c.me stored c.changes))) (records_of l)) none
           ∙ ap (λ n. Some (durable_catalogue (durable_from c.me n c.changes))) same;
-      holds = omega (arith, le, past, nothing_more);
+      holds = λ input. omega (arith, le, past, nothing_more);
     }
 
-pub catalogue_follows : (stored : ℕ) (c d : Catalogue) (i : Input) (f : Effect) → stored ≤ c.time → ComesInTime i → CatalogueRow c i f d
-    → CatalogueFollows stored c f d
-catalogue_follows stored _ _ _ _ past input (catalogue_create c m namespace at x asks answer) =
+pub catalogue_follows : (stored : ℕ) (c d : Catalogue) (i : Input) (f : Effect) → stored ≤ c.time → CatalogueRow c i f d → CatalogueFollows stored c i f d
+catalogue_follows stored _ _ _ _ past (catalogue_create c m namespace at x asks answer) =
     let l = created_leads c.me stored (heard c m + 1) c.changes namespace x (omega (arith, past)) answer in
-    record { own = refl; leads = l.follows; holds = l.past }
-catalogue_follows stored _ _ _ _ past input (catalogue_tell c m namespace create at asks known) =
-    let by : IsNamedBy (heard c m) at = named_later m.time (heard c m) at (omega arith) (subst (λ b. ReadsBy m.time b) asks input) in
+    record { own = refl; leads = l.follows; holds = λ input. l.past }
+catalogue_follows stored _ _ _ _ past (catalogue_tell c m namespace create at asks known) =
+    let by : IsInTime m → IsNamedBy (heard c m) at =
+    λ input. named_later m.time (heard c m) at (omega arith) (subst (λ b. ReadsBy m.time b) asks input) in
     record {
       own = refl;
       leads = told_leads c.me stored c.changes at (known_table namespace c.changes);
-      holds = told_past stored (heard c m) at (known_table namespace c.changes) (omega (arith, past)) by;
+      holds = λ input. told_past stored (heard c m) at (known_table namespace c.changes) (omega (arith, past)) (by input);
     }
-catalogue_follows stored _ _ _ _ past input (catalogue_split c m id namespace middle x asks answer) =
+catalogue_follows stored _ _ _ _ past (catalogue_split c m id namespace middle x asks answer) =
     let l = was_split c.me stored (heard c m + 1) c.changes namespace middle x (omega (arith, past)) answer in
-    record { own = refl; leads = l.follows; holds = l.past }
-catalogue_follows stored _ _ _ _ past input (catalogue_bound c m id namespace middle asks answer) = still stored c _ (heard c m) refl (omega arith) past
-catalogue_follows stored _ _ _ _ past input (catalogue_none c m id namespace middle asks answer) = still stored c _ (heard c m) refl (omega arith) past
-catalogue_follows stored _ _ _ _ past input (catalogue_skip c m none) = still stored c _ c.time refl (omega arith) past
-catalogue_follows stored _ _ _ _ past input (catalogue_moment c moment) =
-    still stored c _ (max c.time (time_of_moment moment)) refl (omega arith) past
-catalogue_follows stored _ _ _ _ past input (catalogue_opened c) = still stored c _ c.time refl (omega arith) past
-catalogue_follows stored _ _ _ _ past input (catalogue_client c link number request) = still stored c _ c.time refl (omega arith) past
+    record { own = refl; leads = l.follows; holds = λ input. l.past }
+catalogue_follows stored _ _ _ _ past (catalogue_bound c m id namespace middle asks answer) = still stored c _ _ (heard c m) refl (omega arith) past
+catalogue_follows stored _ _ _ _ past (catalogue_none c m id namespace middle asks answer) = still stored c _ _ (heard c m) refl (omega arith) past
+catalogue_follows stored _ _ _ _ past (catalogue_skip c m none) = still stored c _ _ c.time refl (omega arith) past
+catalogue_follows stored _ _ _ _ past (catalogue_moment c moment) =
+    still stored c _ _ (max c.time (time_of_moment moment)) refl (omega arith) past
+catalogue_follows stored _ _ _ _ past (catalogue_opened c) = still stored c _ _ c.time refl (omega arith) past
+catalogue_follows stored _ _ _ _ past (catalogue_client c link number request) = still stored c _ _ c.time refl (omega arith) past

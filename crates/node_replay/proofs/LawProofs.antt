@@ -13,23 +13,27 @@ use Rattle.node_model.specs.World.{Event, Run, World, start}
 use Rattle.node_replay.specs.Acknowledged.{KeepsJournals, KeepsWrites}
 use Rattle.node_replay.specs.Durable.{DurableCatalogue, DurableShard, durable_catalogue, durable_of, durable_shard, empty_catalogue, empty_shard}
 use Rattle.node_replay.specs.Histories.{AreChanges, HasKey, IsHistory}
-use Rattle.node_replay.specs.Holds.{Holds, MayOpen, Replays}
+use Rattle.node_replay.specs.Holds.{Holds, HoldsOwn, MayOpen, Replays}
 use Rattle.node_replay.specs.ReadTimes.{IsInTime, ComesInTime}
 use Rattle.node_replay.specs.Replays.{records_of, replayed}
-use Rattle.node_replay.specs.Restarts.{EventOrStop, RunWithStops}
+use Rattle.node_replay.specs.Restarts.{Gives, EventOrStop, RunWithStops}
 use Rattle.node_replay.proofs.Steps.{step_follows}
 use Rattle.node_replay.proofs.Runs.{NodeReplays, run_replays, start_replays}
-use Rattle.node_replay.proofs.Restarts.{run_with_stops_replays, run_with_stops_in_time}
+use Rattle.node_replay.proofs.Restarts.{run_with_stops_replays, run_with_stops_holds, run_with_stops_in_time}
 use Rattle.node_replay.proofs.StopStays.{run_with_stops_keeps}
 use Rattle.node_replay.proofs.JournalsStay.{run_with_stops_grows}
 use Rattle.node_replay.proofs.OnceRuns.{run_with_stops_once}
 use Rattle.node_replay.proofs.ShardHistories.{shard_history}
 use Rattle.node_replay.proofs.CatalogueHistories.{catalogue_changes}
 
-pub steps_store_what_may_follow : (stored : ℕ) (s t : NodeState) (i : Input) (f : Effect) → Holds stored s → ComesInTime i → Step s i f t
+pub steps_store_what_may_follow : (stored : ℕ) (s t : NodeState) (i : Input) (f : Effect) → Holds stored s → Step s i f t
     → (replayed (Some (durable_of stored s)) (records_of f.written) ≡ Some (durable_of (max stored (greatest_kept f.written)) t))
-    × Holds (max stored (greatest_kept f.written)) t
-steps_store_what_may_follow stored s t i f holds input step = let h = step_follows stored s t i f holds input step in (h.leads, h.holds)
+    × (ComesInTime i → Holds (max stored (greatest_kept f.written)) t)
+steps_store_what_may_follow stored s t i f holds step = let h = step_follows stored s t i f holds step in (h.leads, h.holds)
+
+pub runs_with_stops_hold : (routers : ℕ) (events : List EventOrStop) (w : World) → RunWithStops (start routers) events w
+    → AllByRecursion HoldsOwn w.nodes × ((e : Event) (at : ℕ) (i : Input) → Gives w e at i → ComesInTime i)
+runs_with_stops_hold = run_with_stops_holds
 
 pub no_message_reads_ahead : (routers : ℕ) (events : List EventOrStop) (w : World) → RunWithStops (start routers) events w
     → AllByRecursion IsInTime w.sent

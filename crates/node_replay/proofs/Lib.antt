@@ -13,6 +13,7 @@ pub mod StayFacts
 pub mod ShardStays
 pub mod CatalogueStays
 pub mod RouterStays
+pub mod Noted
 pub mod RouterNext
 pub mod WorldStays
 pub mod StopStays

@@ -109,7 +109,8 @@ opened_once answered time (durable_catalogue d) = tt
 opened_once answered time (durable_shard d) = tt
 opened_once answered time (durable_router d) = record { different = tt; silent = tt }
 
-started_once : (answered : List Answered) (time : ℕ) (o : Option DurableState) (new : NodeState) → option_map (opened time) o ≡ Some new → StateOnce answered new
+started_once : (answered : List Answered) (time : ℕ) (o : Option DurableState) (new : NodeState) → option_map (opened time) o ≡ Some new
+    → StateOnce answered new
 started_once answered time None new same = absurd (cc)
 started_once answered time (Some d) new same =
     let is : opened time d ≡ new = cc in

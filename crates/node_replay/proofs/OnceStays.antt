@@ -185,7 +185,8 @@ module _ (asked : List Asked) (history : List Entry) (answered : List Answered) 
   answers : r.begun ≡ true → AreDifferent (ids_asked asked) → (f : Effect) (q : Router) (x : Reply) (a : Asked) → asked_by now f.taken ≡ a ∷ []
       → a.id ≡ id_of r (r.count + 1) → f.replies ≡ x ∷ [] → x.id ≡ id_of r (r.count + 1) → q.me ≡ r.me → q.life ≡ r.life → q.requests ≡ r.requests ++ []
       → StepOnce asked answered now at f q
-  answers begun one f q x a takes asks replies number me life requests = record { all = answers_all begun one f q x a takes asks replies number me life requests }
+  answers begun one f q x a takes asks replies number me life requests =
+      record { all = answers_all begun one f q x a takes asks replies number me life requests }
 
   -- or it stays open
   opens_all : r.begun ≡ true → AreDifferent (ids_asked asked) → (f : Effect) (q : Router) (p : Open) → f.replies ≡ [] → p.count ≡ r.count + 1 → q.me ≡ r.me
@@ -276,11 +277,14 @@ router_once asked history answered now at _ _ _ _ mine one own told once (router
     goes_on asked history answered now at r mine own told once _ _ q _ id found refl refl refl refl refl refl
 router_once asked history answered now at _ _ _ _ mine one own told once (router_ahead r m id q named time stages telling tells found work waits ahead) =
     closes asked history answered now at r mine own told once _ _ _ q id found refl refl refl refl refl refl
-router_once asked history answered now at _ _ _ _ mine one own told once (router_note r m id dones q kind ordered statements answers tells found work news more) =
+router_once asked history answered now at _ _ _ _ mine one own told once
+    (router_note r m id dones q kind ordered statements answers tells found work news more) =
     goes_on asked history answered now at r mine own told once _ _ q _ id found refl refl refl refl refl refl
-router_once asked history answered now at _ _ _ _ mine one own told once (router_wrote r m id dones q kind ordered statements answers tells found work news all) =
+router_once asked history answered now at _ _ _ _ mine one own told once
+    (router_wrote r m id dones q kind ordered statements answers tells found work news all) =
     closes asked history answered now at r mine own told once _ _ _ q id found refl refl refl refl refl refl
-router_once asked history answered now at _ _ _ _ mine one own told once (router_read r m id rows q named time stages telling out answer f tells found work merges shown) =
+router_once asked history answered now at _ _ _ _ mine one own told once
+    (router_read r m id rows q named time stages telling out answer f tells found work merges shown) =
     closes asked history answered now at r mine own told once _ _ _ q id found refl refl refl refl refl refl
 router_once asked history answered now at _ _ _ _ mine one own told once (router_excess r m id n q named time stages telling tells found work) =
     closes asked history answered now at r mine own told once _ _ _ q id found refl refl refl refl refl refl

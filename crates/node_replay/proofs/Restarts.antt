@@ -15,7 +15,7 @@ use Rattle.node_replay.specs.Durable.{DurableState, durable_catalogue, durable_s
 use Rattle.node_replay.specs.Follow.{may_create, with_change, may_split, entry_from, may_enter, has_table, with_entry}
 use Rattle.node_replay.specs.Replays.{follow, replayed, records_of, time_in, latest_time}
 use Rattle.node_replay.specs.Openings.{opened, opened_on}
-use Rattle.node_replay.specs.Holds.{Holds, Replays, MayOpen}
+use Rattle.node_replay.specs.Holds.{Holds, HoldsOwn, Replays, MayOpen}
 use Rattle.node_replay.specs.ReadTimes.{IsInTime, ComesInTime, ReadsInTime}
 use Rattle.node_replay.specs.Restarts.{Restarts, Stops, Gives, gives_request, gives_message, gives_moment, gives_opening, EventOrStop, Occurs, occurs, restarts, stops, RunWithStops, stays, proceeds}
 use Rattle.node_replay.proofs.Runs.{NodeReplays, NodeReads, WorldReplays, MoveShows, move_shows, all_got, all_set, step_replays, event_replays, start_replays}
@@ -150,11 +150,11 @@ restart_replays w v at all m =
 stop_replays : (w v : World) (at : ℕ) (i : Input) → WorldReplays w → ComesInTime i → Stops w at i v → WorldReplays v
 stop_replays w v at i all input m =
     let old : NodeReplays m.old = all_got NodeReplays w.nodes at m.old all.nodes m.here in
-    let s : MoveShows m.old m.f m.reached = move_shows w at m.old m.reached i m.f all input m.here m.step in
+    let s : MoveShows m.old i m.f m.reached = move_shows w at m.old m.reached i m.f all input m.here m.step in
     let kept : List Kept = m.old.kept ++ m.f.written in
     let opens : opened_on m.reached kept ≡ Some m.new =
     ap (λ e. option_map (opened (latest_time (records_of kept))) (replayed (Some e) (records_of kept))) s.follows.own ∙ m.opens in
-    let now = opened_replays (record { state = m.reached; kept = kept }) m.new (step_replays m.old m.reached i m.f old s.follows) opens in
+    let now = opened_replays (record { state = m.reached; kept = kept }) m.new (step_replays m.old m.reached i m.f old input s.follows) opens in
     subst (λ (x : World). WorldReplays x) (sym m.then) (record {
       nodes = all_set NodeReplays w.nodes at (record { state = m.new; kept = kept }) all.nodes now.0;
       reads = all_set NodeReads w.nodes at (record { state = m.new; kept = kept }) all.reads now.1;
@@ -185,6 +185,13 @@ pub run_with_stops_replays : (routers : ℕ) (events : List EventOrStop) (w : Wo
 run_with_stops_replays routers events w run =
     let all : WorldReplays w = stopped_replays (start routers) w events (start_replays routers) run in
     (all_weaken NodeReplays Replays w.nodes (λ h r. r.0) all.nodes, all_weaken NodeReplays MayOpen w.nodes may_open all.nodes)
+
+-- what a step of such a run needs
+pub run_with_stops_holds : (routers : ℕ) (events : List EventOrStop) (w : World) → RunWithStops (start routers) events w
+    → AllByRecursion HoldsOwn w.nodes × ((e : Event) (at : ℕ) (i : Input) → Gives w e at i → ComesInTime i)
+run_with_stops_holds routers events w run =
+    let all : WorldReplays w = stopped_replays (start routers) w events (start_replays routers) run in
+    (all_weaken NodeReplays HoldsOwn w.nodes (λ h r. r.1) all.nodes, λ e at i gives. given_in_time w e at i all gives)
 
 pub run_with_stops_in_time : (routers : ℕ) (events : List EventOrStop) (w : World) → RunWithStops (start routers) events w
     → AllByRecursion IsInTime w.sent

@@ -1,6 +1,6 @@
 -- Each transition of a router keeps the facts that stay: the rows.
 use Rattle.std.proofs.Common.{◌≡◌, ◌≢◌, inl, inr, ℕ, ℤ, ◌+◌, ◌≤◌, List, [], ◌∷◌, ◌++◌, refl, sym, ap, subst, ◌∙◌, arith, append-nil}
-use Rattle.std.specs.Prelude.{max, length, Bool, true, false, ◌==◌, Some, if◌then◌else◌}
+use Rattle.std.specs.Prelude.{max, Bool, true, false, Some}
 use Rattle.std.specs.List.{AllByRecursion, flat_map}
 use Rattle.base_model.specs.Errors.{cursor_not_found, namespace_not_sharded, overflow}
 use Rattle.base_model.specs.Identities.{RequestId}
@@ -19,7 +19,7 @@ use Rattle.reply_model.specs.Exchanges.{Asked}
 use Rattle.reply_model.specs.OneHistory.{ids_asked, AreDifferent}
 use Rattle.reply_model.specs.Outcomes.{Done, answer_of}
 use Rattle.node_model.specs.Letters.{Statement, Input, Effect}
-use Rattle.node_model.specs.RouterRows.{heard, id_of, needs, at_once, needs_batch, needs_end, asks_for, noted, reply_to, going_on, reached, next_of, adopted, was_created, asks_again, open_of, begins, takes, Next, wait_of, opened_request, taken_now, too_much, RouterRow, router_begin, router_opened, router_plain, router_more, router_no_cursor, router_kill, router_take, router_learn, router_split, router_not_sharded, router_reach, router_ahead, router_note, router_wrote, router_read, router_excess, router_overflow, router_late, router_skip, router_moment}
+use Rattle.node_model.specs.RouterRows.{heard, id_of, needs, at_once, needs_batch, needs_end, statements_from, is_answered, asks_for, noted, reply_to, going_on, reached, next_of, adopted, was_created, asks_again, open_of, begins, takes, Next, wait_of, opened_request, taken_now, too_much, RouterRow, router_begin, router_opened, router_plain, router_more, router_no_cursor, router_kill, router_take, router_learn, router_split, router_not_sharded, router_reach, router_ahead, router_note, router_wrote, router_read, router_excess, router_overflow, router_late, router_skip, router_moment}
 use Rattle.node_model.specs.States.{Telling, Work, writing, reading, splitting, Open, Router, without, replaced}
 use Rattle.node_model.specs.World.{asked_by}
 use Rattle.node_laws.proofs.Facts.{IsBy}
@@ -30,6 +30,7 @@ use Rattle.node_laws.proofs.RouterAnswers.{as_answered, same_write}
 use Rattle.reply_facts.proofs.Requests.{one_asked}
 use Rattle.node_replay.specs.Acknowledged.{IsOutcomeAt, IsStored}
 use Rattle.node_replay.proofs.StayFacts.{AreDone, BodyStays, LetterStays, IsNoWrite, WorkStays, OpenStays, RouterStays, Grows, open_grows}
+use Rattle.node_replay.proofs.Noted.{all_noted, noted_in_turn}
 use Rattle.node_replay.proofs.ShardStays.{InputStays}
 use Rattle.node_replay.proofs.RouterStays.{planned, asks_stay, again_stays, IsOwn, IsTold, working, goes_on, plain_told, split_no_write, next_stays}
 
@@ -46,17 +47,6 @@ pub record RouterSteps (asked : List Asked) (history : List Entry) (now at : ℕ
   pub here : AllByRecursion (λ (a : Asked). a.id.router ≡ at) (asked_by now f.taken)
 
 -- LISTS
-
-all_noted : (P : Done → Type 0) (answers dones : List Done) → AllByRecursion P answers → AllByRecursion P dones → AllByRecursion P (noted answers dones)
-all_noted P answers [] old new = old
-all_noted P answers (d ∷ dones) old new =
-    by_test (d.index == length answers) (all_noted P (answers ++ d ∷ []) dones (all_append P answers (d ∷ []) old (new.0, tt)) new.1)
-    (all_noted P answers dones old new.1)
-  where
-    by_test : (b : Bool) → AllByRecursion P (noted (answers ++ d ∷ []) dones) → AllByRecursion P (noted answers dones)
-        → AllByRecursion P (if b then noted (answers ++ d ∷ []) dones else noted answers dones)
-    by_test true with_it without_it = with_it
-    by_test false with_it without_it = without_it
 
 each_again : (asked : List Asked) (history : List Entry) (r : Router) (time : ℕ) (requests : List Open)
     → AllByRecursion (IsOwn asked history 0 r) requests → AllByRecursion (LetterStays asked history) (flat_map (λ q. asks_again r time q) requests)
@@ -162,6 +152,8 @@ module _ (asked : List Asked) (history : List Entry) (now at : ℕ) (r : Router)
         all_noted (IsOutcomeAt history w.0 (id_of r q.count)) answers dones w.5
             (subst (λ x. AllByRecursion (IsOutcomeAt history x (id_of r q.count)) dones) write
             (subst (λ i. AllByRecursion (IsOutcomeAt history d.write i) dones) number d.each)),
+        w.6,
+        noted_in_turn answers dones w.7,
       )
 
   -- a life begins: of a life that did not begin there is nothing
@@ -283,11 +275,16 @@ module _ (asked : List Asked) (history : List Entry) (now at : ℕ) (r : Router)
 -- the reply to a write has the outcomes that arrived
 wrote_told : (asked : List Asked) (history : List Entry) (now : ℕ) (r : Router) (q : Open) (time : ℕ) (kind : WriteKind) (ordered : Bool)
     (statements : List Statement) (dones : List Done) → WorkStays history (id_of r q.count) q.request q.namespace (writing kind ordered statements dones)
-    → IsTold asked history now r (reply_to r time q (answer_of kind time dones))
-wrote_told asked history now r q time kind ordered statements dones does write asks =
+    → is_answered ordered statements dones ≡ true → IsTold asked history now r (reply_to r time q (answer_of kind time dones))
+wrote_told asked history now r q time kind ordered statements dones does whole write asks =
+    let of_write : is_answered does.0.ordered (statements_from does.0.number (id_of r q.count) 0 does.0.operations) dones ≡ true =
+    subst (λ o. is_answered o (statements_from does.0.number (id_of r q.count) 0 does.0.operations) dones ≡ true) does.6
+    (subst (λ l. is_answered ordered l dones ≡ true) does.4 whole) in
     let same : does.0 ≡ write = same_write does.0 write (command_of q.request) does.1 asks in
     record {
       dones = dones;
+      turns = does.7;
+      all = subst (λ (w : WriteCommand). is_answered w.ordered (statements_from w.number (id_of r q.count) 0 w.operations) dones ≡ true) same of_write;
       document = ap (λ k. answer_document (answer_of k time dones)) (does.2 ∙ ap (λ (w : WriteCommand). w.kind) same);
       stored = subst (λ w. AllByRecursion (IsOutcomeAt history w (id_of r q.count)) dones) same does.5;
     }
@@ -366,7 +363,7 @@ router_steps asked history now at _ _ _ _ mine one input (router_wrote r m id do
     let does = news asked history now at r mine one id dones q kind ordered statements answers opens_here work
     (subst (λ b. BodyStays asked history b) tells input) in
     still asked history now at r mine one _ _ refl refl refl refl refl (closed asked history now at r mine one q) tt
-    (wrote_told asked history now r q (heard r m) kind ordered statements (noted answers dones) does, tt)
+    (wrote_told asked history now r q (heard r m) kind ordered statements (noted answers dones) does all, tt)
 router_steps asked history now at _ _ _ _ mine one input (router_read r m id rows q named time stages telling out answer f tells opens_here work merges shown) =
     let o = found asked history now at r mine one id q opens_here in
     still asked history now at r mine one _ _ refl refl refl refl refl (closed asked history now at r mine one q) tt

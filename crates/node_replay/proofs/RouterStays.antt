@@ -55,7 +55,7 @@ module _ (history : List Entry) (r : Router) (id : RequestId) (request : Request
   plan_stays (Ok (legacy_command legacy)) is = other_command _ is (λ write e. cc)
   plan_stays (Ok ping_command) is = other_command _ is (λ write e. cc)
   plan_stays (Ok end_sessions_command) is = other_command _ is (λ write e. cc)
-  plan_stays (Ok (write_command write)) is = (write, is, refl, refl, refl, tt)
+  plan_stays (Ok (write_command write)) is = (write, is, refl, refl, refl, tt, refl, tt)
   plan_stays (Ok (find_command find)) is =
       plan_read_stays (other_command _ is (λ write e. cc)) find.reading.namespace find.reading.at _ find.reading.stages _
   plan_stays (Ok (count_command read)) is = plan_read_stays (other_command _ is (λ write e. cc)) read.namespace read.at _ read.stages _

@@ -11,7 +11,7 @@ use Rattle.node_model.specs.World.{Held, World, Moves, Event, Happens, comes, de
 use Rattle.node_replay.specs.Durable.{durable_of, empty_of}
 use Rattle.node_replay.specs.Replays.{replayed, records_of}
 use Rattle.node_laws.proofs.GreatestTimes.{greatest_both}
-use Rattle.node_replay.specs.Holds.{Holds, Replays}
+use Rattle.node_replay.specs.Holds.{Holds, HoldsOwn, Replays}
 use Rattle.node_replay.specs.ReadTimes.{IsInTime, ComesInTime, ReadsInTime}
 use Rattle.node_replay.proofs.Replay.{replayed_then}
 use Rattle.node_replay.proofs.ReadTimes.{StepInTime, step_in_time}
@@ -20,7 +20,7 @@ use Rattle.node_replay.proofs.Steps.{StepFollows, step_follows}
 
 -- what is true of each node at every moment
 abbrev pub NodeReplays : Held → Type 0
-NodeReplays h = Replays h × Holds (greatest_kept h.kept) h.state
+NodeReplays h = Replays h × HoldsOwn h
 
 abbrev pub NodeReads : Held → Type 0
 NodeReads h = ReadsInTime h.state
@@ -45,38 +45,39 @@ all_set P (y ∷ xs) (suc at) x all p = (all.0, all_set P xs at x all.1 p)
 
 -- STEPS
 
-pub step_replays : (old : Held) (new : NodeState) (i : Input) (f : Effect) → NodeReplays old → StepFollows (greatest_kept old.kept) old.state f new
+pub step_replays : (old : Held) (new : NodeState) (i : Input) (f : Effect) → NodeReplays old → ComesInTime i
+    → StepFollows (greatest_kept old.kept) old.state i f new
     → NodeReplays (record { state = new; kept = old.kept ++ f.written })
-step_replays old new i f (replays, holds) s =
+step_replays old new i f (replays, holds) input s =
     let stored : stored_with (greatest_kept old.kept) f ≡ greatest_kept (old.kept ++ f.written) = sym (greatest_both old.kept f.written) in (
       subst (λ e. replayed (Some e) (records_of (old.kept ++ f.written)) ≡ Some (durable_of (greatest_kept (old.kept ++ f.written)) new)) (sym s.own)
           (replayed_then (Some (empty_of old.state)) old.kept f.written (durable_of (greatest_kept old.kept) old.state)
           (durable_of (greatest_kept (old.kept ++ f.written)) new) replays (s.leads ∙ ap (λ n. Some (durable_of n new)) stored)),
-      subst (λ n. Holds n new) stored s.holds,
+      subst (λ n. Holds n new) stored (s.holds input),
     )
 
 -- what a step of a node of a world shows
-pub record MoveShows (old : Held) (f : Effect) (new : NodeState) : Type 0 where
-  pub follows : StepFollows (greatest_kept old.kept) old.state f new
+pub record MoveShows (old : Held) (i : Input) (f : Effect) (new : NodeState) : Type 0 where
+  pub follows : StepFollows (greatest_kept old.kept) old.state i f new
   pub in_time : StepInTime f new
 
 pub move_shows : (w : World) (at : ℕ) (old : Held) (new : NodeState) (i : Input) (f : Effect) → WorldReplays w → ComesInTime i
-    → slice_get w.nodes at ≡ Some old → Step old.state i f new → MoveShows old f new
+    → slice_get w.nodes at ≡ Some old → Step old.state i f new → MoveShows old i f new
 move_shows w at old new i f all input here step =
     let replays : NodeReplays old = all_got NodeReplays w.nodes at old all.nodes here in
     let reads : NodeReads old = all_got NodeReads w.nodes at old all.reads here in
     record {
-      follows = step_follows (greatest_kept old.kept) old.state new i f replays.1 input step;
+      follows = step_follows (greatest_kept old.kept) old.state new i f replays.1 step;
       in_time = step_in_time old.state new i f reads input step;
     }
 
 move_replays : (w v : World) (at : ℕ) (i : Input) → WorldReplays w → ComesInTime i → Moves w at i v → WorldReplays v
 move_replays w v at i all input m =
     let old : NodeReplays m.old = all_got NodeReplays w.nodes at m.old all.nodes m.here in
-    let s : MoveShows m.old m.f m.new = move_shows w at m.old m.new i m.f all input m.here m.step in
+    let s : MoveShows m.old i m.f m.new = move_shows w at m.old m.new i m.f all input m.here m.step in
     subst (λ (x : World). WorldReplays x) (sym m.then) (record {
       nodes = all_set NodeReplays w.nodes at (record { state = m.new; kept = m.old.kept ++ m.f.written }) all.nodes
-          (step_replays m.old m.new i m.f old s.follows);
+          (step_replays m.old m.new i m.f old input s.follows);
       reads = all_set NodeReads w.nodes at (record { state = m.new; kept = m.old.kept ++ m.f.written }) all.reads s.in_time.state;
       letters = all_append IsInTime w.sent m.f.mail all.letters s.in_time.letters;
     })

@@ -18,15 +18,15 @@ use Rattle.node_replay.specs.SameData.{same_words}
 use Rattle.node_replay.specs.Durable.{DurableShard, durable_shard, shard_part}
 use Rattle.node_replay.specs.Follow.{has_table, with_entry, with_new_table}
 use Rattle.node_replay.specs.Replays.{replayed, records_of}
-use Rattle.node_replay.specs.ReadTimes.{ReadsBy, ComesInTime}
+use Rattle.node_replay.specs.ReadTimes.{ReadsBy, IsInTime, ComesInTime}
 use Rattle.node_replay.proofs.SameWords.{words_itself}
 use Rattle.node_replay.proofs.Replay.{replayed_then, latest_push}
 
--- what a step of a shard has to show
-pub record ShardFollows (s : Shard) (f : Effect) (t : Shard) : Type 0 where
+-- what a step of a shard has to show; that it holds what nodes hold, where its input comes in time
+pub record ShardFollows (s : Shard) (i : Input) (f : Effect) (t : Shard) : Type 0 where
   pub own : t.me ≡ s.me
   pub leads : replayed (Some (durable_shard (shard_part s))) (records_of f.written) ≡ Some (durable_shard (shard_part t))
-  pub holds : top t ≤ t.time
+  pub holds : ComesInTime i → top t ≤ t.time
 
 -- ENTRIES
 
@@ -128,51 +128,55 @@ ceiling_follows me ceiling tables entries time above has =
 -- TRANSITIONS
 
 -- the shard stores nothing, and its time does not fall
-still : (s : Shard) (f : Effect) (time : ℕ) (parked : List Letter) → f.written ≡ [] → s.time ≤ time → top s ≤ s.time
-    → ShardFollows s f (record { me = s.me; time = time; tables = s.tables; entries = s.entries; ceiling = s.ceiling; parked = parked })
-still s f time parked none le past = record {
+still : (s : Shard) (i : Input) (f : Effect) (time : ℕ) (parked : List Letter) → f.written ≡ [] → s.time ≤ time → top s ≤ s.time
+    → ShardFollows s i f (record { me = s.me; time = time; tables = s.tables; entries = s.entries; ceiling = s.ceiling; parked = parked })
+still s i f time parked none le past = record {
   own = refl;
   leads = ap (λ l. replayed (Some (durable_shard (shard_part s))) (records_of l)) none;
-  holds = omega (arith, le, past);
+  holds = λ input. omega (arith, le, past);
 }
 
 heard_later : (s : Shard) (m : Letter) → s.time ≤ max s.time m.time
 heard_later s m = omega arith
 
-pub shard_follows : (s t : Shard) (i : Input) (f : Effect) → top s ≤ s.time → ComesInTime i → ShardRow s i f t → ShardFollows s f t
-shard_follows _ _ _ _ past input (shard_write s m id turn ordered namespace statements sent d dones made last asks agree serves) =
+pub shard_follows : (s t : Shard) (i : Input) (f : Effect) → top s ≤ s.time → ShardRow s i f t → ShardFollows s i f t
+shard_follows _ _ _ _ past (shard_write s m id turn ordered namespace statements sent d dones made last asks agree serves) =
     let le : max s.ceiling (greatest_entry s.entries) ≤ heard s m = omega (arith, past) in
     record {
       own = refl;
-      leads = served_follow s.me s.ceiling s.tables namespace ordered (fits_table sent s.me (table_of namespace s.tables) agree) s.entries (heard s m) statements
-          (d ∷ dones) made last serves le;
-      holds = served_past s.me s.ceiling namespace ordered s.entries (heard s m) statements (d ∷ dones) made last serves le;
+      leads = served_follow s.me s.ceiling s.tables namespace ordered (fits_table sent s.me (table_of namespace s.tables) agree) s.entries (heard s m)
+          statements (d ∷ dones) made last serves le;
+      holds = λ input. served_past s.me s.ceiling namespace ordered s.entries (heard s m) statements (d ∷ dones) made last serves le;
     }
-shard_follows _ _ _ _ past input (shard_repeat s m id turn ordered namespace statements sent d dones asks differ repeated) =
-    still s _ (heard s m) s.parked refl (heard_later s m) past
-shard_follows _ _ _ _ past input (shard_empty s m id turn ordered namespace sent asks) = still s _ (heard s m) s.parked refl (heard_later s m) past
-shard_follows _ _ _ _ past input (shard_park s m a asks unseen old waits) = still s _ (heard s m) (s.parked ++ m ∷ []) refl (heard_later s m) past
-shard_follows _ _ _ _ past input (shard_waits s m a asks unseen old waits) = still s _ (heard s m) s.parked refl (heard_later s m) past
-shard_follows _ _ _ _ past input (shard_stale s m a met asks unseen old) = still s _ (heard s m) s.parked refl (heard_later s m) past
-shard_follows _ _ _ _ past input (shard_read s m id turn namespace at half sent asks agree covered) =
-    still s _ (heard s m) s.parked refl (heard_later s m) past
-shard_follows _ _ _ _ past input (shard_read_above s m id turn namespace at half sent asks agree above) =
-    let early : at ≤ m.time = subst (λ b. ReadsBy m.time b) asks input in
+shard_follows _ _ _ _ past (shard_repeat s m id turn ordered namespace statements sent d dones asks differ repeated) =
+    still s _ _ (heard s m) s.parked refl (heard_later s m) past
+shard_follows _ _ _ _ past (shard_empty s m id turn ordered namespace sent asks) = still s _ _ (heard s m) s.parked refl (heard_later s m) past
+shard_follows _ _ _ _ past (shard_park s m a asks unseen old waits) = still s _ _ (heard s m) (s.parked ++ m ∷ []) refl (heard_later s m) past
+shard_follows _ _ _ _ past (shard_waits s m a asks unseen old waits) = still s _ _ (heard s m) s.parked refl (heard_later s m) past
+shard_follows _ _ _ _ past (shard_stale s m a met asks unseen old) = still s _ _ (heard s m) s.parked refl (heard_later s m) past
+shard_follows _ _ _ _ past (shard_read s m id turn namespace at half sent asks agree covered) =
+    still s _ _ (heard s m) s.parked refl (heard_later s m) past
+shard_follows _ _ _ _ past (shard_read_above s m id turn namespace at half sent asks agree above) =
+    let early : IsInTime m → at ≤ m.time = λ input. subst (λ b. ReadsBy m.time b) asks input in
     let has : has_table s.tables ≡ true = some_table namespace s.tables (fits_table sent s.me (table_of namespace s.tables) agree) in
-    record { own = refl; leads = ceiling_follows s.me s.ceiling s.tables s.entries at above has; holds = omega (arith, past, above, early) }
-shard_follows _ _ _ _ past input (shard_rows s m id turn namespace at half documents rows asks shows small) =
-    still s _ (heard s m) s.parked refl (heard_later s m) past
-shard_follows _ _ _ _ past input (shard_excess s m id turn namespace at half documents rows length n asks shows much told) =
-    still s _ (heard s m) s.parked refl (heard_later s m) past
-shard_follows _ _ _ _ past input (shard_overflow s m id turn namespace at half documents asks over) = still s _ (heard s m) s.parked refl (heard_later s m) past
-shard_follows _ _ _ _ past input (shard_time s m id asks) = still s _ (heard s m) s.parked refl (heard_later s m) past
-shard_follows _ _ _ _ past input (shard_learn s m namespace create at t tells news) = record {
+    record {
+      own = refl;
+      leads = ceiling_follows s.me s.ceiling s.tables s.entries at above has;
+      holds = λ input. let by = early input in omega (arith, past, above, by);
+    }
+shard_follows _ _ _ _ past (shard_rows s m id turn namespace at half documents rows asks shows small) =
+    still s _ _ (heard s m) s.parked refl (heard_later s m) past
+shard_follows _ _ _ _ past (shard_excess s m id turn namespace at half documents rows length n asks shows much told) =
+    still s _ _ (heard s m) s.parked refl (heard_later s m) past
+shard_follows _ _ _ _ past (shard_overflow s m id turn namespace at half documents asks over) = still s _ _ (heard s m) s.parked refl (heard_later s m) past
+shard_follows _ _ _ _ past (shard_time s m id asks) = still s _ _ (heard s m) s.parked refl (heard_later s m) past
+shard_follows _ _ _ _ past (shard_learn s m namespace create at t tells news) = record {
   own = refl;
   leads = table_follows s.me s.ceiling s.tables s.entries t news;
-  holds = omega (arith, past);
+  holds = λ input. omega (arith, past);
 }
-shard_follows _ _ _ _ past input (shard_known s m namespace create at table tells none) = still s _ (heard s m) s.parked refl (heard_later s m) past
-shard_follows _ _ _ _ past input (shard_skip s m none) = still s _ s.time s.parked refl (omega arith) past
-shard_follows _ _ _ _ past input (shard_moment s moment) = still s _ (max s.time (time_of_moment moment)) s.parked refl (omega arith) past
-shard_follows _ _ _ _ past input (shard_opened s) = still s _ s.time s.parked refl (omega arith) past
-shard_follows _ _ _ _ past input (shard_client s link number request) = still s _ s.time s.parked refl (omega arith) past
+shard_follows _ _ _ _ past (shard_known s m namespace create at table tells none) = still s _ _ (heard s m) s.parked refl (heard_later s m) past
+shard_follows _ _ _ _ past (shard_skip s m none) = still s _ _ s.time s.parked refl (omega arith) past
+shard_follows _ _ _ _ past (shard_moment s moment) = still s _ _ (max s.time (time_of_moment moment)) s.parked refl (omega arith) past
+shard_follows _ _ _ _ past (shard_opened s) = still s _ _ s.time s.parked refl (omega arith) past
+shard_follows _ _ _ _ past (shard_client s link number request) = still s _ _ s.time s.parked refl (omega arith) past

@@ -22,7 +22,7 @@ use Rattle.node_laws.proofs.Facts.{IsBy}
 use Rattle.node_laws.proofs.ServedStatements.{statement_of}
 use Rattle.node_replay.specs.Histories.{HasKey}
 use Rattle.node_replay.specs.Replays.{records_of}
-use Rattle.node_replay.specs.Acknowledged.{IsOutcomeOf, of_entry, of_greater, IsOutcomeAt, IsAcknowledged, IsStored}
+use Rattle.node_replay.specs.Acknowledged.{AreInTurn, IsOutcomeOf, of_entry, of_greater, IsOutcomeAt, IsAcknowledged, IsStored}
 
 -- STATEMENTS AND OUTCOMES
 
@@ -75,6 +75,7 @@ abbrev pub WorkStays : List Entry → RequestId → Request → (namespace : Lis
 WorkStays history id request namespace (writing kind ordered statements answers) =
     (write : WriteCommand) × (command_of request ≡ Ok (write_command write)) × (kind ≡ write.kind) × (namespace ≡ write.namespace)
     × (statements ≡ statements_from write.number id 0 write.operations) × AllByRecursion (IsOutcomeAt history write id) answers
+    × (ordered ≡ write.ordered) × AreInTurn 0 answers
 WorkStays history id request namespace (reading named at stages telling) = IsNoWrite request
 WorkStays history id request namespace sharding = IsNoWrite request
 WorkStays history id request namespace (splitting middle) = command_of request ≡ Ok (split_command (record { namespace = namespace; middle = middle }))
@@ -164,8 +165,8 @@ module _ (asked more : List Asked) (history longer : List Entry) (g : Grows aske
 
   work_grows : (id : RequestId) (request : Request) (namespace : List ℕ) (work : Work) → WorkStays history id request namespace work
       → WorkStays longer id request namespace work
-  work_grows id request namespace (writing kind ordered statements answers) (write, asks, same, name, all, each) =
-      (write, asks, same, name, all, outcomes_grow write id answers each)
+  work_grows id request namespace (writing kind ordered statements answers) (write, asks, same, name, all, each, order, turns) =
+      (write, asks, same, name, all, outcomes_grow write id answers each, order, turns)
   work_grows id request namespace (reading named at stages telling) s = s
   work_grows id request namespace sharding s = s
   work_grows id request namespace (splitting middle) s = s
@@ -187,7 +188,7 @@ module _ (asked more : List Asked) (history longer : List Entry) (g : Grows aske
   pub stored_grows : (t : Answered) → IsStored history t → IsStored longer t
   stored_grows t s write asks =
       let a : IsAcknowledged history write t = s write asks in
-      record { dones = a.dones; document = a.document; stored = outcomes_grow write t.id a.dones a.stored }
+      record { dones = a.dones; turns = a.turns; all = a.all; document = a.document; stored = outcomes_grow write t.id a.dones a.stored }
 
 -- NODES OF EACH KIND
 

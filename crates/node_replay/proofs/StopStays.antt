@@ -73,7 +73,8 @@ taken_step : (w : World) (at : ℕ) (i : Input) (old : Held) (f : Effect) (reach
     → StepStays w.asked (stored_in (with_step w.nodes at old f.written new)) w.now at old.kept f reached
 taken_step w at i old f reached new stay replays input here step =
     step_stays w.asked (stored_in w.nodes) (stored_in (with_step w.nodes at old f.written new)) (stored_stays w.nodes at old f.written new here)
-    w.now at (greatest_kept old.kept) old.kept old.state reached i f stay.one (λ is. stored_here w.nodes at old f.written new here is) (here_stays w at old stay here)
+    w.now at (greatest_kept old.kept) old.kept old.state reached i f stay.one (λ is. stored_here w.nodes at old f.written new here is)
+    (here_stays w at old stay here)
     replays.1 input step
 
 move_stays : (w v : World) (at : ℕ) (i : Input) → WorldStays w → WorldReplays w → InputStays w.asked (stored_in w.nodes) i → Moves w at i v
@@ -113,8 +114,9 @@ stop_stays : (w v : World) (at : ℕ) (i : Input) → WorldStays w → WorldRepl
     → WorldStays v
 stop_stays w v at i stay all input in_time m =
     let replays : NodeReplays m.old = all_got NodeReplays w.nodes at m.old all.nodes m.here in
-    let shows : MoveShows m.old m.f m.reached = move_shows w at m.old m.reached i m.f all in_time m.here m.step in
-    let after : NodeReplays (record { state = m.reached; kept = m.old.kept ++ m.f.written }) = step_replays m.old m.reached i m.f replays shows.follows in
+    let shows : MoveShows m.old i m.f m.reached = move_shows w at m.old m.reached i m.f all in_time m.here m.step in
+    let after : NodeReplays (record { state = m.reached; kept = m.old.kept ++ m.f.written }) =
+    step_replays m.old m.reached i m.f replays in_time shows.follows in
     let opens : opened_on m.reached (m.old.kept ++ m.f.written) ≡ Some m.new =
     ap (λ e. option_map (opened (latest_time (records_of (m.old.kept ++ m.f.written)))) (replayed (Some e) (records_of (m.old.kept ++ m.f.written))))
     shows.follows.own
@@ -285,7 +287,7 @@ run_with_stops_keeps routers events w run =
       legal = s.legal;
       numbers = s.numbers;
       sent = s.sent;
-      told = r.0.told;
+      acknowledged = r.0.told;
       fitting = catalogue_of_nodes w.asked (stored_in w.nodes) w.nodes r.0.each r.1.nodes;
       one = r.0.one;
       dated = r.0.dated;

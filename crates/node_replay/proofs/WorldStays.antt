@@ -124,7 +124,8 @@ module _ (asked : List Asked) (history longer : List Entry) (stays : (e : Entry)
 -- OTHER NODES
 
 -- what is true of a node stays where another one steps
-pub state_grows : (asked more : List Asked) (history longer : List Entry) → Grows asked (asked ++ more) history longer → (j : ℕ) (kept : List Kept) (s : NodeState)
+pub state_grows : (asked more : List Asked) (history longer : List Entry) → Grows asked (asked ++ more) history longer → (j : ℕ) (kept : List Kept)
+    (s : NodeState)
     → AllByRecursion (λ (a : Asked). a.id.router ≢ j) more → StateStays asked history j kept s → StateStays (asked ++ more) longer j kept s
 state_grows asked more history longer g j kept (catalogue_state c) other s = s
 state_grows asked more history longer g j kept (shard_state x) other s = record {

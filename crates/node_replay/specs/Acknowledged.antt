@@ -1,6 +1,6 @@
 -- What stays true in runs in which nodes stop and are started again (MongoDB manual, "Write Concern": an acknowledged write is not lost;
 -- "Retryable Writes": a statement is applied at most once).
-use Rattle.std.specs.Prelude.{◌≡◌, ◌<◌, ℕ, List, ◌++◌, length, Ok, true, int_lt}
+use Rattle.std.specs.Prelude.{◌≡◌, ◌<◌, ℕ, List, ◌++◌, length, Ok, true, int_lt, [], ◌∷◌, ◌+◌}
 use Rattle.std.specs.List.{AllByRecursion}
 use Rattle.command_model.specs.Answers.{answer_document}
 use Rattle.command_model.specs.Command.{write_command, command_of}
@@ -15,6 +15,7 @@ use Rattle.reply_model.specs.OneHistory.{AreNumbered, ids_asked, AreDifferent}
 use Rattle.reply_model.specs.Outcomes.{StatementOutcome, is_older, Done, answer_by, answer_of}
 use Rattle.reply_model.specs.Right.{Sends}
 use Rattle.node_model.specs.Journal.{Kept, entries_kept, changes_kept}
+use Rattle.node_model.specs.RouterRows.{statements_from, is_answered}
 use Rattle.node_model.specs.World.{World, journal_at}
 
 -- the outcome is that of a stored entry under the number, or says that a stored entry has a greater transaction of its session
@@ -28,9 +29,16 @@ pub record IsOutcomeAt (history : List Entry) (write : WriteCommand) (id : Reque
   pub within : d.index < length write.operations
   pub outcome : IsOutcomeOf history (number_for write.number id d.index) d.answer
 
--- the reply to a write returns outcomes of its statements, each of which is stored
+-- these outcomes are of statements from this index on, one after another
+abbrev pub AreInTurn : (index : ℕ) → List Done → Type 0
+AreInTurn index [] = Unit {0}
+AreInTurn index (d ∷ dones) = (d.index ≡ index) × AreInTurn (index + 1) dones
+
+-- the reply to a write returns the outcomes of all its statements, or of those up to the error that ends an ordered one, and each of these is stored
 pub record IsAcknowledged (history : List Entry) (write : WriteCommand) (t : Answered) : Type 0 where
   pub dones : List Done
+  pub turns : AreInTurn 0 dones
+  pub all : is_answered write.ordered (statements_from write.number t.id 0 write.operations) dones ≡ true
   pub document : t.document ≡ answer_document (answer_of write.kind t.time dones)
   pub stored : AllByRecursion (IsOutcomeAt history write t.id) dones
 
@@ -48,7 +56,7 @@ pub record KeepsWrites (w : World) : Type 0 where
   pub legal : Legal (entries_kept (journal_at w.nodes first_shard))
   pub numbers : AreNumbered (entries_kept (journal_at w.nodes first_shard))
   pub sent : AllByRecursion (WasSentBy w.asked) (entries_kept (journal_at w.nodes first_shard))
-  pub told : AllByRecursion (IsStored (entries_kept (journal_at w.nodes first_shard))) w.answered
+  pub acknowledged : AllByRecursion (IsStored (entries_kept (journal_at w.nodes first_shard))) w.answered
   pub fitting : AreFitting (changes_kept (journal_at w.nodes 0))
   pub one : AreDifferent (ids_asked w.asked)
   pub dated : changes_in w.changed ≡ changes_kept (journal_at w.nodes 0)

@@ -16,6 +16,10 @@ Holds stored (catalogue_state c) = stored ≤ c.time
 Holds stored (shard_state s) = top s ≤ s.time
 Holds stored (router_state r) = (1 ≤ r.life) × ((r.begun ≡ true) ⊎ (r.requests ≡ []))
 
+-- so it is of what the journal of the node stores
+abbrev pub HoldsOwn : Held → Type 0
+HoldsOwn h = Holds (greatest_kept h.kept) h.state
+
 -- the journal replays to the durable part of the node
 abbrev pub Replays : Held → Type 0
 Replays h = replayed (Some (empty_of h.state)) (records_of h.kept) ≡ Some (durable_of (greatest_kept h.kept) h.state)

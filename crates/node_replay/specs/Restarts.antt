@@ -17,7 +17,7 @@ pub record Restarts (w : World) (at : ℕ) (v : World) : Type 0 where
   pub opens : opened_on old.state old.kept ≡ Some new
   pub then : v ≡ tick (after w at old nothing new)
 
--- what a stop leaves of a step: the records that it stored, and that it took its requests
+-- what remains of a step in which a node stops: the records that it stored, and that it took its requests
 abbrev pub cut_off : Effect → Effect
 cut_off f = record { written = f.written; mail = []; taken = f.taken; replies = [] }
 

@@ -6,7 +6,7 @@ ghost use Rattle.chunk_model.specs.Changes.{create_change, split_change};
 ghost use Rattle.chunk_model.specs.SampleCollections.{creation};
 ghost use Rattle.chunk_model.specs.Tables.{first_table};
 ghost use Rattle.history_model.specs.History.{done};
-ghost use Rattle.history_model.specs.SampleEntries.{entry_at, first_entry, second_entry};
+ghost use Rattle.history_model.specs.SampleEntries.{first_entry, second_entry};
 ghost use Rattle.record_model.specs.Records.{block_record, catalogue_ceiling_record, ceiling_record, create_record, life_record, move_start_record, record_of, split_record, table_record};
 ghost use Rattle.record_model.specs.SampleRecords.{begun_move};
 ghost use Rattle.node_replay.specs.Durable.{durable_catalogue, durable_router, durable_shard};

@@ -5,25 +5,31 @@ ghost use Rattle.std.specs.List.{AllByRecursion};
 ghost use Rattle.record_model.specs.Records.{Record};
 ghost use Rattle.reply_model.specs.OneHistory.{AreDifferent, ids_told};
 ghost use Rattle.node_model.specs.Journal.{greatest_kept};
-ghost use Rattle.node_model.specs.Letters.{Effect, Input, Letter};
+ghost use Rattle.node_model.specs.Letters.{Effect, Input};
 ghost use Rattle.node_model.specs.States.{NodeState};
 ghost use Rattle.node_model.specs.Steps.{Step};
 ghost use Rattle.node_model.specs.World.{Event, Run, World, start};
 ghost use Rattle.node_replay.specs.Acknowledged.{KeepsJournals, KeepsWrites};
 ghost use Rattle.node_replay.specs.Durable.{DurableCatalogue, DurableShard, durable_catalogue, durable_of, durable_shard, empty_catalogue, empty_shard};
 ghost use Rattle.node_replay.specs.Histories.{AreChanges, HasKey, IsHistory};
-ghost use Rattle.node_replay.specs.Holds.{Holds, MayOpen, Replays};
+ghost use Rattle.node_replay.specs.Holds.{Holds, HoldsOwn, MayOpen, Replays};
 ghost use Rattle.node_replay.specs.ReadTimes.{ComesInTime, IsInTime};
 ghost use Rattle.node_replay.specs.Replays.{records_of, replayed};
-ghost use Rattle.node_replay.specs.Restarts.{EventOrStop, RunWithStops};
+ghost use Rattle.node_replay.specs.Restarts.{EventOrStop, Gives, RunWithStops};
 
 /// The records that a step stores may follow, one after another, in the durable part of the node before it, and lead to the durable part of the node
-/// after it, where no message reads at a time later than itself.
+/// after it. The node still holds what nodes hold, where its input reads at no time later than itself.
 pub fn steps_store_what_may_follow()
-    ensures { (stored : ℕ) (s : NodeState) (t : NodeState) (i : Input) (f : Effect) → Holds stored s → ComesInTime i → Step s i f t → (replayed (Some (durable_of stored s)) (records_of f.written) ≡ Some (durable_of (max stored (greatest_kept f.written)) t)) × Holds (max stored (greatest_kept f.written)) t }
+    ensures { (stored : ℕ) (s : NodeState) (t : NodeState) (i : Input) (f : Effect) → Holds stored s → Step s i f t → (replayed (Some (durable_of stored s)) (records_of f.written) ≡ Some (durable_of (max stored (greatest_kept f.written)) t)) × (ComesInTime i → Holds (max stored (greatest_kept f.written)) t) }
 {}
 
-/// And none does, where nodes stop and are started again.
+/// Where nodes stop and are started again, each node holds what nodes hold, and each input that an event may give to one reads at no time later than itself.
+/// So the law on steps is true of every step of such a run.
+pub fn runs_with_stops_hold()
+    ensures { (routers : ℕ) (events : List EventOrStop) (w : World) → RunWithStops (start routers) events w → AllByRecursion HoldsOwn w.nodes × ((e : Event) (at : ℕ) (i : Input) → Gives w e at i → ComesInTime i) }
+{}
+
+/// Where nodes stop and are started again, no message that was sent reads at a time later than itself.
 pub fn no_message_reads_ahead()
     ensures { (routers : ℕ) (events : List EventOrStop) (w : World) → RunWithStops (start routers) events w → AllByRecursion IsInTime w.sent }
 {}
@@ -33,7 +39,7 @@ pub fn runs_replay()
     ensures { (routers : ℕ) (events : List Event) (w : World) → Run (start routers) events w → AllByRecursion Replays w.nodes }
 {}
 
-/// The same where nodes stop between two steps, or in one, and are started again: so no start is refused.
+/// The same where nodes stop between two steps, or in one, and are started again; and no start on such a journal is refused.
 pub fn runs_with_stops_replay()
     ensures { (routers : ℕ) (events : List EventOrStop) (w : World) → RunWithStops (start routers) events w → AllByRecursion Replays w.nodes × AllByRecursion MayOpen w.nodes }
 {}
@@ -48,17 +54,17 @@ pub fn replayed_catalogue_has_changes()
     ensures { (me : ℕ) (records : List Record) (d : DurableCatalogue) → AllByRecursion HasKey records → replayed (Some (durable_catalogue (empty_catalogue me))) records ≡ Some (durable_catalogue d) → AreChanges records d }
 {}
 
-/// Where nodes stop, in whichever step, and are started again: nothing that a client was told of a write is lost, and no statement is applied twice.
+/// Where nodes stop, in whichever step, and are started again: no write that was acknowledged is lost, and no statement is applied twice.
 pub fn runs_with_stops_keep_writes()
     ensures { (routers : ℕ) (events : List EventOrStop) (w : World) → RunWithStops (start routers) events w → KeepsWrites w }
 {}
 
-/// Nor is any record lost that was stored: from any world on, each journal grows at its end alone.
+/// Where nodes stop, no record that was stored is lost: from any world on, each journal grows at its end alone.
 pub fn runs_with_stops_keep_journals()
     ensures { (u : World) (events : List EventOrStop) (w : World) → RunWithStops u events w → KeepsJournals u w }
 {}
 
-/// Nor is any request answered twice.
+/// Where nodes stop, no request is answered twice.
 pub fn runs_with_stops_answer_once()
     ensures { (routers : ℕ) (events : List EventOrStop) (w : World) → RunWithStops (start routers) events w → AreDifferent (ids_told w.answered) }
 {}
