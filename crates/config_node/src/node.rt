@@ -160,10 +160,13 @@ impl ConfigNode {
     fn creation(&mut self, ask: &TableAsk, at: Time) -> Result<Option<Change>, Memory>
         requires late { self.old.time.0 < at.0 }
         ensures requested { IfOk result (λ change. IfSome change (λ _. ask.now.create ≡ true)) }
-        ensures answer { IfOk result (λ change. IfSome change (λ x. create_answer ask.now.namespace at.0 (changes_of self.old.catalogue) ≡ changed (change_view x.fields))) }
-        ensures none { IfOk result (λ change. change ≡ None → (ask.now.create ≡ false) ⊎ IsSome (known_table ask.now.namespace (changes_of self.old.catalogue))) }
+        ensures answer { IfOk result (λ change. IfSome change (λ x.
+            create_answer ask.now.namespace at.0 (changes_of self.old.catalogue) ≡ changed (change_view x.fields))) }
+        ensures none { IfOk result (λ change. change ≡ None →
+            (ask.now.create ≡ false) ⊎ IsSome (known_table ask.now.namespace (changes_of self.old.catalogue))) }
         ensures writable { IfOk result (λ change. IfSome change (λ x. IsWritableChange (change_view x.fields))) }
-        ensures table { IfOk result (λ change. IfSome change (λ x. known_table ask.now.namespace (change_view x.fields ∷ changes_of self.old.catalogue) ≡ Some (arc_value x.table))) }
+        ensures table { IfOk result (λ change. IfSome change (λ x.
+            known_table ask.now.namespace (change_view x.fields ∷ changes_of self.old.catalogue) ≡ Some (arc_value x.table))) }
         ensures next { IfOk result (λ change. IfSome change (λ x. IsNext self.new.catalogue x)) }
         ensures time { IfOk result (λ change. IfSome change (λ x. time_of (change_view x.fields) ≡ at.0)) }
         ensures same { state_of self.new ≡ state_of self.old }
@@ -220,7 +223,8 @@ impl ConfigNode {
     // Changes the catalogue as planned, and returns its messages. Takes no memory.
     fn take(&mut self, plan: StepPlan) -> Outputs<Message>
         requires ready { IsReady self.old plan }
-        ensures state { state_of self.new ≡ at_then self.old.me.0 plan.time.0 (option_map (λ c. change_view c.fields) plan.change) (changes_of self.old.catalogue) }
+        ensures state { state_of self.new ≡
+            at_then self.old.me.0 plan.time.0 (option_map (λ c. change_view c.fields) plan.change) (changes_of self.old.catalogue) }
         ensures mail { result.mail ≡ plan.mail }
         ensures replies { result.replies ≡ [] }
         ensures steps { self.new.steps ≡ self.old.steps }
@@ -296,7 +300,16 @@ impl Node for ConfigNode {
     fn step<L: Log>(&mut self, log: &mut L, input: Input) -> Result<Outputs<Message>, StepFault> {
         self.steps.count(self.time, input.time())?;
         let plan = self.plan(input)?;
-        append_records(log, &plan.records)?;
-        Ok(self.take(plan))
+        match append_records(log, &plan.records) {
+            Ok(()) => Ok(self.take(plan)),
+            Err(fault) => Err(without(plan, fault)),
+        }
     }
+}
+
+// Lets a plan go that was not taken, and returns why.
+fn without<T: Drop>(_plan: T, fault: StepFault) -> StepFault
+    ensures { result ≡ fault }
+{
+    fault
 }

@@ -14,11 +14,12 @@ ghost use Rattle.protocol_model.specs.Bodies.{at_view};
 ghost use Rattle.protocol_model.specs.Messages.{letter_of};
 ghost use Rattle.record_model.specs.RecordFormat.{spelled, IsSound};
 ghost use Rattle.record_model.specs.Records.{catalogue_ceiling_record};
+ghost use Rattle.shard_records.specs.MoveViews.{commit_view, split_view};
 
 use bson_values::{Blob, Memory};
 use chunk_catalogue::{Change, ChangeFields};
 use chunk_table::Table;
-use cluster_base::{NodeId, RequestId, Time};
+use cluster_base::{Namespace, NodeId, RequestId, Time};
 use node_traits::MailList;
 use protocol_model::{At, Body, Message, SplitDone, TableAsk, TableTold};
 use shard_records::{
@@ -26,6 +27,7 @@ use shard_records::{
 };
 use std::alloc::Global;
 use std::sync::Arc;
+use value_compare::{Key, KeyRange};
 
 /// What a step will write and send, and the catalogue after it: at which time, and with which change.
 #[derive(Drop)]
@@ -194,6 +196,43 @@ fn change_bytes(alloc: Global, fields: &ChangeFields) -> Result<Blob, Memory>
     Blob::of(alloc, &bytes)
 }
 
+// Returns a split as its record has it, with copies of its name and key, or `Memory` if memory runs out.
+fn split_of(namespace: &Namespace, middle: &Key, at: Time) -> Result<SplitChange, Memory>
+    ensures { IfOk result (λ split. split_view split ≡ record { namespace = namespace.now; middle = middle.now; at = at.0 }) }
+{
+    let namespace = namespace.copy()?;
+    let middle = middle.copy()?;
+    Ok(SplitChange {
+        namespace,
+        middle,
+        at,
+    })
+}
+
+// Returns a commit as its record has it, with copies of its name and range, or `Memory` if memory runs out.
+fn commit_of(
+    id: RequestId,
+    namespace: &Namespace,
+    range: &KeyRange,
+    from: NodeId,
+    to: NodeId,
+    at: Time,
+) -> Result<CommitChange, Memory>
+    ensures { IfOk result (λ commit. commit_view commit ≡
+        record { id = id_view id; namespace = namespace.now; range = range.now; from = from.0; to = to.0; at = at.0 }) }
+{
+    let namespace = namespace.copy()?;
+    let range = range.copy()?;
+    Ok(CommitChange {
+        id,
+        namespace,
+        range,
+        from,
+        to,
+        at,
+    })
+}
+
 // Writes the record of a change after the bytes. Returns `Memory` if memory runs out.
 fn put_change(fields: &ChangeFields, out: &mut Vec<u8>) -> Result<(), Memory>
     requires { IsWritableChange (change_view fields.now) }
@@ -210,14 +249,7 @@ fn put_change(fields: &ChangeFields, out: &mut Vec<u8>) -> Result<(), Memory>
             namespace,
             middle,
             at,
-        } => {
-            let split = SplitChange {
-                namespace: namespace.copy()?,
-                middle: middle.copy()?,
-                at: *at,
-            };
-            write_split(&split, out)
-        }
+        } => write_split(&split_of(namespace, middle, *at)?, out),
         ChangeFields::Commit {
             id,
             namespace,
@@ -226,14 +258,7 @@ fn put_change(fields: &ChangeFields, out: &mut Vec<u8>) -> Result<(), Memory>
             to,
             at,
         } => {
-            let commit = CommitChange {
-                id: *id,
-                namespace: namespace.copy()?,
-                range: range.copy()?,
-                from: *from,
-                to: *to,
-                at: *at,
-            };
+            let commit = commit_of(*id, namespace, range, *from, *to, *at)?;
             write_commit(&commit, out)
         }
     }
