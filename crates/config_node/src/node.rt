@@ -21,7 +21,7 @@ ghost use Rattle.config_node.specs.StepPlans.{IsPlanned, IsReady};
 ghost use Rattle.config_node.specs.State.{state_of};
 
 use crate::keys::is_writable;
-use crate::plan::{StepPlan, none_records, split_answer, table_answer};
+use crate::plan::{StepPlan, none_records, split_answer, table_answer, without};
 use crate::state::ConfigNode;
 use bson_values::Memory;
 use chunk_catalogue::{CatFault, Catalogue, Change};
@@ -51,16 +51,13 @@ fn ask_in(body: Body) -> Option<Ask>
     match body {
         Body::TableAsk(ask) => Some(Ask::Table(ask)),
         Body::SplitAsk(ask) => Some(Ask::Split(ask)),
-        Body::TableTold(_)
-        | Body::SplitDone(_)
-        | Body::WriteAsk(_)
-        | Body::WriteDone(_)
-        | Body::ReadAsk(_)
-        | Body::HalfAsk(_)
-        | Body::ReadRows(_)
-        | Body::Stale(_)
-        | Body::TimeAsk(_)
-        | Body::TimeTold(_) => None,
+        Body::TableTold(told) => without(told, None),
+        Body::WriteAsk(ask) => without(ask, None),
+        Body::WriteDone(done) => without(done, None),
+        Body::ReadAsk(ask) => without(ask, None),
+        Body::HalfAsk(ask) => without(ask, None),
+        Body::ReadRows(rows) => without(rows, None),
+        Body::SplitDone(_) | Body::Stale(_) | Body::TimeAsk(_) | Body::TimeTold(_) => None,
     }
 }
 
@@ -116,13 +113,14 @@ impl ConfigNode {
             time,
             body,
         } = message;
+        let asked = ask_in(body);
         if receiver != self.me {
             return Ok(StepPlan::of_time(self.alloc, self.time));
         }
         let heard = self.time.max(time);
-        match ask_in(body) {
+        match asked {
             Some(Ask::Table(ask)) => self.plan_table(heard, sender, ask),
-            Some(Ask::Split(ask)) => self.plan_split(heard, sender, ask),
+            Some(Ask::Split(ask)) => self.plan_split(heard, sender, &ask),
             None => Ok(StepPlan::of_time(self.alloc, self.time)),
         }
     }
@@ -141,11 +139,13 @@ impl ConfigNode {
         let me = self.me;
         let next = Time(heard.0 + 1);
         match self.creation(&ask, next)? {
-            Some(change) => {
-                let table = Arc::try_clone(&change.table)?;
-                let answer = table_answer(me, next, sender, ask, Some(table));
-                StepPlan::make(self.alloc, change, answer)
-            }
+            Some(change) => match Arc::try_clone(&change.table) {
+                Ok(table) => {
+                    let answer = table_answer(me, next, sender, ask, Some(table));
+                    StepPlan::make(self.alloc, change, answer)
+                }
+                Err(_) => Err(without(change, Memory)),
+            },
             None => {
                 let table = self.known(&ask.namespace)?;
                 let records = none_records(self.alloc, ask.at, &table)?;
@@ -180,10 +180,10 @@ impl ConfigNode {
     }
 
     // Returns the plan for a request for a split, at the time that the message carries: a chunk is split, or one begins there, or there is no such collection.
-    fn plan_split(&self, heard: Time, sender: NodeId, ask: SplitAsk) -> Result<StepPlan, Memory>
+    fn plan_split(&self, heard: Time, sender: NodeId, ask: &SplitAsk) -> Result<StepPlan, Memory>
         requires early { heard.0 < last_time }
         requires late { self.now.time.0 ≤ heard.0 }
-        ensures planned { (m : Letter) → heard.0 ≡ max self.now.time.0 m.time → sender.0 ≡ m.sender → m.body ≡ split_ask_view ask → m.receiver ≡ self.now.me.0 →
+        ensures planned { (m : Letter) → heard.0 ≡ max self.now.time.0 m.time → sender.0 ≡ m.sender → m.body ≡ split_ask_view ask.now → m.receiver ≡ self.now.me.0 →
             IfOk result (λ p. IsPlanned self.now (letter_input m) p) }
         ensures ready { IfOk result (λ p. IsReady self.now p) }
     {
@@ -298,18 +298,15 @@ impl Node for ConfigNode {
     }
 
     fn step<L: Log>(&mut self, log: &mut L, input: Input) -> Result<Outputs<Message>, StepFault> {
-        self.steps.count(self.time, input.time())?;
-        let plan = self.plan(input)?;
-        match append_records(log, &plan.records) {
-            Ok(()) => Ok(self.take(plan)),
-            Err(fault) => Err(without(plan, fault)),
+        match self.steps.count(self.time, input.time()) {
+            Ok(()) => {
+                let plan = self.plan(input)?;
+                match append_records(log, &plan.records) {
+                    Ok(()) => Ok(self.take(plan)),
+                    Err(fault) => Err(without(plan, fault)),
+                }
+            }
+            Err(fault) => Err(without(input, fault)),
         }
     }
-}
-
-// Lets a plan go that was not taken, and returns why.
-fn without<T: Drop>(_plan: T, fault: StepFault) -> StepFault
-    ensures { result ≡ fault }
-{
-    fault
 }

@@ -93,16 +93,23 @@ impl StepPlan {
         ensures records { IfOk result (λ p. p.records.items ≡ spelled 1 (change_record (change_view change.fields)) ∷ []) }
         ensures sound { IfOk result (λ p. IsSound (change_record (change_view change.fields))) }
     {
-        let record = change_bytes(alloc, &change.fields)?;
-        let mut records = Vec::new(alloc);
-        records.push(record)?;
-        Ok(StepPlan {
-            time: message.time,
-            change: Some(change),
-            mail: MailList::of_one(alloc, message),
-            records,
-        })
+        match change_records(alloc, &change.fields) {
+            Ok(records) => Ok(StepPlan {
+                time: message.time,
+                change: Some(change),
+                mail: MailList::of_one(alloc, message),
+                records,
+            }),
+            Err(fault) => Err(without(change, without(message, fault))),
+        }
     }
+}
+
+/// Lets a value go that is not used, and returns the other.
+pub(crate) fn without<T: Drop, R>(_value: T, other: R) -> R
+    ensures { result ≡ other }
+{
+    other
 }
 
 /// Returns the answer to a request of a table, from a node at a time.
@@ -158,6 +165,16 @@ pub(crate) fn split_answer(
     }
 }
 
+// Returns the list of one record, of these bytes, or `Memory` if memory runs out.
+fn one_record(alloc: Global, bytes: &[u8]) -> Result<Vec<Blob>, Memory>
+    ensures { IfOk result (λ records. records.items ≡ bytes.now ∷ []) }
+{
+    let record = Blob::of(alloc, bytes)?;
+    let mut records = Vec::new(alloc);
+    records.push(record)?;
+    Ok(records)
+}
+
 // Returns the records of a ceiling, or `Memory` if memory runs out.
 fn ceiling_records(alloc: Global, at: Time) -> Result<Vec<Blob>, Memory>
     ensures records { IfOk result (λ records. records.items ≡ spelled 1 (catalogue_ceiling_record at.0) ∷ []) }
@@ -165,9 +182,7 @@ fn ceiling_records(alloc: Global, at: Time) -> Result<Vec<Blob>, Memory>
 {
     let mut bytes = Vec::new(alloc);
     write_catalogue_ceiling(at, &mut bytes)?;
-    let mut records = Vec::new(alloc);
-    records.push(Blob::of(alloc, &bytes)?)?;
-    Ok(records)
+    one_record(alloc, &bytes)
 }
 
 /// Returns the records of an answer: the time at which there is no table, where one was requested for a time. Returns `Memory` if memory runs out.
@@ -186,14 +201,15 @@ pub(crate) fn none_records(
     }
 }
 
-// Returns the bytes of the record of a change, or `Memory` if memory runs out.
-fn change_bytes(alloc: Global, fields: &ChangeFields) -> Result<Blob, Memory>
+// Returns the records of a change, or `Memory` if memory runs out.
+fn change_records(alloc: Global, fields: &ChangeFields) -> Result<Vec<Blob>, Memory>
     requires { IsWritableChange (change_view fields.now) }
-    ensures { IfOk result (λ b. (b ≡ spelled 1 (change_record (change_view fields.now))) × IsSound (change_record (change_view fields.now))) }
+    ensures records { IfOk result (λ records. records.items ≡ spelled 1 (change_record (change_view fields.now)) ∷ []) }
+    ensures sound { OnOk result (IsSound (change_record (change_view fields.now))) }
 {
     let mut bytes = Vec::new(alloc);
     put_change(fields, &mut bytes)?;
-    Blob::of(alloc, &bytes)
+    one_record(alloc, &bytes)
 }
 
 // Returns a split as its record has it, with copies of its name and key, or `Memory` if memory runs out.

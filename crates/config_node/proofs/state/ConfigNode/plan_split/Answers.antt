@@ -14,14 +14,14 @@ split-requires c = record {
 pub make-requires : goal.make-requires
 make-requires c =
     let answered = rw c.in-Ok-Some.field-0-is at c.in-Ok-Some.ensures.answer in
-    split_writable c.args.ask.namespace c.args.ask.middle (c.args.heard.0 + 1) _ _ (sym answered) (c.in_ok-writable.ensures (search rules))
+    split_writable c.args.ask.now.namespace c.args.ask.now.middle (c.args.heard.0 + 1) _ _ (sym answered) (c.in_ok-writable.ensures (search rules))
 
 pub returns-in-Ok-Some-clause-planned : goal.returns-in-Ok-Some-clause-planned
 returns-in-Ok-Some-clause-planned c = λ m late from is here.
     let answer = c.split_answer-answer in
     let made = c.make.ensures in
     let answered = rw c.in-Ok-Some.field-0-is at c.in-Ok-Some.ensures.answer in
-    split_planned (catalogue_of c.args.self.now) m c.args.sender c.args.heard answer.result late from here c.args.ask is _ refl c.in-Ok-Some.change c.make.result
+    split_planned (catalogue_of c.args.self.now) m c.args.sender c.args.heard answer.result late from here c.args.ask.now is _ refl c.in-Ok-Some.change c.make.result
     (sym answered) answer.ensures.time answer.ensures.letter made.time made.change made.mail made.records made.sound
 
 pub returns-in-Ok-Some-clause-ready : goal.returns-in-Ok-Some-clause-ready
@@ -37,7 +37,7 @@ returns-in-Ok-None-clause-planned c = λ m late from is here.
     let answer = c.split_answer-answer-in-Ok-None in
     let told = c.tell.ensures in
     let answered = rw c.in-Ok-None.field-0-is at c.in-Ok-None.ensures.answer in
-    bound_planned (catalogue_of c.args.self.now) m c.args.sender c.args.heard answer.result late from here c.args.ask is _ refl c.tell.result
+    bound_planned (catalogue_of c.args.self.now) m c.args.sender c.args.heard answer.result late from here c.args.ask.now is _ refl c.tell.result
     (sym answered) answer.ensures.time answer.ensures.letter told.time told.change told.mail told.records
 
 pub returns-in-Ok-None-clause-ready : goal.returns-in-Ok-None-clause-ready
@@ -50,7 +50,7 @@ returns-in-Err-NoCollection-clause-planned c = λ m late from is here.
     let answer = c.split_answer-answer-in-Err-NoCollection in
     let told = c.tell-in-Err-NoCollection.ensures in
     let fault = rw c.in-Err-NoCollection.field-0-is at c.in-Err-NoCollection.ensures.fault in
-    none_planned (catalogue_of c.args.self.now) m c.args.sender c.args.heard answer.result late from here c.args.ask is _ refl c.tell-in-Err-NoCollection.result
+    none_planned (catalogue_of c.args.self.now) m c.args.sender c.args.heard answer.result late from here c.args.ask.now is _ refl c.tell-in-Err-NoCollection.result
     fault answer.ensures.time answer.ensures.letter told.time told.change told.mail told.records
 
 pub returns-in-Err-NoCollection-clause-ready : goal.returns-in-Err-NoCollection-clause-ready
