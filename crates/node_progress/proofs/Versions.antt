@@ -46,15 +46,23 @@ table_had v time t k = (
 )
 
 had_known : (v : View) (time : ℕ) (t : Table) → AreMade time (changes_in v) → WasHad (changes_in v) t → IsKnownTable v time t
-had_known v time t made h = record {
-  more = h.more;
-  older = h.older;
-  all = h.all;
-  past = all_behind (λ x. time_of x ≤ time) h.more h.older (subst (λ l. AllByRecursion (λ x. time_of x ≤ time) l) h.all made.past);
-  known = h.known;
-  fitting = h.fitting;
-  still = made.still;
-}
+had_known v time t made h =
+    let c = some_created t.namespace h.older t h.known in
+    record {
+      more = h.more;
+      older = h.older;
+      all = h.all;
+      begun = record {
+        creation = c.creation;
+        begun = c.begun;
+        name = c.name;
+        before = all_at (λ x. time_of x ≤ time) (create_change c.creation) h.older
+            (all_behind (λ x. time_of x ≤ time) h.more h.older (subst (λ l. AllByRecursion (λ x. time_of x ≤ time) l) h.all made.past)) c.begun;
+      };
+      known = h.known;
+      fitting = h.fitting;
+      still = made.still;
+    }
 
 had_later : (news changes later : List Change) (t : Table) → later ≡ news ++ changes → WasHad changes t → WasHad later t
 had_later news changes later t is h = record {
