@@ -34,8 +34,8 @@ sends_planned c i time change mail sent records for row none said unwritten =
     (record { effect = sends sent; step = catalogue_step _ _ _ _ for row; sent = sym said; told = refl; sound = tt; spelled = unwritten })
 
 -- a transition that stores these, and changes nothing but the time
-stores_planned : (c : Catalogue) (i : Input) (time : ℕ) (change : Option Change) (kept : List Kept) (mail sent : List Letter) (records : List (List ℕ)) → IsFor c.me i
-    → CatalogueRow c i (writes kept sent) (at_later c time) → change ≡ None → mail ≡ sent → records ≡ spellings kept → AreSound kept
+stores_planned : (c : Catalogue) (i : Input) (time : ℕ) (change : Option Change) (kept : List Kept) (mail sent : List Letter) (records : List (List ℕ))
+    → IsFor c.me i → CatalogueRow c i (writes kept sent) (at_later c time) → change ≡ None → mail ≡ sent → records ≡ spellings kept → AreSound kept
     → StepPlanned (catalogue_state c) i mail [] records (at_then c.me time change c.changes)
 stores_planned c i time change kept mail sent records for row none said written sound =
     subst (λ x. StepPlanned (catalogue_state c) i mail [] records (at_then c.me time x c.changes)) (sym none)
@@ -48,7 +48,14 @@ writes_planned : (c : Catalogue) (i : Input) (x : Change) (time : ℕ) (change :
     → StepPlanned (catalogue_state c) i mail [] records (at_then c.me time change c.changes)
 writes_planned c i x time change mail sent records for row one said written sound =
     subst (λ y. StepPlanned (catalogue_state c) i mail [] records (at_then c.me time y c.changes)) (sym one)
-    (record { effect = writes (kept_change x ∷ []) sent; step = catalogue_step _ _ _ _ for row; sent = sym said; told = refl; sound = (sound, tt); spelled = written })
+    (record {
+      effect = writes (kept_change x ∷ []) sent;
+      step = catalogue_step _ _ _ _ for row;
+      sent = sym said;
+      told = refl;
+      sound = (sound, tt);
+      spelled = written;
+    })
 
 -- a plan without a message
 module _ (c : Catalogue) (p : StepPlan) (none : p.change ≡ None) (silent : p.mail ≡ []) (unwritten : p.records.items ≡ []) where
@@ -90,7 +97,8 @@ module _ (c : Catalogue) (m : Letter) (answer : Message) (time : Time) (now : an
   pub told_planned : (p : StepPlan) → CatalogueRow c (letter_input m) (sends (letter_of answer ∷ [])) (at_later c time.0)
       → p.time ≡ answer.time → p.change ≡ None → map letter_of p.mail ≡ letter_of answer ∷ [] → p.records.items ≡ [] → Planned c (letter_input m) p
   told_planned p row late none sent unwritten =
-      sends_planned c (letter_input m) p.time.0 (option_map (λ x. change_view x.fields) p.change) (map letter_of p.mail) (letter_of answer ∷ []) p.records.items here
+      sends_planned c (letter_input m) p.time.0 (option_map (λ x. change_view x.fields) p.change) (map letter_of p.mail) (letter_of answer ∷ [])
+      p.records.items here
       (subst (λ t. CatalogueRow c (letter_input m) (sends (letter_of answer ∷ [])) (at_later c t.0)) (sym (late ∙ now)) row)
       (ap (λ o. option_map (λ x. change_view x.fields) o) none) sent unwritten
 
@@ -98,7 +106,8 @@ module _ (c : Catalogue) (m : Letter) (answer : Message) (time : Time) (now : an
       → p.time ≡ answer.time → p.change ≡ None → map letter_of p.mail ≡ letter_of answer ∷ [] → p.records.items ≡ spellings kept → AreSound kept
       → Planned c (letter_input m) p
   stored_planned kept p row late none sent written sound =
-      stores_planned c (letter_input m) p.time.0 (option_map (λ x. change_view x.fields) p.change) kept (map letter_of p.mail) (letter_of answer ∷ []) p.records.items here
+      stores_planned c (letter_input m) p.time.0 (option_map (λ x. change_view x.fields) p.change) kept (map letter_of p.mail) (letter_of answer ∷ [])
+      p.records.items here
       (subst (λ t. CatalogueRow c (letter_input m) (writes kept (letter_of answer ∷ [])) (at_later c t.0)) (sym (late ∙ now)) row)
       (ap (λ o. option_map (λ x. change_view x.fields) o) none) sent written sound
 

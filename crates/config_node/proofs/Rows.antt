@@ -52,7 +52,8 @@ pub creation_writable : (namespace : List ℕ) (at : ℕ) (changes : List Change
 creation_writable namespace at changes x e = subst IsWritableChange (sym (created_is namespace at changes x e)) tt
 
 -- where nothing is to be created, there is a table
-pub not_created : (namespace : List ℕ) (at : ℕ) (changes : List Change) → unchanged ≡ create_answer namespace at changes → IsSome (known_table namespace changes)
+pub not_created : (namespace : List ℕ) (at : ℕ) (changes : List Change) → unchanged ≡ create_answer namespace at changes
+    → IsSome (known_table namespace changes)
 not_created namespace at changes e = by_table (known_table namespace changes) e
   where
     made : Change

@@ -183,8 +183,8 @@ impl ConfigNode {
     fn plan_split(&self, heard: Time, sender: NodeId, ask: &SplitAsk) -> Result<StepPlan, Memory>
         requires early { heard.0 < last_time }
         requires late { self.now.time.0 ≤ heard.0 }
-        ensures planned { (m : Letter) → heard.0 ≡ max self.now.time.0 m.time → sender.0 ≡ m.sender → m.body ≡ split_ask_view ask.now → m.receiver ≡ self.now.me.0 →
-            IfOk result (λ p. IsPlanned self.now (letter_input m) p) }
+        ensures planned { (m : Letter) → heard.0 ≡ max self.now.time.0 m.time → sender.0 ≡ m.sender → m.body ≡ split_ask_view ask.now →
+            m.receiver ≡ self.now.me.0 → IfOk result (λ p. IsPlanned self.now (letter_input m) p) }
         ensures ready { IfOk result (λ p. IsReady self.now p) }
     {
         let writable = is_writable(self.alloc, &ask.middle)?;

@@ -25,5 +25,5 @@ pub returns-clause-planned : goal.returns-clause-planned
 returns-clause-planned c =
     let n = catalogue_of c.args.self.now in
     let made = c.of_time-in-Opened.ensures in
-    stays n c.of_time-in-Opened.result made.change made.mail made.records opened_input (input_of c.args.input) (ap input_of c.in-Opened.is) tt (catalogue_opened n)
-    (ap (λ t. t.0) made.time)
+    stays n c.of_time-in-Opened.result made.change made.mail made.records opened_input (input_of c.args.input) (ap input_of c.in-Opened.is) tt
+    (catalogue_opened n) (ap (λ t. t.0) made.time)

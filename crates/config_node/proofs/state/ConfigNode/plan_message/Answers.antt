@@ -9,7 +9,8 @@ use Rattle.config_node.proofs.state.ConfigNode.plan_message.Goals as goal
 pub returns-then-ne-clause-planned : goal.returns-then-ne-clause-planned
 returns-then-ne-clause-planned c =
     let made = c.of_time.ensures in
-    stays_other (catalogue_of c.args.self.now) c.of_time.result made.change made.mail made.records (letter_of c.args.message) (search rules) (ap (λ t. t.0) made.time)
+    stays_other (catalogue_of c.args.self.now) c.of_time.result made.change made.mail made.records (letter_of c.args.message) (search rules)
+    (ap (λ t. t.0) made.time)
 
 pub returns-in-None-clause-planned : goal.returns-in-None-clause-planned
 returns-in-None-clause-planned c =

@@ -21,8 +21,8 @@ returns-in-Ok-Some-clause-planned c = λ m late from is here.
     let answer = c.split_answer-answer in
     let made = c.make.ensures in
     let answered = rw c.in-Ok-Some.field-0-is at c.in-Ok-Some.ensures.answer in
-    split_planned (catalogue_of c.args.self.now) m c.args.sender c.args.heard answer.result late from here c.args.ask.now is _ refl c.in-Ok-Some.change c.make.result
-    (sym answered) answer.ensures.time answer.ensures.letter made.time made.change made.mail made.records made.sound
+    split_planned (catalogue_of c.args.self.now) m c.args.sender c.args.heard answer.result late from here c.args.ask.now is _ refl c.in-Ok-Some.change
+    c.make.result (sym answered) answer.ensures.time answer.ensures.letter made.time made.change made.mail made.records made.sound
 
 pub returns-in-Ok-Some-clause-ready : goal.returns-in-Ok-Some-clause-ready
 returns-in-Ok-Some-clause-ready c =
@@ -50,8 +50,8 @@ returns-in-Err-NoCollection-clause-planned c = λ m late from is here.
     let answer = c.split_answer-answer-in-Err-NoCollection in
     let told = c.tell-in-Err-NoCollection.ensures in
     let fault = rw c.in-Err-NoCollection.field-0-is at c.in-Err-NoCollection.ensures.fault in
-    none_planned (catalogue_of c.args.self.now) m c.args.sender c.args.heard answer.result late from here c.args.ask.now is _ refl c.tell-in-Err-NoCollection.result
-    fault answer.ensures.time answer.ensures.letter told.time told.change told.mail told.records
+    none_planned (catalogue_of c.args.self.now) m c.args.sender c.args.heard answer.result late from here c.args.ask.now is _ refl
+    c.tell-in-Err-NoCollection.result fault answer.ensures.time answer.ensures.letter told.time told.change told.mail told.records
 
 pub returns-in-Err-NoCollection-clause-ready : goal.returns-in-Err-NoCollection-clause-ready
 returns-in-Err-NoCollection-clause-ready c =

@@ -9,8 +9,8 @@ use Rattle.config_node.proofs.Rows.{same_changes}
 use Rattle.config_node.specs.State.{catalogue_of}
 use Rattle.config_node.proofs.state.ConfigNode.plan_table.Goals as goal
 
-pub returns-in_ok-table-in-Some-clause-planned : goal.returns-in_ok-table-in-Some-clause-planned
-returns-in_ok-table-in-Some-clause-planned c = λ m late from is here.
+pub returns-in-Ok-clause-planned : goal.returns-in-Ok-clause-planned
+returns-in-Ok-clause-planned c = λ m late from is here.
     let n = catalogue_of c.args.self.now in
     let x = c.in-Some.change in
     let answer = c.table_answer-answer in
@@ -18,9 +18,10 @@ returns-in_ok-table-in-Some-clause-planned c = λ m late from is here.
     let requested = rw c.in-Some.is at c.in_ok-change.ensures.requested in
     let answered = rw c.in-Some.is at c.in_ok-change.ensures.answer in
     let known = rw c.in-Some.is at c.in_ok-change.ensures.table in
-    let shared : arc_value x.table ≡ arc_value c.in_ok-table-in-Some.table = search rules in
-    create_planned n m c.args.sender c.args.heard answer.result late from here c.args.ask (Some (arc_value c.in_ok-table-in-Some.table)) is x _ c.make.result
-    refl requested answered (known ∙ ap (λ (t : Table). Some t) shared) answer.ensures.time answer.ensures.letter made.time made.change made.mail made.records made.sound
+    let shared : arc_value x.table ≡ arc_value c.in-Ok.table = search rules in
+    create_planned n m c.args.sender c.args.heard answer.result late from here c.args.ask (Some (arc_value c.in-Ok.table)) is x _ c.make.result
+    refl requested answered (known ∙ ap (λ (t : Table). Some t) shared) answer.ensures.time answer.ensures.letter made.time made.change made.mail made.records
+    made.sound
 
 pub returns-in_ok-records-in-None-clause-planned : goal.returns-in_ok-records-in-None-clause-planned
 returns-in_ok-records-in-None-clause-planned c = λ m late from is here.
@@ -29,6 +30,7 @@ returns-in_ok-records-in-None-clause-planned c = λ m late from is here.
     let told = c.store_and_tell.ensures in
     let stored = c.in_ok-records-in-None.ensures in
     let same = same_changes (catalogue_of c.creation.new.self) n c.creation.ensures.same in
-    tell_planned n m c.args.sender c.args.heard answer.result late from here c.args.ask (option_map (λ t. arc_value t) c.in_ok-table-in-None.table) is c.store_and_tell.result
+    tell_planned n m c.args.sender c.args.heard answer.result late from here c.args.ask (option_map (λ t. arc_value t) c.in_ok-table-in-None.table) is
+    c.store_and_tell.result
     (c.in_ok-change.ensures.none c.in-None.is) (c.in_ok-table-in-None.ensures ∙ ap (λ xs. known_table c.args.ask.namespace xs) same)
     answer.ensures.time answer.ensures.letter told.time told.change told.mail (told.records ∙ stored.records) stored.sound
