@@ -61,7 +61,6 @@ later_by u v cursors later = record { longer = later.longer; times = later.times
 -- a node that does nothing owes what it owes
 pub nothing_owes : (w : World) (book : Book) (at : ℕ) (old : Held) → Good w book → slice_get w.nodes at ≡ Some old → Owes w book at old nothing old.state
 nothing_owes w book at old good here =
-    let u : View = view_of w.nodes book in
     let one : AreDifferent (ids_asked (w.asked ++ [])) = subst (λ l. AreDifferent (ids_asked l)) (sym (append-nil w.asked)) good.one in
     record {
       kind = kind_self old.state;
@@ -76,7 +75,7 @@ nothing_owes w book at old good here =
       chose = tt;
       cursors = book.cursors;
       elsewhere = λ router other. refl;
-      owed = λ v later else journal bound chosen cursors.
+      owed = λ v later apart journal bound chosen cursors.
           (let decides : Decided (suc at) (view_of w.nodes book) v = record { news = []; same = chosen; theirs = tt } in
           record {
             node = subst (λ k. HeldFits v (w.asked ++ []) (w.answered ++ []) w.given at (record { state = old.state; kept = k })) (sym (append-nil old.kept))
@@ -111,10 +110,7 @@ module _ (w : World) (book : Book) (at : ℕ) (old : Held) (f : Effect) (reached
   cut_owed : (v : View) → Later (view_of w.nodes book) v → ((p : ℕ) → p ≢ at → v.journal p ≡ journal_at w.nodes p) → v.journal at ≡ old.kept ++ f.written
       → OwesIn (in_cursors owes.cursors v) w book at old f reached
       → OwesIn (in_cursors book.cursors v) w book at old (cut_off f) (halted old f reached)
-  cut_owed v later else journal owed =
-      let u : View = view_of w.nodes book in
-      let x : View = in_cursors owes.cursors v in
-      let kept : List Kept = old.kept ++ f.written in
+  cut_owed v later apart journal owed =
       let stood : Stood (in_cursors owes.cursors v) book.cursors (asked_after w f) w.answered (answered_by w.now f.replies) w.given at old.state f.written
           (record { state = reached; kept = old.kept ++ f.written }) =
       record {
@@ -155,8 +151,8 @@ module _ (w : World) (book : Book) (at : ℕ) (old : Held) (f : Effect) (reached
     chose = owes.chose;
     cursors = book.cursors;
     elsewhere = λ router other. refl;
-    owed = λ v later else journal bound chosen cursors.
+    owed = λ v later apart journal bound chosen cursors.
         subst (λ l. OwesIn (in_cursors l v) w book at old (cut_off f) (halted old f reached)) (sym cursors)
-        (cut_owed v later else journal
-        (owes.owed (in_cursors owes.cursors v) (later_by (view_of w.nodes book) v owes.cursors later) else journal bound chosen refl));
+        (cut_owed v later apart journal
+        (owes.owed (in_cursors owes.cursors v) (later_by (view_of w.nodes book) v owes.cursors later) apart journal bound chosen refl));
   }

@@ -20,7 +20,7 @@ use Rattle.node_laws.proofs.Facts.{IsKnownTable, CatalogueFits, ShardFits, Route
 use Rattle.node_laws.proofs.GreatestTimes.{entries_within, changes_within}
 use Rattle.node_laws.proofs.Growth.{met_max}
 use Rattle.node_laws.proofs.Lists.{all_prefix}
-use Rattle.node_replay.specs.Durable.{DurableRouter, durable_router, router_part, next_life, durable_of, empty_router, empty_of}
+use Rattle.node_replay.specs.Durable.{DurableRouter, durable_router, router_part, next_life, shard_part, durable_of, empty_catalogue, empty_router}
 use Rattle.node_replay.specs.Holds.{HoldsOwn, Replays}
 use Rattle.node_replay.specs.Openings.{opened}
 use Rattle.node_replay.specs.Replays.{replayed, records_of, time_in, latest_in_table, latest_time}
@@ -96,7 +96,7 @@ known_anew v cursors early time t k le =
       more = k.more;
       older = k.older;
       all = k.all;
-      begun = (let b = k.begun in record { creation = b.creation; begun = b.begun; name = b.name; before = omega (arith, latest, le) });
+      begun = record { creation = k.begun.creation; begun = k.begun.begun; name = k.begun.name; before = omega (arith, latest, le) };
       known = k.known;
       fitting = k.fitting;
       still = k.still;
@@ -154,7 +154,6 @@ router_anew_state d = record {
 router_anew : (v w : View) (asked : List Asked) (answered news : List Answered) (at : ℕ) (r : Router) → RouterFits v asked (answered ++ news) at r
     → RouterFits w asked answered at (router_anew_state (router_part r))
 router_anew v w asked answered news at r fits =
-    let next : ℕ = next_life r.life r.begun in
     record {
       own = fits.own;
       place = fits.place;
@@ -233,7 +232,7 @@ catalogue_again : (v : View) (cursors : List Cursor) (asked : List Asked) (answe
 catalogue_again v cursors asked answered news given at first written kept c s = record {
   state = catalogue_anew asked at (latest_time (records_of kept)) kept c s.holds s.fits.state;
   met = latest_met v given c.time s.fits.met kept s.fits.within
-      (tabled_none v kept (catalogue_stores_no_table (records_of kept) _ _ s.replays));
+      (tabled_none v kept (catalogue_stores_no_table (records_of kept) (empty_catalogue c.me) (durable_of (greatest_kept kept) (catalogue_state c)) s.replays));
   cursors = tt;
   within = s.holds;
 }
@@ -249,7 +248,7 @@ shard_again v cursors asked answered news given at first written kept x s =
     let within : greatest_kept kept ≤ latest_time (records_of kept) = omega (arith, tops, same, holds) in
     record {
       state = shard_anew v cursors asked at (latest_time (records_of kept)) kept x within
-          (shard_tables_within (records_of kept) x.me _ s.replays) s.fits.state;
+          (shard_tables_within (records_of kept) x.me (shard_part x) s.replays) s.fits.state;
       met = latest_met v given x.time s.fits.met kept s.fits.within s.tables;
       cursors = tt;
       within = within;

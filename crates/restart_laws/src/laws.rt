@@ -6,7 +6,6 @@ ghost use Rattle.reply_model.specs.OneHistory.{OneHistory};
 ghost use Rattle.node_model.specs.Journal.{changes_kept};
 ghost use Rattle.node_model.specs.World.{World, account_of, journal_at, start};
 ghost use Rattle.node_replay.specs.Restarts.{EventOrStop, RunWithStops};
-ghost use Rattle.restart_laws.proofs.Runs.{StaysWhole};
 
 /// Whatever clients send, however messages are lost, repeated and reordered, and wherever nodes stop and are started again, between two steps or in one:
 /// the changes of the catalogue and what the shard's journal keeps are one legal history of an unsharded collection with each statement at most once, and
@@ -20,10 +19,4 @@ pub fn runs_with_stops_make_one_history()
 #[tactic(auto, using(crate::proofs::Runs::runs_with_stops_keep_changes))]
 pub fn runs_with_stops_keep_changes()
     ensures { (routers : ℕ) (events : List EventOrStop) (w : World) → RunWithStops (start routers) events w → changes_in w.changed ≡ changes_kept (journal_at w.nodes 0) }
-{}
-
-/// All that is true of a run's world at every moment stays true where the run goes on from there.
-#[tactic(auto, using(crate::proofs::Runs::runs_with_stops_stay_true))]
-pub fn runs_with_stops_stay_true()
-    ensures { (u : World) (w : World) (events : List EventOrStop) → StaysWhole u → RunWithStops u events w → StaysWhole w }
 {}

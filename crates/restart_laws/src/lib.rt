@@ -3,6 +3,4 @@
 
 mod laws;
 
-pub use laws::{
-    runs_with_stops_keep_changes, runs_with_stops_make_one_history, runs_with_stops_stay_true,
-};
+pub use laws::{runs_with_stops_keep_changes, runs_with_stops_make_one_history};
