@@ -90,15 +90,15 @@ nothing_owes w book at old good here =
 
 -- A STEP
 
--- what is known of a node that stops in a step
-pub record Halts (w : World) (old : Held) (f : Effect) (reached : NodeState) : Type 0 where
+-- what is known of a node that stops in a step, with these changes of the catalogue
+pub record Halts (changes : List Change) (old : Held) (f : Effect) (reached : NodeState) : Type 0 where
   pub early : ℕ
   pub late : ℕ
   pub leads : replayed (Some (durable_of early old.state)) (records_of f.written) ≡ Some (durable_of late reached)
   pub replays : Replays (record { state = reached; kept = old.kept ++ f.written })
   pub holds : HoldsOwn
       (record { state = became (record { state = reached; kept = old.kept ++ f.written }); kept = old.kept ++ f.written })
-  pub tables : TablesStand (changes_kept (journal_at w.nodes 0)) old.kept old.state
+  pub tables : TablesStand changes old.kept old.state
   pub own : StoresOwn f.written reached
 
 -- what it is started as
@@ -106,13 +106,13 @@ abbrev pub halted : Held → Effect → NodeState → NodeState
 halted old f reached = became (record { state = reached; kept = old.kept ++ f.written })
 
 module _ (w : World) (book : Book) (at : ℕ) (old : Held) (f : Effect) (reached : NodeState) (good : Good w book) (here : slice_get w.nodes at ≡ Some old)
-    (owes : Owes w book at old f reached) (halts : Halts w old f reached) where
+    (owes : Owes w book at old f reached) (halts : Halts (changes_kept (journal_at w.nodes 0)) old f reached) where
   cut_owed : (v : View) → Later (view_of w.nodes book) v → ((p : ℕ) → p ≢ at → v.journal p ≡ journal_at w.nodes p) → v.journal at ≡ old.kept ++ f.written
       → OwesIn (in_cursors owes.cursors v) w book at old f reached
       → OwesIn (in_cursors book.cursors v) w book at old (cut_off f) (halted old f reached)
   cut_owed v later apart journal owed =
       let stood : Stood (in_cursors owes.cursors v) book.cursors (asked_after w f) w.answered (answered_by w.now f.replies) w.given at old.state f.written
-          (record { state = reached; kept = old.kept ++ f.written }) =
+      (record { state = reached; kept = old.kept ++ f.written }) =
       record {
         fits = owed.node;
         replays = halts.replays;

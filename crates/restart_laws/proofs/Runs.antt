@@ -104,7 +104,7 @@ stopped_facts w at i old f reached (known, moments, told, based) here taken next
     tick_good (is_given (after (is_given w at i) at old (cut_off f) new) at (moment_input 0)) book
     (given_good (after (is_given w at i) at old (cut_off f) new) book at (moment_input 0) next.good) in
     let fits = fits_here (stopped w at i old f new) book at (record { state = new; kept = kept }) good
-        (get_set w.nodes at old (record { state = new; kept = kept }) here) in (
+    (get_set w.nodes at old (record { state = new; kept = kept }) here) in (
       record { book = next.book; good = good },
       moments_stop w at i old f (halted old f reached) moments
           (moment_anew (view_of (stopped w at i old f new).nodes book) (stopped w at i old f new).asked (stopped w at i old f new).answered
@@ -124,7 +124,7 @@ restart_facts w v at whole m =
     let none : m.old.kept ++ [] ≡ m.old.kept = append-nil m.old.kept in
     let replays : NodeReplays (record { state = m.old.state; kept = m.old.kept ++ [] }) =
     subst (λ k. NodeReplays (record { state = m.old.state; kept = k })) (sym none) (all_got NodeReplays w.nodes at m.old whole.replays.nodes m.here) in
-    let halts : Halts w m.old nothing m.old.state = record {
+    let halts : Halts (changes_kept (journal_at w.nodes 0)) m.old nothing m.old.state = record {
       early = 0;
       late = 0;
       leads = refl;
@@ -134,7 +134,7 @@ restart_facts w v at whole m =
       own = none_owned m.old.state;
     } in
     let same : halted m.old nothing m.old.state ≡ m.new = opened_is (record { state = m.old.state; kept = m.old.kept ++ [] }) m.new replays.0
-        (subst (λ k. opened_on m.old.state k ≡ Some m.new) (sym none) m.opens) in
+    (subst (λ k. opened_on m.old.state k ≡ Some m.new) (sym none) m.opens) in
     let given : is_given w at opened_input ≡ w =
     λ j. record { nodes = w.nodes; sent = w.sent; asked = w.asked; answered = w.answered; given = append-nil w.given j; changed = w.changed; now = w.now } in
     let good = given_good w whole.facts.0.book at opened_input whole.facts.0.good in
@@ -173,7 +173,7 @@ stop_facts w v at i whole posted input m =
     let old : NodeReplays m.old = all_got NodeReplays w.nodes at m.old whole.replays.nodes m.here in
     let follows = stop_follows w v at i whole.replays input m in
     let replays = stop_replays w v at i whole.replays input m in
-    let halts : Halts w m.old m.f m.reached = record {
+    let halts : Halts (changes_kept (journal_at w.nodes 0)) m.old m.f m.reached = record {
       early = greatest_kept m.old.kept;
       late = _;
       leads = follows.leads;

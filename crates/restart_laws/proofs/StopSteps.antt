@@ -27,7 +27,7 @@ use Rattle.restart_laws.proofs.CutSteps.{nothing_owes, Halts, halted, cut_owes}
 
 -- a step that is cut off, by what the whole of it owes
 cut_good : (w : World) (book : Book) (at : ℕ) (old : Held) (f : Effect) (reached : NodeState) → Good w book → slice_get w.nodes at ≡ Some old
-    → (at ≡ 0) ⊎ AllByRecursion IsNoChange f.written → Owes w book at old f reached → Halts w old f reached
+    → (at ≡ 0) ⊎ AllByRecursion IsNoChange f.written → Owes w book at old f reached → Halts (changes_kept (journal_at w.nodes 0)) old f reached
     → HasBook (after w at old (cut_off f) (halted old f reached))
 cut_good w book at old f reached good here changes owes halts = record {
   book = _;
@@ -35,7 +35,7 @@ cut_good w book at old f reached good here changes owes halts = record {
 }
 
 -- a node that stops between two steps
-pub restart_good : (w : World) (book : Book) (at : ℕ) (old : Held) → Good w book → slice_get w.nodes at ≡ Some old → Halts w old nothing old.state
+pub restart_good : (w : World) (book : Book) (at : ℕ) (old : Held) → Good w book → slice_get w.nodes at ≡ Some old → Halts (changes_kept (journal_at w.nodes 0)) old nothing old.state
     → HasBook (after w at old nothing (halted old nothing old.state))
 restart_good w book at old good here halts = cut_good w book at old nothing old.state good here (inr tt) (nothing_owes w book at old good here) halts
 
@@ -44,10 +44,12 @@ begin_good : (w : World) (book : Book) (at : ℕ) (kept : List Kept) (r q : Rout
     → slice_get w.nodes at ≡ Some (record { state = router_state r; kept = kept }) → InputFits w book i → (not_begun : r.begun ≡ false) → BeginsBefore i
     → RouterHolds r → RouterRow (begins r) i f q
     → Replays (record { state = router_state q; kept = kept ++ (kept_life r.life ∷ f.written) })
-    → HoldsOwn (record { state = became (record { state = router_state q; kept = kept ++ (kept_life r.life ∷ f.written) });
-        kept = kept ++ (kept_life r.life ∷ f.written) })
+    → HoldsOwn (record {
+      state = became (record { state = router_state q; kept = kept ++ (kept_life r.life ∷ f.written) });
+      kept = kept ++ (kept_life r.life ∷ f.written);
+    })
     → HasBook (after w at (record { state = router_state r; kept = kept }) (cut_off (both (writes (kept_life r.life ∷ []) []) f))
-        (became (record { state = router_state q; kept = kept ++ (kept_life r.life ∷ f.written) })))
+    (became (record { state = router_state q; kept = kept ++ (kept_life r.life ∷ f.written) })))
 begin_good w book at kept r q i f good here input nb before holds row replays again =
     let old : Held = record { state = router_state r; kept = kept } in
     let first : Effect = writes (kept_life r.life ∷ []) [] in
@@ -64,16 +66,16 @@ begin_good w book at kept r q i f good here input nb before holds row replays ag
     let follows : RouterFollows (begins r) f q = router_follows (begins r) q i f (begins_holds r holds) row in
     let same : kept ++ (kept_life r.life ∷ f.written) ≡ (kept ++ kept_life r.life ∷ []) ++ f.written = sym (append_assoc kept (kept_life r.life ∷ []) f.written) in
     let cut = cut_good (after w at old first (router_state (begins r))) begun at (with_more old first.written (router_state (begins r))) f (router_state q)
-        good_v here_v (inr (router_aside (begins r) q i f row)) next
-        (record {
-          early = 0;
-          late = 0;
-          leads = follows.leads;
-          replays = subst (λ k. Replays (record { state = router_state q; kept = k })) same replays;
-          holds = subst (λ k. HoldsOwn (record { state = became (record { state = router_state q; kept = k }); kept = k })) same again;
-          tables = tt;
-          own = tt;
-        }) in
+    good_v here_v (inr (router_aside (begins r) q i f row)) next
+    (record {
+      early = 0;
+      late = 0;
+      leads = follows.leads;
+      replays = subst (λ k. Replays (record { state = router_state q; kept = k })) same replays;
+      holds = subst (λ k. HoldsOwn (record { state = became (record { state = router_state q; kept = k }); kept = k })) same again;
+      tables = tt;
+      own = tt;
+    }) in
     subst (λ k. HasBook (after w at old (cut_off (both first f)) (became (record { state = router_state q; kept = k })))) (sym same)
     (subst (λ x. HasBook x) (after_both w at old first (cut_off f) (router_state (begins r))
     (became (record { state = router_state q; kept = (kept ++ kept_life r.life ∷ []) ++ f.written }))) cut)
@@ -82,7 +84,7 @@ begin_good w book at kept r q i f good here input nb before holds row replays ag
 pub stop_good : (w : World) (book : Book) (at : ℕ) (kept : List Kept) (s t : NodeState) (i : Input) (f : Effect) → Good w book
     → slice_get w.nodes at ≡ Some (record { state = s; kept = kept }) → InputFits w book i → Step s i f t
     → HoldsOwn (record { state = s; kept = kept })
-    → Halts w (record { state = s; kept = kept }) f t
+    → Halts (changes_kept (journal_at w.nodes 0)) (record { state = s; kept = kept }) f t
     → HasBook (after w at (record { state = s; kept = kept }) (cut_off f) (halted (record { state = s; kept = kept }) f t))
 stop_good w book at kept _ _ _ _ good here input (catalogue_step c d i f own row) holds halts =
     cut_good w book at _ f _ good here (inl (fits_here w book at _ good here).state.place)

@@ -1,10 +1,10 @@
 -- Each table that a shard's journal stores is of a collection that was created, and no time in it is above that creation.
-use Rattle.std.proofs.Common.{◌≡◌, ℕ, ◌≤◌, List, [], ◌∷◌, ◌++◌, refl, arith, Bool}
+use Rattle.std.proofs.Common.{◌≡◌, ℕ, ◌≤◌, List, [], ◌∷◌, ◌++◌, sym, subst, arith, Bool}
 use Rattle.std.specs.Prelude.{true, false, Option, Some, map, if◌then◌else◌}
 use Rattle.std.specs.List.{AllByRecursion}
 use Rattle.std.specs.Str.{bytes_eq}
 use Rattle.history_model.specs.History.{Entry, IsIn}
-use Rattle.history_model.proofs.Lists.{all_weaken, all_append, all_at, in_first, in_later}
+use Rattle.history_model.proofs.Lists.{all_weaken, all_append, all_at, in_first, in_later, in_back}
 use Rattle.chunk_model.specs.Catalogue.{Creation}
 use Rattle.chunk_model.specs.Tables.{Table, table_of, with_table, is_longer}
 use Rattle.chunk_model.specs.Changes.{Change, create_change}
@@ -16,7 +16,6 @@ use Rattle.node_model.specs.States.{Shard, NodeState, catalogue_state, shard_sta
 use Rattle.node_model.specs.Steps.{Step, catalogue_step, shard_step, router_step, begin_step, other_step}
 use Rattle.node_laws.proofs.Views.{View, changes_in}
 use Rattle.node_laws.proofs.Facts.{IsKnownTable, StateFits, SameKind}
-use Rattle.node_laws.proofs.KnownTables.{table_created}
 use Rattle.node_replay.specs.Durable.{durable_of}
 use Rattle.node_replay.specs.Replays.{latest_in_table}
 use Rattle.node_replay.specs.Openings.{opened}
@@ -53,7 +52,11 @@ AreTimed changes (router_state r) = Unit {0}
 known_timed : (v : View) (time : ℕ) (t : Table) → IsKnownTable v time t → IsTimed (changes_in v) t
 known_timed v time t k =
     let latest = known_latest v time t k in
-    record { creation = k.begun.creation; begun = (table_created v time t k).begun; latest = omega (arith, latest) }
+    record {
+      creation = k.begun.creation;
+      begun = subst (λ l. IsIn (create_change k.begun.creation) l) (sym k.all) (in_back (create_change k.begun.creation) k.more k.older k.begun.begun);
+      latest = omega (arith, latest);
+    }
 
 -- the tables of a shard that fits are such
 pub timed_of : (v : View) (asked : List Asked) (answered : List Answered) (at : ℕ) (kept : List Kept) (s : NodeState) → StateFits v asked answered at kept s
