@@ -169,7 +169,8 @@ all_within bound [] le = tt
 all_within bound (r ∷ records) le = (omega (arith, le), all_within bound records (omega (arith, le)))
 
 -- no table of a shard has a time above the greatest in its records
-pub shard_tables_within : (records : List Record) (me : ℕ) (e : DurableShard) → replayed (Some (durable_shard (empty_shard me))) records ≡ Some (durable_shard e)
+pub shard_tables_within : (records : List Record) (me : ℕ) (e : DurableShard)
+    → replayed (Some (durable_shard (empty_shard me))) records ≡ Some (durable_shard e)
     → AllByRecursion (λ t. latest_in_table t ≤ latest_time records) e.tables
 shard_tables_within records me e same =
     (along (HasTablesBy (latest_time records)) (λ r. time_in r ≤ latest_time records) (λ r. Unit {0}) (shard_step (latest_time records)) records

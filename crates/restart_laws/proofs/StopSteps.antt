@@ -35,7 +35,8 @@ cut_good w book at old f reached good here changes owes halts = record {
 }
 
 -- a node that stops between two steps
-pub restart_good : (w : World) (book : Book) (at : ℕ) (old : Held) → Good w book → slice_get w.nodes at ≡ Some old → Halts (changes_kept (journal_at w.nodes 0)) old nothing old.state
+pub restart_good : (w : World) (book : Book) (at : ℕ) (old : Held) → Good w book → slice_get w.nodes at ≡ Some old
+    → Halts (changes_kept (journal_at w.nodes 0)) old nothing old.state
     → HasBook (after w at old nothing (halted old nothing old.state))
 restart_good w book at old good here halts = cut_good w book at old nothing old.state good here (inr tt) (nothing_owes w book at old good here) halts
 
@@ -64,7 +65,8 @@ begin_good w book at kept r q i f good here input nb before holds row replays ag
     (fits_here (after w at old first (router_state (begins r))) begun at (with_more old first.written (router_state (begins r))) good_v here_v)
     (fits_later w book at old first (router_state (begins r)) begun i before later input) row in
     let follows : RouterFollows (begins r) f q = router_follows (begins r) q i f (begins_holds r holds) row in
-    let same : kept ++ (kept_life r.life ∷ f.written) ≡ (kept ++ kept_life r.life ∷ []) ++ f.written = sym (append_assoc kept (kept_life r.life ∷ []) f.written) in
+    let same : kept ++ (kept_life r.life ∷ f.written) ≡ (kept ++ kept_life r.life ∷ []) ++ f.written =
+    sym (append_assoc kept (kept_life r.life ∷ []) f.written) in
     let cut = cut_good (after w at old first (router_state (begins r))) begun at (with_more old first.written (router_state (begins r))) f (router_state q)
     good_v here_v (inr (router_aside (begins r) q i f row)) next
     (record {

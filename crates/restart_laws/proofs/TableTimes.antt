@@ -36,9 +36,10 @@ latest_split middle all (c ∷ chunks) = by_test (strictly_inside middle c.range
 latest_after_split : (middle : Datum) (t : Table) → latest_in_table (split_table middle t) ≡ latest_in_table t
 latest_after_split middle t = by_can (can_split middle t.chunks)
   where
-    by_can : (b : Bool) → latest_in_table (if b then
-        (record { namespace = t.namespace; epoch = t.epoch; changes = t.changes + 1; oldest = t.oldest; chunks = split_chunks middle t.chunks t.chunks }) else t)
-        ≡ latest_in_table t
+    after : Table
+    after = record { namespace = t.namespace; epoch = t.epoch; changes = t.changes + 1; oldest = t.oldest; chunks = split_chunks middle t.chunks t.chunks }
+
+    by_can : (b : Bool) → latest_in_table (if b then after else t) ≡ latest_in_table t
     by_can true = ap (λ n. max t.oldest n) (latest_split middle t.chunks t.chunks)
     by_can false = refl
 
