@@ -1,17 +1,15 @@
 -- A step in which its node stops owes what it owes: its records are stored, its requests are taken, and the node is started on its journal.
-use Rattle.std.proofs.Common.{◌≡◌, ◌≢◌, ◌⊎◌, inl, inr, ℕ, suc, ◌+◌, List, [], ◌∷◌, ◌++◌, refl, sym, ap, subst, ◌∙◌, arith, append-nil}
+use Rattle.std.proofs.Common.{◌≡◌, ◌≢◌, ℕ, suc, List, [], ◌++◌, refl, sym, ap, subst, arith, append-nil}
 use Rattle.std.specs.Prelude.{Some, filter}
-use Rattle.std.specs.List.{AllByRecursion, slice_get}
-use Rattle.history_model.specs.History.{IsIn}
+use Rattle.std.specs.List.{slice_get}
 use Rattle.chunk_model.specs.Changes.{Change}
 use Rattle.reply_model.specs.Cursors.{Cursor}
-use Rattle.reply_model.specs.Exchanges.{Answered}
 use Rattle.reply_model.specs.OneHistory.{ids_asked, ids_told, AreDifferent}
-use Rattle.node_model.specs.Journal.{Kept, changes_kept}
+use Rattle.node_model.specs.Journal.{changes_kept}
 use Rattle.node_model.specs.Letters.{Input, Effect, nothing}
 use Rattle.node_model.specs.States.{NodeState, catalogue_state, shard_state, router_state}
 use Rattle.node_model.specs.Steps.{Step, catalogue_step, shard_step, router_step, begin_step, other_step}
-use Rattle.node_model.specs.World.{Held, World, answered_by, after, journal_at}
+use Rattle.node_model.specs.World.{Held, World, answered_by, journal_at}
 use Rattle.node_laws.proofs.Views.{Book, View, view_of, changes_in, Later}
 use Rattle.node_laws.proofs.Facts.{HeldFits, AnswersFit, no_answer, SameKind, is_of, Good}
 use Rattle.node_laws.proofs.Owes.{asked_after, answered_after, OwesIn, Owes}
@@ -21,7 +19,7 @@ use Rattle.node_laws.proofs.StepsKeep.{fits_here}
 use Rattle.node_replay.specs.Durable.{durable_of}
 use Rattle.node_replay.specs.Holds.{HoldsOwn, Replays}
 use Rattle.node_replay.specs.Openings.{opened}
-use Rattle.node_replay.specs.Replays.{replayed, records_of, latest_time}
+use Rattle.node_replay.specs.Replays.{replayed, records_of}
 use Rattle.node_replay.specs.Restarts.{cut_off}
 use Rattle.node_replay.proofs.Restarts.{became}
 use Rattle.restart_laws.proofs.Openings.{in_cursors, Stood, opened_fits}

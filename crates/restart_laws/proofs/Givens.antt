@@ -1,5 +1,5 @@
 -- What routers know of moments, that replies are true, and what they rest on: it stays where a node stops and is started again.
-use Rattle.std.proofs.Common.{◌≡◌, ◌≢◌, ℕ, ◌+◌, ◌<◌, ◌≤◌, List, [], ◌∷◌, ◌++◌, refl, sym, subst, arith, append-nil}
+use Rattle.std.proofs.Common.{◌≡◌, ℕ, ◌+◌, ◌<◌, List, ◌++◌, sym, subst, arith, append-nil}
 use Rattle.std.specs.Prelude.{Some}
 use Rattle.std.specs.List.{AllByRecursion, slice_get}
 use Rattle.history_model.proofs.Lists.{all_weaken, all_append, all_both}
@@ -14,7 +14,7 @@ use Rattle.node_laws.proofs.Views.{View}
 use Rattle.node_laws.proofs.Facts.{StateFits}
 use Rattle.node_laws.proofs.Journals.{with_more}
 use Rattle.node_laws.proofs.Moments.{HasMoment, HadMoment, Moments, last_here, given_now, other_has, old_had, asked_news, step_moments}
-use Rattle.node_laws.proofs.Places.{EachAt, each_get, each_set}
+use Rattle.node_laws.proofs.Places.{each_get, each_set}
 use Rattle.node_laws.proofs.ReplySteps.{AreBased, IsBased, steps_after, based_still}
 use Rattle.node_laws.proofs.Requests.{asked_now}
 use Rattle.node_replay.specs.Durable.{durable_of}

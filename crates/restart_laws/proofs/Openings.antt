@@ -1,5 +1,5 @@
 -- What a node is started as on its journal fits, where the node that stored it did.
-use Rattle.std.proofs.Common.{◌≡◌, ◌⊎◌, inl, inr, ℕ, ◌+◌, ◌<◌, ◌≤◌, List, [], ◌∷◌, ◌++◌, refl, sym, ap, subst, ◌∙◌, arith, Bool}
+use Rattle.std.proofs.Common.{◌≡◌, inl, inr, ℕ, ◌<◌, ◌≤◌, List, [], ◌∷◌, ◌++◌, refl, sym, subst, ◌∙◌, arith, Bool}
 use Rattle.std.specs.Prelude.{Some, true, false, filter, max, ◌*◌, ◌==◌, ◌&&◌, if◌then◌else◌}
 use Rattle.std.specs.List.{AllByRecursion}
 use Rattle.std.proofs.lemmas.Bool.{eqb-true}
@@ -13,16 +13,15 @@ use Rattle.reply_model.specs.Accounts.{Given}
 use Rattle.node_model.specs.Journal.{Kept, kept_table, kept_entry, kept_ceiling, kept_change, kept_none, kept_life, kept_block, record_kept, entries_kept, changes_kept, time_kept, greatest_kept}
 use Rattle.node_model.specs.RouterRows.{block_size}
 use Rattle.node_model.specs.ShardRows.{top, greatest_entry}
-use Rattle.node_model.specs.States.{Catalogue, Shard, Router, NodeState, catalogue_state, shard_state, router_state, time_of_node}
+use Rattle.node_model.specs.States.{Catalogue, Shard, Router, NodeState, catalogue_state, shard_state, router_state}
 use Rattle.node_model.specs.World.{Held}
 use Rattle.node_laws.proofs.Views.{View, changes_in}
-use Rattle.node_laws.proofs.Facts.{IsKnownTable, CatalogueFits, ShardFits, RouterFits, IsBy, StateFits, IsMet, IsGiven, is_of, is_of_life, CursorsFit, OwnCursors, HeldFits, SameKind, ToldBelow, IsClosedOrOpen}
+use Rattle.node_laws.proofs.Facts.{IsKnownTable, CatalogueFits, ShardFits, RouterFits, IsBy, IsMet, IsGiven, is_of, is_of_life, CursorsFit, OwnCursors, HeldFits, SameKind, ToldBelow, IsClosedOrOpen}
 use Rattle.node_laws.proofs.GreatestTimes.{entries_within, changes_within}
 use Rattle.node_laws.proofs.Growth.{met_max}
 use Rattle.node_laws.proofs.Lists.{all_prefix}
-use Rattle.node_replay.specs.Durable.{DurableRouter, durable_router, router_part, next_life, shard_part, durable_of, empty_catalogue, empty_router}
+use Rattle.node_replay.specs.Durable.{DurableRouter, router_part, next_life, shard_part, durable_of, empty_catalogue, empty_router}
 use Rattle.node_replay.specs.Holds.{HoldsOwn, Replays}
-use Rattle.node_replay.specs.Openings.{opened}
 use Rattle.node_replay.specs.Replays.{replayed, records_of, time_in, latest_in_table, latest_time}
 use Rattle.node_replay.proofs.Restarts.{became, same_top}
 use Rattle.restart_laws.proofs.Replays.{router_along, router_stores_none, IsNoTable, catalogue_stores_no_table, shard_tables_within}
@@ -129,7 +128,7 @@ shard_anew v cursors asked at time kept s le tables fits = record {
 
 -- A ROUTER
 
--- what is in a life so far is in one before the next
+-- what is in a life before this one, or in this one where it began, is in a life before the next
 before_next : (life now : ℕ) (begun : Bool) (P : Type 0) → IsBy life now begun P → life < next_life now begun
 before_next life now true P (inl less) = omega (arith, less)
 before_next life now true P (inr (same, is, p)) = omega (arith, same)

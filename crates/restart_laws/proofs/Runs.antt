@@ -1,5 +1,5 @@
 -- Every run in which nodes stop and are started again keeps all facts, and so makes one history.
-use Rattle.std.proofs.Common.{◌≡◌, ℕ, zero, suc, ◌+◌, ◌<◌, List, [], ◌∷◌, ◌++◌, refl, sym, ap, subst, ◌∙◌, arith, append-nil}
+use Rattle.std.proofs.Common.{◌≡◌, ℕ, zero, suc, ◌+◌, ◌<◌, List, [], ◌∷◌, ◌++◌, refl, sym, ap, subst, ◌∙◌, append-nil}
 use Rattle.std.specs.Prelude.{Some}
 use Rattle.std.specs.List.{AllByRecursion, slice_get, slice_set}
 use Rattle.std.specs.Option.{option_map}
@@ -11,18 +11,15 @@ use Rattle.reply_model.specs.OneHistory.{OneHistory}
 use Rattle.node_model.specs.Journal.{Kept, changes_kept, greatest_kept}
 use Rattle.node_model.specs.Letters.{Input, client_input, letter_input, moment_input, opened_input, Effect, nothing}
 use Rattle.node_model.specs.States.{NodeState}
-use Rattle.node_model.specs.Steps.{Step}
 use Rattle.node_model.specs.World.{Held, World, asked_by, after, moment_in, is_given, tick, Moves, Event, Happens, comes, delivers, passes, begins, routers_from, start, journal_at, account_of}
-use Rattle.node_laws.proofs.Views.{Book, View, view_of, changes_in}
-use Rattle.node_laws.proofs.Facts.{HeldFits, SameKind, Good}
-use Rattle.node_laws.proofs.Owes.{InputFits}
+use Rattle.node_laws.proofs.Views.{Book, view_of}
+use Rattle.node_laws.proofs.Facts.{SameKind, Good}
 use Rattle.node_laws.proofs.Causes.{all_still_true}
 use Rattle.node_laws.proofs.LongerJournals.{changes_longer}
 use Rattle.node_laws.proofs.StepsKeep.{HasBook, StaysTrue, WasPosted, happens_keeps, given_good, tick_good, input_fits, fits_here, get_set, got_is_in}
 use Rattle.node_laws.proofs.Moments.{HadMoment}
 use Rattle.node_laws.proofs.Runs.{start_true, makes_one_history}
-use Rattle.node_replay.specs.Durable.{durable_of}
-use Rattle.node_replay.specs.Holds.{HoldsOwn, Replays}
+use Rattle.node_replay.specs.Holds.{HoldsOwn}
 use Rattle.node_replay.specs.Openings.{opened, opened_on}
 use Rattle.node_replay.specs.ReadTimes.{ComesInTime}
 use Rattle.node_replay.specs.Replays.{replayed, records_of, latest_time}
@@ -30,7 +27,7 @@ use Rattle.node_replay.specs.Restarts.{Restarts, Stops, cut_off, Gives, gives_re
 use Rattle.node_replay.proofs.JournalsStay.{run_with_stops_grows}
 use Rattle.node_replay.proofs.Restarts.{became, node_opens, opened_is, opened_replays, given_in_time, occurs_replays}
 use Rattle.node_replay.proofs.Steps.{StepFollows}
-use Rattle.node_replay.proofs.Runs.{NodeReplays, WorldReplays, MoveShows, move_shows, step_replays, all_got, all_set, start_replays}
+use Rattle.node_replay.proofs.Runs.{NodeReplays, WorldReplays, move_shows, step_replays, all_got, all_set, start_replays}
 use Rattle.restart_laws.proofs.CutSteps.{kind_self, kind_step, kind_opened, Halts, halted}
 use Rattle.restart_laws.proofs.Givens.{stopped, moment_anew, taken_moments, moments_stop, based_stop}
 use Rattle.restart_laws.proofs.StopSteps.{restart_good, stop_good}

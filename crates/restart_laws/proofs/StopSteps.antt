@@ -1,14 +1,14 @@
 -- All facts stay where a node stops and is started again.
-use Rattle.std.proofs.Common.{◌≡◌, ◌⊎◌, inl, inr, ℕ, ◌+◌, List, [], ◌∷◌, ◌++◌, refl, sym, ap, subst, ◌∙◌, arith, append_assoc}
+use Rattle.std.proofs.Common.{◌≡◌, ◌⊎◌, inl, inr, ℕ, List, [], ◌∷◌, ◌++◌, sym, subst, append_assoc}
 use Rattle.std.specs.Prelude.{Some, false}
 use Rattle.std.specs.List.{AllByRecursion, slice_get}
-use Rattle.node_model.specs.Journal.{Kept, kept_life, changes_kept, greatest_kept}
+use Rattle.node_model.specs.Journal.{Kept, kept_life, changes_kept}
 use Rattle.node_model.specs.Letters.{Input, opened_input, Effect, nothing, writes, both}
 use Rattle.node_model.specs.States.{Router, NodeState, router_state}
 use Rattle.node_model.specs.RouterRows.{begins, router_begin, RouterRow}
 use Rattle.node_model.specs.Steps.{Step, catalogue_step, shard_step, router_step, begin_step, other_step, BeginsBefore}
 use Rattle.node_model.specs.World.{Held, World, after, journal_at}
-use Rattle.node_laws.proofs.Views.{Book, view_of}
+use Rattle.node_laws.proofs.Views.{Book}
 use Rattle.node_laws.proofs.Facts.{Good}
 use Rattle.node_laws.proofs.Owes.{InputFits, Owes}
 use Rattle.node_laws.proofs.Journals.{with_more, with_news, views_later}

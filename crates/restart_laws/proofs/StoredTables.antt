@@ -1,6 +1,6 @@
 -- Each table that a shard's journal stores is of a collection that was created, and no time in it is above that creation.
 use Rattle.std.proofs.Common.{◌≡◌, ℕ, ◌≤◌, List, [], ◌∷◌, ◌++◌, sym, subst, arith, Bool}
-use Rattle.std.specs.Prelude.{true, false, Option, Some, map, if◌then◌else◌}
+use Rattle.std.specs.Prelude.{true, false, Some, map, if◌then◌else◌}
 use Rattle.std.specs.List.{AllByRecursion}
 use Rattle.std.specs.Str.{bytes_eq}
 use Rattle.history_model.specs.History.{Entry, IsIn}
