@@ -29,11 +29,11 @@ top_of (durable_catalogue d) = d.top
 top_of (durable_shard d) = d.top
 top_of (durable_router d) = 0
 
-some_is : {X : Type 0} (x y : X) → Some x ≡ Some y → x ≡ y
+pub some_is : {X : Type 0} (x y : X) → Some x ≡ Some y → x ≡ y
 some_is x y e = cc
 
 -- a choice that gives a state gives this one
-chosen : {X Y : Type 0} (f : X → Y) (t : Bool) (x : X) (y : Y) → option_map f (if t then Some x else None) ≡ Some y → f x ≡ y
+pub chosen : {X Y : Type 0} (f : X → Y) (t : Bool) (x : X) (y : Y) → option_map f (if t then Some x else None) ≡ Some y → f x ≡ y
 chosen f true x y e = some_is (f x) y e
 chosen f false x y e = absurd (cc)
 
@@ -76,7 +76,7 @@ replay_top (r ∷ records) d e same = by_next (follow d r) refl (λ x more. repl
 -- A START
 
 -- the ceiling of a shard that is started is the greatest of all that it stored, and this stays so
-same_top : (s : Shard) → max (top s) (greatest_entry s.entries) ≡ top s
+pub same_top : (s : Shard) → max (top s) (greatest_entry s.entries) ≡ top s
 same_top s = omega arith
 
 pub opened_durable : (time stored : ℕ) (s : NodeState) → durable_of stored (opened time (durable_of stored s)) ≡ durable_of stored s

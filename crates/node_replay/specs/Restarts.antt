@@ -1,5 +1,6 @@
 -- Nodes that stop and are started again, among the events of a run: between two steps, or in a step, after its records are stored and
 -- before its messages and replies are sent (docs/JOURNAL.md, "Why a crash leaves it whole": the records of a step are stored all or not at all).
+-- A node that is started again was given no moment: this is noted as the moment 0, so that the last one it was given is that of its new life.
 use Rattle.std.specs.Prelude.{◌≡◌, ℕ, ℤ, List, [], ◌∷◌, ◌++◌, Some}
 use Rattle.std.specs.List.{slice_get}
 use Rattle.reply_model.specs.Requests.{Request}
@@ -15,7 +16,7 @@ pub record Restarts (w : World) (at : ℕ) (v : World) : Type 0 where
   pub new : NodeState
   pub here : slice_get w.nodes at ≡ Some old
   pub opens : opened_on old.state old.kept ≡ Some new
-  pub then : v ≡ tick (after w at old nothing new)
+  pub then : v ≡ tick (after (is_given w at (moment_input 0)) at old nothing new)
 
 -- what remains of a step in which a node stops: the records that it stored, and that it took its requests
 abbrev pub cut_off : Effect → Effect
@@ -30,7 +31,7 @@ pub record Stops (w : World) (at : ℕ) (i : Input) (v : World) : Type 0 where
   pub here : slice_get w.nodes at ≡ Some old
   pub step : Step old.state i f reached
   pub opens : opened_on old.state (old.kept ++ f.written) ≡ Some new
-  pub then : v ≡ tick (after (is_given w at i) at old (cut_off f) new)
+  pub then : v ≡ tick (after (is_given (is_given w at i) at (moment_input 0)) at old (cut_off f) new)
 
 -- the place of the node that an event is for, and its input
 pub data Gives (w : World) : Event → (at : ℕ) → Input → Type 0 where

@@ -1,0 +1,156 @@
+-- A step in which its node stops owes what it owes: its records are stored, its requests are taken, and the node is started on its journal.
+use Rattle.std.proofs.Common.{◌≡◌, ◌≢◌, ℕ, suc, List, [], ◌++◌, refl, sym, ap, subst, arith, append-nil}
+use Rattle.std.specs.Prelude.{Some, filter}
+use Rattle.std.specs.List.{slice_get}
+use Rattle.chunk_model.specs.Changes.{Change}
+use Rattle.reply_model.specs.Cursors.{Cursor}
+use Rattle.reply_model.specs.OneHistory.{ids_asked, ids_told, AreDifferent}
+use Rattle.node_model.specs.Journal.{changes_kept}
+use Rattle.node_model.specs.Letters.{Input, Effect, nothing}
+use Rattle.node_model.specs.States.{NodeState, catalogue_state, shard_state, router_state}
+use Rattle.node_model.specs.Steps.{Step, catalogue_step, shard_step, router_step, begin_step, other_step}
+use Rattle.node_model.specs.World.{Held, World, answered_by, journal_at}
+use Rattle.node_laws.proofs.Views.{Book, View, view_of, changes_in, Later}
+use Rattle.node_laws.proofs.Facts.{HeldFits, AnswersFit, no_answer, SameKind, is_of, Good}
+use Rattle.node_laws.proofs.Owes.{asked_after, answered_after, OwesIn, Owes}
+use Rattle.node_laws.proofs.Others.{Decided, other_fits}
+use Rattle.node_laws.proofs.LongerJournals.{change_stays}
+use Rattle.node_laws.proofs.StepsKeep.{fits_here}
+use Rattle.node_replay.specs.Durable.{durable_of}
+use Rattle.node_replay.specs.Holds.{HoldsOwn, Replays}
+use Rattle.node_replay.specs.Openings.{opened}
+use Rattle.node_replay.specs.Replays.{replayed, records_of}
+use Rattle.node_replay.specs.Restarts.{cut_off}
+use Rattle.node_replay.proofs.Restarts.{became}
+use Rattle.restart_laws.proofs.Openings.{in_cursors, Stood, opened_fits}
+use Rattle.restart_laws.proofs.StoredTables.{TablesStand, StoresOwn, timed_of, tables_after}
+
+-- KINDS
+
+pub kind_self : (s : NodeState) → SameKind s s
+kind_self (catalogue_state c) = tt
+kind_self (shard_state s) = tt
+kind_self (router_state r) = tt
+
+pub kind_step : (s t : NodeState) (i : Input) (f : Effect) → Step s i f t → SameKind s t
+kind_step _ _ _ _ (catalogue_step c d i f own row) = tt
+kind_step _ _ _ _ (shard_step s t i f own row) = tt
+kind_step _ _ _ _ (router_step r q i f own row) = tt
+kind_step _ _ _ _ (begin_step r q i f closed before row) = tt
+kind_step _ _ _ _ (other_step s m other) = kind_self s
+
+-- a start does not change the kind of a node
+pub kind_opened : (s t : NodeState) (time stored : ℕ) → SameKind s t → SameKind s (opened time (durable_of stored t))
+kind_opened (catalogue_state c) (catalogue_state d) time stored same = tt
+kind_opened (shard_state c) (shard_state d) time stored same = tt
+kind_opened (router_state c) (router_state d) time stored same = tt
+kind_opened (catalogue_state c) (shard_state d) time stored same = absurd same
+kind_opened (catalogue_state c) (router_state d) time stored same = absurd same
+kind_opened (shard_state c) (catalogue_state d) time stored same = absurd same
+kind_opened (shard_state c) (router_state d) time stored same = absurd same
+kind_opened (router_state c) (catalogue_state d) time stored same = absurd same
+kind_opened (router_state c) (shard_state d) time stored same = absurd same
+
+-- NO STEP
+
+later_by : (u v : View) (cursors : List Cursor) → Later u v → Later u (in_cursors cursors v)
+later_by u v cursors later = record { longer = later.longer; times = later.times; decided = later.decided }
+
+-- a node that does nothing owes what it owes
+pub nothing_owes : (w : World) (book : Book) (at : ℕ) (old : Held) → Good w book → slice_get w.nodes at ≡ Some old → Owes w book at old nothing old.state
+nothing_owes w book at old good here =
+    let one : AreDifferent (ids_asked (w.asked ++ [])) = subst (λ l. AreDifferent (ids_asked l)) (sym (append-nil w.asked)) good.one in
+    record {
+      kind = kind_self old.state;
+      rises = tt;
+      taken = tt;
+      told = tt;
+      one = one;
+      once = subst (λ l. AreDifferent (ids_told l)) (sym (append-nil w.answered)) good.once;
+      fresh = tt;
+      in_order = tt;
+      news = [];
+      chose = tt;
+      cursors = book.cursors;
+      elsewhere = λ router other. refl;
+      owed = λ v later apart journal bound chosen cursors.
+          (let decides : Decided (suc at) (view_of w.nodes book) v = record { news = []; same = chosen; theirs = tt } in
+          record {
+            node = subst (λ k. HeldFits v (w.asked ++ []) (w.answered ++ []) w.given at (record { state = old.state; kept = k })) (sym (append-nil old.kept))
+                (other_fits (view_of w.nodes book) v w.asked [] w.answered [] w.given at (suc at) old (λ e. absurd (omega (arith, e))) later decides
+                (λ router other. ap (λ l. filter (is_of router) l) cursors) one tt tt (fits_here w book at old good here));
+            letters = tt;
+            answers = subst (λ l. AnswersFit v (w.asked ++ []) (w.answered ++ []) book.cursors [] l) (sym cursors) (no_answer book.cursors);
+            known = tt;
+            met = tt;
+          });
+    }
+
+-- A STEP
+
+-- what is known of a node that stops in a step, with these changes of the catalogue
+pub record Halts (changes : List Change) (old : Held) (f : Effect) (reached : NodeState) : Type 0 where
+  pub early : ℕ
+  pub late : ℕ
+  pub leads : replayed (Some (durable_of early old.state)) (records_of f.written) ≡ Some (durable_of late reached)
+  pub replays : Replays (record { state = reached; kept = old.kept ++ f.written })
+  pub holds : HoldsOwn
+      (record { state = became (record { state = reached; kept = old.kept ++ f.written }); kept = old.kept ++ f.written })
+  pub tables : TablesStand changes old.kept old.state
+  pub own : StoresOwn f.written reached
+
+-- what it is started as
+abbrev pub halted : Held → Effect → NodeState → NodeState
+halted old f reached = became (record { state = reached; kept = old.kept ++ f.written })
+
+module _ (w : World) (book : Book) (at : ℕ) (old : Held) (f : Effect) (reached : NodeState) (good : Good w book) (here : slice_get w.nodes at ≡ Some old)
+    (owes : Owes w book at old f reached) (halts : Halts (changes_kept (journal_at w.nodes 0)) old f reached) where
+  cut_owed : (v : View) → Later (view_of w.nodes book) v → ((p : ℕ) → p ≢ at → v.journal p ≡ journal_at w.nodes p) → v.journal at ≡ old.kept ++ f.written
+      → OwesIn (in_cursors owes.cursors v) w book at old f reached
+      → OwesIn (in_cursors book.cursors v) w book at old (cut_off f) (halted old f reached)
+  cut_owed v later apart journal owed =
+      let stood : Stood (in_cursors owes.cursors v) book.cursors (asked_after w f) w.answered (answered_by w.now f.replies) w.given at old.state f.written
+      (record { state = reached; kept = old.kept ++ f.written }) =
+      record {
+        fits = owed.node;
+        replays = halts.replays;
+        holds = halts.holds;
+        tables = tables_after (changes_kept (journal_at w.nodes 0)) (changes_in (in_cursors owes.cursors v)) old.kept f.written old.state reached owes.kind
+            (λ y i. change_stays (view_of w.nodes book) v y later i) halts.tables halts.own
+            (timed_of (in_cursors owes.cursors v) (asked_after w f) (answered_after w f) at (old.kept ++ f.written) reached owed.node.state);
+        kind = owes.kind;
+        early = halts.early;
+        late = halts.late;
+        leads = halts.leads;
+        cursors_fit = (fits_here w book at old good here).cursors;
+      } in
+      record {
+        node = subst (λ l. HeldFits (in_cursors book.cursors v) (asked_after w f) l w.given at
+            (record { state = halted old f reached; kept = old.kept ++ f.written })) (sym (append-nil w.answered))
+            (opened_fits (in_cursors owes.cursors v) book.cursors (asked_after w f) w.answered (answered_by w.now f.replies) w.given at old.state reached
+            f.written (old.kept ++ f.written) stood);
+        letters = tt;
+        answers = no_answer book.cursors;
+        known = owed.known;
+        met = tt;
+      }
+
+  pub cut_owes : Owes w book at old (cut_off f) (halted old f reached)
+  cut_owes = record {
+    kind = kind_opened old.state reached _ _ owes.kind;
+    rises = owes.rises;
+    taken = owes.taken;
+    told = tt;
+    one = owes.one;
+    once = subst (λ l. AreDifferent (ids_told l)) (sym (append-nil w.answered)) good.once;
+    fresh = owes.fresh;
+    in_order = owes.in_order;
+    news = owes.news;
+    chose = owes.chose;
+    cursors = book.cursors;
+    elsewhere = λ router other. refl;
+    owed = λ v later apart journal bound chosen cursors.
+        subst (λ l. OwesIn (in_cursors l v) w book at old (cut_off f) (halted old f reached)) (sym cursors)
+        (cut_owed v later apart journal
+        (owes.owed (in_cursors owes.cursors v) (later_by (view_of w.nodes book) v owes.cursors later) apart journal bound chosen refl));
+  }

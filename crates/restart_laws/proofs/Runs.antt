@@ -1,0 +1,247 @@
+-- Every run in which nodes stop and are started again keeps all facts, and so makes one history.
+use Rattle.std.proofs.Common.{◌≡◌, ℕ, zero, suc, ◌+◌, ◌<◌, List, [], ◌∷◌, ◌++◌, refl, sym, ap, subst, ◌∙◌, append-nil}
+use Rattle.std.specs.Prelude.{Some}
+use Rattle.std.specs.List.{AllByRecursion, slice_get, slice_set}
+use Rattle.std.specs.Option.{option_map}
+use Rattle.history_model.proofs.Lists.{all_weaken, in_back}
+use Rattle.history_model.specs.History.{IsIn}
+use Rattle.chunk_model.specs.Changes.{Change}
+use Rattle.reply_model.specs.Accounts.{changes_in as changes_of}
+use Rattle.reply_model.specs.OneHistory.{OneHistory}
+use Rattle.node_model.specs.Journal.{Kept, changes_kept, greatest_kept}
+use Rattle.node_model.specs.Letters.{Input, client_input, letter_input, moment_input, opened_input, Effect, nothing}
+use Rattle.node_model.specs.States.{NodeState}
+use Rattle.node_model.specs.World.{Held, World, asked_by, after, moment_in, is_given, tick, Moves, Event, Happens, comes, delivers, passes, begins, routers_from, start, journal_at, account_of}
+use Rattle.node_laws.proofs.Views.{Book, view_of}
+use Rattle.node_laws.proofs.Facts.{SameKind, Good}
+use Rattle.node_laws.proofs.Causes.{all_still_true}
+use Rattle.node_laws.proofs.LongerJournals.{changes_longer}
+use Rattle.node_laws.proofs.StepsKeep.{HasBook, StaysTrue, WasPosted, happens_keeps, given_good, tick_good, input_fits, fits_here, get_set, got_is_in}
+use Rattle.node_laws.proofs.Moments.{HadMoment}
+use Rattle.node_laws.proofs.Runs.{start_true, makes_one_history}
+use Rattle.node_replay.specs.Holds.{HoldsOwn}
+use Rattle.node_replay.specs.Openings.{opened, opened_on}
+use Rattle.node_replay.specs.ReadTimes.{ComesInTime}
+use Rattle.node_replay.specs.Replays.{replayed, records_of, latest_time}
+use Rattle.node_replay.specs.Restarts.{Restarts, Stops, cut_off, Gives, gives_request, gives_message, gives_moment, gives_opening, EventOrStop, whole_event, restart_event, stop_event, Occurs, occurs, restarts, stops, RunWithStops, stays, proceeds}
+use Rattle.node_replay.proofs.JournalsStay.{run_with_stops_grows}
+use Rattle.node_replay.proofs.Restarts.{became, node_opens, opened_is, opened_replays, given_in_time, occurs_replays}
+use Rattle.node_replay.proofs.Steps.{StepFollows}
+use Rattle.node_replay.proofs.Runs.{NodeReplays, WorldReplays, move_shows, step_replays, all_got, all_set, start_replays}
+use Rattle.restart_laws.proofs.CutSteps.{kind_self, kind_step, kind_opened, Halts, halted}
+use Rattle.restart_laws.proofs.Givens.{stopped, moment_anew, taken_moments, moments_stop, based_stop}
+use Rattle.restart_laws.proofs.StopSteps.{restart_good, stop_good}
+use Rattle.restart_laws.proofs.StoredTables.{TablesStand, StoresOwn, none_owned, step_owns, opened_owns, timed_of, tables_later, tables_after}
+
+-- WHAT IS TRUE AT EVERY MOMENT
+
+-- the tables that a shard's journal stores are of collections that were created
+abbrev pub HasTables : World → Held → Type 0
+HasTables w h = TablesStand (changes_kept (journal_at w.nodes 0)) h.kept h.state
+
+-- the facts; that journals replay; and what the journals of shards store of tables
+pub record StaysWhole (w : World) : Type 0 where
+  pub facts : StaysTrue w
+  pub replays : WorldReplays w
+  pub tables : AllByRecursion (HasTables w) w.nodes
+
+-- TABLES
+
+-- changes stay
+changes_stay : (w v : World) (e : EventOrStop) → Occurs w e v → (x : Change) → IsIn x (changes_kept (journal_at w.nodes 0))
+    → IsIn x (changes_kept (journal_at v.nodes 0))
+changes_stay w v e h x i =
+    let more = run_with_stops_grows w v (e ∷ []) (proceeds w v v e [] h (stays v)) 0 in
+    subst (λ l. IsIn x l) (sym (ap (λ k. changes_kept k) more.1 ∙ changes_longer (journal_at w.nodes 0) more.0))
+    (in_back x (changes_kept more.0) (changes_kept (journal_at w.nodes 0)) i)
+
+-- where the node at a place stores more
+stored_tables : (w v : World) (e : EventOrStop) (book : Book) (at : ℕ) (old : Held) (written : List Kept) (new : NodeState) → Occurs w e v → Good v book
+    → AllByRecursion (HasTables w) w.nodes → slice_get w.nodes at ≡ Some old
+    → v.nodes ≡ slice_set w.nodes at (record { state = new; kept = old.kept ++ written }) → SameKind old.state new → StoresOwn written new
+    → AllByRecursion (HasTables v) v.nodes
+stored_tables w v e book at old written new h good tables here nodes kind own =
+    let now : Held = record { state = new; kept = old.kept ++ written } in
+    let there : slice_get v.nodes at ≡ Some (record { state = new; kept = old.kept ++ written }) =
+    ap (λ l. slice_get l at) nodes ∙ get_set w.nodes at old now here in
+    let fits = fits_here v book at now good there in
+    subst (λ l. AllByRecursion (HasTables v) l) (sym nodes)
+    (all_set (HasTables v) w.nodes at now
+    (all_weaken (HasTables w) (HasTables v) w.nodes
+    (λ o t. tables_later (changes_kept (journal_at w.nodes 0)) (changes_kept (journal_at v.nodes 0)) o.kept o.state (changes_stay w v e h) t) tables)
+    (tables_after (changes_kept (journal_at w.nodes 0)) (changes_kept (journal_at v.nodes 0)) old.kept written old.state new kind (changes_stay w v e h)
+    (all_got (HasTables w) w.nodes at old tables here) own
+    (timed_of (view_of v.nodes book) v.asked v.answered at (old.kept ++ written) new fits.state)))
+
+module _ (w v : World) (e : EventOrStop) (h : Occurs w e v) (whole : StaysWhole w) (facts : StaysTrue v) where
+  -- a step, or a stop, of the node at a place
+  node_tables : (at : ℕ) (old : Held) (written : List Kept) (new : NodeState) → slice_get w.nodes at ≡ Some old
+      → v.nodes ≡ slice_set w.nodes at (record { state = new; kept = old.kept ++ written }) → SameKind old.state new → StoresOwn written new → StaysWhole v
+  node_tables at old written new here nodes kind own = record {
+    facts = facts;
+    replays = occurs_replays w v e whole.replays h;
+    tables = stored_tables w v e facts.0.book at old written new h facts.0.good whole.tables here nodes kind own;
+  }
+
+  step_whole : (at : ℕ) (i : Input) → Moves w at i v → StaysWhole v
+  step_whole at i m = node_tables at m.old m.f.written m.new m.here (ap (λ (x : World). x.nodes) m.then) (kind_step m.old.state m.new i m.f m.step)
+      (step_owns m.old.state m.new i m.f m.step)
+
+-- A STOP
+
+-- all facts on the world after a stop
+stopped_facts : (w : World) (at : ℕ) (i : Input) (old : Held) (f : Effect) (reached : NodeState) → StaysTrue w → slice_get w.nodes at ≡ Some old
+    → AllByRecursion (λ a. HadMoment (w.given ++ moment_in at w.now i) a × (a.came < w.now + 1 + 1)) (asked_by w.now f.taken)
+    → HasBook (after (is_given w at i) at old (cut_off f) (halted old f reached)) → StaysTrue (stopped w at i old f (halted old f reached))
+stopped_facts w at i old f reached (known, moments, told, based) here taken next =
+    let new : NodeState = halted old f reached in
+    let kept : List Kept = old.kept ++ f.written in
+    let book : Book = next.book in
+    let good : Good (stopped w at i old f (halted old f reached)) next.book =
+    tick_good (is_given (after (is_given w at i) at old (cut_off f) new) at (moment_input 0)) book
+    (given_good (after (is_given w at i) at old (cut_off f) new) book at (moment_input 0) next.good) in
+    let fits = fits_here (stopped w at i old f new) book at (record { state = new; kept = kept }) good
+    (get_set w.nodes at old (record { state = new; kept = kept }) here) in (
+      record { book = next.book; good = good },
+      moments_stop w at i old f (halted old f reached) moments
+          (moment_anew (view_of (stopped w at i old f new).nodes book) (stopped w at i old f new).asked (stopped w at i old f new).answered
+          (w.given ++ moment_in at w.now i) at w.now kept (latest_time (records_of kept)) (greatest_kept kept) reached fits.state)
+          taken,
+      all_still_true w.now w.changed f.written w.asked (asked_by w.now f.taken) w.answered [] known.good.came told tt,
+      based_stop w at i old f (halted old f reached) based,
+    )
+
+-- what is started holds what nodes hold
+holds_again : (h : Held) → NodeReplays h → HoldsOwn (record { state = became h; kept = h.kept })
+holds_again h replays = (opened_replays h (became h) replays (node_opens h replays.0)).0.1
+
+-- between two steps
+restart_facts : (w v : World) (at : ℕ) → StaysWhole w → Restarts w at v → StaysTrue v
+restart_facts w v at whole m =
+    let none : m.old.kept ++ [] ≡ m.old.kept = append-nil m.old.kept in
+    let replays : NodeReplays (record { state = m.old.state; kept = m.old.kept ++ [] }) =
+    subst (λ k. NodeReplays (record { state = m.old.state; kept = k })) (sym none) (all_got NodeReplays w.nodes at m.old whole.replays.nodes m.here) in
+    let halts : Halts (changes_kept (journal_at w.nodes 0)) m.old nothing m.old.state = record {
+      early = 0;
+      late = 0;
+      leads = refl;
+      replays = replays.0;
+      holds = holds_again (record { state = m.old.state; kept = m.old.kept ++ [] }) replays;
+      tables = all_got (HasTables w) w.nodes at m.old whole.tables m.here;
+      own = none_owned m.old.state;
+    } in
+    let same : halted m.old nothing m.old.state ≡ m.new = opened_is (record { state = m.old.state; kept = m.old.kept ++ [] }) m.new replays.0
+    (subst (λ k. opened_on m.old.state k ≡ Some m.new) (sym none) m.opens) in
+    let given : is_given w at opened_input ≡ w =
+    λ j. record { nodes = w.nodes; sent = w.sent; asked = w.asked; answered = w.answered; given = append-nil w.given j; changed = w.changed; now = w.now } in
+    let good = given_good w whole.facts.0.book at opened_input whole.facts.0.good in
+    let facts : StaysTrue (stopped w at opened_input m.old nothing (halted m.old nothing m.old.state)) =
+    stopped_facts w at opened_input m.old nothing m.old.state whole.facts m.here tt
+    (restart_good (is_given w at opened_input) whole.facts.0.book at m.old good m.here halts) in
+    subst (λ x. StaysTrue x)
+    (ap (λ s. stopped w at opened_input m.old nothing s) same
+    ∙ ap (λ x. tick (after (is_given x at (moment_input 0)) at m.old nothing m.new)) given
+    ∙ sym m.then) facts
+
+-- in a step
+given_posted : (w : World) (e : Event) (at : ℕ) (i : Input) → Gives w e at i → WasPosted w i
+given_posted w _ _ _ (gives_request at link number request is) = tt
+given_posted w _ _ _ (gives_message at which m got to) = got_is_in w.sent which m got
+given_posted w _ _ _ (gives_moment at moment) = tt
+given_posted w _ _ _ (gives_opening at) = tt
+
+-- what the node has replays, and it is started as this
+module _ (w v : World) (at : ℕ) (i : Input) (all : WorldReplays w) (input : ComesInTime i) (m : Stops w at i v) where
+  stop_follows : StepFollows (greatest_kept m.old.kept) m.old.state i m.f m.reached
+  stop_follows = (move_shows w at m.old m.reached i m.f all input m.here m.step).follows
+
+  stop_replays : NodeReplays (record { state = m.reached; kept = m.old.kept ++ m.f.written })
+  stop_replays = step_replays m.old m.reached i m.f (all_got NodeReplays w.nodes at m.old all.nodes m.here) input stop_follows
+
+  stop_opens : halted m.old m.f m.reached ≡ m.new
+  stop_opens =
+      let kept : List Kept = m.old.kept ++ m.f.written in
+      opened_is (record { state = m.reached; kept = kept }) m.new stop_replays.0
+      (ap (λ e. option_map (opened (latest_time (records_of kept))) (replayed (Some e) (records_of kept))) stop_follows.own ∙ m.opens)
+
+stop_facts : (w v : World) (at : ℕ) (i : Input) → StaysWhole w → WasPosted w i → ComesInTime i → Stops w at i v → StaysTrue v
+stop_facts w v at i whole posted input m =
+    let kept : List Kept = m.old.kept ++ m.f.written in
+    let old : NodeReplays m.old = all_got NodeReplays w.nodes at m.old whole.replays.nodes m.here in
+    let follows = stop_follows w v at i whole.replays input m in
+    let replays = stop_replays w v at i whole.replays input m in
+    let halts : Halts (changes_kept (journal_at w.nodes 0)) m.old m.f m.reached = record {
+      early = greatest_kept m.old.kept;
+      late = _;
+      leads = follows.leads;
+      replays = replays.0;
+      holds = holds_again (record { state = m.reached; kept = kept }) replays;
+      tables = all_got (HasTables w) w.nodes at m.old whole.tables m.here;
+      own = step_owns m.old.state m.reached i m.f m.step;
+    } in
+    let book : Book = whole.facts.0.book in
+    let good : Good w whole.facts.0.book = whole.facts.0.good in
+    let facts : StaysTrue (stopped w at i m.old m.f (halted m.old m.f m.reached)) =
+    stopped_facts w at i m.old m.f m.reached whole.facts m.here (taken_moments w at i m.old m.f m.reached whole.facts.1 m.here m.step)
+    (stop_good (is_given w at i) book at m.old.kept m.old.state m.reached i m.f (given_good w book at i good) m.here (input_fits w book at i good posted)
+    m.step old.1 halts) in
+    subst (λ x. StaysTrue x) (ap (λ s. stopped w at i m.old m.f s) (stop_opens w v at i whole.replays input m) ∙ sym m.then) facts
+
+-- RUNS
+
+event_whole : (w v : World) (e : Event) → StaysWhole w → Happens w e v → StaysWhole v
+event_whole _ _ _ whole (comes w v at link number request is m) =
+    let h = comes w v at link number request is m in
+    step_whole w v (whole_event _) (occurs w v _ h) whole (happens_keeps w v _ whole.facts h) at (client_input link number request) m
+event_whole _ _ _ whole (delivers w v at which l got to m) =
+    let h = delivers w v at which l got to m in
+    step_whole w v (whole_event _) (occurs w v _ h) whole (happens_keeps w v _ whole.facts h) at (letter_input l) m
+event_whole _ _ _ whole (passes w v at moment m) =
+    let h = passes w v at moment m in
+    step_whole w v (whole_event _) (occurs w v _ h) whole (happens_keeps w v _ whole.facts h) at (moment_input moment) m
+event_whole _ _ _ whole (begins w v at m) =
+    let h = begins w v at m in
+    step_whole w v (whole_event _) (occurs w v _ h) whole (happens_keeps w v _ whole.facts h) at opened_input m
+
+pub occurs_keeps : (w v : World) (e : EventOrStop) → StaysWhole w → Occurs w e v → StaysWhole v
+occurs_keeps _ _ _ whole (occurs w v e h) = event_whole w v e whole h
+occurs_keeps _ _ _ whole (restarts w v at m) =
+    let node = all_got NodeReplays w.nodes at m.old whole.replays.nodes m.here in
+    let same = opened_is m.old m.new node.0 m.opens in
+    node_tables w v (restart_event at) (restarts w v at m) whole (restart_facts w v at whole m) at m.old [] m.new m.here (ap (λ (x : World). x.nodes) m.then)
+    (subst (λ s. SameKind m.old.state s) same (kind_opened m.old.state m.old.state _ _ (kind_self m.old.state)))
+    (none_owned m.new)
+occurs_keeps _ _ _ whole (stops w v at e i gives m) =
+    let kept : List Kept = m.old.kept ++ m.f.written in
+    let input = given_in_time w e at i whole.replays gives in
+    let same = stop_opens w v at i whole.replays input m in
+    node_tables w v (stop_event at e) (stops w v at e i gives m) whole (stop_facts w v at i whole (given_posted w e at i gives) input m) at m.old m.f.written
+    m.new m.here (ap (λ (x : World). x.nodes) m.then)
+    (subst (λ s. SameKind m.old.state s) same (kind_opened m.old.state m.reached _ _ (kind_step m.old.state m.reached i m.f m.step)))
+    (subst (λ s. StoresOwn m.f.written s) same (opened_owns _ _ m.f.written m.reached (step_owns m.old.state m.reached i m.f m.step)))
+
+pub runs_with_stops_stay_true : (u w : World) (events : List EventOrStop) → StaysWhole u → RunWithStops u events w → StaysWhole w
+runs_with_stops_stay_true _ _ _ whole (stays w) = whole
+runs_with_stops_stay_true _ _ _ whole (proceeds u v w e events h more) = runs_with_stops_stay_true v w events (occurs_keeps u v e whole h) more
+
+-- THE START
+
+routers_tables : (changes : List Change) (at n : ℕ) → AllByRecursion (λ (h : Held). TablesStand changes h.kept h.state) (routers_from at n)
+routers_tables changes at zero = tt
+routers_tables changes at (suc n) = (tt, routers_tables changes (at + 1) n)
+
+pub start_whole : (routers : ℕ) → StaysWhole (start routers)
+start_whole routers = record { facts = start_true routers; replays = start_replays routers; tables = (tt, (tt, routers_tables [] 2 routers)) }
+
+-- LAWS
+
+pub runs_with_stops_make_one_history : (routers : ℕ) (events : List EventOrStop) (w : World) → RunWithStops (start routers) events w
+    → OneHistory (account_of w)
+runs_with_stops_make_one_history routers events w run =
+    makes_one_history w (runs_with_stops_stay_true (start routers) w events (start_whole routers) run).facts
+
+-- the changes that were made, newest first, are those that the catalogue's journal stores
+pub runs_with_stops_keep_changes : (routers : ℕ) (events : List EventOrStop) (w : World) → RunWithStops (start routers) events w
+    → changes_of w.changed ≡ changes_kept (journal_at w.nodes 0)
+runs_with_stops_keep_changes routers events w run =
+    (runs_with_stops_stay_true (start routers) w events (start_whole routers) run).facts.0.good.dated
