@@ -1,8 +1,7 @@
 -- What is under way after the lines of a script; and after `settle` every request is answered.
-use Rattle.std.proofs.Common.{◌≡◌, ◌≢◌, ◌⊎◌, inl, inr, ℕ, zero, suc, ◌+◌, ◌<◌, ◌≤◌, List, [], ◌∷◌, length, refl, sym, ap, subst, ◌∙◌, arith, true, false}
+use Rattle.std.proofs.Common.{◌≡◌, ◌≢◌, ◌⊎◌, inl, inr, ℕ, zero, suc, ◌+◌, ◌<◌, ◌≤◌, List, [], ◌∷◌, length, refl, ap, subst, ◌∙◌, arith, true, false}
 use Rattle.std.specs.Prelude.{Bool, Option, Some, None, ◌||◌}
 use Rattle.std.specs.List.{AllByRecursion, slice_get}
-use Rattle.std.proofs.lemmas.Option.{slice_get_within}
 use Rattle.node_model.specs.Letters.{Letter}
 use Rattle.node_model.specs.Requests.{Request}
 use Rattle.node_model.specs.World.{World, Event, deliver_event, moment_event, Happens, start}
@@ -15,10 +14,10 @@ use Rattle.node_progress.proofs.BagRuns.{BagIn, IsNoDelivery, start_bag, goes_to
 use Rattle.node_progress.proofs.Progress.{bag_under_way}
 use Rattle.node_progress.proofs.Answered.{are_answered}
 use Rattle.node_progress.proofs.Rounds.{openings_deliver_none, sent_before}
-use Rattle.pipe_driver.specs.Rounds.{first_router, number_behind, replies_after}
+use Rattle.pipe_driver.specs.Rounds.{first_router, replies_after}
 use Rattle.script_lines.specs.Lines.{Line, settle_line}
-use Rattle.sim_driver.specs.Plays.{client_events, events_on, is_passed, SettlesBut, but_none, but_passed, but_next, but_lost, IsPlayed, plays_client, closes, plays_deliver, plays_moment, plays_settle, plays_next, loses_next}
-use Rattle.sim_driver.specs.Scripts.{ScriptView, is_delivered, is_held, marked}
+use Rattle.sim_driver.specs.Plays.{client_events, events_on, SettlesBut, but_none, but_passed, but_next, but_lost, IsPlayed, plays_client, closes, plays_deliver, plays_moment, plays_settle, plays_next, loses_next}
+use Rattle.sim_driver.specs.Scripts.{ScriptView, is_delivered, marked}
 use Rattle.sim_driver.specs.Simulations.{Plays, plays_none, plays_more}
 use Rattle.sim_driver.specs.Undelivered.{IsUndelivered}
 
