@@ -26,6 +26,7 @@ use Rattle.cluster_top.specs.declared.arguments.Command.{Command}
 use Rattle.cluster_top.specs.declared.arguments.Command.TheVariants.{Pipe, Sim}
 use Rattle.cluster_top.specs.declared.status.Status.{Status}
 use Rattle.cluster_top.specs.declared.status.Status.TheVariants as statuses
+use Rattle.cluster_top.proofs.Answered.{all_played, all_served}
 use Rattle.cluster_top.proofs.OpenJournals.{nothing}
 
 kept_routers : (first routers : ℕ) (files : List (List ℕ)) → HaveNoRecord files → length files ≡ routers → AreJournals files (routers_from first routers)
@@ -72,6 +73,7 @@ module _ (source : SourceCall) (sink : SinkCall) (tells : Bool) (files_after : L
       piped_changes source sink gives first_router (λ nodes. IsTrue tells → AreJournals files_after nodes) leaves owed 1 most_taken ending rest piped,
       piped_history source sink gives first_router (λ nodes. IsTrue tells → AreJournals files_after nodes) leaves owed 1 most_taken ending rest piped,
     );
+    answered = λ ended. (all_served most_taken _ piped.taken piped.fault _ _ _ ending piped.cause ended).answered;
   }
 
   none_played : (routers : ℕ) → CameTo routers [] [] [] (start routers)
@@ -85,6 +87,8 @@ module _ (source : SourceCall) (sink : SinkCall) (tells : Bool) (files_after : L
       simulated_changes source sink (λ nodes. IsTrue tells → AreJournals files_after nodes) leaves owed routers most_taken ending simulated,
       simulated_history source sink (λ nodes. IsTrue tells → AreJournals files_after nodes) leaves owed routers most_taken ending simulated,
     );
+    answered = λ ended last.
+        (all_played routers most_taken _ simulated.taken simulated.lines simulated.left simulated.put simulated.end ending simulated.cause ended).answered last;
     no_rest = none;
   }
 

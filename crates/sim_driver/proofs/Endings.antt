@@ -22,6 +22,7 @@ use Rattle.sim_driver.specs.Scripts.{ScriptView}
 use Rattle.sim_driver.specs.Simulations.{newline, all_printed, AllPlayed, CameTo, Cause, input_ended, read_failed, write_failed, disk_failed, no_memory}
 use Rattle.sim_driver.specs.Simulations.{line_refused, line_unended, too_long, IsSimulated}
 use Rattle.sim_driver.specs.Progress.{Playing, StopsAt, at_refused_line, at_write_fault, at_disk_fault, at_no_memory, Stopped, HasStoppedIn}
+use Rattle.sim_driver.proofs.Settled.{ends_answered}
 
 module _ {S : Type 0} (view : S → SeatView) (seats : List S) (source : SourceCall) (sink : SinkCall) (noted : List Noted) (routers limit : ℕ)
     (status : Status) (consumed left : List ℕ) where
@@ -53,7 +54,12 @@ module _ {S : Type 0} (view : S → SeatView) (seats : List S) (source : SourceC
     parts = ap (λ (b : List ℕ). b ++ left) p.all;
     each = p.each;
     most = omega (arith, most, length-append consumed left);
-    cause = as_cause known is p.lines p.out p.world (cause (record { events = p.events; script = s; played = p.plays }));
+    cause = as_cause known is p.lines p.out p.world (cause (record {
+      events = p.events;
+      script = s;
+      played = p.plays;
+      answered = ends_answered routers p.lines p.events p.world s p.out p.plays;
+    }));
     files = held_kept view seats p.world.nodes p.stands.nodes;
     last = p.world;
     is_last = inl refl;

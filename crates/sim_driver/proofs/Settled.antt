@@ -1,7 +1,8 @@
 -- What is under way after the lines of a script; and after `settle` every request is answered.
 use Rattle.std.proofs.Common.{◌≡◌, ◌≢◌, ◌⊎◌, inl, inr, ℕ, zero, suc, ◌+◌, ◌<◌, ◌≤◌, List, [], ◌∷◌, length, refl, ap, subst, ◌∙◌, arith, true, false}
-use Rattle.std.specs.Prelude.{Bool, Option, Some, None, ◌||◌}
+use Rattle.std.specs.Prelude.{Bool, Option, Some, None, ◌||◌, codes}
 use Rattle.std.specs.List.{AllByRecursion, slice_get}
+use Rattle.std.proofs.lemmas.List.{length_push, same_from_push}
 use Rattle.node_model.specs.Letters.{Letter}
 use Rattle.node_model.specs.Requests.{Request}
 use Rattle.node_model.specs.World.{World, Event, deliver_event, moment_event, Happens, start}
@@ -15,10 +16,10 @@ use Rattle.node_progress.proofs.Progress.{bag_under_way}
 use Rattle.node_progress.proofs.Answered.{are_answered}
 use Rattle.node_progress.proofs.Rounds.{openings_deliver_none, sent_before}
 use Rattle.pipe_driver.specs.Rounds.{first_router, replies_after}
-use Rattle.script_lines.specs.Lines.{Line, settle_line}
+use Rattle.script_lines.specs.Lines.{Line, settle_line, Says, says_client, says_deliver, says_moment, says_settle, says_except, says_next}
 use Rattle.sim_driver.specs.Plays.{client_events, events_on, SettlesBut, but_none, but_passed, but_next, but_lost, IsPlayed, plays_client, closes, plays_deliver, plays_moment, plays_settle, plays_next, loses_next}
 use Rattle.sim_driver.specs.Scripts.{ScriptView, is_delivered, marked}
-use Rattle.sim_driver.specs.Simulations.{Plays, plays_none, plays_more}
+use Rattle.sim_driver.specs.Simulations.{Plays, plays_none, plays_more, EndInSettle}
 use Rattle.sim_driver.specs.Undelivered.{IsUndelivered}
 
 -- MARKS
@@ -163,3 +164,26 @@ pub settled_scripts_are_answered : (routers : ℕ) (lines : List (List ℕ)) (be
     (closed : Option ℕ) → Plays routers lines before u s out → IsPlayed u s (settle_line None) events w t closed → AreAnswered w
 settled_scripts_are_answered routers lines before _ u _ s _ out _ plays (plays_settle _ events w delivered settles) =
     settled_answered u s.delivered events w delivered settles (plays_bag routers lines before u s out plays)
+
+-- THE LAST LINE
+
+abbrev first_byte : List ℕ → ℕ
+first_byte [] = 0
+first_byte (b ∷ bytes) = b
+
+settles_alone : (bytes : List ℕ) (line : Line) → Says bytes line → bytes ≡ codes "settle" → line ≡ settle_line None
+settles_alone _ _ (says_client a b router bytes number hex) is = absurd (cc is)
+settles_alone _ _ (says_deliver words node k numbers) is = absurd (cc is)
+settles_alone _ _ (says_moment words node moment numbers) is = absurd (cc is)
+settles_alone _ _ says_settle is = refl
+settles_alone _ _ (says_except kind known) is = absurd (cc is)
+settles_alone _ _ (says_next kind known) is = let other : 110 ≡ 115 = ap first_byte is in absurd (omega (arith, other))
+
+-- where the last line of a script is `settle`, every request is answered
+pub ends_answered : (routers : ℕ) (lines : List (List ℕ)) (events : List Event) (w : World) (s : ScriptView) (out : List ℕ)
+    → Plays routers lines events w s out → EndInSettle lines → AreAnswered w
+ends_answered routers _ _ _ _ _ (plays_none w run) (before, is) =
+    absurd (omega (arith, length_push before (codes "settle"), ap (λ (l : List (List ℕ)). length l) is))
+ends_answered routers _ _ _ _ _ (plays_more lines earlier events u w s t out bytes line closed given played says is_played gives) (before, is) =
+    let settle : line ≡ settle_line None = settles_alone bytes line says (same_from_push lines before bytes (codes "settle") is).1 in
+    settled_scripts_are_answered routers lines earlier events u w s t out closed played (subst (λ l. IsPlayed u s l events w t closed) settle is_played)

@@ -32,10 +32,11 @@ use Rattle.pipe_driver.proofs.Serving.{kept_at}
 use Rattle.sim_driver.specs.Scripts.{ScriptView, new_script, printed}
 use Rattle.sim_driver.specs.Moves.{AreStill, IsCut, IsLastOf}
 use Rattle.sim_driver.specs.LineOutcomes.{HasPlayedBytes, IsPartOfBytes, part_read, StopsBytes, bytes_refused, bytes_at_disk, bytes_at_memory}
-use Rattle.sim_driver.specs.Simulations.{newline, bytes_of_lines, plays_none, plays_more, CameTo, came_opening, came_lines, came_part, all_printed}
+use Rattle.sim_driver.specs.Simulations.{newline, bytes_of_lines, Plays, plays_none, plays_more, CameTo, came_opening, came_lines, came_part, all_printed}
 use Rattle.sim_driver.specs.Progress.{Playing, StopsAt, at_refused_line, at_write_fault, at_disk_fault, at_no_memory, Stopped}
 use Rattle.sim_driver.proofs.Faults.{run_more, still}
 use Rattle.sim_driver.proofs.Plays.{plays_count, plays_run, whole_is_part}
+use Rattle.sim_driver.proofs.Settled.{ends_answered}
 
 lines_more : (lines : List (List ℕ)) (bytes : List ℕ) → bytes_of_lines (lines ++ bytes ∷ []) ≡ bytes_of_lines lines ++ (bytes ++ newline ∷ [])
 lines_more lines bytes =
@@ -173,7 +174,12 @@ module _ {S : Type 0} (view : S → SeatView) (seats seats_after : List S) (befo
       → Stopped view seats_after routers tells noted held_before held consumed (bytes ++ newline ∷ others) status
   line_stopped others _ (bytes_refused refused are) =
       stops_here others statuses.BadInput p.world
-      (at_refused_line bytes others (next_line bytes others none) (record { events = p.events; script = s; played = p.plays }) refused) are (leads_nowhere p.world)
+      (at_refused_line bytes others (next_line bytes others none) (record {
+        events = p.events;
+        script = s;
+        played = p.plays;
+        answered = ends_answered routers p.lines p.events p.world s p.out p.plays;
+      }) refused) are (leads_nowhere p.world)
   line_stopped others _ (bytes_at_disk c) = stops_within others statuses.DiskFailed c (at_disk_fault (came_in others c.events c.end c.which c.run))
   line_stopped others _ (bytes_at_memory c) = stops_within others statuses.OutOfMemory c (at_no_memory (came_in others c.events c.end c.which c.run))
 
@@ -197,6 +203,11 @@ module _ {S : Type 0} (view : S → SeatView) (seats seats_after : List S) (befo
     line_on : LeadsTo p.world h.played.end
     line_on = (h.played.events, h.played.run)
 
+    played_line : Plays routers (p.lines ++ bytes ∷ []) (p.events ++ h.played.events) h.played.end t (p.out ++ printed s.links old.replies.items closed)
+    played_line =
+        plays_more p.lines p.events h.played.events p.world h.played.end s t p.out bytes h.line closed old.replies.items p.plays h.says
+        h.played.played puts_are
+
     pub covers_line : (moments : List ℕ) → IsTrue tells
         → AreCovered (all_printed routers) (start routers) (record { world = h.played.end; moments = moments; length = length held } ∷ noted) held_before
         (p.out ++ printed s.links old.replies.items closed) h.played.end
@@ -207,8 +218,9 @@ module _ {S : Type 0} (view : S → SeatView) (seats seats_after : List S) (befo
           record {
             events = p.events ++ h.played.events;
             script = t;
-            played = plays_more p.lines p.events h.played.events p.world h.played.end s t p.out bytes h.line closed old.replies.items p.plays h.says
-                h.played.played puts_are;
+            played = played_line;
+            answered = ends_answered routers (p.lines ++ bytes ∷ []) (p.events ++ h.played.events) h.played.end t
+                (p.out ++ printed s.links old.replies.items closed) played_line;
           },
         )
         (leads_on (start routers) p.world h.played.end (p.events, plays_run routers p.lines p.events p.world s p.out p.plays) line_on) line_on (line_few told)
@@ -292,7 +304,12 @@ playing_full view seats network routers tells noted held_before held consumed le
   lines = p.lines;
   end = p.world;
   out = p.out;
-  cause = at_no_memory (came_lines p.lines left p.out p.world (record { events = p.events; script = s; played = p.plays }));
+  cause = at_no_memory (came_lines p.lines left p.out p.world (record {
+    events = p.events;
+    script = s;
+    played = p.plays;
+    answered = ends_answered routers p.lines p.events p.world s p.out p.plays;
+  }));
   put = p.put;
   all = p.all;
   each = p.each;

@@ -1,9 +1,10 @@
 -- Scripts that were played, line by line, and how they ended (own).
-use Rattle.std.specs.Prelude.{◌≡◌, ◌≢◌, ℕ, ◌<◌, ◌≤◌, IsTrue, List, [], ◌∷◌, ◌++◌, length, Option}
+use Rattle.std.specs.Prelude.{◌≡◌, ◌≢◌, ℕ, ◌<◌, ◌≤◌, IsTrue, List, [], ◌∷◌, ◌++◌, length, Option, codes}
 use Rattle.std.specs.List.{flat_map, AllByRecursion}
 use Rattle.outside.specs.Devices.{SourceCall, SinkCall, SourceGave, SinkTook}
 use Rattle.node_model.specs.World.{Held, World, Event, Run, start}
 use Rattle.node_model.specs.Schedule.{openings}
+use Rattle.node_progress.specs.Completion.{AreAnswered}
 use Rattle.node_traits.specs.declared.outputs.ToLink.{ToLink}
 use Rattle.driver_steps.specs.Moves.{BeginWith}
 use Rattle.driver_steps.specs.Worlds.{puts_given}
@@ -36,11 +37,16 @@ pub data Plays (routers : ℕ) : (lines : List (List ℕ)) → List Event → Wo
       → puts_given w.answered ≡ puts_given u.answered ++ given
       → Plays routers (lines ++ bytes ∷ []) (before ++ events) w t (out ++ printed s.links given closed)
 
--- all these lines were played, and what they print was put, and nothing else
+-- the last line is `settle`, which passes over no message
+abbrev pub EndInSettle : List (List ℕ) → Type 0
+EndInSettle lines = (before : List (List ℕ)) × (lines ≡ before ++ codes "settle" ∷ [])
+
+-- All these lines were played, and what they print was put, and nothing else. Where they end in `settle`, every request that was taken is answered.
 pub record AllPlayed (routers : ℕ) (lines : List (List ℕ)) (put : List ℕ) (end : World) : Type 0 where
   pub events : List Event
   pub script : ScriptView
   pub played : Plays routers lines events end script put
+  pub answered : EndInSettle lines → AreAnswered end
 
 -- all output of a script: what the lines print that were played
 abbrev pub all_printed : (routers : ℕ) → World → List ℕ → Type 0
