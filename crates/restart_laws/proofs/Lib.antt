@@ -6,3 +6,4 @@ pub mod CutSteps
 pub mod StopSteps
 pub mod Givens
 pub mod Runs
+pub mod Calls
