@@ -1,6 +1,6 @@
 -- What was read stays as it was read, by the facts on messages.
-use Rattle.std.proofs.Common.{◌≡◌, ℕ, List}
-use Rattle.std.specs.Prelude.{Bool, true, false, Option, Some, None}
+use Rattle.std.proofs.Common.{◌≡◌, ℕ, List, ◌++◌, subst}
+use Rattle.std.specs.Prelude.{Some, None, length}
 use Rattle.std.specs.List.{AllByRecursion}
 use Rattle.history_model.proofs.Lists.{all_weaken}
 use Rattle.chunk_model.specs.Changes.{Change, create_change, split_change, commit_change}
@@ -9,11 +9,14 @@ use Rattle.node_model.specs.Journal.{changes_kept}
 use Rattle.node_model.specs.Letters.{At, no_time, at_time, Body, table_ask, table_told, split_ask, split_done, write_ask, write_done, read_ask, half_ask, read_rows, stale, time_ask, time_told, Letter}
 use Rattle.node_model.specs.World.{Held, World, journal_at, start}
 use Rattle.node_laws.proofs.Views.{Book, view_of}
+use Rattle.node_laws.proofs.Lists.{all_prefix, all_behind}
 use Rattle.node_laws.proofs.ReadFacts.{BeginsAfter}
 use Rattle.node_laws.proofs.Facts.{BodyFits, SentFits}
 use Rattle.node_laws.proofs.StepsKeep.{StaysTrue}
 use Rattle.node_replay.specs.Restarts.{EventOrStop, RunWithStops}
 use Rattle.restart_laws.specs.Pinned.{CreatesLater, IsPinnedBy, IsPinned}
+use Rattle.restart_laws.specs.Calls.{with_mail, Calls, Reached}
+use Rattle.restart_laws.proofs.Mail.{mail_runs, run_then, run_sends, all_later, calls_are_one_run}
 use Rattle.restart_laws.proofs.Runs.{start_whole, runs_with_stops_stay_true}
 
 creates_later : (namespace : List ℕ) (at : ℕ) (x : Change) → BeginsAfter namespace at x → CreatesLater namespace at x
@@ -46,7 +49,21 @@ true_pinned w (known, moments, told, based) =
     all_weaken (SentFits (view_of w.nodes known.book) w.changed w.asked w.answered w.given) (IsPinned w) w.sent
     (λ (m : Letter) f. body_pinned w.nodes known.book w.asked m.sender m.receiver m.time m.body f.0) known.good.letters
 
-pub what_was_read_stays : (routers : ℕ) (events : List EventOrStop) (w : World) → RunWithStops (start routers) events w
+pub reads_are_pinned : (routers : ℕ) (events : List EventOrStop) (w : World) → RunWithStops (start routers) events w
     → AllByRecursion (IsPinned w) w.sent
-what_was_read_stays routers events w run =
+reads_are_pinned routers events w run =
     true_pinned w (runs_with_stops_stay_true (start routers) w events (start_whole routers) run).facts
+
+-- also over later calls
+pub what_was_read_stays : (routers : ℕ) (u w : World) → Reached routers u → Calls u w → AllByRecursion (IsPinned w) u.sent
+what_was_read_stays routers u w r calls =
+    let before = calls_are_one_run (start routers) u r in
+    let o = calls_are_one_run u w calls in
+    let run : RunWithStops (start routers) (before.events ++ all_later (length before.mail) o.events) (with_mail before.mail (with_mail o.mail w)) =
+    run_then (start routers) (with_mail before.mail u) (with_mail before.mail (with_mail o.mail w)) before.events
+    (all_later (length before.mail) o.events) before.run (mail_runs before.mail u (with_mail o.mail w) o.events o.run) in
+    let all : AllByRecursion (IsPinned w) (before.mail ++ (o.mail ++ w.sent)) =
+    reads_are_pinned routers (before.events ++ all_later (length before.mail) o.events) (with_mail before.mail (with_mail o.mail w)) run in
+    let more = run_sends u (with_mail o.mail w) o.events o.run in
+    all_prefix (IsPinned w) u.sent more.0
+    (subst (λ l. AllByRecursion (IsPinned w) l) more.1 (all_behind (IsPinned w) before.mail (o.mail ++ w.sent) all))

@@ -1,15 +1,21 @@
 //! The laws of calls that begin on the journals which earlier calls left.
 
-ghost use Rattle.std.specs.Prelude.{◌≡◌, ℕ, List};
+ghost use Rattle.std.specs.Prelude.{◌≡◌, ℕ};
 ghost use Rattle.std.specs.List.{AllByRecursion};
 ghost use Rattle.reply_model.specs.Accounts.{changes_in};
 ghost use Rattle.reply_model.specs.OneHistory.{AreDifferent, OneHistory, ids_told};
 ghost use Rattle.node_model.specs.Journal.{changes_kept};
-ghost use Rattle.node_model.specs.World.{World, account_of, journal_at};
+ghost use Rattle.node_model.specs.World.{World, account_of, journal_at, start};
 ghost use Rattle.node_replay.specs.Acknowledged.{KeepsJournals, KeepsWrites};
 ghost use Rattle.node_replay.specs.Holds.{MayOpen, Replays};
-ghost use Rattle.node_replay.specs.Restarts.{EventOrStop, RunWithStops};
-ghost use Rattle.restart_laws.specs.Calls.{BeginsOn, Reached};
+ghost use Rattle.restart_laws.specs.Calls.{BeginsOn, Calls, IsOfRun, Reached};
+ghost use Rattle.restart_laws.specs.Pinned.{IsPinned};
+
+/// Calls, one after another, are one run of nodes that stop and are started again, in which the messages of a call are not delivered after its end.
+#[tactic(auto, using(crate::proofs::Calls::reached_calls_are_one_run))]
+pub fn reached_calls_are_one_run()
+    ensures { (routers : ℕ) (w : World) → Reached routers w → IsOfRun (start routers) w }
+{}
 
 /// However many calls there were, each on the journals that the one before it left: the changes of the catalogue and what the shard's journal keeps, of all
 /// calls, are one legal history of an unsharded collection with each statement at most once, and each answer that was given in any of them is right by it.
@@ -42,14 +48,21 @@ pub fn reached_calls_answer_once()
     ensures { (routers : ℕ) (w : World) → Reached routers w → AreDifferent (ids_told w.answered) }
 {}
 
-/// No record is lost from one call to the next: each journal grows at its end alone.
-#[tactic(auto, using(crate::proofs::Calls::next_calls_keep_journals))]
-pub fn next_calls_keep_journals()
-    ensures { (u : World) (first : World) (w : World) (events : List EventOrStop) → BeginsOn u first → RunWithStops first events w → KeepsJournals u w }
+/// No record that was stored is lost in a later call: from any world on, each journal grows at its end alone.
+#[tactic(auto, using(crate::proofs::Calls::calls_keep_journals))]
+pub fn calls_keep_journals()
+    ensures { (u : World) (w : World) → Calls u w → KeepsJournals u w }
 {}
 
 /// Wherever calls led to, a next one may begin.
 #[tactic(auto, using(crate::proofs::Calls::reached_calls_may_go_on))]
 pub fn reached_calls_may_go_on()
     ensures { (routers : ℕ) (u : World) → Reached routers u → (first : World) × BeginsOn u first }
+{}
+
+/// Documents that a shard took for a read stay those that its journal has at the time of the read, and that there was no collection at the time of a read
+/// stays so by the catalogue's journal: of each message that was sent, now and in all later calls.
+#[tactic(auto, using(crate::proofs::Pinned::what_was_read_stays))]
+pub fn what_was_read_stays()
+    ensures { (routers : ℕ) (u : World) (w : World) → Reached routers u → Calls u w → AllByRecursion (IsPinned w) u.sent }
 {}
