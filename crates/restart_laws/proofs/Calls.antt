@@ -1,5 +1,5 @@
 -- What is true of runs with stops is true over calls, each of which begins on the journals that the one before it left.
-use Rattle.std.proofs.Common.{◌≡◌, ℕ, zero, suc, ◌+◌, ◌<◌, List, [], ◌∷◌, ◌++◌, refl, sym, ap, ◌∙◌, arith}
+use Rattle.std.proofs.Common.{◌≡◌, ℕ, zero, suc, ◌+◌, ◌<◌, List, [], ◌∷◌, ◌++◌, refl, sym, ◌∙◌, arith, length-set}
 use Rattle.std.specs.Prelude.{Some, length}
 use Rattle.std.specs.List.{AllByRecursion, slice_get, slice_set}
 use Rattle.reply_model.specs.Accounts.{changes_in as changes_of}
@@ -23,11 +23,6 @@ use Rattle.restart_laws.specs.Calls.{restarts_of, without_mail, with_mail, Begin
 
 -- A CALL MAY BEGIN
 
-set_length : {X : Type 0} (xs : List X) (at : ℕ) (x : X) → length (slice_set xs at x) ≡ length xs
-set_length [] at x = refl
-set_length (y ∷ xs) zero x = refl
-set_length (y ∷ xs) (suc at) x = ap (λ n. suc n) (set_length xs at x)
-
 node_at : {X : Type 0} (xs : List X) (at : ℕ) → at < length xs → (x : X) × (slice_get xs at ≡ Some x)
 node_at [] at less = absurd (omega (arith, less))
 node_at (y ∷ xs) zero less = (y, refl)
@@ -49,7 +44,7 @@ starts_from w at (suc n) all same =
     let now : Occurs w (restart_event at) (started_at w at h.0) = starts_at w at h.0 h.1 all in
     let one_on : at + 1 + n ≡ length w.nodes = omega (arith, same) in
     let long : length w.nodes ≡ length (slice_set w.nodes at (record { state = became h.0; kept = h.0.kept ++ [] })) =
-    sym (set_length w.nodes at (record { state = became h.0; kept = h.0.kept ++ [] })) in
+    sym (length-set w.nodes at (record { state = became h.0; kept = h.0.kept ++ [] })) in
     let rest = starts_from (started_at w at h.0) (at + 1) n (occurs_replays w (started_at w at h.0) (restart_event at) all now) (one_on ∙ long) in
     (rest.0, proceeds w (started_at w at h.0) rest.0 (restart_event at) (restarts_of (at + 1) n) now rest.1)
 

@@ -1,5 +1,5 @@
 -- A run goes on in the same way where more messages were sent before it; so calls, one after another, are one run.
-use Rattle.std.proofs.Common.{◌≡◌, ℕ, ◌+◌, List, [], ◌∷◌, ◌++◌, refl, sym, ap, subst, ◌∙◌, append_assoc, append-nil}
+use Rattle.std.proofs.Common.{◌≡◌, ℕ, suc, ◌+◌, List, [], ◌∷◌, ◌++◌, sym, ap, subst, ◌∙◌, arith, append_assoc, append-nil}
 use Rattle.std.specs.Prelude.{Some, length}
 use Rattle.std.specs.List.{slice_get, slice_set}
 use Rattle.node_model.specs.Letters.{Letter, Input, client_input, letter_input, moment_input, opened_input, Effect, nothing}
@@ -11,13 +11,13 @@ use Rattle.restart_laws.specs.Calls.{restarts_of, without_mail, with_mail, Begin
 -- EVENTS
 
 -- the event, where so many messages more were sent before
-abbrev later_event : ℕ → Event → Event
+abbrev pub later_event : ℕ → Event → Event
 later_event n (client_event at link number request) = client_event at link number request
 later_event n (deliver_event at which) = deliver_event at (n + which)
 later_event n (moment_event at moment) = moment_event at moment
 later_event n (opened_event at) = opened_event at
 
-abbrev later : ℕ → EventOrStop → EventOrStop
+abbrev pub later : ℕ → EventOrStop → EventOrStop
 later n (whole_event e) = whole_event (later_event n e)
 later n (restart_event at) = restart_event at
 later n (stop_event at e) = stop_event at (later_event n e)
@@ -29,8 +29,10 @@ all_later n (e ∷ events) = later n e ∷ all_later n events
 -- MORE MESSAGES BEFORE
 
 get_behind : (mail sent : List Letter) (which : ℕ) → slice_get (mail ++ sent) (length mail + which) ≡ slice_get sent which
-get_behind [] sent which = refl
-get_behind (m ∷ mail) sent which = get_behind mail sent which
+get_behind [] sent which = let none : 0 + which ≡ which = omega arith in ap (λ n. slice_get sent n) none
+get_behind (m ∷ mail) sent which =
+    let one_on : length (m ∷ mail) + which ≡ suc (length mail + which) = omega arith in
+    ap (λ n. slice_get (m ∷ (mail ++ sent)) n) one_on ∙ get_behind mail sent which
 
 module _ (mail : List Letter) where
   after_mail : (w : World) (at : ℕ) (old : Held) (f : Effect) (new : NodeState)
