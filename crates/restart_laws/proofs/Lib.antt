@@ -7,5 +7,5 @@ pub mod StopSteps
 pub mod Givens
 pub mod Runs
 pub mod Mail
-pub mod Calls
+pub mod ReachedCalls
 pub mod Pinned

@@ -68,7 +68,7 @@ module _ (mail : List Letter) where
       passes (with_mail mail w) (with_mail mail v) at moment (mail_moves w v at (moment_input moment) m)
   mail_happens _ _ _ (begins w v at m) = begins (with_mail mail w) (with_mail mail v) at (mail_moves w v at opened_input m)
 
-  mail_gives : (w : World) (e : Event) (at : ℕ) (i : Input) → Gives w e at i → Gives (with_mail mail w) (later_event (length mail) e) at i
+  pub mail_gives : (w : World) (e : Event) (at : ℕ) (i : Input) → Gives w e at i → Gives (with_mail mail w) (later_event (length mail) e) at i
   mail_gives w _ _ _ (gives_request at link number request is) = gives_request at link number request is
   mail_gives w _ _ _ (gives_message at which m got to) = gives_message at (length mail + which) m (get_behind mail w.sent which ∙ got) to
   mail_gives w _ _ _ (gives_moment at moment) = gives_moment at moment

@@ -5,20 +5,20 @@ use Rattle.std.specs.List.{AllByRecursion, slice_get, slice_set}
 use Rattle.reply_model.specs.Accounts.{changes_in as changes_of}
 use Rattle.reply_model.specs.OneHistory.{OneHistory, AreDifferent, ids_told}
 use Rattle.node_model.specs.Journal.{changes_kept}
-use Rattle.node_model.specs.Letters.{Letter, moment_input, nothing}
-use Rattle.node_model.specs.World.{Held, World, after, is_given, tick, start, journal_at, account_of}
+use Rattle.node_model.specs.Letters.{Letter, Input, moment_input, nothing}
+use Rattle.node_model.specs.World.{Held, World, after, is_given, tick, Event, start, journal_at, account_of}
 use Rattle.node_laws.proofs.Lists.{all_behind}
 use Rattle.node_replay.specs.Acknowledged.{KeepsJournals, KeepsWrites}
-use Rattle.node_replay.specs.Holds.{Replays, MayOpen}
-use Rattle.node_replay.specs.ReadTimes.{IsInTime}
-use Rattle.node_replay.specs.Restarts.{Occurs, restarts, restart_event, RunWithStops, stays, proceeds}
+use Rattle.node_replay.specs.Holds.{HoldsOwn, Replays, MayOpen}
+use Rattle.node_replay.specs.ReadTimes.{IsInTime, ComesInTime}
+use Rattle.node_replay.specs.Restarts.{Gives, Occurs, restarts, restart_event, RunWithStops, stays, proceeds}
 use Rattle.node_replay.proofs.JournalsStay.{run_with_stops_grows}
 use Rattle.node_replay.proofs.OnceRuns.{run_with_stops_once}
-use Rattle.node_replay.proofs.Restarts.{became, node_opens, occurs_replays, stopped_replays, run_with_stops_replays}
+use Rattle.node_replay.proofs.Restarts.{became, node_opens, occurs_replays, stopped_replays, run_with_stops_replays, run_with_stops_holds}
 use Rattle.node_replay.proofs.Runs.{NodeReplays, WorldReplays, all_got, start_replays}
 use Rattle.node_replay.proofs.StopStays.{run_with_stops_keeps}
 use Rattle.restart_laws.proofs.Runs.{runs_with_stops_make_one_history, runs_with_stops_keep_changes}
-use Rattle.restart_laws.proofs.Mail.{calls_are_one_run}
+use Rattle.restart_laws.proofs.Mail.{later_event, mail_gives, calls_are_one_run}
 use Rattle.restart_laws.specs.Calls.{restarts_of, without_mail, with_mail, BeginsOn, Calls, Reached, IsOfRun}
 
 -- A CALL MAY BEGIN
@@ -68,6 +68,14 @@ pub reached_calls_replay : (routers : ℕ) (w : World) → Reached routers w →
 reached_calls_replay routers w r =
     let o = calls_are_one_run (start routers) w r in
     run_with_stops_replays routers o.events (with_mail o.mail w) o.run
+
+-- what a step of a call needs
+pub reached_calls_hold : (routers : ℕ) (w : World) → Reached routers w
+    → AllByRecursion HoldsOwn w.nodes × ((e : Event) (at : ℕ) (i : Input) → Gives w e at i → ComesInTime i)
+reached_calls_hold routers w r =
+    let o = calls_are_one_run (start routers) w r in
+    let h = run_with_stops_holds routers o.events (with_mail o.mail w) o.run in
+    (h.0, λ e at i gives. h.1 (later_event (length o.mail) e) at i (mail_gives o.mail w e at i gives))
 
 pub reached_calls_keep_writes : (routers : ℕ) (w : World) → Reached routers w → KeepsWrites w
 reached_calls_keep_writes routers w r =
