@@ -1,6 +1,6 @@
 -- A run goes on in the same way where more messages were sent before it; so calls, one after another, are one run.
 use Rattle.std.proofs.Common.{◌≡◌, ℕ, suc, ◌+◌, List, [], ◌∷◌, ◌++◌, sym, ap, subst, ◌∙◌, arith, append_assoc, append-nil}
-use Rattle.std.specs.Prelude.{Some, length}
+use Rattle.std.specs.Prelude.{length}
 use Rattle.std.specs.List.{slice_get, slice_set}
 use Rattle.node_model.specs.Letters.{Letter, Input, client_input, letter_input, moment_input, opened_input, Effect, nothing}
 use Rattle.node_model.specs.States.{NodeState}

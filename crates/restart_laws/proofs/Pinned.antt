@@ -1,12 +1,12 @@
 -- What was read stays as it was read, by the facts on messages.
-use Rattle.std.proofs.Common.{◌≡◌, ℕ, List, ◌++◌, subst}
+use Rattle.std.proofs.Common.{ℕ, List, ◌++◌, subst}
 use Rattle.std.specs.Prelude.{Some, None, length}
 use Rattle.std.specs.List.{AllByRecursion}
 use Rattle.history_model.proofs.Lists.{all_weaken}
 use Rattle.chunk_model.specs.Changes.{Change, create_change, split_change, commit_change}
 use Rattle.reply_model.specs.Exchanges.{Asked}
 use Rattle.node_model.specs.Journal.{changes_kept}
-use Rattle.node_model.specs.Letters.{At, no_time, at_time, Body, table_ask, table_told, split_ask, split_done, write_ask, write_done, read_ask, half_ask, read_rows, stale, time_ask, time_told, Letter}
+use Rattle.node_model.specs.Letters.{no_time, at_time, Body, table_ask, table_told, split_ask, split_done, write_ask, write_done, read_ask, half_ask, read_rows, stale, time_ask, time_told, Letter}
 use Rattle.node_model.specs.World.{Held, World, journal_at, start}
 use Rattle.node_laws.proofs.Views.{Book, view_of}
 use Rattle.node_laws.proofs.Lists.{all_prefix, all_behind}
