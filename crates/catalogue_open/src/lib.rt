@@ -1,0 +1,7 @@
+//! The catalogue is opened on the records of its journal.
+#![tactic(auto)]
+
+mod kind;
+mod part;
+
+pub use part::CataloguePart;

@@ -1,0 +1,6 @@
+//! A router is opened on the records of its journal.
+#![tactic(auto)]
+
+mod part;
+
+pub use part::RouterPart;

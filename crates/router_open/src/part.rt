@@ -1,0 +1,150 @@
+//! The durable part of a router.
+
+ghost use Rattle.std.specs.Prelude.{◌≡◌, ◌≤◌, ◌^◌, IfOk};
+ghost use Rattle.node_replay.specs.Durable.{empty_router};
+ghost use Rattle.node_replay.specs.Follow.{router_follow};
+ghost use Rattle.record_model.specs.Records.{block_record, life_record};
+ghost use Rattle.shard_records.specs.Meanings.{record_view};
+ghost use Rattle.router_open.specs.RouterParts.{IsKind, Leads, part_of};
+
+use bson_values::Memory;
+use cluster_base::NodeId;
+use journal_replay::Replays;
+use shard_records::Record;
+
+/// This number of blocks is never written.
+const MOST_BLOCKS: u64 = 1 << 56;
+
+/// What the journal of a router says of it.
+#[derive(Clone, Copy, Debug)]
+pub struct RouterPart {
+    me: NodeId,
+    // The life that it will begin.
+    life: u64,
+    // How many blocks of cursor numbers it wrote.
+    blocks: u64,
+    ghost few: { blocks ≤ 2 ^ 56 },
+}
+
+/// What a record says to a router.
+#[derive(Clone, Copy, Debug)]
+pub(crate) enum RouterRecord {
+    Life(u64),
+    Block(u64),
+    /// A record of another node.
+    Other,
+}
+
+// Returns what a record says to a router.
+pub(crate) fn kind_of(record: &Record) -> RouterRecord
+    ensures { IsKind (record_view «record».now) result }
+{
+    match record {
+        Record::Life(number) => RouterRecord::Life(*number),
+        Record::Block(number) => RouterRecord::Block(*number),
+        Record::Table(_)
+        | Record::Entry { .. }
+        | Record::Ceiling(_)
+        | Record::Floor(_)
+        | Record::MoveStart(_)
+        | Record::Section(_)
+        | Record::MoveEnd(_)
+        | Record::Released(_)
+        | Record::ReceiveStart(_)
+        | Record::Batch(_)
+        | Record::ReceiveDone(_)
+        | Record::ReceiveEnd(_)
+        | Record::Deleted(_)
+        | Record::Create { .. }
+        | Record::Split(_)
+        | Record::Commit(_)
+        | Record::Resolve(_)
+        | Record::Purge(_)
+        | Record::CatalogueCeiling(_) => RouterRecord::Other,
+    }
+}
+
+// Lets a record go that was read, and returns what came of it.
+fn without<T: Drop>(_read: T, outcome: Result<bool, Memory>) -> Result<bool, Memory>
+    ensures { result ≡ outcome }
+{
+    outcome
+}
+
+impl RouterPart {
+    /// Returns what an empty journal says of the router of this number.
+    pub fn empty(me: NodeId) -> RouterPart
+        ensures { part_of result ≡ empty_router me.0 }
+    {
+        RouterPart {
+            me,
+            life: 1,
+            blocks: 0,
+        }
+    }
+
+    /// Returns the number of the node.
+    pub fn me(&self) -> NodeId
+        ensures { result.0 ≡ (part_of self.now).me }
+    {
+        self.me
+    }
+
+    /// Returns the life that the router will begin.
+    pub fn life(&self) -> u64
+        ensures { result ≡ (part_of self.now).life }
+    {
+        self.life
+    }
+
+    /// Returns how many blocks of cursor numbers were written.
+    pub fn blocks(&self) -> u64
+        ensures blocks { result ≡ (part_of self.now).blocks }
+        ensures few { result ≤ 2 ^ 56 }
+    {
+        self.blocks
+    }
+
+    // Adds a life, and returns whether it may follow. Returns `Memory` where lives are exhausted.
+    fn follow_life(&mut self, life: u64) -> Result<bool, Memory>
+        ensures { IfOk result (λ b. Leads (router_follow (part_of self.old) (life_record life)) (part_of self.new) b) }
+    {
+        if life != self.life {
+            return Ok(false);
+        }
+        self.life = life.checked_add(1).ok_or(Memory)?;
+        Ok(true)
+    }
+
+    // Adds a block of cursor numbers, and returns whether it may follow. Returns `Memory` where blocks are exhausted.
+    fn follow_block(&mut self, block: u64) -> Result<bool, Memory>
+        ensures { IfOk result (λ b. Leads (router_follow (part_of self.old) (block_record block)) (part_of self.new) b) }
+    {
+        if self.life <= 1 || block != self.blocks {
+            return Ok(false);
+        }
+        if block >= MOST_BLOCKS {
+            return Err(Memory);
+        }
+        self.blocks = block + 1;
+        Ok(true)
+    }
+}
+
+impl Replays for RouterPart {
+    ghost use Rattle.router_open.specs.RouterParts.{part_of};
+    ghost use Rattle.node_replay.specs.Durable.{durable_router};
+
+    ghost durable = { λ part. durable_router (part_of part) };
+
+    ghost time = { λ part. 0 };
+
+    fn follow(&mut self, next: Record) -> Result<bool, Memory> {
+        let outcome = match kind_of(&next) {
+            RouterRecord::Life(life) => self.follow_life(life),
+            RouterRecord::Block(block) => self.follow_block(block),
+            RouterRecord::Other => Ok(false),
+        };
+        without(next, outcome)
+    }
+}
