@@ -2,9 +2,10 @@
 
 ghost use Rattle.std.specs.Prelude.{◌≡◌};
 ghost use Rattle.shard_records.specs.Meanings.{record_view};
-ghost use Rattle.catalogue_open.specs.CatalogueParts.{IsKind};
+ghost use Rattle.catalogue_open.specs.CatalogueParts.{IsKind, creates_at};
 ghost use Rattle.catalogue_open.specs.declared.kind.CatalogueRecord.TheVariants.{Other};
 
+use chunk_catalogue::{Change, ChangeFields};
 use cluster_base::{Namespace, Time};
 use shard_records::{Record, SplitChange};
 
@@ -72,5 +73,15 @@ pub(crate) fn kind_of(kept: Record) -> CatalogueRecord
         | Record::Released(_)
         | Record::Life(_)
         | Record::Block(_) => CatalogueRecord::Other,
+    }
+}
+
+// Returns whether a change is the creation of a collection of this epoch.
+pub(crate) fn is_of_epoch(change: &Change, epoch: u64) -> bool
+    ensures { result ≡ creates_at change.now.fields epoch }
+{
+    match &change.fields {
+        ChangeFields::Create { epoch: made, .. } => *made == epoch,
+        ChangeFields::Split { .. } | ChangeFields::Commit { .. } => false,
     }
 }

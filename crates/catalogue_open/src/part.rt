@@ -12,11 +12,10 @@ ghost use Rattle.node_replay.specs.Follow.{catalogue_follow, with_change};
 ghost use Rattle.record_model.specs.RecordFormat.{key_document};
 ghost use Rattle.record_model.specs.Records.{catalogue_ceiling_record, create_record, split_record};
 ghost use Rattle.shard_records.specs.MoveViews.{split_view};
-ghost use Rattle.catalogue_open.specs.CatalogueParts.{Leads, creates_at, creation_view, part_of};
 
-use crate::kind::{CatalogueRecord, Creation, kind_of};
+use crate::kind::{CatalogueRecord, Creation, is_of_epoch, kind_of};
 use bson_values::Memory;
-use chunk_catalogue::{CatFault, Catalogue, Change, ChangeFields};
+use chunk_catalogue::{CatFault, Catalogue, Change};
 use cluster_base::{NodeId, Time};
 use journal_replay::Replays;
 use shard_records::{Record, SplitChange};
@@ -32,16 +31,6 @@ pub struct CataloguePart {
     ghost past: { AllByRecursion (λ x. time_of x ≤ top.0) (changes_of catalogue) } by { Prim.hlevel props },
 }
 
-// Returns whether a change is the creation of a collection of this epoch.
-fn is_of_epoch(change: &Change, epoch: u64) -> bool
-    ensures { result ≡ creates_at change.now.fields epoch }
-{
-    match &change.fields {
-        ChangeFields::Create { epoch: made, .. } => *made == epoch,
-        ChangeFields::Split { .. } | ChangeFields::Commit { .. } => false,
-    }
-}
-
 // Lets a change go that is not made.
 fn refused<T: Drop>(_change: T) -> Result<bool, Memory>
     ensures { result ≡ Ok false }
@@ -50,6 +39,8 @@ fn refused<T: Drop>(_change: T) -> Result<bool, Memory>
 }
 
 impl CataloguePart {
+    ghost use Rattle.catalogue_open.specs.CatalogueParts.{Leads, creation_view, part_of};
+
     /// Returns what an empty journal says of the catalogue of this number.
     pub fn empty(alloc: Global, me: NodeId) -> CataloguePart
         ensures { part_of result ≡ empty_catalogue me.0 }

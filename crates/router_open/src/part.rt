@@ -4,9 +4,8 @@ ghost use Rattle.std.specs.Prelude.{◌≡◌, ◌≤◌, ◌^◌, IfOk};
 ghost use Rattle.node_replay.specs.Durable.{empty_router};
 ghost use Rattle.node_replay.specs.Follow.{router_follow};
 ghost use Rattle.record_model.specs.Records.{block_record, life_record};
-ghost use Rattle.shard_records.specs.Meanings.{record_view};
-ghost use Rattle.router_open.specs.RouterParts.{IsKind, Leads, part_of};
 
+use crate::kind::{RouterRecord, kind_of};
 use bson_values::Memory;
 use cluster_base::NodeId;
 use journal_replay::Replays;
@@ -26,44 +25,6 @@ pub struct RouterPart {
     ghost few: { blocks ≤ 2 ^ 56 },
 }
 
-/// What a record says to a router.
-#[derive(Clone, Copy, Debug)]
-pub(crate) enum RouterRecord {
-    Life(u64),
-    Block(u64),
-    /// A record of another node.
-    Other,
-}
-
-// Returns what a record says to a router.
-pub(crate) fn kind_of(record: &Record) -> RouterRecord
-    ensures { IsKind (record_view «record».now) result }
-{
-    match record {
-        Record::Life(number) => RouterRecord::Life(*number),
-        Record::Block(number) => RouterRecord::Block(*number),
-        Record::Table(_)
-        | Record::Entry { .. }
-        | Record::Ceiling(_)
-        | Record::Floor(_)
-        | Record::MoveStart(_)
-        | Record::Section(_)
-        | Record::MoveEnd(_)
-        | Record::Released(_)
-        | Record::ReceiveStart(_)
-        | Record::Batch(_)
-        | Record::ReceiveDone(_)
-        | Record::ReceiveEnd(_)
-        | Record::Deleted(_)
-        | Record::Create { .. }
-        | Record::Split(_)
-        | Record::Commit(_)
-        | Record::Resolve(_)
-        | Record::Purge(_)
-        | Record::CatalogueCeiling(_) => RouterRecord::Other,
-    }
-}
-
 // Lets a record go that was read, and returns what came of it.
 fn without<T: Drop>(_read: T, outcome: Result<bool, Memory>) -> Result<bool, Memory>
     ensures { result ≡ outcome }
@@ -72,6 +33,8 @@ fn without<T: Drop>(_read: T, outcome: Result<bool, Memory>) -> Result<bool, Mem
 }
 
 impl RouterPart {
+    ghost use Rattle.router_open.specs.RouterParts.{Leads, part_of};
+
     /// Returns what an empty journal says of the router of this number.
     pub fn empty(me: NodeId) -> RouterPart
         ensures { part_of result ≡ empty_router me.0 }
