@@ -8,10 +8,10 @@ use Rattle.record_model.specs.Records.{Record, create_record, split_record, cata
 use Rattle.node_replay.specs.Durable.{DurableCatalogue}
 use Rattle.node_replay.specs.Follow.{catalogue_follow}
 use Rattle.shard_records.specs.MoveViews.{split_view}
-use Rattle.catalogue_open.specs.declared.kind.Creation.{Creation}
-use Rattle.catalogue_open.specs.declared.kind.CatalogueRecord.{CatalogueRecord}
-use Rattle.catalogue_open.specs.declared.kind.CatalogueRecord.TheVariants as kinds
-use Rattle.catalogue_open.specs.declared.part.CataloguePart.{CataloguePart}
+use Rattle.catalogue_replay.specs.declared.kind.Creation.{Creation}
+use Rattle.catalogue_replay.specs.declared.kind.CatalogueRecord.{CatalogueRecord}
+use Rattle.catalogue_replay.specs.declared.kind.CatalogueRecord.TheVariants as kinds
+use Rattle.catalogue_replay.specs.declared.part.CataloguePart.{CataloguePart}
 
 abbrev pub part_of : CataloguePart → DurableCatalogue
 part_of p = record { me = p.me.0; top = p.top.0; changes = changes_of p.catalogue }

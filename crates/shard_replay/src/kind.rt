@@ -2,8 +2,8 @@
 
 ghost use Rattle.std.specs.Prelude.{◌≡◌};
 ghost use Rattle.shard_records.specs.Meanings.{record_view};
-ghost use Rattle.shard_open.specs.ShardParts.{IsKind};
-ghost use Rattle.shard_open.specs.declared.kind.ShardRecord.TheVariants.{Other};
+ghost use Rattle.shard_replay.specs.ShardParts.{IsKind};
+ghost use Rattle.shard_replay.specs.declared.kind.ShardRecord.TheVariants.{Other};
 
 use chunk_table::Table;
 use cluster_base::{Namespace, Stmt, Time};

@@ -6,10 +6,10 @@ use Rattle.node_replay.specs.Follow.{shard_follow}
 use Rattle.shard_records.specs.Meanings.{entry_view}
 use Rattle.statement_views.specs.Views.{operation_view}
 use Rattle.shard_store.specs.Stores.{entries_of}
-use Rattle.shard_open.specs.declared.kind.EntryRecord.{EntryRecord}
-use Rattle.shard_open.specs.declared.kind.ShardRecord.{ShardRecord}
-use Rattle.shard_open.specs.declared.kind.ShardRecord.TheVariants as kinds
-use Rattle.shard_open.specs.declared.part.ShardPart.{ShardPart}
+use Rattle.shard_replay.specs.declared.kind.EntryRecord.{EntryRecord}
+use Rattle.shard_replay.specs.declared.kind.ShardRecord.{ShardRecord}
+use Rattle.shard_replay.specs.declared.kind.ShardRecord.TheVariants as kinds
+use Rattle.shard_replay.specs.declared.part.ShardPart.{ShardPart}
 
 abbrev pub part_of : ShardPart → DurableShard
 part_of p = record { me = p.me.0; top = p.top.0; tables = p.tables.tables; entries = entries_of p.store }

@@ -39,7 +39,7 @@ fn refused<T: Drop>(_change: T) -> Result<bool, Memory>
 }
 
 impl CataloguePart {
-    ghost use Rattle.catalogue_open.specs.CatalogueParts.{Leads, creation_view, part_of};
+    ghost use Rattle.catalogue_replay.specs.CatalogueParts.{Leads, creation_view, part_of};
 
     /// Returns what an empty journal says of the catalogue of this number.
     pub fn empty(alloc: Global, me: NodeId) -> CataloguePart
@@ -122,7 +122,7 @@ impl CataloguePart {
 }
 
 impl Replays for CataloguePart {
-    ghost use Rattle.catalogue_open.specs.CatalogueParts.{part_of};
+    ghost use Rattle.catalogue_replay.specs.CatalogueParts.{part_of};
     ghost use Rattle.node_replay.specs.Durable.{durable_catalogue};
 
     ghost durable = { λ part. durable_catalogue (part_of part) };

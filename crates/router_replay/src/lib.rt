@@ -1,4 +1,4 @@
-//! A router is opened on the records of its journal.
+//! What the records of a router's journal replay to.
 #![tactic(auto)]
 
 mod kind;

@@ -1,7 +1,7 @@
 //! The records of a router.
 
 ghost use Rattle.shard_records.specs.Meanings.{record_view};
-ghost use Rattle.router_open.specs.RouterParts.{IsKind};
+ghost use Rattle.router_replay.specs.RouterParts.{IsKind};
 
 use shard_records::Record;
 

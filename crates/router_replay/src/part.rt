@@ -33,7 +33,7 @@ fn without<T: Drop>(_read: T, outcome: Result<bool, Memory>) -> Result<bool, Mem
 }
 
 impl RouterPart {
-    ghost use Rattle.router_open.specs.RouterParts.{Leads, part_of};
+    ghost use Rattle.router_replay.specs.RouterParts.{Leads, part_of};
 
     /// Returns what an empty journal says of the router of this number.
     pub fn empty(me: NodeId) -> RouterPart
@@ -95,7 +95,7 @@ impl RouterPart {
 }
 
 impl Replays for RouterPart {
-    ghost use Rattle.router_open.specs.RouterParts.{part_of};
+    ghost use Rattle.router_replay.specs.RouterParts.{part_of};
     ghost use Rattle.node_replay.specs.Durable.{durable_router};
 
     ghost durable = { λ part. durable_router (part_of part) };

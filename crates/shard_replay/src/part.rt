@@ -41,6 +41,18 @@ pub struct ShardPart {
     ghost has: { learned ≡ has_table tables.tables },
 }
 
+/// The parts of what a journal says of a shard.
+#[derive(Drop)]
+pub struct ShardParts {
+    pub me: NodeId,
+    /// The greatest time in the journal.
+    pub time: Time,
+    pub tables: TableList,
+    pub store: ShardStore,
+    /// The greatest time of an entry and of a time at which the shard was read.
+    pub ceiling: Time,
+}
+
 // Lets a record go that may not follow.
 fn refused<T: Drop>(_read: T) -> Result<bool, Memory>
     ensures { result ≡ Ok false }
@@ -49,7 +61,8 @@ fn refused<T: Drop>(_read: T) -> Result<bool, Memory>
 }
 
 impl ShardPart {
-    ghost use Rattle.shard_open.specs.ShardParts.{Leads, part_of, time_of, words_of};
+    ghost use Rattle.shard_store.specs.Stores.{entries_of};
+    ghost use Rattle.shard_replay.specs.ShardParts.{Leads, part_of, time_of, words_of};
 
     /// Returns what an empty journal says of the shard of this number.
     pub fn empty(alloc: Global, me: NodeId) -> ShardPart
@@ -64,6 +77,22 @@ impl ShardPart {
             learned: false,
             tables: TableList::new(alloc),
             store: ShardStore::new(alloc, me),
+        }
+    }
+
+    /// Returns its parts: the number of the node, the greatest time in the journal, the tables, the store, and the ceiling.
+    pub fn into_parts(self) -> ShardParts
+        ensures part { part_of self ≡ record { me = result.me.0; top = result.ceiling.0; tables = result.tables.tables; entries = entries_of result.store } }
+        ensures time { result.time.0 ≡ time_of self }
+        ensures own { shard_of result.store ≡ result.me.0 }
+        ensures entered { last_of result.store ≤ result.time.0 }
+    {
+        ShardParts {
+            me: self.me,
+            time: self.time,
+            tables: self.tables,
+            store: self.store,
+            ceiling: self.top,
         }
     }
 
@@ -142,7 +171,7 @@ impl ShardPart {
 }
 
 impl Replays for ShardPart {
-    ghost use Rattle.shard_open.specs.ShardParts.{part_of, time_of};
+    ghost use Rattle.shard_replay.specs.ShardParts.{part_of, time_of};
     ghost use Rattle.node_replay.specs.Durable.{durable_shard};
 
     ghost durable = { λ part. durable_shard (part_of part) };

@@ -3,9 +3,9 @@ use Rattle.std.specs.Prelude.{◌≡◌, Bool, true, false, Option, Some, None}
 use Rattle.record_model.specs.Records.{Record, life_record, block_record}
 use Rattle.node_replay.specs.Durable.{DurableRouter}
 use Rattle.node_replay.specs.Follow.{router_follow}
-use Rattle.router_open.specs.declared.part.RouterPart.{RouterPart}
-use Rattle.router_open.specs.declared.kind.RouterRecord.{RouterRecord}
-use Rattle.router_open.specs.declared.kind.RouterRecord.TheVariants.{Life, Block, Other}
+use Rattle.router_replay.specs.declared.part.RouterPart.{RouterPart}
+use Rattle.router_replay.specs.declared.kind.RouterRecord.{RouterRecord}
+use Rattle.router_replay.specs.declared.kind.RouterRecord.TheVariants.{Life, Block, Other}
 
 abbrev pub part_of : RouterPart → DurableRouter
 part_of p = record { me = p.me.0; life = p.life; blocks = p.blocks }

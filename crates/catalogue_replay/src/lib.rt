@@ -1,4 +1,4 @@
-//! The catalogue is opened on the records of its journal.
+//! What the records of the catalogue's journal replay to.
 #![tactic(auto)]
 
 mod kind;

@@ -2,8 +2,8 @@
 
 ghost use Rattle.std.specs.Prelude.{◌≡◌};
 ghost use Rattle.shard_records.specs.Meanings.{record_view};
-ghost use Rattle.catalogue_open.specs.CatalogueParts.{IsKind, creates_at};
-ghost use Rattle.catalogue_open.specs.declared.kind.CatalogueRecord.TheVariants.{Other};
+ghost use Rattle.catalogue_replay.specs.CatalogueParts.{IsKind, creates_at};
+ghost use Rattle.catalogue_replay.specs.declared.kind.CatalogueRecord.TheVariants.{Other};
 
 use chunk_catalogue::{Change, ChangeFields};
 use cluster_base::{Namespace, Time};
