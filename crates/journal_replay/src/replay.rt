@@ -53,7 +53,7 @@ pub fn replay<R: Replays>(alloc: Global, empty: R, records: &[Blob]) -> Result<R
     let mut part = empty;
     let mut index = 0;
     'records: while index < records.len() {
-        if !take_in(alloc, &mut part, &records[index])? {
+        if !take_in(alloc, &mut part, records[index].as_slice())? {
             return Err(OpenFault::Refused { index });
         }
         index += 1;
