@@ -2,7 +2,7 @@
 #![tactic(auto)]
 
 mod fault;
-mod replay;
+mod records;
 
 pub use fault::OpenFault;
-pub use replay::{Replays, replay};
+pub use records::{Replays, replay};

@@ -41,13 +41,13 @@ take_next (x ∷ xs) zero d less = refl
 take_next (x ∷ xs) (suc i) d less = ap (λ l. x ∷ l) (take_next xs i d (omega arith))
 
 pub none_yet : (empty : DurableState) (bytes : List (List ℕ)) (time : ℕ) → time ≡ 0 → IsReplayed empty (take 0 bytes) empty time
-none_yet empty bytes time early = record { records = []; sound = ⟨⟩; encoded = refl; leads = refl; latest = early }
+none_yet empty bytes time early = record { records = []; sound = tt; encoded = refl; leads = refl; latest = early }
 
 one_more : (empty : DurableState) (bytes : List (List ℕ)) (b : List ℕ) (d e : DurableState) (time later : ℕ) → IsReplayed empty bytes d time
     → IsRead d time b e later → IsReplayed empty (bytes ++ b ∷ []) e later
 one_more empty bytes b d e time later so_far read = record {
   records = so_far.records ++ read.next ∷ [];
-  sound = all_append IsSound so_far.records (read.next ∷ []) so_far.sound (read.sound, ⟨⟩);
+  sound = all_append IsSound so_far.records (read.next ∷ []) so_far.sound (read.sound, tt);
   encoded = map_push (spelled 1) so_far.records read.next ∙ (ap (λ l. l ++ spelled 1 read.next ∷ []) so_far.encoded ∙ ap (λ x. bytes ++ x ∷ []) read.encoded);
   leads = replayed_push (Some empty) so_far.records read.next d e so_far.leads read.leads;
   latest = read.latest ∙ (ap (λ t. max t (time_in read.next)) so_far.latest ∙ sym (latest_push so_far.records read.next));
@@ -57,7 +57,8 @@ one_more empty bytes b d e time later so_far read = record {
 pub replayed_next : (empty : DurableState) (bytes : List (List ℕ)) (i : ℕ) (d e : DurableState) (time later : ℕ) (taken : Bool) → i < length bytes
     → IsReplayed empty (take i bytes) d time → IsTaken d time (get_or bytes i []) e later taken → taken ≡ true → IsReplayed empty (take (i + 1) bytes) e later
 replayed_next empty bytes i d e time later true less so_far read is =
-    let next : take (i + 1) bytes ≡ take i bytes ++ get_or bytes i [] ∷ [] = ap (λ n. take n bytes) (omega arith) ∙ take_next bytes i [] less in
+    let one : i + 1 ≡ suc i = omega arith in
+    let next : take (i + 1) bytes ≡ take i bytes ++ get_or bytes i [] ∷ [] = ap (λ n. take n bytes) one ∙ take_next bytes i [] less in
     rw next (one_more empty (take i bytes) (get_or bytes i []) d e time later so_far read)
 replayed_next empty bytes i d e time later false less so_far read is = absurd (cc)
 

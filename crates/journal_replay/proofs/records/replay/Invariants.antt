@@ -1,10 +1,10 @@
 use Rattle.std.proofs.Common.{◌≡◌, ◌-◌, ◌≤◌, length, take}
 use Rattle.journal_replay.specs.Replayed.{IsReplayed}
-use Rattle.journal_replay.proofs.replay.replay.Given as goal
+use Rattle.journal_replay.proofs.records.replay.Given as goal
 
 abbrev pub invariant-records : goal.invariant-records
 invariant-records g l = record {
-  so_far : IsReplayed (g.R.durable l.fn.empty) (take l.index l.records) (g.R.durable l.part) (g.R.time l.part);
+  so_far : IsReplayed (g.R.Replays.durable l.fn.empty) (take l.index l.records) (g.R.Replays.durable l.part) (g.R.Replays.time l.part);
   few : l.index ≤ length l.records;
 }
 
