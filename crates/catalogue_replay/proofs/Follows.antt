@@ -33,7 +33,7 @@ right_false true false e = refl
 right_false false false e = refl
 right_false a true e = absurd (cc)
 
-epoch_of : Change → ℕ
+abbrev epoch_of : Change → ℕ
 epoch_of (create_change c) = c.epoch
 epoch_of (split_change s) = 0
 epoch_of (commit_change c) = 0
