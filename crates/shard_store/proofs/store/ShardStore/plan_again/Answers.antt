@@ -9,11 +9,11 @@ use Rattle.shard_store.specs.declared.entry.Planned.{Planned}
 use Rattle.session_book.specs.Books.{seen_in}
 use Rattle.shard_store.proofs.store.ShardStore.plan_again.Goals as goal
 
-pub returns-then-is_new-clause-none : goal.returns-then-is_new-clause-none
-returns-then-is_new-clause-none c = λ none.
+pub returns-then-not-is_new-clause-none : goal.returns-then-not-is_new-clause-none
+returns-then-not-is_new-clause-none c = λ none.
     let store = c.args.self.now in
     let number = number_view c.args.statement in
-    seen_again store.shard.0 number store.entries.items (seen_in store.book number) (store.noted number) (sym c.is_new.ensures ∙ c.if-is_new.false)
+    seen_again store.shard.0 number store.entries.items (seen_in store.book number) (store.noted number) (sym c.is_new.ensures ∙ c.if-not-is_new.true)
 
 pub returns-clause-next : goal.returns-clause-next
 returns-clause-next c =
@@ -22,7 +22,7 @@ returns-clause-next c =
     record {
       later = c.requires.later;
       does = rw c.in_ok-words.ensures c.in_ok-key.ensures;
-      unseen = unseen_again store.shard.0 number store.entries.items (seen_in store.book number) (store.noted number) (sym c.is_new.ensures ∙ c.if-is_new.true);
+      unseen = unseen_again store.shard.0 number store.entries.items (seen_in store.book number) (store.noted number) (sym c.is_new.ensures ∙ c.if-not-is_new.false);
     }
 
 pub returns-clause-entry : goal.returns-clause-entry
