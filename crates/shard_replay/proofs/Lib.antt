@@ -1,1 +1,2 @@
-mod Same
+mod KeyData
+mod LearnedTables

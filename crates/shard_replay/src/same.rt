@@ -7,7 +7,7 @@ ghost use Rattle.statement_views.specs.Views.{outcome_view};
 use value_compare::{Key, Reply};
 
 // Returns whether both keys, if there are such, are the same data.
-#[tactic(auto, using(crate::proofs::Same::same_keys))]
+#[tactic(auto, using(crate::proofs::KeyData::same_keys))]
 fn same_keys(a: &Option<Key>, b: &Option<Key>) -> bool
     ensures { result ≡ same_key_data a.now b.now }
 {
