@@ -11,4 +11,6 @@ same_keys a b false decides = by_test (same_datum a b) refl
   where
     by_test : (t : Bool) → same_datum a b ≡ t → false ≡ t
     by_test false e = refl
-    by_test true e = absurd (decides.1 (datum_is a b e))
+    by_test true e =
+        let h : IsTrue false = decides.1 (datum_is a b e) in
+        absurd (cc)

@@ -1,6 +1,6 @@
 //! The store of a shard.
 
-ghost use Rattle.std.specs.Prelude.{◌≡◌, ◌≤◌, ◌<◌, ◌+◌, ◌-◌, ◌^◌, ◌++◌, ◌∷◌, ℕ, List, [], None, Some, Ok, pos, false, true, filter, is_none, is_some, map, if◌then◌else◌, IfOk, IfSome, OnOk};
+ghost use Rattle.std.specs.Prelude.{◌≡◌, ◌≤◌, ◌<◌, ◌+◌, ◌-◌, ◌^◌, ◌++◌, ◌∷◌, ℕ, List, [], None, Some, Ok, pos, false, true, filter, is_none, is_some, map, if◌then◌else◌, IfOk, IfSome, OnErr, OnOk};
 ghost use Rattle.std.specs.Arc.{arc_value};
 ghost use Rattle.std.specs.Option.{option_map, IsSome};
 ghost use Rattle.bson_values.specs.Tree.{Datum};
@@ -276,6 +276,7 @@ impl ShardStore {
         requires next { IsNext (entries_of self.old) (last_of self.old) namespace.now planned }
         ensures entries { OnOk result (entries_of self.new ≡ entries_of self.old ++ entry_view (shard_of self.old) namespace.now planned ∷ []) }
         ensures last { OnOk result (last_of self.new ≡ planned.time.0) }
+        ensures unchanged { OnErr result ((entries_of self.new ≡ entries_of self.old) × (last_of self.new ≡ last_of self.old)) }
         ensures shard { shard_of self.new ≡ shard_of self.old }
     {
         self.book.reserve(&planned.statement)?;
