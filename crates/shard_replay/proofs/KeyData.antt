@@ -6,7 +6,7 @@ use Rattle.node_replay.specs.SameData.{same_datum}
 use Rattle.node_replay.proofs.SameWords.{datum_is, datum_itself}
 
 pub same_keys : (a b : Datum) (same : Bool) → IsTrue same ↔ (a ≡ b) → same ≡ same_datum a b
-same_keys a b true decides = sym (ap (λ x. same_datum a x) (sym (decides.0 tt)) ∙ datum_itself a)
+same_keys a b true decides = sym (ap (λ x. same_datum a x) (sym (decides.0 refl)) ∙ datum_itself a)
 same_keys a b false decides = by_test (same_datum a b) refl
   where
     by_test : (t : Bool) → same_datum a b ≡ t → false ≡ t
