@@ -73,7 +73,7 @@ next_created d c x answer = by_table (known_table c.namespace d.changes) refl an
           | None ↦ changed (create_change (next_creation c d.changes))
           | Some t ↦ unchanged
         ]) → IsNextCreation d c x
-    by_table None none same = record { none = none; is = cc; }
+    by_table None none same = record { none = none; is = cc }
     by_table (Some t) some same = absurd (cc)
 
 -- the next creation of its name may follow

@@ -24,7 +24,11 @@ use std::alloc::Global;
 /// # Errors
 /// - `Refused` exactly where the record at the index is the first that is no record or may not follow, unless memory runs out.
 /// - `Memory` if memory runs out, and where a number would pass the end of its type.
-pub fn open_catalogue(alloc: Global, me: NodeId, records: RecordList) -> Result<ConfigNode, OpenFault>
+pub fn open_catalogue(
+    alloc: Global,
+    me: NodeId,
+    records: RecordList,
+) -> Result<ConfigNode, OpenFault>
     ensures opened { IfOk result (λ node. IsOpened (durable_catalogue (empty_catalogue me.0)) records (catalogue.state_of node)) }
     ensures steps { IfOk result (λ node. node.steps ≡ 0) }
     ensures fault { IfErr result (λ fault. IsFault (durable_catalogue (empty_catalogue me.0)) records fault) }

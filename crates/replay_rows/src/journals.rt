@@ -42,17 +42,9 @@ impl Rows for Journals {
 }
 
 // Returns whether the records of a node of this kind replay, and why not.
-fn outcome(
-    alloc: Global,
-    kind: &str,
-    records: &[Blob],
-) -> Result<Result<(), OpenFault>, RowFault> {
+fn outcome(alloc: Global, kind: &str, records: &[Blob]) -> Result<Result<(), OpenFault>, RowFault> {
     match kind {
-        "catalogue" => Ok(replays(
-            alloc,
-            CataloguePart::empty(alloc, NodeId(0)),
-            records,
-        )),
+        "catalogue" => Ok(replays(alloc, CataloguePart::empty(alloc, NodeId(0)), records)),
         "shard" => Ok(replays(alloc, ShardPart::empty(alloc, NodeId(1)), records)),
         "router" => Ok(replays(alloc, RouterPart::empty(NodeId(2)), records)),
         _ => Err(RowFault::Form),

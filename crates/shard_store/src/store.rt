@@ -280,8 +280,7 @@ impl ShardStore {
         ensures shard { shard_of self.new ≡ shard_of self.old }
     {
         self.book.reserve(&planned.statement)?;
-        self.collections
-            .reserve(namespace.as_str(), &planned.key)?;
+        self.collections.reserve(namespace.as_str(), &planned.key)?;
         self.enter(namespace, planned);
         Ok(())
     }

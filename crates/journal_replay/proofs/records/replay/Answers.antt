@@ -3,7 +3,7 @@ use Rattle.journal_replay.proofs.Taken.{none_yet, read_here, refused_at, replaye
 use Rattle.journal_replay.proofs.records.replay.Goals as goal
 
 pub records-init : goal.records-init
-records-init g c = record { so_far = none_yet _ c.args.records.now _ c.requires.early; few = omega arith; }
+records-init g c = record { so_far = none_yet _ c.args.records.now _ c.requires.early; few = omega arith }
 
 pub records-preserved : goal.records-preserved
 records-preserved g c = record {
