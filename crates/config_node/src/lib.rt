@@ -4,6 +4,7 @@
 mod keys;
 mod node;
 mod plan;
+mod restored;
 mod state;
 
 pub use state::ConfigNode;

@@ -5,6 +5,7 @@ mod closing;
 mod list;
 mod mark;
 mod number;
+mod restored;
 
 pub use closing::Closing;
 pub use list::CursorList;

@@ -10,6 +10,7 @@ mod moments;
 mod node;
 mod plans;
 mod reads;
+mod restored;
 mod splits;
 mod step;
 mod step_plan;

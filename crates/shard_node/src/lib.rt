@@ -4,6 +4,7 @@
 mod node;
 mod plan;
 mod reads;
+mod restored;
 mod steps;
 mod tables;
 mod writes;

@@ -1,3 +1,4 @@
+mod Again
 pub mod Effects
 pub mod Faults
 pub mod Facts

@@ -1,6 +1,6 @@
 //! The store of a shard.
 
-ghost use Rattle.std.specs.Prelude.{◌≡◌, ◌≤◌, ◌<◌, ◌+◌, ◌-◌, ◌^◌, ◌++◌, ◌∷◌, ℕ, List, [], Some, Ok, pos, true, filter, is_some, map, if◌then◌else◌, IfOk, OnOk};
+ghost use Rattle.std.specs.Prelude.{◌≡◌, ◌≤◌, ◌<◌, ◌+◌, ◌-◌, ◌^◌, ◌++◌, ◌∷◌, ℕ, List, [], None, Some, Ok, pos, false, true, filter, is_none, is_some, map, if◌then◌else◌, IfOk, IfSome, OnErr, OnOk};
 ghost use Rattle.std.specs.Arc.{arc_value};
 ghost use Rattle.std.specs.Option.{option_map, IsSome};
 ghost use Rattle.bson_values.specs.Tree.{Datum};
@@ -10,13 +10,13 @@ ghost use Rattle.node_model.specs.Documents.{documents_at};
 ghost use Rattle.node_model.specs.Halves.{may_stand_in};
 ghost use Rattle.node_model.specs.History.{Entry, IsIn, document_left, insert_operation};
 ghost use Rattle.node_model.specs.Exchanges.{number_for};
-ghost use Rattle.node_model.specs.Service.{seen_before};
+ghost use Rattle.node_model.specs.Service.{entry_for, seen_before};
 ghost use Rattle.node_model.specs.ShardRows.{greatest_entry};
 ghost use Rattle.command_replies.specs.Kinds.{given_view};
 ghost use Rattle.command_model.specs.CommandSizes.{IsKeepable};
 ghost use Rattle.session_book.specs.Books.{NotesAre, room_in};
 ghost use Rattle.node_traits.specs.Ids.{id_view};
-ghost use Rattle.statement_views.specs.Views.{operation_view};
+ghost use Rattle.statement_views.specs.Views.{number_view, operation_view};
 ghost use Rattle.shard_store.specs.Outcomes.{done_view};
 ghost use Rattle.shard_store.specs.Entries.{Kept, entries_kept, entry_view, notes_kept, operation_in};
 ghost use Rattle.shard_store.specs.Codes.{AreShown, noted-prop, shown-prop};
@@ -29,7 +29,7 @@ use crate::entry::{LentWords, Planned, statement_number};
 use crate::outcome::{EntryOutcome, EntryResult, StatementOutcome};
 use crate::plan::EntryPlan;
 use bson_values::{Document, Memory};
-use cluster_base::{Namespace, NodeId, RequestId, Time};
+use cluster_base::{Namespace, NodeId, RequestId, Stmt, Time};
 use command_replies::ClientNumber;
 use ghost_list::GhostList;
 use session_book::{Book, Seen};
@@ -236,6 +236,53 @@ impl ShardStore {
             outcome,
         })?;
         Ok(Some(StatementOutcome::WasDone(told)))
+    }
+
+    /// Plans the entry of a statement that was made at this time, by the same function as `serve`. None where the statement is not new. Returns `Memory` if
+    /// memory runs out, and where the operands are none that can be stored.
+    pub fn plan_again(
+        &self,
+        alloc: Global,
+        namespace: &Namespace,
+        statement: Stmt,
+        time: Time,
+        words: &Arc<OpWords, Global>,
+    ) -> Result<Option<Planned>, Memory>
+        requires later { last_of self.now < time.0 }
+        ensures none { IfOk result (λ planned. planned ≡ None → is_none (seen_before (number_view statement) (entries_of self.now)) ≡ false) }
+        ensures next { IfOk result (λ planned. IfSome planned (IsNext (entries_of self.now) (last_of self.now) namespace.now)) }
+        ensures entry { IfOk result (λ planned. IfSome planned (λ p. entry_view (shard_of self.now) namespace.now p
+            ≡ entry_for (entries_of self.now) time.0 (shard_of self.now) namespace.now
+            (record { number = number_view statement; operation = operation_view (arc_value words.now) }))) }
+        ensures time { IfOk result (λ planned. IfSome planned (λ p. p.time ≡ time)) }
+    {
+        if !self.book.is_new(&statement) {
+            return Ok(None);
+        }
+        let Effect { key, left, outcome } = self.change(alloc, namespace, words)?;
+        let words = LentWords::Change(words).share()?;
+        Ok(Some(Planned {
+            statement,
+            time,
+            words,
+            key,
+            left,
+            outcome,
+        }))
+    }
+
+    /// Makes a planned entry. Returns `Memory` if memory runs out, and then nothing else is to be seen of it.
+    pub fn make(&mut self, namespace: &Namespace, planned: Planned) -> Result<(), Memory>
+        requires next { IsNext (entries_of self.old) (last_of self.old) namespace.now planned }
+        ensures entries { OnOk result (entries_of self.new ≡ entries_of self.old ++ entry_view (shard_of self.old) namespace.now planned ∷ []) }
+        ensures last { OnOk result (last_of self.new ≡ planned.time.0) }
+        ensures unchanged { OnErr result ((entries_of self.new ≡ entries_of self.old) × (last_of self.new ≡ last_of self.old)) }
+        ensures shard { shard_of self.new ≡ shard_of self.old }
+    {
+        self.book.reserve(&planned.statement)?;
+        self.collections.reserve(namespace.as_str(), &planned.key)?;
+        self.enter(namespace, planned);
+        Ok(())
     }
 
     /// Makes room for the entries of a plan. Returns `Memory` if memory runs out. Either way nothing else is to be seen of it.

@@ -1,0 +1,7 @@
+//! Nodes that are opened on the records of their journals.
+#![tactic(auto)]
+
+mod open;
+
+pub use journal_replay::OpenFault;
+pub use open::{open_catalogue, open_router, open_shard};

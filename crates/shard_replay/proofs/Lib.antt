@@ -1,0 +1,2 @@
+mod KeyData
+mod LearnedTables
