@@ -49,7 +49,7 @@ pub data Calls (u : World) : World → Type 0 where
 abbrev pub Reached : (routers : ℕ) → World → Type 0
 Reached routers w = Calls (start routers) w
 
--- it is a world of a run in which these messages, which were sent before the others, are not delivered any more
+-- with these messages, sent before the others, it is a world of one run
 pub record IsOfRun (u w : World) : Type 0 where
   pub mail : List Letter
   pub events : List EventOrStop
