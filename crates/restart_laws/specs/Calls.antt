@@ -1,5 +1,5 @@
 -- Calls of the program that begin on the journals that earlier calls left: each node is started on its own (docs/JOURNAL.md, "The program's journals"), and
--- no message of one call is delivered in another (docs/NODES.md, "Messages"). That a node is told it was opened is an event of the call itself.
+-- no message of one call is delivered in another (docs/NODES.md, "Messages"). That a node receives `Opened` is an event of the call itself.
 use Rattle.std.specs.Prelude.{◌≡◌, ℕ, zero, suc, ◌+◌, List, [], ◌∷◌, ◌++◌, length}
 use Rattle.node_model.specs.Letters.{Letter}
 use Rattle.node_model.specs.World.{World, start}
