@@ -4,9 +4,7 @@ use Rattle.std.specs.List.{AllByRecursion}
 use Rattle.record_model.specs.RecordFormat.{IsSound, spelled}
 use Rattle.record_model.specs.Records.{Record}
 use Rattle.record_reader.specs.SoundRecords.{IsHeld}
-use Rattle.node_model.specs.States.{NodeState}
 use Rattle.node_replay.specs.Durable.{DurableState}
-use Rattle.node_replay.specs.Openings.{opened}
 use Rattle.node_replay.specs.Replays.{follow, replayed, latest_time, time_in}
 use Rattle.journal_replay.specs.declared.fault.OpenFault.{OpenFault}
 use Rattle.journal_replay.specs.declared.fault.OpenFault.TheVariants.{Refused, Memory}
@@ -55,10 +53,3 @@ pub record IsRefused (empty : DurableState) (bytes : List (List ℕ)) (index : �
 abbrev pub IsFault : DurableState → List (List ℕ) → OpenFault → Type 0
 IsFault empty bytes (Refused index) = IsRefused empty bytes index
 IsFault empty bytes Memory = Unit {0}
-
--- the state of a node that is opened on a journal with these records
-pub record IsOpened (empty : DurableState) (bytes : List (List ℕ)) (s : NodeState) : Type 0 where
-  pub d : DurableState
-  pub time : ℕ
-  pub replays : IsReplayed empty bytes d time
-  pub state : s ≡ opened time d

@@ -18,7 +18,7 @@ pub trait Replays: Sized + Drop {
     /// What it is in the definitions.
     ghost durable: { Self → DurableState };
 
-    /// The greatest time in the records so far.
+    /// The greatest time in the records that were added.
     ghost time: { Self → ℕ };
 
     /// Adds the next record, and returns whether it may follow. Where it may not, what is left is of no use. Returns `Memory` if memory runs out, and where

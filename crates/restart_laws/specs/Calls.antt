@@ -1,5 +1,5 @@
 -- Calls of the program that begin on the journals that earlier calls left: each node is started on its own (docs/JOURNAL.md, "The program's journals"), and
--- no message of one call is delivered in another (docs/NODES.md, "Messages"). That a node is told it was opened is an event of the call itself.
+-- no message of one call is delivered in another (docs/NODES.md, "Messages"). That a node receives `Opened` is an event of the call itself.
 use Rattle.std.specs.Prelude.{◌≡◌, ℕ, zero, suc, ◌+◌, List, [], ◌∷◌, ◌++◌, length}
 use Rattle.node_model.specs.Letters.{Letter}
 use Rattle.node_model.specs.World.{World, start}
@@ -49,7 +49,7 @@ pub data Calls (u : World) : World → Type 0 where
 abbrev pub Reached : (routers : ℕ) → World → Type 0
 Reached routers w = Calls (start routers) w
 
--- it is a world of a run in which these messages, which were sent before the others, are not delivered any more
+-- with these messages, sent before the others, it is a world of one run
 pub record IsOfRun (u w : World) : Type 0 where
   pub mail : List Letter
   pub events : List EventOrStop

@@ -14,7 +14,8 @@ ghost use Rattle.node_replay.specs.Restarts.{Gives};
 ghost use Rattle.restart_laws.specs.Calls.{BeginsOn, Calls, IsOfRun, Reached};
 ghost use Rattle.restart_laws.specs.Pinned.{IsPinned};
 
-/// Calls, one after another, are one run of nodes that stop and are started again, in which the messages of a call are not delivered after its end.
+/// Calls, one after another, lead to a world of one run of nodes that stop and are started again: in that run the messages of earlier calls were sent too, before
+/// those of the last.
 #[tactic(auto, using(crate::proofs::ReachedCalls::reached_calls_are_one_run))]
 pub fn reached_calls_are_one_run()
     ensures { (routers : ℕ) (w : World) → Reached routers w → IsOfRun (start routers) w }
