@@ -46,15 +46,15 @@ run_tells : (u : World) (es : List Event) (w : World) → AllByRecursion IsOpeni
 run_tells _ _ _ all (stands w) = refl
 run_tells _ _ _ all (goes u v w e es h run) = run_tells v es w all.1 run ∙ opening_tells u v e all.0 h
 
-pub nothing_told : (routers count : ℕ) (w : World) → Run (start routers) (openings 0 count) w → w.answered ≡ []
-nothing_told routers count w run = run_tells (start routers) (openings 0 count) w (openings_are 0 count) run
+pub nothing_told : (first : World) (count : ℕ) (w : World) → Run first (openings 0 count) w → w.answered ≡ []
+nothing_told first count w run = run_tells first (openings 0 count) w (openings_are 0 count) run
 
 -- AT THE START
 
-pub starts : {S M : Type 0} (view : S → SeatView) (letter : M → Letter) (seats : List S) (routers : ℕ) (network : Network M)
-    → AreHeld view seats (start routers).nodes → LeaveKept view seats (start routers) → network.waiting.items ≡ [] → network.replies.items ≡ []
-    → StandsFor view seats (network_view letter network) [] (start routers) 0
-starts {S} {M} view letter seats routers network are leave none silent = record {
+pub starts : {S M : Type 0} (view : S → SeatView) (letter : M → Letter) (seats : List S) (first : World) (network : Network M)
+    → AreHeld view seats first.nodes → LeaveKept view seats first → network.waiting.items ≡ [] → network.replies.items ≡ []
+    → StandsFor view seats (network_view letter network) [] first 0
+starts {S} {M} view letter seats first network are leave none silent = record {
   nodes = are;
   crashes = leave;
   past = [];

@@ -24,11 +24,11 @@ use Rattle.pipe_driver.proofs.Routers.{none_lost, router_there, run_stays}
 
 -- THE EVENTS
 
-module _ {S : Type 0} (view : S → SeatView) (handed : List ToLink) (routers : ℕ) (rounds : List Round) (before : List Event) (w : World) (next count : ℕ)
-    (r : Round) (router : ℕ) (there : IsRouter (start routers).nodes router) (pipes : Pipes routers rounds before w next) (as_many : count ≡ length w.nodes) (place : r.at ≡ router) where
+module _ {S : Type 0} (view : S → SeatView) (handed : List ToLink) (first : World) (rounds : List Round) (before : List Event) (w : World) (next count : ℕ)
+    (r : Round) (router : ℕ) (there : IsRouter first.nodes router) (pipes : Pipes first rounds before w next) (as_many : count ≡ length w.nodes) (place : r.at ≡ router) where
   -- the router is there when the request comes
   pub router_asked : (given : World) → Run w (moments_given 0 count r.moment) given → IsRouter given.nodes router
-  router_asked given run = run_stays w (moments_given 0 count r.moment) given router run (router_there routers router rounds before w next there pipes)
+  router_asked given run = run_stays w (moments_given 0 count r.moment) given router run (router_there first router rounds before w next there pipes)
 
   -- all messages of the round were delivered
   pub round_served : (seats : List S) (network : NetworkView) (given asked : World) → Run w (moments_given 0 count r.moment) given
@@ -37,7 +37,7 @@ module _ {S : Type 0} (view : S → SeatView) (handed : List ToLink) (routers : 
   round_served seats network given asked run came s =
       let same : moments_given 0 count r.moment ≡ moments_given 0 (length w.nodes) r.moment = ap (λ (n : ℕ). moments_given 0 n r.moment) as_many in
       let moments : Run w (moments_given 0 (length w.nodes) r.moment) given = subst (λ (l : List Event). Run w l given) same run in
-      let bag = round_asked w given asked next r (pipes_bag routers rounds before w next pipes) moments came in
+      let bag = round_asked w given asked next r (pipes_bag first rounds before w next pipes) moments came in
       record {
         events = moments_given 0 (length w.nodes) r.moment ++ client_event r.at r.link r.number r.request ∷ s.events;
         end = s.end;

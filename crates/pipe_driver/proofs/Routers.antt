@@ -54,10 +54,10 @@ run_stays _ _ _ at (stands w) is = is
 run_stays _ _ _ at (goes u v w e es h run) is = run_stays v es w at run (happens_stays u v e at h is)
 
 -- the connection's router is there after each round
-pub router_there : (routers router : ℕ) (rounds : List Round) (events : List Event) (w : World) (next : ℕ) → IsRouter (start routers).nodes router
-    → Pipes routers rounds events w next → IsRouter w.nodes router
-router_there routers router rounds events w next there pipes =
-    run_stays (start routers) events w router (pipes_run routers rounds events w next pipes) there
+pub router_there : (first : World) (router : ℕ) (rounds : List Round) (events : List Event) (w : World) (next : ℕ) → IsRouter first.nodes router
+    → Pipes first rounds events w next → IsRouter w.nodes router
+router_there first router rounds events w next there pipes =
+    run_stays first events w router (pipes_run first rounds events w next pipes) there
 
 -- MESSAGES
 

@@ -61,18 +61,18 @@ last_leads Memory end last P same = subst (λ (w : World). LeadsTo end w) (sym s
 run_one_more : (u : World) (events : List Event) (v : World) (e : Event) (w : World) → Run u events v → Happens v e w → Run u (events ++ e ∷ []) w
 run_one_more u events v e w run more = run_then u events v (e ∷ []) w run (goes v w w e [] more (stands w))
 
-module _ {S : Type 0} (view : S → SeatView) (seats : List S) (gives : ℕ → Type 0) (router routers : ℕ) (tells : Bool) (noted : List Noted) (held_before held consumed : List ℕ) where
+module _ {S : Type 0} (view : S → SeatView) (seats : List S) (gives : ℕ → Type 0) (router : ℕ) (first : World) (tells : Bool) (noted : List Noted) (held_before held consumed : List ℕ) where
   pub stops_by : (fault : StepFault) (status : Status) → status ≡ status_for fault
-      → CutShort view seats gives router routers tells noted held_before held consumed (status_for fault)
-      → StopsAtRequest view seats gives router routers tells noted held_before held consumed status
-  stops_by (Disk faults) status is cut = subst (λ (s : Status). StopsAtRequest view seats gives router routers tells noted held_before held consumed s) (sym is)
+      → CutShort view seats gives router first tells noted held_before held consumed (status_for fault)
+      → StopsAtRequest view seats gives router first tells noted held_before held consumed status
+  stops_by (Disk faults) status is cut = subst (λ (s : Status). StopsAtRequest view seats gives router first tells noted held_before held consumed s) (sym is)
       (at_disk_fault cut)
-  stops_by Steps status is cut = subst (λ (s : Status). StopsAtRequest view seats gives router routers tells noted held_before held consumed s) (sym is) (at_no_memory cut)
-  stops_by Memory status is cut = subst (λ (s : Status). StopsAtRequest view seats gives router routers tells noted held_before held consumed s) (sym is) (at_no_memory cut)
+  stops_by Steps status is cut = subst (λ (s : Status). StopsAtRequest view seats gives router first tells noted held_before held consumed s) (sym is) (at_no_memory cut)
+  stops_by Memory status is cut = subst (λ (s : Status). StopsAtRequest view seats gives router first tells noted held_before held consumed s) (sym is) (at_no_memory cut)
 
   -- between two rounds
-  pub cut_between : (network : NetworkView) (replied : ℕ) → Serving view seats network gives router routers tells noted held_before held consumed replied
-      → CutShort view seats gives router routers tells noted held_before held consumed statuses.OutOfMemory
+  pub cut_between : (network : NetworkView) (replied : ℕ) → Serving view seats network gives router first tells noted held_before held consumed replied
+      → CutShort view seats gives router first tells noted held_before held consumed statuses.OutOfMemory
   cut_between network replied s = record {
     rounds = s.rounds;
     under_way = [];
@@ -98,18 +98,18 @@ but_for_disks Memory status holds is other given = given
 
 -- THE START
 
-module _ {S : Type 0} (view : S → SeatView) (seats : List S) (gives : ℕ → Type 0) (router routers : ℕ) (tells : Bool) (held : List ℕ) (count : ℕ)
-    (as_many : count ≡ length (start routers).nodes) where
-  pub opened_serving : (network : NetworkView) → HasRun view seats network [] (start routers) 0 (openings 0 count)
-      → Serving view seats network gives router routers tells [] held held [] 0
+module _ {S : Type 0} (view : S → SeatView) (seats : List S) (gives : ℕ → Type 0) (router : ℕ) (first : World) (tells : Bool) (held : List ℕ) (count : ℕ)
+    (as_many : count ≡ length first.nodes) where
+  pub opened_serving : (network : NetworkView) → HasRun view seats network [] first 0 (openings 0 count)
+      → Serving view seats network gives router first tells [] held held [] 0
   opened_serving network r =
-      let none : r.end.answered ≡ [] = nothing_told routers count r.end r.run in
+      let none : r.end.answered ≡ [] = nothing_told first count r.end r.run in
       let silent : puts_given r.end.answered ≡ [] = ap puts_given none in
-      let run : Run (start routers) (openings 0 (length (start routers).nodes)) r.end =
-      subst (λ (n : ℕ). Run (start routers) (openings 0 n) r.end) as_many r.run in
+      let run : Run first (openings 0 (length first.nodes)) r.end =
+      subst (λ (n : ℕ). Run first (openings 0 n) r.end) as_many r.run in
       record {
         rounds = [];
-        events = openings 0 (length (start routers).nodes);
+        events = openings 0 (length first.nodes);
         world = r.end;
         next = 0;
         pipes = opens r.end run;
@@ -118,16 +118,16 @@ module _ {S : Type 0} (view : S → SeatView) (seats : List S) (gives : ℕ → 
         put = λ told. sym (ap (λ (l : List ToLink). held ++ bytes_of l) silent ∙ append-nil held);
         asked = record { all = refl; each = tt };
         count = refl;
-        covered = λ told. covered_none all_replies (start routers) held [] _ r.end (ap bytes_of silent);
+        covered = λ told. covered_none all_replies first held [] _ r.end (ap bytes_of silent);
       }
 
   pub opening_cut : (replies : List ToLink) (fault : StepFault)
-      → HasStopped view seats replies [] (start routers) (λ events. BeginWith events (openings 0 count)) fault
-      → CutShort view seats gives router routers tells [] held held [] (status_for fault)
+      → HasStopped view seats replies [] first (λ events. BeginWith events (openings 0 count)) fault
+      → CutShort view seats gives router first tells [] held held [] (status_for fault)
   opening_cut replies fault s = record {
     rounds = [];
     under_way = [];
-    whole = start routers;
+    whole = start first;
     end = s.end;
     came = came_opening s.events s.end (subst (λ (n : ℕ). BeginWith s.events (openings 0 n)) as_many s.which) s.run;
     one = record { moments = tt; routers = tt; links = tt; numbers = tt };
@@ -136,12 +136,12 @@ module _ {S : Type 0} (view : S → SeatView) (seats : List S) (gives : ℕ → 
     kept = kept_at fault view seats s.end s.nodes;
     last = s.last;
     is_last = last_by fault s.end s.last (λ e. BeginWith (s.events ++ e ∷ []) (openings 0 count))
-        (λ w. Came routers gives router [] [] (start routers) w) s.up_to
-        (λ e first more. came_opening (s.events ++ e ∷ []) s.last
-        (subst (λ (n : ℕ). BeginWith (s.events ++ e ∷ []) (openings 0 n)) as_many first)
-        (run_one_more (start routers) s.events s.end e s.last s.run more));
+        (λ w. Came first gives router [] [] first w) s.up_to
+        (λ e begun more. came_opening (s.events ++ e ∷ []) s.last
+        (subst (λ (n : ℕ). BeginWith (s.events ++ e ∷ []) (openings 0 n)) as_many begun)
+        (run_one_more first s.events s.end e s.last s.run more));
     crashes = s.crashes;
-    covered = λ told. covered_none all_replies (start routers) held [] _ s.last refl;
+    covered = λ told. covered_none all_replies first held [] _ s.last refl;
   }
 
 round_run : (u : World) (next : ℕ) (r : Round) (events : List Event) (w : World) → IsRound u next r events w → Run u events w
@@ -153,8 +153,8 @@ round_run u next r events w round =
 
 -- ONE REQUEST
 
-module _ {S : Type 0} (view : S → SeatView) (seats seats_after : List S) (before : NetworkView) (gives : ℕ → Type 0) (router routers : ℕ) (tells : Bool) (noted : List Noted)
-    (held_before held consumed : List ℕ) (replied : ℕ) (s : Serving view seats before gives router routers tells noted held_before held consumed replied)
+module _ {S : Type 0} (view : S → SeatView) (seats seats_after : List S) (before : NetworkView) (gives : ℕ → Type 0) (router : ℕ) (first : World) (tells : Bool) (noted : List Noted)
+    (held_before held consumed : List ℕ) (replied : ℕ) (s : Serving view seats before gives router first tells noted held_before held consumed replied)
     (moment : ℕ) (number : ℤ) (asked q : Request) (given : gives moment) (numbered : number ≡ number_behind replied) (same : asked ≡ q) (is : IsRequest q) where
   numbered_behind : number ≡ number_behind (replies_behind 0 (requests_of s.rounds))
   numbered_behind = numbered ∙ ap (λ (n : ℕ). number_behind n) s.count
@@ -184,7 +184,7 @@ module _ {S : Type 0} (view : S → SeatView) (seats seats_after : List S) (befo
   -- a step failed
   pub cut_in_round : (count : ℕ) (replies : List ToLink) (fault : StepFault) → count ≡ length s.world.nodes
       → HasStopped view seats_after replies (puts_given s.world.answered) s.world (IsPart count (round_of router moment number asked)) fault
-      → CutShort view seats_after gives router routers tells noted held_before held (consumed ++ q.bytes) (status_for fault)
+      → CutShort view seats_after gives router first tells noted held_before held (consumed ++ q.bytes) (status_for fault)
   cut_in_round count replies fault as_many h = record {
     rounds = s.rounds;
     under_way = q ∷ [];
@@ -198,11 +198,11 @@ module _ {S : Type 0} (view : S → SeatView) (seats seats_after : List S) (befo
     kept = kept_at fault view seats_after h.end h.nodes;
     last = h.last;
     is_last = last_by fault h.end h.last (λ e. IsPart count (round_of router moment number asked) (h.events ++ e ∷ []))
-        (λ w. Came routers gives router s.rounds (q ∷ []) s.world w) h.up_to
+        (λ w. Came first gives router s.rounds (q ∷ []) s.world w) h.up_to
         (λ e part more. came_part s.rounds s.events (h.events ++ e ∷ []) s.world h.last s.next moment q s.pipes given
         (part_in_round count (h.events ++ e ∷ []) as_many part) (run_one_more s.world h.events h.end e h.last h.run more));
     crashes = h.crashes;
-    covered = λ told. covered_on all_replies (start routers) held_before noted _ s.world h.last (s.covered told)
+    covered = λ told. covered_on all_replies first held_before noted _ s.world h.last (s.covered told)
         (leads_on s.world h.end h.last (h.events, h.run) (last_leads fault h.end h.last _ h.up_to));
   }
 
@@ -219,17 +219,17 @@ module _ {S : Type 0} (view : S → SeatView) (seats seats_after : List S) (befo
       length-append held_before (bytes_of (puts_given s.world.answered)),
     )
 
-    pub covers_round : AreCovered all_replies (start routers) (record { world = h.end; moments = moments; length = length held } ∷ noted) held_before
+    pub covers_round : AreCovered all_replies first (record { world = h.end; moments = moments; length = length held } ∷ noted) held_before
         (bytes_of (puts_given s.world.answered) ++ bytes_of network.replies) h.end
     covers_round =
-        covered_more all_replies (start routers) held_before s.world h.end noted moments (length held) (bytes_of (puts_given s.world.answered))
+        covered_more all_replies first held_before s.world h.end noted moments (length held) (bytes_of (puts_given s.world.answered))
         (bytes_of network.replies) (s.covered told) (sym (ap bytes_of h.stands.given ∙ bytes_then (puts_given s.world.answered) network.replies))
-        (leads_on (start routers) s.world h.end (s.events, pipes_run routers s.rounds s.events s.world s.next s.pipes) round_on) round_on round_few
+        (leads_on first s.world h.end (s.events, pipes_run first s.rounds s.events s.world s.next s.pipes) round_on) round_on round_few
 
   module _ {M : Type 0} (letter : M → Letter) (old new : Network M) (after_view : S → SeatView) (noted_after : List Noted)
       (h : HasServed after_view seats_after (network_view letter old) (puts_given s.world.answered) s.world s.next (round_of router moment number asked))
       (waits : new.waiting.items ≡ old.waiting.items) (none : new.replies.items ≡ [])
-      (covers : IsTrue tells → AreCovered all_replies (start routers) noted_after held_before (bytes_of (puts_given s.world.answered)
+      (covers : IsTrue tells → AreCovered all_replies first noted_after held_before (bytes_of (puts_given s.world.answered)
       ++ bytes_of old.replies.items) h.end) where
     puts_are : puts_given h.end.answered ≡ puts_given s.world.answered ++ old.replies.items
     puts_are = h.stands.given
@@ -239,7 +239,7 @@ module _ {S : Type 0} (view : S → SeatView) (seats seats_after : List S) (befo
 
     -- all replies of the round were put
     pub served_one : (held' : List ℕ) (after : ℕ) → Put tells held (bytes_of old.replies.items) held' → after ≡ replies_after q.more replied
-        → Serving after_view seats_after (network_view letter new) gives router routers tells noted_after held_before held' (consumed ++ q.bytes) after
+        → Serving after_view seats_after (network_view letter new) gives router first tells noted_after held_before held' (consumed ++ q.bytes) after
     served_one held' after put counted = record {
       rounds = s.rounds ++ round_of router moment number asked ∷ [];
       events = s.events ++ h.events;
@@ -256,12 +256,12 @@ module _ {S : Type 0} (view : S → SeatView) (seats seats_after : List S) (befo
           ∙ (sym (behind_more 0 (requests_of s.rounds) q)
           ∙ ap (λ (l : List Request). replies_behind 0 l)
           (ap (λ (x : Request). requests_of s.rounds ++ x ∷ []) (sym same) ∙ sym (requests_more s.rounds (round_of router moment number asked)))));
-      covered = λ told. subst (λ (b : List ℕ). AreCovered all_replies (start routers) noted_after held_before b h.end) (sym bytes_are) (covers told);
+      covered = λ told. subst (λ (b : List ℕ). AreCovered all_replies first noted_after held_before b h.end) (sym bytes_are) (covers told);
     }
 
     -- a prefix of them was put
     pub put_short : (held' : List ℕ) → PutInPart tells held (bytes_of old.replies.items) held'
-        → PutShort after_view seats_after gives router routers tells noted_after held_before held' (consumed ++ q.bytes)
+        → PutShort after_view seats_after gives router first tells noted_after held_before held' (consumed ++ q.bytes)
     put_short held' (part, (others, prefix), put) = record {
       earlier = s.rounds;
       last = round_of router moment number asked;
@@ -284,7 +284,7 @@ module _ {S : Type 0} (view : S → SeatView) (seats seats_after : List S) (befo
       asked = asked_rounds;
       kept = held_kept after_view seats_after h.end.nodes h.stands.nodes;
       crashes = h.stands.crashes;
-      covered = λ told. covered_part all_replies (start routers) held_before noted_after (bytes_of (puts_given s.world.answered) ++ part)
+      covered = λ told. covered_part all_replies first held_before noted_after (bytes_of (puts_given s.world.answered) ++ part)
           (bytes_of (puts_given s.world.answered) ++ bytes_of old.replies.items) h.end (
             others,
             ap (λ (b : List ℕ). bytes_of (puts_given s.world.answered) ++ b) prefix ∙ sym (append_assoc (bytes_of (puts_given s.world.answered)) part others),

@@ -17,20 +17,20 @@ status_for Steps = statuses.OutOfMemory
 status_for Memory = statuses.OutOfMemory
 
 -- why a request has no whole reply: a write failed, or a disk failed or memory ended before its reply
-pub data StopsAtRequest {S : Type 0} (view : S → SeatView) (seats : List S) (gives : ℕ → Type 0) (router routers : ℕ) (tells : Bool) (noted : List Noted)
+pub data StopsAtRequest {S : Type 0} (view : S → SeatView) (seats : List S) (gives : ℕ → Type 0) (router : ℕ) (first : World) (tells : Bool) (noted : List Noted)
     (held_before held consumed : List ℕ) : Status → Type 0 where
-  at_write_fault : PutShort view seats gives router routers tells noted held_before held consumed
-      → StopsAtRequest view seats gives router routers tells noted held_before held consumed statuses.WriteFailed
-  at_disk_fault : CutShort view seats gives router routers tells noted held_before held consumed statuses.DiskFailed
-      → StopsAtRequest view seats gives router routers tells noted held_before held consumed statuses.DiskFailed
-  at_no_memory : CutShort view seats gives router routers tells noted held_before held consumed statuses.OutOfMemory
-      → StopsAtRequest view seats gives router routers tells noted held_before held consumed statuses.OutOfMemory
+  at_write_fault : PutShort view seats gives router first tells noted held_before held consumed
+      → StopsAtRequest view seats gives router first tells noted held_before held consumed statuses.WriteFailed
+  at_disk_fault : CutShort view seats gives router first tells noted held_before held consumed statuses.DiskFailed
+      → StopsAtRequest view seats gives router first tells noted held_before held consumed statuses.DiskFailed
+  at_no_memory : CutShort view seats gives router first tells noted held_before held consumed statuses.OutOfMemory
+      → StopsAtRequest view seats gives router first tells noted held_before held consumed statuses.OutOfMemory
 
 abbrev pub AfterOne : {S : Type 0} → Result ℕ Status → (S → SeatView) → List S → NetworkView → (ℕ → Type 0) → ℕ → ℕ → Bool → List Noted → List ℕ → List ℕ → List ℕ → Type 0
-AfterOne (Ok replied) view seats network gives router routers tells noted held_before held consumed =
-    Serving view seats network gives router routers tells noted held_before held consumed replied
-AfterOne (Err status) view seats network gives router routers tells noted held_before held consumed =
-    StopsAtRequest view seats gives router routers tells noted held_before held consumed status
+AfterOne (Ok replied) view seats network gives router first tells noted held_before held consumed =
+    Serving view seats network gives router first tells noted held_before held consumed replied
+AfterOne (Err status) view seats network gives router first tells noted held_before held consumed =
+    StopsAtRequest view seats gives router first tells noted held_before held consumed status
 
 -- the bytes begin with no request, however they continue
 abbrev pub IsMalformed : List ℕ → Type 0
@@ -38,26 +38,26 @@ IsMalformed bytes = (fault : FrameFault) × (outline bytes ≡ faulty_outline fa
 
 -- requests were served to the last one, with some number of replies
 abbrev pub HasServedAll : {S : Type 0} → (S → SeatView) → List S → NetworkView → (ℕ → Type 0) → ℕ → ℕ → Bool → List Noted → List ℕ → List ℕ → List ℕ → Type 0
-HasServedAll view seats network gives router routers tells noted held_before held consumed =
-    (replied : ℕ) × Serving view seats network gives router routers tells noted held_before held consumed replied
+HasServedAll view seats network gives router first tells noted held_before held consumed =
+    (replied : ℕ) × Serving view seats network gives router first tells noted held_before held consumed replied
 
 -- why no further request is served: what is left begins with none, or the last one stopped
 abbrev pub StopsServing : {S : Type 0} → Status → (S → SeatView) → List S → NetworkView → (ℕ → Type 0) → ℕ → ℕ → Bool → List Noted → List ℕ → List ℕ → List ℕ → List ℕ → Type 0
-StopsServing status view seats network gives router routers tells noted held_before held consumed rest =
-    ((status ≡ statuses.BadInput) × IsMalformed rest × HasServedAll view seats network gives router routers tells noted held_before held consumed)
-    ⊎ StopsAtRequest view seats gives router routers tells noted held_before held consumed status
+StopsServing status view seats network gives router first tells noted held_before held consumed rest =
+    ((status ≡ statuses.BadInput) × IsMalformed rest × HasServedAll view seats network gives router first tells noted held_before held consumed)
+    ⊎ StopsAtRequest view seats gives router first tells noted held_before held consumed status
 
 abbrev pub AfterAll : {S : Type 0} → Result ℕ Status → (S → SeatView) → List S → NetworkView → (ℕ → Type 0) → ℕ → ℕ → Bool → List Noted → List ℕ → List ℕ → List ℕ → List ℕ → Type 0
-AfterAll (Ok replied) view seats network gives router routers tells noted held_before held consumed rest =
-    (outline rest ≡ partial_outline) × Serving view seats network gives router routers tells noted held_before held consumed replied
-AfterAll (Err status) view seats network gives router routers tells noted held_before held consumed rest =
-    StopsServing status view seats network gives router routers tells noted held_before held consumed rest
+AfterAll (Ok replied) view seats network gives router first tells noted held_before held consumed rest =
+    (outline rest ≡ partial_outline) × Serving view seats network gives router first tells noted held_before held consumed replied
+AfterAll (Err status) view seats network gives router first tells noted held_before held consumed rest =
+    StopsServing status view seats network gives router first tells noted held_before held consumed rest
 
 -- the same, of all bytes that were fed: those of requests that were taken, and the rest
 abbrev pub AfterRequests : {S : Type 0} → Result ℕ Status → (S → SeatView) → List S → NetworkView → (ℕ → Type 0) → ℕ → ℕ → Bool → List Noted → List ℕ → List ℕ
     → (bytes rest : List ℕ) → Type 0
-AfterRequests result view seats network gives router routers tells noted held_before held bytes rest =
-    (consumed : List ℕ) × (bytes ≡ consumed ++ rest) × AfterAll result view seats network gives router routers tells noted held_before held consumed rest
+AfterRequests result view seats network gives router first tells noted held_before held bytes rest =
+    (consumed : List ℕ) × (bytes ≡ consumed ++ rest) × AfterAll result view seats network gives router first tells noted held_before held consumed rest
 
 -- a status that serving may stop with: not that of a read, nor that of an input at its end
 abbrev pub IsOfServing : Status → Type 0

@@ -70,13 +70,13 @@ pub fn pipe<
     requires at { router < vec_len seats.old }
     requires open { AreOpen L.facts.is_open seats.old.items }
     requires limit { limit ≤ most_taken }
-    ensures piped { AreAskedAsRead N.asks → (routers : ℕ) → IsRouter (start routers).nodes router →
-        AreHeld (seat_view N.state L.facts) seats.old.items (start routers).nodes →
+    ensures piped { AreAskedAsRead N.asks → (first : World) → IsRouter first.nodes router →
+        AreHeld (seat_view N.state L.facts) seats.old.items first.nodes →
         IsPiped (source_call S.tells S.left S.fault_count input.old input.new) (sink_call K.tells K.held K.fault_count out.old out.new)
         (C.gives clock.now) router (AreKept (seat_view N.state L.facts) seats.new.items)
-        (LeaveKept (seat_since N.state L.facts (since_then seats.old.items (start routers))) seats.new.items)
-        (AreAcknowledgedBy L.facts K.tells all_replies (start routers) (K.noted out.new) (K.held out.old) seats.new.items)
-        routers limit result.status result.rest }
+        (LeaveKept (seat_since N.state L.facts (since_then seats.old.items first)) seats.new.items)
+        (AreAcknowledgedBy L.facts K.tells all_replies first (K.noted out.new) (K.held out.old) seats.new.items)
+        first limit result.status result.rest }
 
     // But where a disk failed, records can be appended to each log.
     ensures open { result.status ≢ statuses.DiskFailed → AreOpen L.facts.is_open seats.new.items }
@@ -118,15 +118,15 @@ fn serve<
     requires at { router < vec_len seats.old }
     requires open { AreOpen L.facts.is_open seats.old.items }
     requires limit { limit ≤ most_taken }
-    ensures piped { AreAskedAsRead N.asks → (since : Since L) (routers : ℕ) → IsRouter (start routers).nodes router →
+    ensures piped { AreAskedAsRead N.asks → (since : Since L) (first : World) → IsRouter first.nodes router →
         Serving (seat_since N.state L.facts since) seats.old.items (network_view (λ m. N.Mail.letter m) network)
-        (C.gives clock.now) router routers K.tells since.noted (K.held out.old) (K.held out.old) [] 0 →
+        (C.gives clock.now) router first K.tells since.noted (K.held out.old) (K.held out.old) [] 0 →
         AreNoted K.tells (K.noted out.old) (places_of L.facts.place seats.old.items) since.noted →
         WithNotes K.tells (K.noted out.new) (places_of L.facts.place seats.new.items)
         (λ noted. IsPiped (source_call S.tells S.left S.fault_count input.old input.new) (sink_call K.tells K.held K.fault_count out.old out.new)
         (C.gives clock.now) router (AreKept (seat_since N.state L.facts (with_notes since noted)) seats.new.items)
         (LeaveKept (seat_since N.state L.facts (with_notes since noted)) seats.new.items)
-        (λ last put. IsTrue K.tells → AreCovered all_replies (start routers) noted (K.held out.old) put last) routers limit
+        (λ last put. IsTrue K.tells → AreCovered all_replies first noted (K.held out.old) put last) first limit
         result.status result.rest) }
     ensures open { result.status ≢ statuses.DiskFailed → AreOpen L.facts.is_open seats.new.items }
     ensures len { vec_len seats.new ≡ vec_len seats.old }
