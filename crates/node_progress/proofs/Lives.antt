@@ -131,7 +131,7 @@ run_lives : (old : List Asked) (u : World) (es : List Event) (w : World) → Sta
 run_lives old _ _ _ good are (stands w) = are
 run_lives old _ _ _ good are (goes u v w e es h run) = run_lives old v es w (happens_keeps u v e good h) (event_lives old u v e good are h) run
 
-dropped : {X : Type 0} (xs ys : List X) → drop (length xs) (xs ++ ys) ≡ ys
+pub dropped : {X : Type 0} (xs ys : List X) → drop (length xs) (xs ++ ys) ≡ ys
 dropped [] ys = refl
 dropped (x ∷ xs) ys = dropped xs ys
 

@@ -7,12 +7,12 @@ use Rattle.outside.proofs.Relations.{took_then}
 use Rattle.opmsg_frames.specs.Requests.{Request}
 use Rattle.opmsg_frames.specs.Outline.{FrameFault, outline, partial_outline, message_outline, faulty_outline}
 use Rattle.opmsg_frames.specs.Frames.{FramesFrom, ends, fails, goes_on}
-use Rattle.node_model.specs.World.{Held, World, start}
+use Rattle.node_model.specs.World.{Held, World}
 use Rattle.node_model.specs.Schedule.{Round}
 use Rattle.node_progress.proofs.Rounds.{piped_requests_are_answered}
 use Rattle.driver_steps.specs.Crashes.{Noted}
 use Rattle.driver_steps.specs.Seats.{SeatView, AreKept, LeaveKept}
-use Rattle.driver_steps.specs.Worlds.{NetworkView, puts_given}
+use Rattle.driver_steps.specs.Worlds.{NetworkView}
 use Rattle.driver_steps.proofs.Seats.{held_kept}
 use Rattle.pipe_driver.specs.Buffers.{EndsTaking, at_source_end, at_read_fault}
 use Rattle.pipe_driver.specs.Endings.{AllServed, SomeServed, LastCutShort, Cause, input_ended, read_failed, write_failed, disk_failed, no_memory, no_request}
@@ -20,7 +20,7 @@ use Rattle.pipe_driver.specs.Endings.{too_long, IsPiped}
 use Rattle.pipe_driver.specs.Acknowledgements.{AreCovered}
 use Rattle.pipe_driver.specs.Progress.{AreAsked, Serving, CutShort, PutShort, all_replies}
 use Rattle.pipe_driver.specs.Rest.{Unframed}
-use Rattle.pipe_driver.specs.Rounds.{requests_of, bytes_of}
+use Rattle.pipe_driver.specs.Rounds.{requests_of, bytes_of, puts_since}
 use Rattle.pipe_driver.specs.Schedules.{Came, IsLast}
 use Rattle.pipe_driver.specs.Stops.{IsMalformed, StopsServing, at_write_fault, at_disk_fault, at_no_memory}
 use Rattle.pipe_driver.specs.declared.status.Status.{Status}
@@ -76,7 +76,7 @@ module _ {S : Type 0} (view : S → SeatView) (seats : List S) (source : SourceC
     (status : Status) (consumed rest : List ℕ) where
   -- what the journals owed before bytes were put
   abbrev pub Owed : World → List ℕ → Type 0
-  Owed last put = IsTrue sink.tells → AreCovered all_replies first noted sink.held_before put last
+  Owed last put = IsTrue sink.tells → AreCovered (all_replies first) first noted sink.held_before put last
 
   -- ALL WAS SERVED
 
@@ -93,7 +93,7 @@ module _ {S : Type 0} (view : S → SeatView) (seats : List S) (source : SourceC
       let f = framed limit count source consumed rest rest [] fault (requests_of s.rounds) s.asked took most frames counted in
       record {
         taken = consumed ++ rest;
-        put = bytes_of (puts_given s.world.answered);
+        put = bytes_of (puts_since first s.world);
         requests = requests_of s.rounds ++ [];
         left = rest;
         fault = fault;
@@ -106,16 +106,16 @@ module _ {S : Type 0} (view : S → SeatView) (seats : List S) (source : SourceC
         most = f.most;
         one = s.one;
         cause = subst (λ (n : Status). Cause limit (IsTrue source.tells → source.left_after ≡ []) (consumed ++ rest) fault
-            (AllServed first (bytes_of (puts_given s.world.answered)) (requests_of s.rounds ++ []) s.rounds s.world)
-            (SomeServed first gives router (bytes_of (puts_given s.world.answered)) (requests_of s.rounds ++ []) s.rounds s.world)
-            (LastCutShort first (bytes_of (puts_given s.world.answered)) (requests_of s.rounds ++ []) s.rounds s.world) n) (sym is)
-            (cause (bytes_of (puts_given s.world.answered)) (requests_of s.rounds ++ [])
+            (AllServed first (bytes_of (puts_since first s.world)) (requests_of s.rounds ++ []) s.rounds s.world)
+            (SomeServed first gives router (bytes_of (puts_since first s.world)) (requests_of s.rounds ++ []) s.rounds s.world)
+            (LastCutShort first (bytes_of (puts_since first s.world)) (requests_of s.rounds ++ []) s.rounds s.world) n) (sym is)
+            (cause (bytes_of (puts_since first s.world)) (requests_of s.rounds ++ [])
             (record {
               events = s.events;
               next = s.next;
               asked = append-nil (requests_of s.rounds);
               served = s.pipes;
-              answered = piped_requests_are_answered first s.rounds s.events s.world s.next s.pipes;
+              answered = piped_requests_are_answered first s.rounds s.events s.world s.next s.begins s.pipes;
               replied = refl;
             }));
         files = held_kept view seats s.world.nodes s.stands.nodes;
@@ -168,7 +168,7 @@ module _ {S : Type 0} (view : S → SeatView) (seats : List S) (source : SourceC
       let f = framed limit count source consumed rest found.1 found.0 found.2 asked s.asked took most found.3 found.4 in
       record {
         taken = consumed ++ rest;
-        put = bytes_of (puts_given s.whole.answered);
+        put = bytes_of (puts_since first s.whole);
         requests = asked ++ found.0;
         left = found.1;
         fault = found.2;
@@ -181,15 +181,15 @@ module _ {S : Type 0} (view : S → SeatView) (seats : List S) (source : SourceC
         most = f.most;
         one = s.one;
         cause = subst (λ (n : Status). Cause limit (IsTrue source.tells → source.left_after ≡ []) (consumed ++ rest) found.2
-            (AllServed first (bytes_of (puts_given s.whole.answered)) (asked ++ found.0) s.rounds s.end)
-            (SomeServed first gives router (bytes_of (puts_given s.whole.answered)) (asked ++ found.0) s.rounds s.end)
-            (LastCutShort first (bytes_of (puts_given s.whole.answered)) (asked ++ found.0) s.rounds s.end) n) (sym is)
-            (cause (bytes_of (puts_given s.whole.answered)) (asked ++ found.0) found.2
+            (AllServed first (bytes_of (puts_since first s.whole)) (asked ++ found.0) s.rounds s.end)
+            (SomeServed first gives router (bytes_of (puts_since first s.whole)) (asked ++ found.0) s.rounds s.end)
+            (LastCutShort first (bytes_of (puts_since first s.whole)) (asked ++ found.0) s.rounds s.end) n) (sym is)
+            (cause (bytes_of (puts_since first s.whole)) (asked ++ found.0) found.2
             (record { under_way = s.under_way; others = found.0; whole = s.whole; asked = refl; came = s.came; replied = refl }));
         files = s.kept;
         last = s.last;
         is_last = last_with known is (λ w. Came first gives router s.rounds s.under_way s.whole w)
-            (λ w. SomeServed first gives router (bytes_of (puts_given s.whole.answered)) (asked ++ found.0) s.rounds w) s.end s.last s.is_last
+            (λ w. SomeServed first gives router (bytes_of (puts_since first s.whole)) (asked ++ found.0) s.rounds w) s.end s.last s.is_last
             (λ came. record { under_way = s.under_way; others = found.0; whole = s.whole; asked = refl; came = came; replied = refl });
         crashes = s.crashes;
         acknowledged = s.covered;

@@ -8,9 +8,12 @@ use Rattle.node_model.specs.OneHistory.{OneHistory}
 use Rattle.node_model.specs.Accounts.{changes_in}
 use Rattle.node_model.specs.Requests.{Request}
 use Rattle.node_model.specs.Schedule.{Round, serves}
-use Rattle.node_model.specs.World.{Held, World, Event, Run, journal_at, start, account_of}
+use Rattle.node_model.specs.World.{Held, World, Event, Run, journal_at, account_of}
 use Rattle.node_model.proofs.Schedules.{pipes_run, run_then}
-use Rattle.node_laws.proofs.Runs.{run_keeps_changes, run_makes_one_history}
+use Rattle.node_laws.proofs.Runs.{makes_one_history}
+use Rattle.node_laws.proofs.StepsKeep.{run_keeps}
+use Rattle.node_progress.specs.Firsts.{IsFirst}
+use Rattle.node_progress.proofs.Firsts.{first_true}
 use Rattle.pipe_driver.specs.Schedules.{Came, came_whole, came_opening, came_part}
 use Rattle.pipe_driver.specs.Endings.{AllServed, SomeServed, LastCutShort, Cause, input_ended, read_failed, write_failed}
 use Rattle.pipe_driver.specs.Endings.{disk_failed, no_memory, no_request, too_long, IsPiped}
@@ -56,11 +59,15 @@ module _ (source : SourceCall) (sink : SinkCall) (gives : ℕ → Type 0) (route
   pub piped_run : (piped : IsPiped source sink gives router kept leaves owed first limit status rest) → (events : List Event) × Run first events piped.end
   piped_run piped = cause_run first limit gives router piped.put piped.requests piped.rounds piped.end _ piped.taken piped.fault status piped.cause
 
-  pub piped_history : (piped : IsPiped source sink gives router kept leaves owed first limit status rest)
+  pub piped_history : IsFirst first → (piped : IsPiped source sink gives router kept leaves owed first limit status rest)
       → OneHistory (account_of piped.end)
-  piped_history piped = let run = piped_run piped in run_makes_one_history first run.0 piped.end run.1
+  piped_history begins piped =
+      let run = piped_run piped in
+      makes_one_history piped.end (run_keeps first piped.end run.0 (first_true first begins) run.1)
 
   -- its changes of the catalogue are those that the catalogue's journal stores
-  pub piped_changes : (piped : IsPiped source sink gives router kept leaves owed first limit status rest)
+  pub piped_changes : IsFirst first → (piped : IsPiped source sink gives router kept leaves owed first limit status rest)
       → changes_in piped.end.changed ≡ changes_kept (journal_at piped.end.nodes 0)
-  piped_changes piped = let run = piped_run piped in run_keeps_changes first run.0 piped.end run.1
+  piped_changes begins piped =
+      let run = piped_run piped in
+      (run_keeps first piped.end run.0 (first_true first begins) run.1).0.good.dated

@@ -7,7 +7,7 @@ use Rattle.node_model.specs.Letters.{Letter, Input, Effect}
 use Rattle.node_model.specs.States.{Router, NodeState, catalogue_state, shard_state, router_state, new_router}
 use Rattle.node_model.specs.Steps.{Step, catalogue_step, shard_step, router_step, begin_step, other_step}
 use Rattle.node_model.specs.World.{Held, World, IsRouter, Moves, Event, deliver_event, Happens, comes, delivers, passes, begins as was_opened, Run, stands}
-use Rattle.node_model.specs.World.{goes, start}
+use Rattle.node_model.specs.World.{goes}
 use Rattle.node_model.specs.Schedule.{Round, Pipes, Delivers}
 use Rattle.node_model.proofs.Schedules.{pipes_run}
 use Rattle.node_progress.proofs.BagRuns.{goes_to_node}
