@@ -2,7 +2,6 @@
 use Rattle.std.proofs.Common.{◌≡◌, ℕ, ◌<◌, List, length, sym, ap, subst, ◌∙◌, arith}
 use Rattle.std.specs.Prelude.{Some, Bool}
 use Rattle.std.specs.List.{AllByRecursion, slice_get}
-use Rattle.std.proofs.lemmas.Option.{slice_get_within}
 use Rattle.history_model.specs.History.{IsIn}
 use Rattle.history_model.proofs.Lists.{all_at, all_weaken}
 use Rattle.chunk_model.specs.Tables.{Table}

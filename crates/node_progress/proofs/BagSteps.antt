@@ -8,7 +8,7 @@ use Rattle.chunk_model.specs.Tables.{first_shard}
 use Rattle.reply_model.specs.Exchanges.{Asked, Answered}
 use Rattle.node_model.specs.Journal.{Kept}
 use Rattle.node_model.specs.Letters.{no_time, Letter, Input, letter_input, Effect}
-use Rattle.node_model.specs.States.{Shard, Router, Open, NodeState, shard_state, router_state}
+use Rattle.node_model.specs.States.{Shard, Router, Open, NodeState, shard_state}
 use Rattle.node_model.specs.World.{Held, World, asked_by, after, is_given, tick}
 use Rattle.node_laws.proofs.Views.{View}
 use Rattle.node_laws.proofs.Places.{EachAt, each_set}

@@ -1,5 +1,5 @@
 -- In a world that a call begins in all facts are true, and nothing is under way.
-use Rattle.std.proofs.Common.{◌≡◌, ℕ, zero, suc, ◌+◌, List, refl}
+use Rattle.std.proofs.Common.{ℕ, zero, suc, ◌+◌, refl}
 use Rattle.std.specs.List.{AllByRecursion}
 use Rattle.node_model.specs.World.{Held, World, routers_from}
 use Rattle.node_laws.proofs.StepsKeep.{StaysTrue}

@@ -1,5 +1,5 @@
 -- The worlds that a call begins in (own).
-use Rattle.std.specs.Prelude.{◌≡◌, ℕ, ◌<◌, List, [], length}
+use Rattle.std.specs.Prelude.{◌≡◌, ℕ, ◌<◌, [], length}
 use Rattle.std.specs.List.{AllByRecursion}
 use Rattle.reply_model.specs.Exchanges.{Asked}
 use Rattle.node_model.specs.World.{Held, World, start}

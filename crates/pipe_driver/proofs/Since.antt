@@ -1,5 +1,5 @@
 -- What is put for answers since a world.
-use Rattle.std.proofs.Common.{◌≡◌, ℕ, List, [], ◌∷◌, ◌++◌, length, refl, sym, ap, ◌∙◌, append_assoc, append-nil}
+use Rattle.std.proofs.Common.{◌≡◌, ℕ, List, [], ◌∷◌, ◌++◌, length, sym, ap, ◌∙◌, append_assoc, append-nil}
 use Rattle.std.specs.Prelude.{drop}
 use Rattle.node_model.specs.Exchanges.{Answered}
 use Rattle.node_model.specs.Letters.{Input}

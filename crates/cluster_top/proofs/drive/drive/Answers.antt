@@ -1,6 +1,4 @@
-use Rattle.std.proofs.Common.{◌≡◌, ◌<◌, ◌+◌, arith, length, refl}
-use Rattle.std.specs.Prelude.{vec_len}
-use Rattle.node_model.specs.World.{World}
+use Rattle.std.proofs.Common.{◌<◌, ◌+◌, arith, length, refl}
 use Rattle.driver_steps.specs.Seats.{seat_view}
 use Rattle.driver_steps.proofs.Seats.{held_len}
 use Rattle.pipe_driver.specs.Rounds.{first_router}
