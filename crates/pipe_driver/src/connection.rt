@@ -46,8 +46,8 @@ fn ended(status: Status, rest: usize) -> Ending
 }
 
 /// Serves one connection from `input` to `out`, in which at most `limit` bytes are taken, by the nodes in order of their numbers, whose logs
-/// are open and hold what they hold in the world that the call begins in. All nodes are opened; then each whole request is served in a round of its own, at one moment of the clock,
-/// by the router with this number, before more is taken, and the replies of the round are put.
+/// are open and keep what they keep in the world that the call begins in. All nodes are opened; then each whole request is served in a round of
+/// its own, at one moment of the clock, by the router with this number, before more is taken, and the replies of the round are put.
 ///
 /// The status is `DiskFailed` where the disk of a log failed: the logs must be opened again. It is `OutOfMemory` also where a node is at its
 /// last step.

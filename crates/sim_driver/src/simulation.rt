@@ -42,8 +42,9 @@ fn unended(cause: Status, begun: &[u8]) -> Status
     }
 }
 
-/// Plays the script in `input`, of which at most `limit` bytes are taken, for the nodes in order of their numbers, whose logs are open and
-/// hold what they hold in the world that the call begins in. All nodes are opened; then each line is played, and what it prints is put into `out`, before the next.
+/// Plays the script in `input`, of which at most `limit` bytes are taken, for the nodes in order of their numbers, whose logs are open and keep
+/// what they keep in the world that the call begins in. All nodes are opened; then each line is played, and what it prints is put into `out`,
+/// before the next.
 ///
 /// The status is `BadInput` where the next line is refused, and `DiskFailed` where the disk of a log failed: the logs must be opened again. It
 /// is `OutOfMemory` also where a node is at its last step.
