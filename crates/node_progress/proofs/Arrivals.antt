@@ -12,8 +12,6 @@ use Rattle.node_laws.proofs.Facts.{StateFits}
 use Rattle.node_laws.proofs.Lists.{map_longer}
 use Rattle.node_laws.proofs.StepsKeep.{StaysTrue, fits_here, happens_keeps}
 use Rattle.node_progress.specs.Arrivals.{Arrival, arrivals, arrival_of}
-use Rattle.node_progress.specs.Firsts.{IsFirst}
-use Rattle.node_progress.proofs.Firsts.{first_true}
 use Rattle.node_progress.proofs.Takings.{catalogue_takes_none, shard_takes_none}
 
 -- what comes in an input
@@ -115,13 +113,9 @@ arrivals_first (deliver_event at which) es = refl
 arrivals_first (moment_event at moment) es = refl
 arrivals_first (opened_event at) es = refl
 
-run_takes : (u : World) (es : List Event) (w : World) → StaysTrue u → Run u es w → map arrival_of w.asked ≡ map arrival_of u.asked ++ arrivals es
+pub run_takes : (u : World) (es : List Event) (w : World) → StaysTrue u → Run u es w → map arrival_of w.asked ≡ map arrival_of u.asked ++ arrivals es
 run_takes _ _ _ good (stands w) = sym (append-nil (map arrival_of w.asked))
 run_takes _ _ _ good (goes u v w e es h run) =
     run_takes v es w (happens_keeps u v e good h) run
     ∙ (ap (λ l. l ++ arrivals es) (event_takes u v e good h)
     ∙ (append_assoc (map arrival_of u.asked) (arrivals (e ∷ [])) (arrivals es) ∙ ap (λ l. map arrival_of u.asked ++ l) (sym (arrivals_first e es))))
-
-pub each_request_is_taken : (first : World) (events : List Event) (w : World) → IsFirst first → Run first events w
-    → map arrival_of w.asked ≡ map arrival_of first.asked ++ arrivals events
-each_request_is_taken first events w is run = run_takes first events w (first_true first is) run

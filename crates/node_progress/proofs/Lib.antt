@@ -11,15 +11,15 @@ pub mod RouterWaits
 pub mod RouterGoesOn
 pub mod RouterSends
 pub mod Takings
-pub mod Firsts
 pub mod Arrivals
 pub mod Bags
+pub mod Lives
+pub mod Firsts
 pub mod BagSteps
 pub mod BagFacts
 pub mod BagMoves
 pub mod BagKinds
 pub mod BagRuns
-pub mod Lives
 pub mod Progress
 pub mod Answered
 pub mod Rounds

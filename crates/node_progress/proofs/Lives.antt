@@ -14,8 +14,6 @@ use Rattle.node_model.specs.World.{Held, World, asked_by, Moves, Event, Happens,
 use Rattle.node_laws.proofs.Lists.{all_mapped}
 use Rattle.node_laws.proofs.StepsKeep.{StaysTrue, get_set, happens_keeps}
 use Rattle.node_progress.specs.Completion.{IsOfRouter, asked_since}
-use Rattle.node_progress.specs.Firsts.{IsFirst}
-use Rattle.node_progress.proofs.Firsts.{first_true}
 use Rattle.node_progress.proofs.Arrivals.{me_of, own_place}
 use Rattle.node_progress.proofs.Bags.{get_other, same_place}
 use Rattle.node_progress.proofs.Takings.{catalogue_takes_none, shard_takes_none, stays_in_life}
@@ -23,16 +21,16 @@ use Rattle.node_progress.proofs.Takings.{catalogue_takes_none, shard_takes_none,
 -- A STEP
 
 -- the request is of this router, in its life
-record IsOfLife (at : ℕ) (t : NodeState) (x : Taken) : Type 0 where
-  router : Router
-  is : t ≡ router_state router
-  place : x.id.router ≡ at
-  life : x.id.life ≡ router.life
+pub record IsOfLife (at : ℕ) (t : NodeState) (x : Taken) : Type 0 where
+  pub router : Router
+  pub is : t ≡ router_state router
+  pub place : x.id.router ≡ at
+  pub life : x.id.life ≡ router.life
 
 -- a router stays one, in its life, and what a node takes is of that
-record KeepsLife (at : ℕ) (s : NodeState) (f : Effect) (t : NodeState) : Type 0 where
-  same : (r : Router) → s ≡ router_state r → (u : Router) × (t ≡ router_state u) × (u.life ≡ r.life)
-  taken : AllByRecursion (IsOfLife at t) f.taken
+pub record KeepsLife (at : ℕ) (s : NodeState) (f : Effect) (t : NodeState) : Type 0 where
+  pub same : (r : Router) → s ≡ router_state r → (u : Router) × (t ≡ router_state u) × (u.life ≡ r.life)
+  pub taken : AllByRecursion (IsOfLife at t) f.taken
 
 router_keeps_life : (at : ℕ) (r u : Router) (taken : List Taken) → r.me ≡ at → u.life ≡ r.life
     → AllByRecursion (λ (x : Taken). (x.id.router ≡ r.me) × (x.id.life ≡ r.life)) taken → AllByRecursion (IsOfLife at (router_state u)) taken
@@ -40,7 +38,7 @@ router_keeps_life at r u taken me life all =
     all_weaken (λ (x : Taken). (x.id.router ≡ r.me) × (x.id.life ≡ r.life)) (IsOfLife at (router_state u)) taken
     (λ x h. record { router = u; is = refl; place = h.0 ∙ me; life = h.1 ∙ sym life }) all
 
-step_keeps_life : (s : NodeState) (i : Input) (f : Effect) (t : NodeState) (at : ℕ) → me_of s at → Step s i f t → KeepsLife at s f t
+pub step_keeps_life : (s : NodeState) (i : Input) (f : Effect) (t : NodeState) (at : ℕ) → me_of s at → Step s i f t → KeepsLife at s f t
 step_keeps_life _ _ _ _ at me (catalogue_step c d i f own row) = record {
   same = λ r is. absurd (cc is);
   taken = subst (λ l. AllByRecursion (IsOfLife at (catalogue_state d)) l) (sym (catalogue_takes_none c d i f row)) tt;
@@ -154,7 +152,3 @@ taken_since first good events w run =
       among = λ a there. in_dropped a first.asked are.since w.asked are.all there;
       lives = subst (λ l. AllByRecursion (λ (a : Asked). IsOfRouter w.nodes a.id) l) (sym same) are.lives;
     }
-
-pub requests_are_of_lives : (first : World) (events : List Event) (w : World) → IsFirst first → Run first events w
-    → AllByRecursion (λ (a : Asked). IsOfRouter w.nodes a.id) (asked_since first w)
-requests_are_of_lives first events w is run = (taken_since first (first_true first is) events w run).lives

@@ -1,5 +1,5 @@
 -- What is under way in each world of a run; and where no message is left, every request is answered.
-use Rattle.std.proofs.Common.{◌≡◌, ◌⊎◌, inl, inr, ℕ, suc, ◌<◌, List, [], ◌∷◌, length, refl, sym, subst, ◌∙◌}
+use Rattle.std.proofs.Common.{◌≡◌, ◌⊎◌, inl, inr, ℕ, suc, ◌<◌, List, [], ◌∷◌, ◌++◌, length, map, refl, sym, subst, ◌∙◌}
 use Rattle.std.specs.Prelude.{Some, false}
 use Rattle.std.specs.List.{AllByRecursion, slice_get}
 use Rattle.std.proofs.lemmas.Option.{slice_get_within}
@@ -16,8 +16,10 @@ use Rattle.node_laws.proofs.Places.{each_get}
 use Rattle.node_laws.proofs.Facts.{counts_of, IsClosedOrOpen, ShardFits, RouterFits, Good}
 use Rattle.node_laws.proofs.StepsKeep.{fits_here}
 use Rattle.node_progress.specs.Completion.{IsQuiet, IsAnswered, IsOfRouter, asked_since}
+use Rattle.node_progress.specs.Arrivals.{arrivals, arrival_of}
 use Rattle.node_progress.specs.Firsts.{IsFirst}
 use Rattle.node_progress.specs.UnderWay.{Thing, a_table, thing_of, things_of, IsSent, IsFetched, IsComing, IsServedNext, IsUnderWay, IsLeft}
+use Rattle.node_progress.proofs.Arrivals.{run_takes}
 use Rattle.node_progress.proofs.Bags.{OpenGoes, ParkedGoes, NodeGoes, IsCarried, Bag}
 use Rattle.node_progress.proofs.BagFacts.{now}
 use Rattle.node_progress.proofs.BagRuns.{run_bag}
@@ -97,6 +99,16 @@ module _ (left : ℕ → Type 0) (w : World) (book : Book) (good : Good w book) 
     waiting = open_coming;
     parked = fetched;
   }
+
+-- FROM A FIRST WORLD
+
+pub each_request_is_taken : (first : World) (events : List Event) (w : World) → IsFirst first → Run first events w
+    → map arrival_of w.asked ≡ map arrival_of first.asked ++ arrivals events
+each_request_is_taken first events w is run = run_takes first events w (first_true first is) run
+
+pub requests_are_of_lives : (first : World) (events : List Event) (w : World) → IsFirst first → Run first events w
+    → AllByRecursion (λ (a : Asked). IsOfRouter w.nodes a.id) (asked_since first w)
+requests_are_of_lives first events w is run = (taken_since first (first_true first is) events w run).lives
 
 pub run_under_way : (first : World) (events : List Event) (w : World) → IsFirst first → Run first events w → IsUnderWay first (IsLeft events) w
 run_under_way first events w is run =

@@ -18,13 +18,13 @@ pub fn calls_begin_at_rest()
 {}
 
 /// Each request that comes is taken, once and in order.
-#[tactic(auto, using(crate::proofs::Arrivals::each_request_is_taken))]
+#[tactic(auto, using(crate::proofs::Progress::each_request_is_taken))]
 pub fn each_request_is_taken()
     ensures { (first : World) (events : List Event) (w : World) → IsFirst first → Run first events w → map arrival_of w.asked ≡ map arrival_of first.asked ++ arrivals events }
 {}
 
 /// Each request that was taken since a call began is of a life of its router that goes on.
-#[tactic(auto, using(crate::proofs::Lives::requests_are_of_lives))]
+#[tactic(auto, using(crate::proofs::Progress::requests_are_of_lives))]
 pub fn requests_are_of_lives()
     ensures { (first : World) (events : List Event) (w : World) → IsFirst first → Run first events w → AllByRecursion (λ (a : Asked). IsOfRouter w.nodes a.id) (asked_since first w) }
 {}
