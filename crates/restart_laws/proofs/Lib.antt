@@ -6,3 +6,6 @@ pub mod CutSteps
 pub mod StopSteps
 pub mod Givens
 pub mod Runs
+pub mod Mail
+pub mod ReachedCalls
+pub mod Pinned

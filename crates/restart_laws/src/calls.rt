@@ -1,0 +1,78 @@
+//! The laws of calls that begin on the journals which earlier calls left.
+
+ghost use Rattle.std.specs.Prelude.{◌≡◌, ℕ};
+ghost use Rattle.std.specs.List.{AllByRecursion};
+ghost use Rattle.reply_model.specs.Accounts.{changes_in};
+ghost use Rattle.reply_model.specs.OneHistory.{AreDifferent, OneHistory, ids_told};
+ghost use Rattle.node_model.specs.Journal.{changes_kept};
+ghost use Rattle.node_model.specs.Letters.{Input};
+ghost use Rattle.node_model.specs.World.{Event, World, account_of, journal_at, start};
+ghost use Rattle.node_replay.specs.Acknowledged.{KeepsJournals, KeepsWrites};
+ghost use Rattle.node_replay.specs.Holds.{HoldsOwn, MayOpen, Replays};
+ghost use Rattle.node_replay.specs.ReadTimes.{ComesInTime};
+ghost use Rattle.node_replay.specs.Restarts.{Gives};
+ghost use Rattle.restart_laws.specs.Calls.{BeginsOn, Calls, IsOfRun, Reached};
+ghost use Rattle.restart_laws.specs.Pinned.{IsPinned};
+
+/// Calls, one after another, are one run of nodes that stop and are started again, in which the messages of a call are not delivered after its end.
+#[tactic(auto, using(crate::proofs::ReachedCalls::reached_calls_are_one_run))]
+pub fn reached_calls_are_one_run()
+    ensures { (routers : ℕ) (w : World) → Reached routers w → IsOfRun (start routers) w }
+{}
+
+/// However many calls there were, each on the journals that the one before it left: the changes of the catalogue and what the shard's journal keeps, of all
+/// calls, are one legal history of an unsharded collection with each statement at most once, and each answer that was given in any of them is right by it.
+#[tactic(auto, using(crate::proofs::ReachedCalls::reached_calls_make_one_history))]
+pub fn reached_calls_make_one_history()
+    ensures { (routers : ℕ) (w : World) → Reached routers w → OneHistory (account_of w) }
+{}
+
+/// The changes of the catalogue in all calls, newest first, are those that its journal keeps, in the order in which it stored them.
+#[tactic(auto, using(crate::proofs::ReachedCalls::reached_calls_keep_changes))]
+pub fn reached_calls_keep_changes()
+    ensures { (routers : ℕ) (w : World) → Reached routers w → changes_in w.changed ≡ changes_kept (journal_at w.nodes 0) }
+{}
+
+/// The journal of each node replays to its durable part, and no start on it is refused.
+#[tactic(auto, using(crate::proofs::ReachedCalls::reached_calls_replay))]
+pub fn reached_calls_replay()
+    ensures { (routers : ℕ) (w : World) → Reached routers w → AllByRecursion Replays w.nodes × AllByRecursion MayOpen w.nodes }
+{}
+
+/// Each node holds what nodes hold, and each input that an event may give to one reads at no time later than itself: so the records of each step of a call
+/// may follow those that its journal has, also those of earlier calls (law `steps_store_what_may_follow` of `node_replay`).
+#[tactic(auto, using(crate::proofs::ReachedCalls::reached_calls_hold))]
+pub fn reached_calls_hold()
+    ensures { (routers : ℕ) (w : World) → Reached routers w → AllByRecursion HoldsOwn w.nodes × ((e : Event) (at : ℕ) (i : Input) → Gives w e at i → ComesInTime i) }
+{}
+
+/// No write that was acknowledged in any call is lost, and no statement is applied twice, also where it was sent in two calls.
+#[tactic(auto, using(crate::proofs::ReachedCalls::reached_calls_keep_writes))]
+pub fn reached_calls_keep_writes()
+    ensures { (routers : ℕ) (w : World) → Reached routers w → KeepsWrites w }
+{}
+
+/// No request is answered twice, also not in a later call.
+#[tactic(auto, using(crate::proofs::ReachedCalls::reached_calls_answer_once))]
+pub fn reached_calls_answer_once()
+    ensures { (routers : ℕ) (w : World) → Reached routers w → AreDifferent (ids_told w.answered) }
+{}
+
+/// No record that was stored is lost in a later call: from any world on, each journal grows at its end alone.
+#[tactic(auto, using(crate::proofs::ReachedCalls::calls_keep_journals))]
+pub fn calls_keep_journals()
+    ensures { (u : World) (w : World) → Calls u w → KeepsJournals u w }
+{}
+
+/// Wherever calls led to, a next one may begin.
+#[tactic(auto, using(crate::proofs::ReachedCalls::reached_calls_may_go_on))]
+pub fn reached_calls_may_go_on()
+    ensures { (routers : ℕ) (u : World) → Reached routers u → (first : World) × BeginsOn u first }
+{}
+
+/// Documents that a shard took for a read stay those that its journal has at the time of the read, and that there was no collection at the time of a read
+/// stays so by the catalogue's journal: of each message that was sent, now and in all later calls.
+#[tactic(auto, using(crate::proofs::Pinned::what_was_read_stays))]
+pub fn what_was_read_stays()
+    ensures { (routers : ℕ) (u : World) (w : World) → Reached routers u → Calls u w → AllByRecursion (IsPinned w) u.sent }
+{}
