@@ -7,19 +7,21 @@ use Rattle.std.proofs.lemmas.Option.{slice_get_within}
 use Rattle.history_model.proofs.Lists.{all_weaken, all_append}
 use Rattle.reply_model.specs.Exchanges.{Asked}
 use Rattle.node_model.specs.Journal.{Kept}
-use Rattle.node_model.specs.Letters.{Input, Taken, Effect}
+use Rattle.node_model.specs.Letters.{Letter, Input, Taken, Effect}
 use Rattle.node_model.specs.States.{NodeState}
 use Rattle.node_model.specs.Steps.{Step}
 use Rattle.node_model.specs.World.{Held, World, asked_by, Moves, Event, Happens, comes, delivers, passes, begins as was_opened, start}
+use Rattle.node_laws.proofs.Facts.{SentFits, Good}
 use Rattle.node_laws.proofs.Lists.{all_mapped}
 use Rattle.node_laws.proofs.StepsKeep.{StaysTrue, get_set}
+use Rattle.node_laws.proofs.Views.{Book, view_of}
 use Rattle.node_replay.specs.Durable.{DurableState, durable_catalogue, durable_shard, durable_router, empty_of}
 use Rattle.node_replay.specs.Openings.{opened, opened_on}
 use Rattle.node_replay.specs.Replays.{replayed, records_of, latest_time}
 use Rattle.node_replay.specs.Restarts.{EventOrStop, restart_event, Occurs, occurs, restarts, stops, Restarts, RunWithStops, stays, proceeds}
-use Rattle.restart_laws.specs.Calls.{BeginsOn, Reached, first_call, next_call, restarts_of}
-use Rattle.restart_laws.proofs.Calls.{reached_stays, begins_stays}
-use Rattle.restart_laws.proofs.Runs.{StaysWhole, occurs_keeps, start_whole}
+use Rattle.restart_laws.specs.Calls.{BeginsOn, Reached, next_call, restarts_of, with_mail}
+use Rattle.restart_laws.proofs.ReachedCalls.{reached_calls_are_one_run}
+use Rattle.restart_laws.proofs.Runs.{StaysWhole, occurs_keeps, runs_with_stops_stay_true, start_whole}
 use Rattle.node_progress.specs.Completion.{IsQuiet}
 use Rattle.node_progress.specs.Firsts.{IsAtRest}
 use Rattle.node_progress.proofs.Arrivals.{me_of, own_place}
@@ -75,15 +77,11 @@ run_placed _ _ _ whole (stays w) placed = placed
 run_placed _ _ _ whole (proceeds u v w e events h more) placed =
     run_placed v w events (occurs_keeps u v e whole h) more (occurs_placed u v e whole.facts h placed)
 
-begins_placed : (u first : World) → StaysWhole u → BeginsOn u first → ArePlaced u → ArePlaced first
-begins_placed u first whole b placed =
-    subst (λ x. ArePlaced x) (sym b.then) (run_placed u b.started (restarts_of 0 (length u.nodes)) whole b.starts placed)
-
+-- what calls lead to is a world of one run, but for messages
 reached_placed : (routers : ℕ) (w : World) → Reached routers w → ArePlaced w
-reached_placed routers _ (first_call w events run) = run_placed (start routers) w events (start_whole routers) run tt
-reached_placed routers _ (next_call u first w events before b run) =
-    let all = reached_stays routers u before in
-    run_placed first w events (begins_stays u first all b).whole run (begins_placed u first all.whole b (reached_placed routers u before))
+reached_placed routers w reached =
+    let one = reached_calls_are_one_run routers w reached in
+    run_placed (start routers) (with_mail one.mail w) one.events (start_whole routers) one.run tt
 
 -- NOTHING IS OPEN
 
@@ -141,6 +139,11 @@ each_quiet : (nodes : List Held) → ((k : ℕ) (h : Held) → slice_get nodes k
 each_quiet [] each = tt
 each_quiet (h ∷ nodes) each = (each 0 h refl, each_quiet nodes (λ k x got. each (suc k) x got))
 
+-- THE FIRST WORLD
+
+begins_reached : (routers : ℕ) (u first : World) → Reached routers u → BeginsOn u first → Reached routers first
+begins_reached routers u first reached b = next_call u first first [] reached b (stays first)
+
 pub begins_at_rest : (routers : ℕ) (u first : World) → Reached routers u → BeginsOn u first → IsAtRest first
 begins_at_rest routers u first reached b =
     let below : AreQuietBelow (length u.nodes) (0 + length u.nodes) b.started =
@@ -149,9 +152,37 @@ begins_at_rest routers u first reached b =
     let quiet = each_quiet b.started.nodes (λ k h got. below.quiet k h (omega (arith, slice_get_within b.started.nodes k h got, below.counted)) got) in
     record {
       none_sent = ap (λ (x : World). x.sent) b.then;
-      placed = begins_placed u first (reached_stays routers u reached).whole b (reached_placed routers u reached);
+      placed = reached_placed routers first (begins_reached routers u first reached b);
       quiet = subst (λ (x : World). AllByRecursion (λ (h : Held). IsQuiet h.state) x.nodes) (sym b.then) quiet;
     }
 
+good_without : (w : World) (mail : List Letter) (book : Book) → w.sent ≡ [] → Good (with_mail mail w) book → Good w book
+good_without w mail book none g = record {
+  order = g.order;
+  nodes = g.nodes;
+  dated = g.dated;
+  letters = subst (λ l. AllByRecursion (SentFits (view_of w.nodes book) w.changed w.asked w.answered w.given) l) (sym none) tt;
+  answers = g.answers;
+  decided = g.decided;
+  came = g.came;
+  one = g.one;
+  once = g.once;
+  fresh = g.fresh;
+  in_order = g.in_order;
+  known = g.known;
+  met = g.met;
+}
+
+true_without : (w : World) (mail : List Letter) → w.sent ≡ [] → StaysTrue (with_mail mail w) → StaysTrue w
+true_without w mail none (known, moments, told, based) = (
+  record { book = known.book; good = good_without w mail known.book none known.good },
+  record { nodes = moments.nodes; asked = moments.asked; givens = moments.givens },
+  told,
+  record { steps = based.steps; replies = based.replies },
+)
+
 pub begins_true : (routers : ℕ) (u first : World) → Reached routers u → BeginsOn u first → StaysTrue first
-begins_true routers u first reached b = (begins_stays u first (reached_stays routers u reached) b).whole.facts
+begins_true routers u first reached b =
+    let one = reached_calls_are_one_run routers first (begins_reached routers u first reached b) in
+    true_without first one.mail (ap (λ (x : World). x.sent) b.then)
+    (runs_with_stops_stay_true (start routers) (with_mail one.mail first) one.events (start_whole routers) one.run).facts
