@@ -14,6 +14,7 @@ pub mod Takings
 pub mod Arrivals
 pub mod Bags
 pub mod Lives
+pub mod Restarted
 pub mod Firsts
 pub mod BagSteps
 pub mod BagFacts

@@ -3,6 +3,7 @@ use Rattle.std.specs.Prelude.{◌≡◌, ℕ, ◌<◌, [], length}
 use Rattle.std.specs.List.{AllByRecursion}
 use Rattle.reply_model.specs.Exchanges.{Asked}
 use Rattle.node_model.specs.World.{Held, World, start}
+use Rattle.restart_laws.specs.Calls.{BeginsOn, Reached}
 use Rattle.node_progress.specs.Completion.{IsQuiet}
 
 -- Nothing is under way: no message is, no request is open and none waits for a table. Each request that was taken before is of one of the nodes.
@@ -14,3 +15,5 @@ pub record IsAtRest (w : World) : Type 0 where
 pub data IsFirst : World → Type 0 where
   -- journals are empty
   first_start : (routers : ℕ) → IsFirst (start routers)
+  -- earlier calls left them, and all nodes were started on them
+  first_again : (routers : ℕ) (u first : World) → Reached routers u → BeginsOn u first → IsFirst first
