@@ -4,6 +4,7 @@ use Rattle.std.specs.List.{AllByRecursion}
 use Rattle.outside.specs.Devices.{NoneFell, SinkCall, SinkIsUntouched, SourceCall, SourceIsUntouched}
 use Rattle.outside.specs.Disks.{Outcomes}
 use Rattle.outside.specs.Notes.{Note}
+use Rattle.node_model.specs.World.{start}
 use Rattle.cluster_top.specs.Counts.{OneRoseWhere}
 use Rattle.cluster_top.specs.Crashes.{AreDurableBefore, LeaveTheWay}
 use Rattle.cluster_top.specs.Disks.{AreNoWorse, IsEmptyAll, SomeFile}
@@ -41,9 +42,9 @@ pub record IsLeft {D : Type 0} (status : ℕ) (started : Type 0) (given : Option
   -- on empty files a run of the nodes served, whose journals the disks keep, and which makes one legal history; a crash meanwhile left what they
   -- kept on the way, and each byte was put only after what it says was durable
   pub headline : IfSome given (λ command. IsEmptyAll tells (map content before) → status ≢ 6
-      → OfStatus status (λ s. OfConnection s (λ ending. HeadlineOf command source sink tells
-      (map content left) (LeaveTheWay (routers_of command) tells moment left_since before left)
-      (AreDurableBefore sink.tells tells place moment left_since command notes sink.held_before left) gives ending rest)))
+      → OfStatus status (λ s. OfConnection s (λ ending. HeadlineOf command (start (routers_of command)) source sink tells
+      (map content left) (LeaveTheWay (start (routers_of command)) tells moment left_since before left)
+      (AreDurableBefore sink.tells tells place moment left_since command (start (routers_of command)) notes sink.held_before left) gives ending rest)))
   -- but where a disk failed, a crash takes none of the records; or memory ended before all journals were open, and no file has a record
   pub durable : status ≢ 2 → IsTrue tells → IsEmptyAll tells (map content before) → status ≢ 5
       → AllByRecursion (IsDurable content may_leave) left ⊎ ((status ≡ 7) × IsNotBegun source sink (map content left))

@@ -18,7 +18,6 @@ use Rattle.driver_steps.specs.declared.seat.Seat.{Seat}
 use Rattle.driver_steps.proofs.Crashes.{leads_nowhere}
 use Rattle.pipe_driver.specs.Acknowledgements.{AreAcknowledgedBy, IsNotedBefore}
 use Rattle.pipe_driver.proofs.Covers.{got_mapped}
-use Rattle.cluster_top.specs.Arguments.{routers_of}
 use Rattle.cluster_top.specs.Crashes.{AreDurableBefore, IsOfTheWay, LeaveSuch, LeaveTheWay}
 use Rattle.cluster_top.specs.Drivers.{output_of}
 use Rattle.cluster_top.specs.declared.arguments.Command.{Command}
@@ -118,7 +117,7 @@ none_at_start routers (suc zero) = refl
 none_at_start routers (suc (suc at)) = none_of_routers 2 routers at
 
 -- no record is what each node stores at the start
-pub of_the_start : (routers : ℕ) (w : World) (at : ℕ) (file : List ℕ) → LeadsTo (start routers) w → Stands file [] → IsOfTheWay routers w at file
+pub of_the_start : (routers : ℕ) (w : World) (at : ℕ) (file : List ℕ) → LeadsTo (start routers) w → Stands file [] → IsOfTheWay (start routers) w at file
 of_the_start routers w at file on stands = record {
   world = start routers;
   before = leads_nowhere (start routers);
@@ -126,28 +125,28 @@ of_the_start routers w at file on stands = record {
   has = subst (λ (l : List Kept). Stands file (spellings l)) (sym (none_at_start routers at)) stands;
 }
 
-pub never_of : (routers at : ℕ) (file : List ℕ) → ⊥ → IsOfTheWay routers (start routers) at file
+pub never_of : (routers at : ℕ) (file : List ℕ) → ⊥ → IsOfTheWay (start routers) (start routers) at file
 never_of routers at file never = absurd never
 
 pub none_on_the_way : {D : Type 0} (routers : ℕ) (tells : Bool) (moment : D → ℕ) (left_since : D → ℕ → Outcomes) (disks : List D)
-    → LeaveTheWay routers tells moment left_since disks disks (start routers)
-none_on_the_way routers tells moment left_since disks told = all_alone moment left_since (λ at file. IsOfTheWay routers (start routers) at file) disks
+    → LeaveTheWay (start routers) tells moment left_since disks disks (start routers)
+none_on_the_way routers tells moment left_since disks told = all_alone moment left_since (λ at file. IsOfTheWay (start routers) (start routers) at file) disks
 
 module _ {N D : Type 0} (state : N → NodeState) (tells : Bool) (content : D → List ℕ) (moment : D → ℕ) (left_since : D → ℕ → Outcomes) (fault_count : D → ℕ)
     (place : D → List ℕ) (routers : ℕ) (w : World) (told : IsTrue tells) where
   -- what is said of a log is said of its disk
   at_place : (at : ℕ) (disk : D) (old new : JournalView D) → LeavesAlso moment left_since disk old.disk (λ file. Stands file [])
       → LeavesKept (journal_facts tells content moment left_since fault_count place) (start routers) old new at w
-      → LeavesAlso moment left_since disk new.disk (λ file. IsOfTheWay routers w at file)
+      → LeavesAlso moment left_since disk new.disk (λ file. IsOfTheWay (start routers) w at file)
   at_place at disk old new first k =
-      leaves_then moment left_since disk old.disk new.disk (λ file. Stands file []) (λ file. IsOfTheWay routers w at file) (λ file. IsOfTheWay routers w at file) first
+      leaves_then moment left_since disk old.disk new.disk (λ file. Stands file []) (λ file. IsOfTheWay (start routers) w at file) (λ file. IsOfTheWay (start routers) w at file) first
       (record { later = k.left.later; each = k.left.each }) (λ file stands. of_the_start routers w at file k.came stands) (λ file is. is)
 
   each_place : (node : ℕ → ℕ) (disks : List D) (olds news : List (Seat N (JournalView D)))
       → LeaveSuch moment left_since (λ at file. Stands file []) disks (map (λ s. s.log.disk) olds) → length olds ≡ length news
       → ((at : ℕ) (s : Seat N (JournalView D)) → slice_get news at ≡ Some s → (old : JournalView D) → slice_get (map (λ s. s.log) olds) at ≡ Some old
       → LeavesKept (journal_facts tells content moment left_since fault_count place) (start routers) old s.log (node at) w)
-      → LeaveSuch moment left_since (λ at file. IsOfTheWay routers w (node at) file) disks (map (λ s. s.log.disk) news)
+      → LeaveSuch moment left_since (λ at file. IsOfTheWay (start routers) w (node at) file) disks (map (λ s. s.log.disk) news)
   each_place node [] [] [] first len kept = tt
   each_place node [] [] (s ∷ news) first len kept = absurd (omega (arith, len))
   each_place node [] (o ∷ olds) news first len kept = absurd first
@@ -162,25 +161,25 @@ module _ {N D : Type 0} (state : N → NodeState) (tells : Bool) (content : D �
   pub seats_leave : (disks : List D) (olds news : List (Seat N (JournalView D)))
       → LeaveSuch moment left_since (λ at file. Stands file []) disks (map (λ s. s.log.disk) olds) → length olds ≡ length news
       → LeaveKept (seat_since state (journal_facts tells content moment left_since fault_count place) (since_then olds (start routers))) news w
-      → LeaveSuch moment left_since (λ at file. IsOfTheWay routers w at file) disks (map (λ s. s.log.disk) news)
+      → LeaveSuch moment left_since (λ at file. IsOfTheWay (start routers) w at file) disks (map (λ s. s.log.disk) news)
   seats_leave disks olds news first len leave =
       each_place (λ at. at) disks olds news first len (λ at s got old began. (leave at s got told).0 old began)
 
 -- BYTES THAT ARE ACKNOWLEDGED
 
 -- no byte was written
-pub none_owed : {D : Type 0} (tells_bytes tells : Bool) (place : D → List ℕ) (moment : D → ℕ) (left_since : D → ℕ → Outcomes) (command : Command)
+pub none_owed : {D : Type 0} (tells_bytes tells : Bool) (place : D → List ℕ) (moment : D → ℕ) (left_since : D → ℕ → Outcomes) (command : Command) (first : World)
     (notes : List Note) (held_before : List ℕ) (disks : List D) (last : World)
-    → AreDurableBefore tells_bytes tells place moment left_since command notes held_before disks last []
-none_owed tells_bytes tells place moment left_since command notes held_before disks last bytes files offset below = absurd (omega (arith, below))
+    → AreDurableBefore tells_bytes tells place moment left_since command first notes held_before disks last []
+none_owed tells_bytes tells place moment left_since command first notes held_before disks last bytes files offset below = absurd (omega (arith, below))
 
 module _ {N D : Type 0} (tells_bytes tells : Bool) (content : D → List ℕ) (moment : D → ℕ) (left_since : D → ℕ → Outcomes) (fault_count : D → ℕ)
-    (place : D → List ℕ) (command : Command) (notes : List Note) (held_before : List ℕ) (seats : List (Seat N (JournalView D))) (last : World)
+    (place : D → List ℕ) (command : Command) (first : World) (notes : List Note) (held_before : List ℕ) (seats : List (Seat N (JournalView D))) (last : World)
     (put : List ℕ) where
   -- what is acknowledged by logs is so by their disks
-  pub disks_owed : AreAcknowledgedBy (journal_facts tells content moment left_since fault_count place) tells_bytes (output_of command) (start (routers_of command)) notes
+  pub disks_owed : AreAcknowledgedBy (journal_facts tells content moment left_since fault_count place) tells_bytes (output_of command first) first notes
       held_before seats last put
-      → AreDurableBefore tells_bytes tells place moment left_since command notes held_before (map (λ s. s.log.disk) seats) last put
+      → AreDurableBefore tells_bytes tells place moment left_since command first notes held_before (map (λ s. s.log.disk) seats) last put
   disks_owed owed bytes files offset below =
       let a = owed bytes files offset below in
       record {

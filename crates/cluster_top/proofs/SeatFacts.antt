@@ -122,15 +122,15 @@ pub moved : {X : Type 0} (R : X → X → Type 0) (a b c d : X) → a ≡ c → 
 moved {X = X} R a b c d first second is = subst (λ (y : X). R c y) second (subst (λ (x : X). R x b) first is)
 
 -- the same run, of which another thing is said
-pub driven_as : (command : Command) (source : SourceCall) (sink : SinkCall) (gives : ℕ → Type 0) (kept then : List Held → Type 0)
+pub driven_as : (command : Command) (first : World) (source : SourceCall) (sink : SinkCall) (gives : ℕ → Type 0) (kept then : List Held → Type 0)
     (leaves leaves_then : World → Type 0) (owed owed_then : World → List ℕ → Type 0) (status : connections.Status) (rest : ℕ)
     → ((nodes : List Held) → kept nodes → then nodes) → ((w : World) → leaves w → leaves_then w)
-    → ((w : World) (put : List ℕ) → owed w put → owed_then w put) → IsDriven command source sink gives kept leaves owed status rest
-    → IsDriven command source sink gives then leaves_then owed_then status rest
-driven_as Pipe source sink gives kept then leaves leaves_then owed owed_then status rest f g pays driven =
-    piped_with source sink gives first_router kept then leaves leaves_then owed owed_then 1 most_taken status rest driven f g (λ w put leave owes. pays w put owes)
-driven_as (Sim routers) source sink gives kept then leaves leaves_then owed owed_then status rest f g pays driven =
-    (simulated_as source sink kept then leaves leaves_then owed owed_then routers most_taken status f g (λ w put leave owes. pays w put owes) driven.0, driven.1)
+    → ((w : World) (put : List ℕ) → owed w put → owed_then w put) → IsDriven command first source sink gives kept leaves owed status rest
+    → IsDriven command first source sink gives then leaves_then owed_then status rest
+driven_as Pipe first source sink gives kept then leaves leaves_then owed owed_then status rest f g pays driven =
+    piped_with source sink gives first_router kept then leaves leaves_then owed owed_then first most_taken status rest driven f g (λ w put leave owes. pays w put owes)
+driven_as (Sim routers) first source sink gives kept then leaves leaves_then owed owed_then status rest f g pays driven =
+    (simulated_as source sink kept then leaves leaves_then owed owed_then first most_taken status f g (λ w put leave owes. pays w put owes) driven.0, driven.1)
 
 -- a connection ends with no status of another kind
 pub of_no_other : (ending : connections.Status) → (of_connection ending ≢ statuses.BadArguments) × (of_connection ending ≢ statuses.DamagedJournal)

@@ -6,6 +6,7 @@ use Rattle.outside.specs.Devices.{SourceCall, SinkCall, SourceGave, SinkTook}
 use Rattle.opmsg_frames.specs.Frames.{ends}
 use Rattle.node_model.specs.Schedule.{openings}
 use Rattle.node_model.specs.World.{World, routers_from, start, stands}
+use Rattle.node_progress.specs.Firsts.{IsFirst, first_start}
 use Rattle.pipe_driver.specs.Endings.{IsPiped, SomeServed, disk_failed, most_taken, no_memory}
 use Rattle.pipe_driver.specs.Rounds.{first_router}
 use Rattle.pipe_driver.specs.Schedules.{came_opening}
@@ -55,7 +56,7 @@ all_empty_kept routers files empty count = none_kept routers files (no_record fi
 
 module _ (source : SourceCall) (sink : SinkCall) (tells : Bool) (files_after : List (List ℕ)) (leaves : World → Type 0)
     (owed : World → List ℕ → Type 0) (gives : ℕ → Type 0) (rest : ℕ) where
-  none_served : SomeServed 1 gives first_router [] [] [] (start 1)
+  none_served : SomeServed (start 1) gives first_router [] [] [] (start 1)
   none_served = record {
     under_way = [];
     others = [];
@@ -65,42 +66,44 @@ module _ (source : SourceCall) (sink : SinkCall) (tells : Bool) (files_after : L
     replied = refl;
   }
 
-  pub headline_from : (ending : connections.Status) → IsPiped source sink gives first_router (λ nodes. IsTrue tells → AreJournals files_after nodes) leaves owed 1 most_taken ending rest
-      → Headline source sink tells files_after leaves owed gives ending rest
-  headline_from ending piped = record {
+  pub headline_from : (first : World) → IsFirst first → (ending : connections.Status)
+      → IsPiped source sink gives first_router (λ nodes. IsTrue tells → AreJournals files_after nodes) leaves owed first most_taken ending rest
+      → Headline first source sink tells files_after leaves owed gives ending rest
+  headline_from first begins ending piped = record {
     piped = piped;
     history = (
-      piped_changes source sink gives first_router (λ nodes. IsTrue tells → AreJournals files_after nodes) leaves owed 1 most_taken ending rest piped,
-      piped_history source sink gives first_router (λ nodes. IsTrue tells → AreJournals files_after nodes) leaves owed 1 most_taken ending rest piped,
+      piped_changes source sink gives first_router (λ nodes. IsTrue tells → AreJournals files_after nodes) leaves owed first most_taken ending rest begins piped,
+      piped_history source sink gives first_router (λ nodes. IsTrue tells → AreJournals files_after nodes) leaves owed first most_taken ending rest begins piped,
     );
     answered = λ ended. (all_served most_taken _ piped.taken piped.fault _ _ _ ending piped.cause ended).answered;
   }
 
-  none_played : (routers : ℕ) → CameTo routers [] [] [] (start routers)
+  none_played : (routers : ℕ) → CameTo (start routers) [] [] [] (start routers)
   none_played routers = began [] [] (start routers) (openings 0 (length (start routers).nodes), refl) (stands (start routers))
 
-  script_from : (routers : ℕ) (ending : connections.Status) → IsSimulated source sink (λ nodes. IsTrue tells → AreJournals files_after nodes) leaves owed routers most_taken ending
-      → rest ≡ 0 → ScriptHeadline routers source sink tells files_after leaves owed ending rest
-  script_from routers ending simulated none = record {
+  script_from : (first : World) → IsFirst first → (ending : connections.Status)
+      → IsSimulated source sink (λ nodes. IsTrue tells → AreJournals files_after nodes) leaves owed first most_taken ending
+      → rest ≡ 0 → ScriptHeadline first source sink tells files_after leaves owed ending rest
+  script_from first begins ending simulated none = record {
     simulated = simulated;
     history = (
-      simulated_changes source sink (λ nodes. IsTrue tells → AreJournals files_after nodes) leaves owed routers most_taken ending simulated,
-      simulated_history source sink (λ nodes. IsTrue tells → AreJournals files_after nodes) leaves owed routers most_taken ending simulated,
+      simulated_changes source sink (λ nodes. IsTrue tells → AreJournals files_after nodes) leaves owed first most_taken ending begins simulated,
+      simulated_history source sink (λ nodes. IsTrue tells → AreJournals files_after nodes) leaves owed first most_taken ending begins simulated,
     );
     answered = λ ended last.
-        (all_played routers most_taken _ simulated.taken simulated.lines simulated.left simulated.put simulated.end ending simulated.cause ended).answered last;
+        (all_played first most_taken _ simulated.taken simulated.lines simulated.left simulated.put simulated.end ending simulated.cause ended).answered last;
     no_rest = none;
   }
 
-  pub headline_of : (command : Command) (ending : connections.Status)
-      → IsDriven command source sink gives (λ nodes. IsTrue tells → AreJournals files_after nodes) leaves owed ending rest
-      → HeadlineOf command source sink tells files_after leaves owed gives ending rest
-  headline_of Pipe ending driven = headline_from ending driven
-  headline_of (Sim routers) ending driven = script_from routers ending driven.0 driven.1
+  pub headline_of : (command : Command) (first : World) → IsFirst first → (ending : connections.Status)
+      → IsDriven command first source sink gives (λ nodes. IsTrue tells → AreJournals files_after nodes) leaves owed ending rest
+      → HeadlineOf command first source sink tells files_after leaves owed gives ending rest
+  headline_of Pipe first begins ending driven = headline_from first begins ending driven
+  headline_of (Sim routers) first begins ending driven = script_from first begins ending driven.0 driven.1
 
   -- the disks were not opened
-  pub disk_unopened : rest ≡ 0 → SourceGave source [] → SinkTook sink [] → (IsTrue tells → AreJournals files_after (start 1).nodes) → leaves (start 1) → owed (start 1) [] → Headline source sink tells files_after leaves owed gives ended.DiskFailed rest
-  disk_unopened none took put files crashes debts = headline_from ended.DiskFailed (record {
+  pub disk_unopened : rest ≡ 0 → SourceGave source [] → SinkTook sink [] → (IsTrue tells → AreJournals files_after (start 1).nodes) → leaves (start 1) → owed (start 1) [] → Headline (start 1) source sink tells files_after leaves owed gives ended.DiskFailed rest
+  disk_unopened none took put files crashes debts = headline_from (start 1) (first_start 1) ended.DiskFailed (record {
     taken = [];
     put = [];
     requests = [];
@@ -123,8 +126,8 @@ module _ (source : SourceCall) (sink : SinkCall) (tells : Bool) (files_after : L
   })
 
   -- memory ran out before anything was served
-  pub memory_unopened : rest ≡ 0 → SourceGave source [] → SinkTook sink [] → (IsTrue tells → AreJournals files_after (start 1).nodes) → leaves (start 1) → owed (start 1) [] → Headline source sink tells files_after leaves owed gives ended.OutOfMemory rest
-  memory_unopened none took put files crashes debts = headline_from ended.OutOfMemory (record {
+  pub memory_unopened : rest ≡ 0 → SourceGave source [] → SinkTook sink [] → (IsTrue tells → AreJournals files_after (start 1).nodes) → leaves (start 1) → owed (start 1) [] → Headline (start 1) source sink tells files_after leaves owed gives ended.OutOfMemory rest
+  memory_unopened none took put files crashes debts = headline_from (start 1) (first_start 1) ended.OutOfMemory (record {
     taken = [];
     put = [];
     requests = [];
@@ -147,8 +150,8 @@ module _ (source : SourceCall) (sink : SinkCall) (tells : Bool) (files_after : L
   })
 
   script_disk_unopened : (routers : ℕ) → rest ≡ 0 → SourceGave source [] → SinkTook sink [] → (IsTrue tells → AreJournals files_after (start routers).nodes) → leaves (start routers) → owed (start routers) []
-      → ScriptHeadline routers source sink tells files_after leaves owed ended.DiskFailed rest
-  script_disk_unopened routers none took put files crashes debts = script_from routers ended.DiskFailed (record {
+      → ScriptHeadline (start routers) source sink tells files_after leaves owed ended.DiskFailed rest
+  script_disk_unopened routers none took put files crashes debts = script_from (start routers) (first_start routers) ended.DiskFailed (record {
     taken = [];
     put = [];
     lines = [];
@@ -168,8 +171,8 @@ module _ (source : SourceCall) (sink : SinkCall) (tells : Bool) (files_after : L
   }) none
 
   script_memory_unopened : (routers : ℕ) → rest ≡ 0 → SourceGave source [] → SinkTook sink [] → (IsTrue tells → AreJournals files_after (start routers).nodes) → leaves (start routers) → owed (start routers) []
-      → ScriptHeadline routers source sink tells files_after leaves owed ended.OutOfMemory rest
-  script_memory_unopened routers none took put files crashes debts = script_from routers ended.OutOfMemory (record {
+      → ScriptHeadline (start routers) source sink tells files_after leaves owed ended.OutOfMemory rest
+  script_memory_unopened routers none took put files crashes debts = script_from (start routers) (first_start routers) ended.OutOfMemory (record {
     taken = [];
     put = [];
     lines = [];
@@ -189,18 +192,18 @@ module _ (source : SourceCall) (sink : SinkCall) (tells : Bool) (files_after : L
   }) none
 
   no_disk : (command : Command) → rest ≡ 0 → SourceGave source [] → SinkTook sink [] → (IsTrue tells → AreJournals files_after (start (routers_of command)).nodes)
-      → leaves (start (routers_of command)) → owed (start (routers_of command)) [] → HeadlineOf command source sink tells files_after leaves owed gives ended.DiskFailed rest
+      → leaves (start (routers_of command)) → owed (start (routers_of command)) [] → HeadlineOf command (start (routers_of command)) source sink tells files_after leaves owed gives ended.DiskFailed rest
   no_disk Pipe none took put files crashes debts = disk_unopened none took put files crashes debts
   no_disk (Sim routers) none took put files crashes debts = script_disk_unopened routers none took put files crashes debts
 
   no_room : (command : Command) → rest ≡ 0 → SourceGave source [] → SinkTook sink [] → (IsTrue tells → AreJournals files_after (start (routers_of command)).nodes)
-      → leaves (start (routers_of command)) → owed (start (routers_of command)) [] → HeadlineOf command source sink tells files_after leaves owed gives ended.OutOfMemory rest
+      → leaves (start (routers_of command)) → owed (start (routers_of command)) [] → HeadlineOf command (start (routers_of command)) source sink tells files_after leaves owed gives ended.OutOfMemory rest
   no_room Pipe none took put files crashes debts = memory_unopened none took put files crashes debts
   no_room (Sim routers) none took put files crashes debts = script_memory_unopened routers none took put files crashes debts
 
   pub unopened : (command : Command) (status : Status) → StopsOpening status → status ≢ statuses.DamagedJournal → rest ≡ 0 → SourceGave source []
       → SinkTook sink [] → (IsTrue tells → AreJournals files_after (start (routers_of command)).nodes) → leaves (start (routers_of command)) → owed (start (routers_of command)) []
-      → OfConnection status (λ ending. HeadlineOf command source sink tells files_after leaves owed gives ending rest)
+      → OfConnection status (λ ending. HeadlineOf command (start (routers_of command)) source sink tells files_after leaves owed gives ending rest)
   unopened command status at_opening_fault other none took put files crashes debts = (ended.DiskFailed, refl, no_disk command none took put files crashes debts)
   unopened command status at_damage other none took put files crashes debts = absurd (other refl)
   unopened command status at_opening_memory other none took put files crashes debts = (ended.OutOfMemory, refl, no_room command none took put files crashes debts)

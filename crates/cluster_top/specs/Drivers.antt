@@ -10,13 +10,13 @@ use Rattle.sim_driver.specs.Simulations.{IsSimulated, all_printed}
 use Rattle.cluster_top.specs.declared.arguments.Command.{Command}
 use Rattle.cluster_top.specs.declared.arguments.Command.TheVariants.{Pipe, Sim}
 
--- one connection was served, or a script was played, for which no rest is returned
-abbrev pub IsDriven : Command → SourceCall → SinkCall → (ℕ → Type 0) → (List Held → Type 0) → (World → Type 0) → (World → List ℕ → Type 0) → Status
+-- from the first world on one connection was served, or a script was played, for which no rest is returned
+abbrev pub IsDriven : Command → World → SourceCall → SinkCall → (ℕ → Type 0) → (List Held → Type 0) → (World → Type 0) → (World → List ℕ → Type 0) → Status
     → (rest : ℕ) → Type 0
-IsDriven Pipe source sink gives kept leaves owed status rest = IsPiped source sink gives first_router kept leaves owed 1 most_taken status rest
-IsDriven (Sim routers) source sink gives kept leaves owed status rest = IsSimulated source sink kept leaves owed routers most_taken status × (rest ≡ 0)
+IsDriven Pipe first source sink gives kept leaves owed status rest = IsPiped source sink gives first_router kept leaves owed first most_taken status rest
+IsDriven (Sim routers) first source sink gives kept leaves owed status rest = IsSimulated source sink kept leaves owed first most_taken status × (rest ≡ 0)
 
--- what is all output in a world: the replies that were given, or what the lines of a script print
-abbrev pub output_of : Command → World → List ℕ → Type 0
+-- what is all output in a world, since the first one: the replies that were given, or what the lines of a script print
+abbrev pub output_of : Command → (first w : World) → List ℕ → Type 0
 output_of Pipe = all_replies
-output_of (Sim routers) = all_printed routers
+output_of (Sim routers) = all_printed

@@ -21,29 +21,29 @@ MakesOneHistory end =
     (changes_in end.changed ≡ changes_kept (journal_at end.nodes 0))
     × OneHistory (account_of end)
 
--- The bytes taken are requests and a rest, and the bytes put are the replies of a run of the nodes with one router, by the schedule, whose journals
+-- The bytes taken are requests and a rest, and the bytes put are the replies of a run of the nodes from the first world on, by the schedule, whose journals
 -- the disks store. For all inputs, what the catalogue and the shard store then is one legal history of an unsharded collection with each
 -- statement at most once, in which each reply is a right one. `tells` is whether the files of the disks are observable; `leaves` gives the files after a
 -- crash at any moment of the call, of the world up to which the run may proceed; and `owed` says that each byte was put only after what it says was durable.
--- Where the input was read to its end, every request that was taken is answered.
-pub record Headline (source : SourceCall) (sink : SinkCall) (tells : Bool) (files : List (List ℕ)) (leaves : World → Type 0)
+-- Where the input was read to its end, every request that was taken since the first world is answered.
+pub record Headline (first : World) (source : SourceCall) (sink : SinkCall) (tells : Bool) (files : List (List ℕ)) (leaves : World → Type 0)
     (owed : World → List ℕ → Type 0) (gives : ℕ → Type 0) (status : Status) (rest : ℕ) : Type 0 where
-  pub piped : IsPiped source sink gives first_router (λ nodes. IsTrue tells → AreJournals files nodes) leaves owed 1 most_taken status rest
+  pub piped : IsPiped source sink gives first_router (λ nodes. IsTrue tells → AreJournals files nodes) leaves owed first most_taken status rest
   pub history : MakesOneHistory piped.end
-  pub answered : status ≡ statuses.InputEnded → AreAnswered piped.end
+  pub answered : status ≡ statuses.InputEnded → AreAnswered first piped.end
 
--- The bytes taken are lines of a script and a rest, and the bytes put are what a run of the nodes with so many routers prints, of the events that
--- the lines say. What their journals keep is one history too, in whatever order the script delivers. Where the script was played to its end, and its last
--- line is `settle`, every request that was taken is answered.
-pub record ScriptHeadline (routers : ℕ) (source : SourceCall) (sink : SinkCall) (tells : Bool) (files : List (List ℕ)) (leaves : World → Type 0)
+-- The bytes taken are lines of a script and a rest, and the bytes put are what a run of the nodes from the first world on prints, of the events
+-- that the lines say. What their journals keep is one history too, in whatever order the script delivers. Where the script was played to its end, and its last
+-- line is `settle`, every request that was taken since the first world is answered.
+pub record ScriptHeadline (first : World) (source : SourceCall) (sink : SinkCall) (tells : Bool) (files : List (List ℕ)) (leaves : World → Type 0)
     (owed : World → List ℕ → Type 0) (status : Status) (rest : ℕ) : Type 0 where
-  pub simulated : IsSimulated source sink (λ nodes. IsTrue tells → AreJournals files nodes) leaves owed routers most_taken status
+  pub simulated : IsSimulated source sink (λ nodes. IsTrue tells → AreJournals files nodes) leaves owed first most_taken status
   pub history : MakesOneHistory simulated.end
-  pub answered : status ≡ statuses.InputEnded → EndInSettle simulated.lines → AreAnswered simulated.end
+  pub answered : status ≡ statuses.InputEnded → EndInSettle simulated.lines → AreAnswered first simulated.end
   pub no_rest : rest ≡ 0
 
--- by the command
-abbrev pub HeadlineOf : Command → SourceCall → SinkCall → Bool → List (List ℕ) → (World → Type 0) → (World → List ℕ → Type 0) → (ℕ → Type 0) → Status
+-- by the command, of a run from the first world on
+abbrev pub HeadlineOf : Command → World → SourceCall → SinkCall → Bool → List (List ℕ) → (World → Type 0) → (World → List ℕ → Type 0) → (ℕ → Type 0) → Status
     → ℕ → Type 0
-HeadlineOf Pipe source sink tells files leaves owed gives status rest = Headline source sink tells files leaves owed gives status rest
-HeadlineOf (Sim routers) source sink tells files leaves owed gives status rest = ScriptHeadline routers source sink tells files leaves owed status rest
+HeadlineOf Pipe first source sink tells files leaves owed gives status rest = Headline first source sink tells files leaves owed gives status rest
+HeadlineOf (Sim routers) first source sink tells files leaves owed gives status rest = ScriptHeadline first source sink tells files leaves owed status rest

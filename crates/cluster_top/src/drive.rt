@@ -2,14 +2,14 @@
 
 ghost use Rattle.std.specs.Prelude.{◌≡◌, ◌≢◌, ◌<◌, vec_len};
 ghost use Rattle.outside.specs.Devices.{sink_call, source_call};
-ghost use Rattle.node_model.specs.World.{start};
+ghost use Rattle.node_model.specs.World.{World};
 ghost use Rattle.driver_steps.specs.Seats.{AreHeld, AreKept, AreOpen, LeaveKept, faults_of, places_of, seat_since, seat_view, since_then};
 ghost use Rattle.pipe_driver.specs.Acknowledgements.{AreAcknowledgedBy};
 ghost use Rattle.pipe_driver.specs.Counts.{HaveRisenWhere, RoseWhere};
 ghost use Rattle.pipe_driver.specs.Progress.{AreAskedAsRead};
 ghost use Rattle.pipe_driver.specs.Rounds.{first_router};
 ghost use Rattle.pipe_driver.specs.declared.status.Status.TheVariants as statuses;
-ghost use Rattle.cluster_top.specs.Arguments.{routers_of};
+ghost use Rattle.sim_driver.specs.Moves.{MayPlay};
 ghost use Rattle.cluster_top.specs.Drivers.{IsDriven, output_of};
 
 use crate::arguments::Command;
@@ -48,13 +48,12 @@ pub fn drive<
     clock: &C,
 ) -> Ending
     requires at { first_router < vec_len seats.old }
-    requires some { 0 < routers_of command }
     requires open { AreOpen L.facts.is_open seats.old.items }
-    ensures driven { AreAskedAsRead N.asks → AreHeld (seat_view N.state L.facts) seats.old.items (start (routers_of command)).nodes →
-        IsDriven command (source_call S.tells S.left S.fault_count input.old input.new) (sink_call K.tells K.held K.fault_count out.old out.new)
+    ensures driven { AreAskedAsRead N.asks → (first : World) → MayPlay first → AreHeld (seat_view N.state L.facts) seats.old.items first.nodes →
+        IsDriven command first (source_call S.tells S.left S.fault_count input.old input.new) (sink_call K.tells K.held K.fault_count out.old out.new)
         (C.gives clock.now) (AreKept (seat_view N.state L.facts) seats.new.items)
-        (LeaveKept (seat_since N.state L.facts (since_then seats.old.items (start (routers_of command)))) seats.new.items)
-        (AreAcknowledgedBy L.facts K.tells (output_of command) (start (routers_of command)) (K.noted out.new) (K.held out.old) seats.new.items)
+        (LeaveKept (seat_since N.state L.facts (since_then seats.old.items first)) seats.new.items)
+        (AreAcknowledgedBy L.facts K.tells (output_of command first) first (K.noted out.new) (K.held out.old) seats.new.items)
         result.status result.rest }
     ensures open { result.status ≢ statuses.DiskFailed → AreOpen L.facts.is_open seats.new.items }
     ensures len { vec_len seats.new ≡ vec_len seats.old }

@@ -3,6 +3,7 @@
 ghost use Rattle.std.specs.Prelude.{◌≡◌, ◌≢◌, ◌⊎◌, ◌<◌, ◌≤◌, [], IfOk, List, map, IsTrue, vec_capacity, vec_len};
 ghost use Rattle.std.specs.List.{AllByRecursion};
 ghost use Rattle.outside.specs.Devices.{NoneFell, SinkIsUntouched, SourceIsUntouched, sink_call, source_call};
+ghost use Rattle.node_model.specs.World.{start};
 ghost use Rattle.pipe_driver.specs.Progress.{AreAskedAsRead};
 ghost use Rattle.journal_frames.specs.Files.{Stands};
 ghost use Rattle.pipe_driver.specs.Counts.{RoseWhere};
@@ -77,12 +78,12 @@ pub fn run_nodes<
     requires nodes { IfOk nodes (λ nodes. vec_len nodes ≡ nodes_of command) }
     requires disks { vec_len disks ≡ nodes_of command }
     ensures headline { AreAskedAsRead N.asks → IfOk nodes (λ nodes. AreNew N.state (routers_of command) nodes.items) → IsEmptyAll D.tells (map D.content disks.items) →
-        result.status ≢ statuses.DamagedJournal → OfConnection result.status (λ ending. HeadlineOf command
+        result.status ≢ statuses.DamagedJournal → OfConnection result.status (λ ending. HeadlineOf command (start (routers_of command))
         (source_call S.tells S.left S.fault_count input.old input.new)
         (sink_call K.tells K.held K.fault_count out.old out.new)
         D.tells (map D.content result.disks.items)
-        (LeaveTheWay (routers_of command) D.tells D.moment D.left_since disks.items result.disks.items)
-        (AreDurableBefore K.tells D.tells D.place D.moment D.left_since command (K.noted out.new) (K.held out.old) result.disks.items)
+        (LeaveTheWay (start (routers_of command)) D.tells D.moment D.left_since disks.items result.disks.items)
+        (AreDurableBefore K.tells D.tells D.place D.moment D.left_since command (start (routers_of command)) (K.noted out.new) (K.held out.old) result.disks.items)
         (C.gives clock.now) ending result.rest) }
     ensures durable { IsTrue D.tells → IsEmptyAll D.tells (map D.content disks.items) → result.status ≢ statuses.DiskFailed →
         AllByRecursion (IsDurable D.content D.may_leave) result.disks.items
@@ -149,12 +150,12 @@ fn serve<
     requires room { nodes_of command ≤ vec_capacity opened.back }
     ensures headline { AreAskedAsRead N.asks → AreNew N.state (routers_of command) nodes.items → AreFresh D.tells D.content opened.journals.items → (disks : List D) →
         (IsTrue D.tells → LeaveSuch D.moment D.left_since (λ at file. Stands file []) disks (disks_of opened.journals.items)) →
-        OfConnection result.status (λ ending. HeadlineOf command
+        OfConnection result.status (λ ending. HeadlineOf command (start (routers_of command))
         (source_call S.tells S.left S.fault_count input.old input.new)
         (sink_call K.tells K.held K.fault_count out.old out.new)
         D.tells (map D.content result.disks.items)
-        (LeaveTheWay (routers_of command) D.tells D.moment D.left_since disks result.disks.items)
-        (AreDurableBefore K.tells D.tells D.place D.moment D.left_since command (K.noted out.new) (K.held out.old) result.disks.items)
+        (LeaveTheWay (start (routers_of command)) D.tells D.moment D.left_since disks result.disks.items)
+        (AreDurableBefore K.tells D.tells D.place D.moment D.left_since command (start (routers_of command)) (K.noted out.new) (K.held out.old) result.disks.items)
         (C.gives clock.now) ending result.rest) }
     ensures durable { IsTrue D.tells → result.status ≢ statuses.DiskFailed → AllByRecursion (IsDurable D.content D.may_leave) result.disks.items }
     ensures status { (result.status ≢ statuses.BadArguments) × (result.status ≢ statuses.DamagedJournal) }

@@ -3,6 +3,7 @@
 ghost use Rattle.std.specs.Prelude.{◌≡◌, ◌≢◌, ◌⊎◌, ◌↔◌, ◌^◌, [], map, IfSome, IsSome, IsNone, IsTrue, vec_len};
 ghost use Rattle.std.specs.List.{AllByRecursion};
 ghost use Rattle.outside.specs.Devices.{NoneFell, SinkIsUntouched, SourceIsUntouched, sink_call, source_call};
+ghost use Rattle.node_model.specs.World.{start};
 ghost use Rattle.pipe_driver.specs.Counts.{RoseWhere};
 ghost use Rattle.cluster_top.specs.Counts.{OneRoseWhere};
 ghost use Rattle.cluster_top.specs.Crashes.{AreDurableBefore, LeaveTheWay};
@@ -87,12 +88,12 @@ where
     // disks store, and they form one legal history, in which each reply is a right one. The file of each disk after a crash at any moment of the call is one
     // that was possible before, or what the disk's node wrote in a world on the way of that run.
     ensures headline { IfSome (command_of words.now) (λ command. IsEmptyAll D.tells (map D.content disks.items) → result.status ≢ 6 →
-        OfStatus result.status (λ status. OfConnection status (λ ending. HeadlineOf command
+        OfStatus result.status (λ status. OfConnection status (λ ending. HeadlineOf command (start (routers_of command))
         (source_call S.tells S.left S.fault_count input.old input.new)
         (sink_call K.tells K.held K.fault_count out.old out.new)
         D.tells (map D.content result.disks.items)
-        (LeaveTheWay (routers_of command) D.tells D.moment D.left_since disks.items result.disks.items)
-        (AreDurableBefore K.tells D.tells D.place D.moment D.left_since command (K.noted out.new) (K.held out.old) result.disks.items)
+        (LeaveTheWay (start (routers_of command)) D.tells D.moment D.left_since disks.items result.disks.items)
+        (AreDurableBefore K.tells D.tells D.place D.moment D.left_since command (start (routers_of command)) (K.noted out.new) (K.held out.old) result.disks.items)
         (C.gives clock.now) ending result.rest))) }
 
     // But where a disk failed, each file is a journal, byte for byte, with nothing after its closed gate, and a crash results in just that; or memory

@@ -1,6 +1,6 @@
 -- The events of the schedule of `pipe` are a run.
 use Rattle.std.proofs.Common.{ℕ, ◌+◌, List, [], ◌∷◌, ◌++◌, length, sym, subst}
-use Rattle.node_model.specs.World.{World, Event, client_event, deliver_event, Happens, Run, stands, goes, start}
+use Rattle.node_model.specs.World.{World, Event, client_event, deliver_event, Happens, Run, stands, goes}
 use Rattle.node_model.specs.Schedule.{moments_given, Delivers, delivers_none, delivers_next, Round, Pipes, opens, serves}
 
 -- one run after another
@@ -20,11 +20,11 @@ delivers_more _ _ _ _ _ at x (delivers_none w next) h = delivers_next w x x next
 delivers_more _ _ _ _ _ at x (delivers_next u v w next later first events here more) h =
     delivers_next u v x next (later + 1) first (events ++ deliver_event at later ∷ []) here (delivers_more v (next + 1) events w later at x more h)
 
-pub pipes_run : (routers : ℕ) (rounds : List Round) (events : List Event) (w : World) (next : ℕ) → Pipes routers rounds events w next
-    → Run (start routers) events w
-pipes_run routers _ _ _ _ (opens w run) = run
-pipes_run routers _ _ _ _ (serves rounds r before events u w next pipes round) =
-    run_then (start routers) before u events w (pipes_run routers rounds before u next pipes)
+pub pipes_run : (first : World) (rounds : List Round) (events : List Event) (w : World) (next : ℕ) → Pipes first rounds events w next
+    → Run first events w
+pipes_run first _ _ _ _ (opens w run) = run
+pipes_run first _ _ _ _ (serves rounds r before events u w next pipes round) =
+    run_then first before u events w (pipes_run first rounds before u next pipes)
     (subst (λ l. Run u l w) (sym round.all)
     (run_then u (moments_given 0 (length u.nodes) r.moment) round.given (client_event r.at r.link r.number r.request ∷ round.deliveries) w round.moments
     (goes round.given round.asked w (client_event r.at r.link r.number r.request) round.deliveries round.comes

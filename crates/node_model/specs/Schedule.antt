@@ -1,8 +1,8 @@
--- The schedule of `pipe`: one connection, with one request after another. All nodes are opened, in order of their numbers; then for each
--- request all nodes are given one moment, in that order, a router takes the request, and what is not delivered yet is delivered.
+-- The schedule of `pipe`: one connection, with one request after another, from the world on that a call begins in. All nodes are opened, in order of their
+-- numbers; then for each request all nodes are given one moment, in that order, a router takes the request, and what is not delivered yet is delivered.
 use Rattle.std.specs.Prelude.{◌≡◌, ℕ, ℤ, zero, suc, ◌+◌, List, [], ◌∷◌, ◌++◌, length}
 use Rattle.reply_model.specs.Requests.{Request}
-use Rattle.node_model.specs.World.{World, Event, client_event, deliver_event, moment_event, opened_event, Happens, Run, start}
+use Rattle.node_model.specs.World.{World, Event, client_event, deliver_event, moment_event, opened_event, Happens, Run}
 
 -- so many nodes are opened, from this one on
 abbrev pub openings : (first count : ℕ) → List Event
@@ -39,9 +39,10 @@ pub record IsRound (u : World) (next : ℕ) (r : Round) (events : List Event) (w
   pub comes : Happens given (client_event r.at r.link r.number r.request) asked
   pub settles : Delivers asked next deliveries w (length w.sent)
 
--- these events, which lead to this world, are those of these rounds, after the openings; all messages before the place were delivered
-pub data Pipes (routers : ℕ) : List Round → List Event → World → (next : ℕ) → Type 0 where
-  opens : (w : World) → Run (start routers) (openings 0 (length (start routers).nodes)) w → Pipes routers [] (openings 0 (length (start routers).nodes)) w 0
-  serves : (rounds : List Round) (r : Round) (before events : List Event) (u w : World) (next : ℕ) → Pipes routers rounds before u next
+-- These events, which lead from the first world to this one, are those of these rounds, after the openings; all messages before the place were
+-- delivered. In the first world no message is under way.
+pub data Pipes (first : World) : List Round → List Event → World → (next : ℕ) → Type 0 where
+  opens : (w : World) → Run first (openings 0 (length first.nodes)) w → Pipes first [] (openings 0 (length first.nodes)) w 0
+  serves : (rounds : List Round) (r : Round) (before events : List Event) (u w : World) (next : ℕ) → Pipes first rounds before u next
       → IsRound u next r events w
-      → Pipes routers (rounds ++ r ∷ []) (before ++ events) w (length w.sent)
+      → Pipes first (rounds ++ r ∷ []) (before ++ events) w (length w.sent)

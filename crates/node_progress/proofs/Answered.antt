@@ -10,18 +10,21 @@ use Rattle.base_model.specs.Identities.{RequestId}
 use Rattle.reply_model.specs.Exchanges.{Asked, Answered}
 use Rattle.reply_model.specs.OneHistory.{ids_told}
 use Rattle.node_model.specs.Letters.{Input, Letter}
-use Rattle.node_model.specs.World.{World, asked_by, answered_by, Moves, Event, Happens, comes, delivers, passes, begins as was_opened, Run, stands, goes, start, history_of, account_of}
+use Rattle.node_model.specs.World.{World, asked_by, answered_by, Moves, Event, Happens, comes, delivers, passes, begins as was_opened, Run, stands, goes, history_of, account_of}
 use Rattle.reply_facts.proofs.Requests.{one_asked}
 use Rattle.reply_facts.proofs.Freshness.{told_to, told_write}
 use Rattle.node_laws.proofs.Lists.{all_within}
 use Rattle.node_laws.proofs.Others.{told_more}
 use Rattle.node_laws.proofs.StepsKeep.{StaysTrue}
 use Rattle.node_laws.proofs.Runs.{makes_one_history}
-use Rattle.node_progress.specs.Completion.{IsAnswered, IsServed, AreAnswered}
+use Rattle.node_progress.specs.Completion.{IsAnswered, IsServed, AreAnswered, asked_since}
+use Rattle.node_progress.specs.Firsts.{IsFirst}
 use Rattle.node_progress.specs.UnderWay.{IsLeft, IsDelivered, IsNotStale}
 use Rattle.node_progress.proofs.Versions.{IsWell}
 use Rattle.node_progress.proofs.Bags.{changes_made, Bag}
 use Rattle.node_progress.proofs.BagRuns.{run_bag}
+use Rattle.node_progress.proofs.Firsts.{first_true, first_rests}
+use Rattle.node_progress.proofs.Lives.{TakenSince, taken_since}
 use Rattle.node_progress.proofs.Progress.{bag_under_way, all_answered, all_quiet}
 
 -- WHAT AN ANSWERED REQUEST HAS
@@ -54,33 +57,38 @@ answered_served w good a taken done = λ write asks.
 
 -- WHERE NO MESSAGE IS LEFT
 
-pub are_answered : (left : ℕ → Type 0) (w : World) → StaysTrue w → Bag left w → ((n : ℕ) → n < length w.sent → left n → ⊥) → AreAnswered w
-are_answered left w good bag none =
-    let under = bag_under_way left w good.0.book good.0.good bag in
-    let all = all_answered left w none under in
+pub are_answered : (first : World) (left : ℕ → Type 0) (w : World) → StaysTrue w → Bag left w → TakenSince first w
+    → ((n : ℕ) → n < length w.sent → left n → ⊥) → AreAnswered first w
+are_answered first left w good bag taken none =
+    let under = bag_under_way left w good.0.book good.0.good bag first taken in
+    let all = all_answered first left w none under in
     record {
       answered = all;
-      served = all_within (IsAnswered w.answered) (IsServed (account_of w)) w.asked
-          (λ a taken done. answered_served w good a taken done) all;
-      quiet = all_quiet left w none under;
+      served = all_within (IsAnswered w.answered) (IsServed (account_of w)) (asked_since first w)
+          (λ a there done. answered_served w good a (taken.among a there) done) all;
+      quiet = all_quiet first left w none under;
     }
 
-pub delivered_runs_are_answered : (routers : ℕ) (events : List Event) (w : World) → Run (start routers) events w
-    → ((n : ℕ) → n < length w.sent → IsDelivered events n) → AreAnswered w
-delivered_runs_are_answered routers events w run all =
-    let b = run_bag routers events w run in
-    are_answered (IsLeft events) w b.true_there b.bag (λ n below left. let d = all n below in left d.0 d.1)
+pub delivered_runs_are_answered : (first : World) (events : List Event) (w : World) → IsFirst first → Run first events w
+    → ((n : ℕ) → n < length w.sent → IsDelivered events n) → AreAnswered first w
+delivered_runs_are_answered first events w is run all =
+    let good = first_true first is in
+    let b = run_bag first good (first_rests first is) events w run in
+    are_answered first (IsLeft events) w b.true_there b.bag (taken_since first good events w run) (λ n below left. let d = all n below in left d.0 d.1)
 
 -- WHAT IS TRUE OF EVERY MESSAGE
 
-pub none_is_sent_back : (routers : ℕ) (events : List Event) (w : World) → Run (start routers) events w → AllByRecursion (λ (m : Letter). IsNotStale m.body) w.sent
-none_is_sent_back routers events w run =
-    all_weaken (IsWell (changes_made w) (length w.nodes)) (λ (m : Letter). IsNotStale m.body) w.sent (λ m x. x.not_stale) (run_bag routers events w run).bag.well
+pub none_is_sent_back : (first : World) (events : List Event) (w : World) → IsFirst first → Run first events w
+    → AllByRecursion (λ (m : Letter). IsNotStale m.body) w.sent
+none_is_sent_back first events w is run =
+    all_weaken (IsWell (changes_made w) (length w.nodes)) (λ (m : Letter). IsNotStale m.body) w.sent (λ m x. x.not_stale)
+    (run_bag first (first_true first is) (first_rests first is) events w run).bag.well
 
-pub messages_go_to_nodes : (routers : ℕ) (events : List Event) (w : World) → Run (start routers) events w
+pub messages_go_to_nodes : (first : World) (events : List Event) (w : World) → IsFirst first → Run first events w
     → AllByRecursion (λ (m : Letter). m.receiver < length w.nodes) w.sent
-messages_go_to_nodes routers events w run =
-    all_weaken (IsWell (changes_made w) (length w.nodes)) (λ (m : Letter). m.receiver < length w.nodes) w.sent (λ m x. x.to) (run_bag routers events w run).bag.well
+messages_go_to_nodes first events w is run =
+    all_weaken (IsWell (changes_made w) (length w.nodes)) (λ (m : Letter). m.receiver < length w.nodes) w.sent (λ m x. x.to)
+    (run_bag first (first_true first is) (first_rests first is) events w run).bag.well
 
 -- WHAT COMES LATER
 
@@ -104,13 +112,14 @@ run_stays : (u : World) (es : List Event) (w : World) (a : Asked) → WasAnswere
 run_stays _ _ _ a was (stands w) = was
 run_stays _ _ _ a was (goes u v w e es h run) = run_stays v es w a (happens_stays u v e a was h) run
 
-pub stay_answered : (u : World) (es : List Event) (w : World) → StaysTrue w → Run u es w → AllByRecursion (IsAnswered u.answered) u.asked
-    → AllByRecursion (IsAnswered w.answered) u.asked × AllByRecursion (IsServed (account_of w)) u.asked
-stay_answered u es w good run all = (
-  all_within (IsAnswered u.answered) (IsAnswered w.answered) u.asked
-      (λ a taken done. (run_stays u es w a (record { taken = taken; done = done }) run).done) all,
-  all_within (IsAnswered u.answered) (IsServed (account_of w)) u.asked
-      (λ a taken done.
-      let now = run_stays u es w a (record { taken = taken; done = done }) run in
+pub stay_answered : (u : World) (es : List Event) (w : World) → StaysTrue w → Run u es w → (asked : List Asked) → ((a : Asked) → IsIn a asked → IsIn a u.asked)
+    → AllByRecursion (IsAnswered u.answered) asked
+    → AllByRecursion (IsAnswered w.answered) asked × AllByRecursion (IsServed (account_of w)) asked
+stay_answered u es w good run asked among all = (
+  all_within (IsAnswered u.answered) (IsAnswered w.answered) asked
+      (λ a there done. (run_stays u es w a (record { taken = among a there; done = done }) run).done) all,
+  all_within (IsAnswered u.answered) (IsServed (account_of w)) asked
+      (λ a there done.
+      let now = run_stays u es w a (record { taken = among a there; done = done }) run in
       answered_served w good a now.taken now.done) all,
 )

@@ -6,12 +6,11 @@ use Rattle.node_model.specs.Letters.{Input, client_input, letter_input, moment_i
 use Rattle.node_model.specs.States.{Router, NodeState, catalogue_state, shard_state, router_state}
 use Rattle.node_model.specs.RouterRows.{RouterRow, router_begin, router_opened, router_plain, router_more, router_no_cursor, router_kill, router_take, router_learn, router_split, router_not_sharded, router_reach, router_ahead, router_note, router_wrote, router_read, router_excess, router_overflow, router_late, router_skip, router_moment}
 use Rattle.node_model.specs.Steps.{Step, catalogue_step, shard_step, router_step, begin_step, other_step}
-use Rattle.node_model.specs.World.{Held, World, asked_by, Moves, IsRouter, Event, Happens, client_event, deliver_event, moment_event, opened_event, comes, delivers, passes, begins as was_opened, Run, stands, goes, start}
+use Rattle.node_model.specs.World.{Held, World, asked_by, Moves, IsRouter, Event, Happens, client_event, deliver_event, moment_event, opened_event, comes, delivers, passes, begins as was_opened, Run, stands, goes}
 use Rattle.node_laws.proofs.Views.{view_of}
 use Rattle.node_laws.proofs.Facts.{StateFits}
 use Rattle.node_laws.proofs.Lists.{map_longer}
 use Rattle.node_laws.proofs.StepsKeep.{StaysTrue, fits_here, happens_keeps}
-use Rattle.node_laws.proofs.Runs.{start_true}
 use Rattle.node_progress.specs.Arrivals.{Arrival, arrivals, arrival_of}
 use Rattle.node_progress.proofs.Takings.{catalogue_takes_none, shard_takes_none}
 
@@ -53,7 +52,7 @@ IsClientOf (catalogue_state c) i = (node : ℕ) → arrivals_in node i ≡ []
 IsClientOf (shard_state s) i = (node : ℕ) → arrivals_in node i ≡ []
 IsClientOf (router_state r) i = Unit {0}
 
-abbrev me_of : NodeState → ℕ → Type 0
+abbrev pub me_of : NodeState → ℕ → Type 0
 me_of (catalogue_state c) at = Unit {0}
 me_of (shard_state s) at = Unit {0}
 me_of (router_state r) at = r.me ≡ at
@@ -69,7 +68,7 @@ taken_arrived : (now : ℕ) (taken : List Taken) → map arrival_of (asked_by no
 taken_arrived now [] = refl
 taken_arrived now (x ∷ taken) = ap (λ l. arrived x ∷ l) (taken_arrived now taken)
 
-own_place : (w : World) → StaysTrue w → (at : ℕ) (h : Held) → slice_get w.nodes at ≡ Some h → me_of h.state at
+pub own_place : (w : World) → StaysTrue w → (at : ℕ) (h : Held) → slice_get w.nodes at ≡ Some h → me_of h.state at
 own_place w good at h here = by_state h.state (fits_here w good.0.book at h good.0.good here).state
   where
     by_state : (s : NodeState) → StateFits (view_of w.nodes good.0.book) w.asked w.answered at h.kept s → me_of s at
@@ -114,12 +113,9 @@ arrivals_first (deliver_event at which) es = refl
 arrivals_first (moment_event at moment) es = refl
 arrivals_first (opened_event at) es = refl
 
-run_takes : (u : World) (es : List Event) (w : World) → StaysTrue u → Run u es w → map arrival_of w.asked ≡ map arrival_of u.asked ++ arrivals es
+pub run_takes : (u : World) (es : List Event) (w : World) → StaysTrue u → Run u es w → map arrival_of w.asked ≡ map arrival_of u.asked ++ arrivals es
 run_takes _ _ _ good (stands w) = sym (append-nil (map arrival_of w.asked))
 run_takes _ _ _ good (goes u v w e es h run) =
     run_takes v es w (happens_keeps u v e good h) run
     ∙ (ap (λ l. l ++ arrivals es) (event_takes u v e good h)
     ∙ (append_assoc (map arrival_of u.asked) (arrivals (e ∷ [])) (arrivals es) ∙ ap (λ l. map arrival_of u.asked ++ l) (sym (arrivals_first e es))))
-
-pub each_request_is_taken : (routers : ℕ) (events : List Event) (w : World) → Run (start routers) events w → map arrival_of w.asked ≡ arrivals events
-each_request_is_taken routers events w run = run_takes (start routers) events w (start_true routers) run

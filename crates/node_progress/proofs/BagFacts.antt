@@ -2,7 +2,6 @@
 use Rattle.std.proofs.Common.{◌≡◌, ℕ, ◌<◌, List, length, sym, ap, subst, ◌∙◌, arith}
 use Rattle.std.specs.Prelude.{Some, Bool}
 use Rattle.std.specs.List.{AllByRecursion, slice_get}
-use Rattle.std.proofs.lemmas.Option.{slice_get_within}
 use Rattle.history_model.specs.History.{IsIn}
 use Rattle.history_model.proofs.Lists.{all_at, all_weaken}
 use Rattle.chunk_model.specs.Tables.{Table}
@@ -23,7 +22,7 @@ use Rattle.node_progress.proofs.ShardPasses.{FitsThere}
 use Rattle.node_progress.proofs.ShardSends.{request_in}
 use Rattle.node_progress.proofs.RouterWaits.{IsWaiting}
 use Rattle.node_progress.proofs.RouterGoesOn.{IsStated, IsReady}
-use Rattle.node_progress.proofs.Bags.{changes_made, OpenGoes, IsOfRouter, Bag}
+use Rattle.node_progress.proofs.Bags.{changes_made, OpenGoes, Bag}
 
 -- WHAT IS KNOWN OF AN INPUT
 
@@ -51,9 +50,7 @@ module _ (w : World) (book : Book) (left : ℕ → Type 0) (good : Good w book) 
   -- a request that was taken is of a node
   of_node : (a : Asked) → IsIn a w.asked → (id : RequestId) → a.id ≡ id → id.router < length w.nodes
   of_node a there id own =
-      let o = all_at (λ (x : Asked). IsOfRouter w.nodes x.id) a w.asked bag.asked there in
-      subst (λ (x : RequestId). x.router < length w.nodes) own
-      (slice_get_within w.nodes a.id.router (record { state = router_state o.router; kept = o.kept }) o.here)
+      subst (λ (x : RequestId). x.router < length w.nodes) own (all_at (λ (x : Asked). x.id.router < length w.nodes) a w.asked bag.asked there)
 
   pub named_request : (m : Letter) → IsIn m w.sent → (id : RequestId) → request_in m.body ≡ Some id → id.router < length w.nodes
   named_request m there id names = by_body m.body (sent_fits m there).0 names

@@ -29,7 +29,7 @@ use Rattle.node_progress.proofs.RouterWaits.{WaitsAfter}
 use Rattle.node_progress.proofs.RouterGoesOn.{IsReady, router_waits}
 use Rattle.node_progress.proofs.RouterSends.{router_well}
 use Rattle.node_progress.proofs.Takings.{catalogue_takes_none, shard_takes_none, IsInLife, stays_in_life}
-use Rattle.node_progress.proofs.Bags.{changes_made, IsHeldFor, OpenGoes, ParkedGoes, IsOfRouter, Bag, WasFor, Clears}
+use Rattle.node_progress.proofs.Bags.{changes_made, IsHeldFor, OpenGoes, ParkedGoes, Bag, WasFor, Clears}
 use Rattle.node_progress.proofs.BagSteps.{Carries, parked_after, open_after}
 use Rattle.node_progress.proofs.BagFacts.{IsHere, now, told_had, named_request, known_to, fit_here}
 use Rattle.node_progress.proofs.BagMoves.{NoShardTable, within, from_node, others, nothing_taken, together}
@@ -45,7 +45,6 @@ catalogue_keeps left later w book p i kept c d f good bag here clears fresh come
     (catalogue_well (changes_made w) (length w.nodes) c d i f (subst (λ n. n < length w.nodes) (sym fits.own) inside) from row)
     tt
     (others left later w book p i kept (catalogue_state c) f (catalogue_state d) good bag here clears fresh comes carries tables)
-    (λ r is. absurd (cc is))
     (nothing_taken left later w book p i kept (catalogue_state c) f (catalogue_state d) good bag here clears fresh comes (catalogue_takes_none c d i f row))
   where
     fits : CatalogueFits w.asked p kept c
@@ -148,7 +147,6 @@ module _ (left later : ℕ → Type 0) (w : World) (book : Book) (p : ℕ) (i : 
       (λ m is namespace create at t says. (told_had w book left good bag m (comes m is).1 namespace create at t says).1) fit_there row))
       (others left later w book p i kept (shard_state s) f (shard_state u) good bag here clears fresh comes shard_carries
       (λ other. absurd (other shard_fits.place)))
-      (λ r is. absurd (cc is))
       (nothing_taken left later w book p i kept (shard_state s) f (shard_state u) good bag here clears fresh comes (shard_takes_none s u i f row))
     where
       inside : p < length w.nodes
@@ -162,10 +160,10 @@ module _ (left later : ℕ → Type 0) (w : World) (book : Book) (p : ℕ) (i : 
 pub router_keeps : (left later : ℕ → Type 0) (w : World) (book : Book) (p : ℕ) (i : Input) (kept : List Kept) (o r u : Router) (f : Effect)
     → Good w book → Bag left w → slice_get w.nodes p ≡ Some (record { state = router_state o; kept = kept }) → Clears left later w.sent i
     → ((n : ℕ) → length w.sent ≤ n → later n) → IsHere w p i → RouterRow r i f u → IsReady r i → AllByRecursion (OpenGoes left w r) r.requests
-    → AllByRecursion (IsTableOf (changes_made w)) r.tables → r.me ≡ o.me → r.life ≡ o.life
+    → AllByRecursion (IsTableOf (changes_made w)) r.tables → r.me ≡ o.me
     → (g : Effect) → g.mail ≡ f.mail → g.taken ≡ f.taken
     → Bag later (tick (after (is_given w p i) p (record { state = router_state o; kept = kept }) g (router_state u)))
-router_keeps left later w book p i kept o r u f good bag here clears fresh comes row ready goes tables me life g mail taken =
+router_keeps left later w book p i kept o r u f good bag here clears fresh comes row ready goes tables me g mail taken =
     together left later w book p i kept (router_state o) g (router_state u) good bag here clears fresh comes
     (subst (λ l. AllByRecursion (IsWell (changes_made w) (length w.nodes)) l) (sym mail)
     (router_well (changes_made w) (length w.nodes) r i f u (subst (λ n. n < length w.nodes) (sym own) inside)
@@ -175,9 +173,7 @@ router_keeps left later w book p i kept o r u f good bag here clears fresh comes
     (subst (λ l. AllByRecursion (WaitsAfter r u i l) u.requests) (sym mail) (router_waits r i f u ready row)))
     (others left later w book p i kept (router_state o) g (router_state u) good bag here clears fresh comes carries
     (λ other s x x_goes was. absurd (away (a_table first_shard x_goes.ask.namespace false no_time) (λ e. omega (arith, e, fits.place)) was)))
-    (λ x is. (u, refl, lives.life ∙ (life ∙ ap (λ (y : Router). y.life) (same_router x is))))
-    (subst (λ l. AllByRecursion (λ (a : Asked). IsOfRouter (slice_set w.nodes p (record { state = router_state u; kept = kept ++ g.written })) a.id)
-    (asked_by w.now l)) (sym taken) of_router)
+    (subst (λ l. AllByRecursion (λ (a : Asked). a.id.router < length w.nodes) (asked_by w.now l)) (sym taken) of_router)
   where
     fits : RouterFits (now w book) w.asked w.answered p o
     fits = (fits_here w book p (record { state = router_state o; kept = kept }) good here).state
@@ -187,9 +183,6 @@ router_keeps left later w book p i kept o r u f good bag here clears fresh comes
 
     lives : IsInLife r u f
     lives = stays_in_life r u i f row
-
-    same_router : (x : Router) → router_state o ≡ router_state x → o ≡ x
-    same_router x is = cc is
 
     inside : p < length w.nodes
     inside = within left later w book p i kept (router_state o) g (router_state u) good bag here clears fresh comes
@@ -209,16 +202,8 @@ router_keeps left later w book p i kept o r u f good bag here clears fresh comes
         → Carries left later w p i kept (router_state o) g (router_state u) bag here clears fresh t
     carries t above other none = record { passes = λ was. absurd (away t other was); holds = λ s is x there brings. absurd (cc is) }
 
-    of_router : AllByRecursion (λ (a : Asked). IsOfRouter (slice_set w.nodes p (record { state = router_state u; kept = kept ++ g.written })) a.id)
-        (asked_by w.now f.taken)
+    of_router : AllByRecursion (λ (a : Asked). a.id.router < length w.nodes) (asked_by w.now f.taken)
     of_router =
-        all_mapped (λ (a : Asked). IsOfRouter (slice_set w.nodes p (record { state = router_state u; kept = kept ++ g.written })) a.id) _ f.taken
-        (all_weaken (λ (x : Taken). (x.id.router ≡ r.me) × (x.id.life ≡ r.life))
-        (λ (x : Taken). IsOfRouter (slice_set w.nodes p (record { state = router_state u; kept = kept ++ g.written })) x.id) f.taken
-        (λ x h. record {
-          router = u;
-          kept = kept ++ g.written;
-          here = ap (λ k. slice_get (slice_set w.nodes p (record { state = router_state u; kept = kept ++ g.written })) k) (h.0 ∙ own)
-              ∙ get_set w.nodes p (record { state = router_state o; kept = kept }) (record { state = router_state u; kept = kept ++ g.written }) here;
-          life = h.1 ∙ sym lives.life;
-        }) lives.taken)
+        all_mapped (λ (a : Asked). a.id.router < length w.nodes) _ f.taken
+        (all_weaken (λ (x : Taken). (x.id.router ≡ r.me) × (x.id.life ≡ r.life)) (λ (x : Taken). x.id.router < length w.nodes) f.taken
+        (λ x h. subst (λ n. n < length w.nodes) (sym (h.0 ∙ own)) inside) lives.taken)

@@ -17,7 +17,7 @@ use Rattle.node_progress.proofs.Things.{home, home_of}
 use Rattle.node_progress.proofs.Lateness.{wants_other}
 use Rattle.node_progress.proofs.Versions.{IsWell}
 use Rattle.node_progress.proofs.CataloguePasses.{IsAmong}
-use Rattle.node_progress.proofs.Bags.{changes_made, OpenGoes, ParkedGoes, NodeGoes, IsOfRouter, Bag, WasFor, Clears}
+use Rattle.node_progress.proofs.Bags.{changes_made, OpenGoes, ParkedGoes, NodeGoes, Bag, WasFor, Clears}
 use Rattle.node_progress.proofs.BagSteps.{Carries, still_well, open_moves, parked_moves, bag_after}
 use Rattle.node_progress.proofs.BagFacts.{IsHere, now}
 
@@ -67,8 +67,8 @@ module _ (left later : ℕ → Type 0) (w : World) (book : Book) (p : ℕ) (i : 
       by_state (router_state r) own goes = other_open carries j r other own goes
 
   -- where the bag is that of a step that takes nothing
-  pub nothing_taken : f.taken ≡ [] → AllByRecursion (λ (a : Asked). IsOfRouter v.nodes a.id) (asked_by w.now f.taken)
-  nothing_taken none = subst (λ l. AllByRecursion (λ (a : Asked). IsOfRouter v.nodes a.id) (asked_by w.now l)) (sym none) tt
+  pub nothing_taken : f.taken ≡ [] → AllByRecursion (λ (a : Asked). a.id.router < length w.nodes) (asked_by w.now f.taken)
+  nothing_taken none = subst (λ l. AllByRecursion (λ (a : Asked). a.id.router < length w.nodes) (asked_by w.now l)) (sym none) tt
 
   well_there : AllByRecursion (IsWell (changes_made w) (length w.nodes)) f.mail → AllByRecursion (IsWell (changes_made v) (length v.nodes)) f.mail
   well_there all =
@@ -79,7 +79,6 @@ module _ (left later : ℕ → Type 0) (w : World) (book : Book) (p : ℕ) (i : 
 
   pub together : AllByRecursion (IsWell (changes_made w) (length w.nodes)) f.mail → NodeGoes later v new
       → ((j : ℕ) (h : Held) → j ≢ p → HeldFits (now w book) w.asked w.answered w.given j h → NodeGoes left w h.state → NodeGoes later v h.state)
-      → ((r : Router) → old ≡ router_state r → (u : Router) × (new ≡ router_state u) × (u.life ≡ r.life))
-      → AllByRecursion (λ (a : Asked). IsOfRouter v.nodes a.id) (asked_by w.now f.taken) → Bag later v
-  together well node other same taken =
-      bag_after left later w p i kept old f new bag here clears fresh (now w book) w.answered good.nodes (well_there well) node other same taken
+      → AllByRecursion (λ (a : Asked). a.id.router < length w.nodes) (asked_by w.now f.taken) → Bag later v
+  together well node other taken =
+      bag_after left later w p i kept old f new bag here clears fresh (now w book) w.answered good.nodes (well_there well) node other taken

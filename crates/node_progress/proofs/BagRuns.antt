@@ -1,5 +1,5 @@
 -- Every event keeps the bag, and so does every run.
-use Rattle.std.proofs.Common.{◌≡◌, ◌≢◌, ◌⊎◌, inl, inr, ℕ, zero, suc, ◌+◌, ◌<◌, ◌≤◌, List, [], ◌∷◌, ◌++◌, length, refl, sym, ap, subst, ◌∙◌, arith, append-nil, append_assoc, length-append}
+use Rattle.std.proofs.Common.{◌≡◌, ◌≢◌, ◌⊎◌, inl, inr, ℕ, ◌+◌, ◌<◌, ◌≤◌, List, [], ◌∷◌, ◌++◌, length, refl, sym, ap, subst, ◌∙◌, arith, append-nil, append_assoc, length-append}
 use Rattle.std.specs.Prelude.{Some}
 use Rattle.std.specs.List.{AllByRecursion, slice_get}
 use Rattle.std.proofs.lemmas.Option.{slice_get_within}
@@ -10,16 +10,17 @@ use Rattle.node_model.specs.Letters.{Letter, Input, client_input, letter_input, 
 use Rattle.node_model.specs.States.{Router, NodeState, catalogue_state, shard_state, router_state}
 use Rattle.node_model.specs.RouterRows.{begins}
 use Rattle.node_model.specs.Steps.{Step, catalogue_step, shard_step, router_step, begin_step, other_step, number_of}
-use Rattle.node_model.specs.World.{Held, World, after, is_given, tick, Moves, Event, client_event, deliver_event, moment_event, opened_event, Happens, comes, delivers, passes, begins as was_opened, Run, stands, goes, routers_from, start}
+use Rattle.node_model.specs.World.{Held, World, after, is_given, tick, Moves, Event, client_event, deliver_event, moment_event, opened_event, Happens, comes, delivers, passes, begins as was_opened, Run, stands, goes}
 use Rattle.node_laws.proofs.Views.{Book}
 use Rattle.node_laws.proofs.Places.{EachAt, each_get}
 use Rattle.node_laws.proofs.Facts.{StateFits, Good}
 use Rattle.node_laws.proofs.StepsKeep.{StaysTrue, fits_here, got_is_in, happens_keeps}
-use Rattle.node_laws.proofs.Runs.{start_true}
+use Rattle.node_progress.specs.Completion.{IsQuiet}
+use Rattle.node_progress.specs.Firsts.{IsAtRest}
 use Rattle.node_progress.specs.UnderWay.{IsLeft}
 use Rattle.node_progress.proofs.RouterGoesOn.{IsReady}
 use Rattle.node_progress.proofs.Versions.{IsWell}
-use Rattle.node_progress.proofs.Bags.{changes_made, OpenGoes, NodeGoes, Bag, Clears, same_place}
+use Rattle.node_progress.proofs.Bags.{changes_made, OpenGoes, ParkedGoes, NodeGoes, Bag, Clears, same_place}
 use Rattle.node_progress.proofs.BagFacts.{IsHere, now, ready_here, tables_here}
 use Rattle.node_progress.proofs.BagKinds.{catalogue_keeps, shard_keeps, router_keeps}
 
@@ -53,12 +54,12 @@ step_bag left later w book p _ kept _ _ _ good bag here clears fresh arrives nod
     shard_keeps left later w book p i kept s u f good bag here clears fresh arrives row node
 step_bag left later w book p _ kept _ _ _ good bag here clears fresh arrives node (router_step r u i f own row) =
     router_keeps left later w book p i kept r r u f good bag here clears fresh arrives row (ready_here w book left good bag r p kept i here arrives node) node
-    (tables_here w book left good bag r p kept here) refl refl f refl refl
+    (tables_here w book left good bag r p kept here) refl f refl refl
 step_bag left later w book p _ kept _ _ _ good bag here clears fresh arrives node (begin_step r u i f early before row) =
     router_keeps left later w book p i kept r (begins r) u f good bag here clears fresh arrives row
     (ready_begins r i (ready_here w book left good bag r p kept i here arrives node))
     (all_weaken (OpenGoes left w r) (OpenGoes left w (begins r)) r.requests (λ q o. record { waiting = o.waiting; carried = o.carried }) node)
-    (tables_here w book left good bag r p kept here) refl refl (both (writes (kept_life r.life ∷ []) []) f) refl refl
+    (tables_here w book left good bag r p kept here) refl (both (writes (kept_life r.life ∷ []) []) f) refl refl
 step_bag left later w book p _ kept _ _ _ good bag here clears fresh arrives node (other_step s m other) =
     absurd (other ((arrives m refl).0
     ∙ sym (state_place w book p kept s (fits_here w book p (record { state = s; kept = kept }) good here).state)))
@@ -100,18 +101,25 @@ event_bag left later _ _ book _ good bag leaves fresh (passes w v at moment m) =
 event_bag left later _ _ book _ good bag leaves fresh (was_opened w v at m) =
     move_bag left later w v book at opened_input good bag (λ n l. inl (leaves n l)) fresh (no_letter w at opened_input (λ x e. cc e)) m
 
--- THE START
+-- THE FIRST WORLD
 
-routers_go : (left : ℕ → Type 0) (w : World) (at n : ℕ) → EachAt (λ j (h : Held). NodeGoes left w h.state) at (routers_from at n)
-routers_go left w at zero = tt
-routers_go left w at (suc n) = (tt, routers_go left w (at + 1) n)
+-- where no request is open and none is parked, nothing is under way
+quiet_goes : (left : ℕ → Type 0) (w : World) (s : NodeState) → IsQuiet s → NodeGoes left w s
+quiet_goes left w (catalogue_state c) quiet = tt
+quiet_goes left w (shard_state s) quiet = subst (λ l. AllByRecursion (ParkedGoes left w s) l) (sym quiet) tt
+quiet_goes left w (router_state r) quiet = subst (λ l. AllByRecursion (OpenGoes left w r) l) (sym quiet) tt
 
-pub start_bag : (left : ℕ → Type 0) (routers : ℕ) → ((n : ℕ) → left n) → Bag left (start routers)
-start_bag left routers all = record {
+all_go : (left : ℕ → Type 0) (w : World) (at : ℕ) (nodes : List Held) → AllByRecursion (λ (h : Held). IsQuiet h.state) nodes
+    → EachAt (λ j (h : Held). NodeGoes left w h.state) at nodes
+all_go left w at [] quiet = tt
+all_go left w at (h ∷ nodes) quiet = (quiet_goes left w h.state quiet.0, all_go left w (at + 1) nodes quiet.1)
+
+pub first_bag : (left : ℕ → Type 0) (w : World) → IsAtRest w → ((n : ℕ) → left n) → Bag left w
+first_bag left w rest all = record {
   fresh = λ n le. all n;
-  well = tt;
-  nodes = (tt, (tt, routers_go left (start routers) 2 routers));
-  asked = tt;
+  well = subst (λ l. AllByRecursion (IsWell (changes_made w) (length w.nodes)) l) (sym rest.none_sent) tt;
+  nodes = all_go left w 0 w.nodes rest.quiet;
+  asked = rest.placed;
 }
 
 -- A WORLD WITH ITS BAG
@@ -237,10 +245,10 @@ run_more before _ _ _ b (stands w) = subst (λ l. BagOf l w) (sym (append-nil be
 run_more before _ _ _ b (goes u v w e es h run) =
     subst (λ l. BagOf l w) (append_assoc before (e ∷ []) es) (run_more (before ++ e ∷ []) v es w (event_more before u v e b h) run)
 
-pub run_bag : (routers : ℕ) (events : List Event) (w : World) → Run (start routers) events w → BagOf events w
-run_bag routers events w run =
-    run_more [] (start routers) events w (record {
-      true_there = start_true routers;
-      bag = start_bag (IsLeft []) routers (λ n at i. in_none (deliver_event at n) i);
+pub run_bag : (first : World) → StaysTrue first → IsAtRest first → (events : List Event) (w : World) → Run first events w → BagOf events w
+run_bag first good rest events w run =
+    run_more [] first events w (record {
+      true_there = good;
+      bag = first_bag (IsLeft []) first rest (λ n at i. in_none (deliver_event at n) i);
       within = λ at n i. absurd (in_none (deliver_event at n) i);
     }) run

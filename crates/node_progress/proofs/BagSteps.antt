@@ -1,5 +1,5 @@
 -- A step of a node keeps the bag.
-use Rattle.std.proofs.Common.{◌≡◌, ◌≢◌, ◌⊎◌, inl, inr, ℕ, ◌+◌, ◌≤◌, List, [], ◌∷◌, ◌++◌, length, sym, ap, subst, ◌∙◌, arith, length-append}
+use Rattle.std.proofs.Common.{◌≡◌, ◌≢◌, ◌⊎◌, inl, inr, ℕ, ◌+◌, ◌<◌, ◌≤◌, List, [], ◌∷◌, ◌++◌, length, sym, ap, subst, ◌∙◌, arith, length-append}
 use Rattle.std.specs.Prelude.{Some, false}
 use Rattle.std.specs.List.{AllByRecursion, slice_get}
 use Rattle.history_model.specs.History.{IsIn}
@@ -8,18 +8,17 @@ use Rattle.chunk_model.specs.Tables.{first_shard}
 use Rattle.reply_model.specs.Exchanges.{Asked, Answered}
 use Rattle.node_model.specs.Journal.{Kept}
 use Rattle.node_model.specs.Letters.{no_time, Letter, Input, letter_input, Effect}
-use Rattle.node_model.specs.States.{Shard, Router, Open, NodeState, shard_state, router_state}
+use Rattle.node_model.specs.States.{Shard, Router, Open, NodeState, shard_state}
 use Rattle.node_model.specs.World.{Held, World, asked_by, after, is_given, tick}
 use Rattle.node_laws.proofs.Views.{View}
 use Rattle.node_laws.proofs.Places.{EachAt, each_set}
 use Rattle.node_laws.proofs.Facts.{HeldFits}
-use Rattle.node_laws.proofs.StepsKeep.{get_set}
 use Rattle.node_progress.specs.UnderWay.{Thing, a_table, thing_of, IsFor, IsSent}
 use Rattle.node_progress.proofs.Versions.{IsWell, well_later}
 use Rattle.node_progress.proofs.CataloguePasses.{IsAmong}
 use Rattle.node_progress.proofs.ShardParks.{IsParkedAfter}
 use Rattle.node_progress.proofs.RouterWaits.{WaitsAfter}
-use Rattle.node_progress.proofs.Bags.{changes_made, IsHeldFor, IsCarried, OpenGoes, ParkedGoes, NodeGoes, IsOfRouter, Bag, get_other, length_set, same_place, WasFor, Clears, sent_moves, sent_anew, MoreMade, changes_more}
+use Rattle.node_progress.proofs.Bags.{changes_made, IsHeldFor, IsCarried, OpenGoes, ParkedGoes, NodeGoes, Bag, get_other, length_set, same_place, WasFor, Clears, sent_moves, sent_anew, MoreMade, changes_more}
 
 each_both : (P Q : ℕ → Held → Type 0) (i : ℕ) (xs : List Held) → EachAt P i xs → EachAt Q i xs → EachAt (λ j h. P j h × Q j h) i xs
 each_both P Q i [] p q = tt
@@ -152,37 +151,18 @@ module _ (left later : ℕ → Type 0) (w : World) (p : ℕ) (i : Input) (kept :
 
   -- THE WORLD
 
-  -- an identity stays that of a router
-  asked_stays : ((r : Router) → old ≡ router_state r → (u : Router) × (new ≡ router_state u) × (u.life ≡ r.life)) → (a : Asked) → IsOfRouter w.nodes a.id
-      → IsOfRouter next_world.nodes a.id
-  asked_stays same a o = by_place (same_place a.id.router p)
-    where
-      by_place : (a.id.router ≡ p) ⊎ (a.id.router ≢ p) → IsOfRouter next_world.nodes a.id
-      by_place (inr other) =
-          record { router = o.router; kept = o.kept; here = get_other w.nodes p a.id.router stepped other ∙ o.here; life = o.life }
-      by_place (inl place) =
-          let both : Some (record { state = router_state o.router; kept = o.kept }) ≡ Some (record { state = old; kept = kept }) =
-          sym o.here ∙ (ap (λ k. slice_get w.nodes k) place ∙ here) in
-          let held : record { state = old; kept = kept } ≡ record { state = router_state o.router; kept = o.kept } = cc both in
-          let next = same o.router (ap (λ (x : Held). x.state) held) in
-          record {
-            router = next.0;
-            kept = kept ++ f.written;
-            here = ap (λ k. slice_get next_world.nodes k) place
-                ∙ (get_set w.nodes p (record { state = old; kept = kept }) stepped here
-                ∙ ap (λ (s : NodeState). Some (record { state = s; kept = kept ++ f.written })) next.1);
-            life = o.life ∙ sym next.2;
-          }
+  -- a request stays that of a node
+  asked_stays : (a : Asked) → a.id.router < length w.nodes → a.id.router < length next_world.nodes
+  asked_stays a inside = subst (λ n. a.id.router < n) (sym (length_set w.nodes p stepped)) inside
 
   -- the bag, where its parts are known
   pub bag_after : (v : View) (answered : List Answered) → EachAt (HeldFits v w.asked answered w.given) 0 w.nodes
       → AllByRecursion (IsWell (changes_made next_world) (length next_world.nodes)) f.mail
       → NodeGoes later next_world new
       → ((j : ℕ) (h : Held) → j ≢ p → HeldFits v w.asked answered w.given j h → NodeGoes left w h.state → NodeGoes later next_world h.state)
-      → ((r : Router) → old ≡ router_state r → (u : Router) × (new ≡ router_state u) × (u.life ≡ r.life))
-      → AllByRecursion (λ (a : Asked). IsOfRouter next_world.nodes a.id) (asked_by w.now f.taken)
+      → AllByRecursion (λ (a : Asked). a.id.router < length w.nodes) (asked_by w.now f.taken)
       → Bag later next_world
-  bag_after v answered fit well node others same taken = record {
+  bag_after v answered fit well node others taken = record {
     fresh = λ n le. let l = length-append w.sent f.mail in fresh n (omega (arith, le, l));
     well = all_append (IsWell (changes_made next_world) (length next_world.nodes)) w.sent f.mail
         (all_weaken (IsWell (changes_made w) (length w.nodes)) (IsWell (changes_made next_world) (length next_world.nodes)) w.sent (λ m x. still_well m x) bag.well)
@@ -191,9 +171,10 @@ module _ (left later : ℕ → Type 0) (w : World) (p : ℕ) (i : Input) (kept :
         each_set (λ j (h : Held). HeldFits v w.asked answered w.given j h × NodeGoes left w h.state) (λ j (h : Held). NodeGoes later next_world h.state) 0 p
         w.nodes stepped (λ j h other x. others j h (λ e. other (e ∙ from_zero)) x.0 x.1) node
         (each_both (HeldFits v w.asked answered w.given) (λ j (h : Held). NodeGoes left w h.state) 0 w.nodes fit bag.nodes);
-    asked = all_append (λ (a : Asked). IsOfRouter next_world.nodes a.id) w.asked (asked_by w.now f.taken)
-        (all_weaken (λ (a : Asked). IsOfRouter w.nodes a.id) (λ (a : Asked). IsOfRouter next_world.nodes a.id) w.asked (λ a o. asked_stays same a o) bag.asked)
-        taken;
+    asked = all_append (λ (a : Asked). a.id.router < length next_world.nodes) w.asked (asked_by w.now f.taken)
+        (all_weaken (λ (a : Asked). a.id.router < length w.nodes) (λ (a : Asked). a.id.router < length next_world.nodes) w.asked asked_stays bag.asked)
+        (all_weaken (λ (a : Asked). a.id.router < length w.nodes) (λ (a : Asked). a.id.router < length next_world.nodes) (asked_by w.now f.taken) asked_stays
+        taken);
   }
     where
       from_zero : p ≡ 0 + p

@@ -1,12 +1,11 @@
 -- What is under way in a world, and what of it a step leaves.
-use Rattle.std.proofs.Common.{◌≡◌, ◌≢◌, ◌⊎◌, inl, inr, ℕ, zero, suc, ◌≤◌, List, [], ◌∷◌, ◌++◌, length, refl, sym, ap, subst, ◌∙◌, arith, append_assoc, length-append, Bool}
+use Rattle.std.proofs.Common.{◌≡◌, ◌≢◌, ◌⊎◌, inl, inr, ℕ, zero, suc, ◌<◌, ◌≤◌, List, [], ◌∷◌, ◌++◌, length, refl, sym, ap, subst, ◌∙◌, arith, append_assoc, length-append, Bool}
 use Rattle.std.specs.Prelude.{Some, true, false, ◌==◌, None}
 use Rattle.std.specs.List.{AllByRecursion, slice_get, slice_set}
 use Rattle.std.proofs.lemmas.Bool.{eqb-true, eqb-false}
 use Rattle.history_model.specs.History.{IsIn}
 use Rattle.chunk_model.specs.Changes.{Change}
 use Rattle.chunk_model.specs.Tables.{first_shard, table_of}
-use Rattle.base_model.specs.Identities.{RequestId}
 use Rattle.reply_model.specs.Exchanges.{Asked}
 use Rattle.node_model.specs.Journal.{Kept, changes_kept}
 use Rattle.node_model.specs.Letters.{no_time, Letter, Input, letter_input}
@@ -56,18 +55,11 @@ NodeGoes left w (catalogue_state c) = Unit {0}
 NodeGoes left w (shard_state s) = AllByRecursion (ParkedGoes left w s) s.parked
 NodeGoes left w (router_state r) = AllByRecursion (OpenGoes left w r) r.requests
 
--- the request is of a router, in its life
-pub record IsOfRouter (nodes : List Held) (id : RequestId) : Type 0 where
-  pub router : Router
-  pub kept : List Kept
-  pub here : slice_get nodes id.router ≡ Some (record { state = router_state router; kept = kept })
-  pub life : id.life ≡ router.life
-
 pub record Bag (left : ℕ → Type 0) (w : World) : Type 0 where
   pub fresh : (n : ℕ) → length w.sent ≤ n → left n
   pub well : AllByRecursion (IsWell (changes_made w) (length w.nodes)) w.sent
   pub nodes : EachAt (λ j (h : Held). NodeGoes left w h.state) 0 w.nodes
-  pub asked : AllByRecursion (λ (a : Asked). IsOfRouter w.nodes a.id) w.asked
+  pub asked : AllByRecursion (λ (a : Asked). a.id.router < length w.nodes) w.asked
 
 -- LISTS
 

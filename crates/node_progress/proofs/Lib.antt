@@ -11,7 +11,11 @@ pub mod RouterWaits
 pub mod RouterGoesOn
 pub mod RouterSends
 pub mod Takings
+pub mod Arrivals
 pub mod Bags
+pub mod Lives
+pub mod Restarted
+pub mod Firsts
 pub mod BagSteps
 pub mod BagFacts
 pub mod BagMoves
@@ -20,4 +24,3 @@ pub mod BagRuns
 pub mod Progress
 pub mod Answered
 pub mod Rounds
-pub mod Arrivals

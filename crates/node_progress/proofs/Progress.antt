@@ -1,24 +1,30 @@
 -- What is under way in each world of a run; and where no message is left, every request is answered.
-use Rattle.std.proofs.Common.{◌≡◌, ◌⊎◌, inl, inr, ℕ, suc, ◌<◌, List, [], ◌∷◌, length, refl, sym, subst, ◌∙◌}
+use Rattle.std.proofs.Common.{◌≡◌, ◌⊎◌, inl, inr, ℕ, suc, ◌<◌, List, [], ◌∷◌, ◌++◌, length, map, refl, sym, subst, ◌∙◌}
 use Rattle.std.specs.Prelude.{Some, false}
 use Rattle.std.specs.List.{AllByRecursion, slice_get}
 use Rattle.std.proofs.lemmas.Option.{slice_get_within}
 use Rattle.history_model.specs.History.{IsIn}
-use Rattle.history_model.proofs.Lists.{all_at, all_from, all_weaken, in_first, in_later, in_none, in_cons}
+use Rattle.history_model.proofs.Lists.{all_at, all_weaken, in_first, in_later, in_none, in_cons}
 use Rattle.reply_model.specs.Exchanges.{Asked}
 use Rattle.node_model.specs.Journal.{Kept}
 use Rattle.node_model.specs.Letters.{no_time, Letter}
 use Rattle.node_model.specs.States.{Shard, Router, Open, NodeState, catalogue_state, shard_state, router_state}
-use Rattle.node_model.specs.World.{Held, World, Event, Run, start}
+use Rattle.node_model.specs.World.{Held, World, Event, Run}
 use Rattle.node_laws.proofs.Views.{Book}
+use Rattle.node_laws.proofs.Lists.{all_within}
 use Rattle.node_laws.proofs.Places.{each_get}
 use Rattle.node_laws.proofs.Facts.{counts_of, IsClosedOrOpen, ShardFits, RouterFits, Good}
 use Rattle.node_laws.proofs.StepsKeep.{fits_here}
-use Rattle.node_progress.specs.Completion.{IsQuiet, IsAnswered}
+use Rattle.node_progress.specs.Completion.{IsQuiet, IsAnswered, IsOfRouter, asked_since}
+use Rattle.node_progress.specs.Arrivals.{arrivals, arrival_of}
+use Rattle.node_progress.specs.Firsts.{IsFirst}
 use Rattle.node_progress.specs.UnderWay.{Thing, a_table, thing_of, things_of, IsSent, IsFetched, IsComing, IsServedNext, IsUnderWay, IsLeft}
-use Rattle.node_progress.proofs.Bags.{OpenGoes, ParkedGoes, NodeGoes, IsCarried, IsOfRouter, Bag}
+use Rattle.node_progress.proofs.Arrivals.{run_takes}
+use Rattle.node_progress.proofs.Bags.{OpenGoes, ParkedGoes, NodeGoes, IsCarried, Bag}
 use Rattle.node_progress.proofs.BagFacts.{now}
 use Rattle.node_progress.proofs.BagRuns.{run_bag}
+use Rattle.node_progress.proofs.Firsts.{first_true, first_rests}
+use Rattle.node_progress.proofs.Lives.{TakenSince, taken_since}
 
 -- FROM THE BAG
 
@@ -64,9 +70,8 @@ module _ (left : ℕ → Type 0) (w : World) (book : Book) (good : Good w book) 
   open_coming at r kept q here there =
       (coming (thing_of r q) (all_at (OpenGoes left w r) q r.requests (node_goes at (record { state = router_state r; kept = kept }) here) there).carried, tt)
 
-  served_next : (a : Asked) → IsIn a w.asked → IsAnswered w.answered a ⊎ IsServedNext left w a
-  served_next a there =
-      let o = all_at (λ (x : Asked). IsOfRouter w.nodes x.id) a w.asked bag.asked there in
+  served_next : (a : Asked) → IsIn a w.asked → IsOfRouter w.nodes a.id → IsAnswered w.answered a ⊎ IsServedNext left w a
+  served_next a there o =
       let fits : RouterFits (now w book) w.asked w.answered a.id.router o.router =
       (fits_here w book a.id.router (record { state = router_state o.router; kept = o.kept }) good o.here).state in
       by_place o fits (all_at (λ (x : Asked). x.id.router ≡ a.id.router → x.id.life ≡ o.router.life → IsClosedOrOpen o.router.requests w.answered x) a w.asked
@@ -87,17 +92,28 @@ module _ (left : ℕ → Type 0) (w : World) (book : Book) (good : Good w book) 
             coming = open_coming a.id.router o.router o.kept q.0 o.here q.1;
           })
 
-  pub bag_under_way : IsUnderWay left w
-  bag_under_way = record {
-    taken = all_from (λ (a : Asked). IsAnswered w.answered a ⊎ IsServedNext left w a) w.asked (λ a there. served_next a there);
+  pub bag_under_way : (first : World) → TakenSince first w → IsUnderWay first left w
+  bag_under_way first taken = record {
+    taken = all_within (λ (a : Asked). IsOfRouter w.nodes a.id) (λ (a : Asked). IsAnswered w.answered a ⊎ IsServedNext left w a) (asked_since first w)
+        (λ a there o. served_next a (taken.among a there) o) taken.lives;
     waiting = open_coming;
     parked = fetched;
   }
 
-pub run_under_way : (routers : ℕ) (events : List Event) (w : World) → Run (start routers) events w → IsUnderWay (IsLeft events) w
-run_under_way routers events w run =
-    let b = run_bag routers events w run in
-    bag_under_way (IsLeft events) w b.true_there.0.book b.true_there.0.good b.bag
+-- FROM A FIRST WORLD
+
+pub each_request_is_taken : (first : World) (events : List Event) (w : World) → IsFirst first → Run first events w
+    → map arrival_of w.asked ≡ map arrival_of first.asked ++ arrivals events
+each_request_is_taken first events w is run = run_takes first events w (first_true first is) run
+
+pub requests_are_of_lives : (first : World) (events : List Event) (w : World) → IsFirst first → Run first events w
+    → AllByRecursion (λ (a : Asked). IsOfRouter w.nodes a.id) (asked_since first w)
+requests_are_of_lives first events w is run = (taken_since first (first_true first is) events w run).lives
+
+pub run_under_way : (first : World) (events : List Event) (w : World) → IsFirst first → Run first events w → IsUnderWay first (IsLeft events) w
+run_under_way first events w is run =
+    let b = run_bag first (first_true first is) (first_rests first is) events w run in
+    bag_under_way (IsLeft events) w b.true_there.0.book b.true_there.0.good b.bag first (taken_since first (first_true first is) events w run)
 
 -- WHERE NOTHING IS LEFT
 
@@ -109,7 +125,7 @@ none_in : {X : Type 0} (xs : List X) → ((x : X) → IsIn x xs → ⊥) → xs 
 none_in [] none = refl
 none_in (x ∷ xs) none = absurd (none x (in_first x xs))
 
-module _ (left : ℕ → Type 0) (w : World) (none : (n : ℕ) → n < length w.sent → left n → ⊥) where
+module _ (first : World) (left : ℕ → Type 0) (w : World) (none : (n : ℕ) → n < length w.sent → left n → ⊥) where
   none_sent : (t : Thing) → IsSent left w.sent t → ⊥
   none_sent t s = none s.place (slice_get_within w.sent s.place s.letter s.got) s.undelivered
 
@@ -118,16 +134,16 @@ module _ (left : ℕ → Type 0) (w : World) (none : (n : ℕ) → n < length w.
   none_comes t (inr p) = none_sent (a_table p.shard.me p.fetched.ask.namespace false no_time) p.fetched.table
 
   -- all that was taken is answered
-  pub all_answered : IsUnderWay left w → AllByRecursion (IsAnswered w.answered) w.asked
+  pub all_answered : IsUnderWay first left w → AllByRecursion (IsAnswered w.answered) (asked_since first w)
   all_answered u =
-      all_weaken (λ (a : Asked). IsAnswered w.answered a ⊎ IsServedNext left w a) (IsAnswered w.answered) w.asked (λ a h. by_place a h) u.taken
+      all_weaken (λ (a : Asked). IsAnswered w.answered a ⊎ IsServedNext left w a) (IsAnswered w.answered) (asked_since first w) (λ a h. by_place a h) u.taken
     where
       by_place : (a : Asked) → IsAnswered w.answered a ⊎ IsServedNext left w a → IsAnswered w.answered a
       by_place a (inl done) = done
       by_place a (inr s) = absurd (none_comes (thing_of s.router s.request) s.coming.0)
 
   -- no request is open, and none is parked
-  pub all_quiet : IsUnderWay left w → AllByRecursion (λ (h : Held). IsQuiet h.state) w.nodes
+  pub all_quiet : IsUnderWay first left w → AllByRecursion (λ (h : Held). IsQuiet h.state) w.nodes
   all_quiet u = each_place (λ (h : Held). IsQuiet h.state) w.nodes (λ k h here. by_state k h.kept h.state here)
     where
       by_state : (k : ℕ) (kept : List Kept) (s : NodeState) → slice_get w.nodes k ≡ Some (record { state = s; kept = kept }) → IsQuiet s

@@ -8,13 +8,16 @@ use Rattle.node_model.specs.CatalogueRows.{catalogue_opened}
 use Rattle.node_model.specs.ShardRows.{shard_opened}
 use Rattle.node_model.specs.RouterRows.{router_begin, router_opened}
 use Rattle.node_model.specs.Steps.{Step, catalogue_step, shard_step, router_step, begin_step}
-use Rattle.node_model.specs.World.{World, Event, client_event, deliver_event, opened_event, Happens, delivers, begins as was_opened, Run, stands, goes, start, account_of}
+use Rattle.node_model.specs.World.{World, Event, client_event, deliver_event, opened_event, Happens, delivers, begins as was_opened, Run, stands, goes, account_of}
 use Rattle.node_model.specs.Schedule.{openings, moments_given, Delivers, delivers_none, delivers_next, Round, Pipes, opens, serves}
 use Rattle.node_laws.proofs.StepsKeep.{run_keeps}
-use Rattle.node_laws.proofs.Runs.{start_true}
-use Rattle.node_progress.specs.Completion.{IsAnswered, IsServed, AreAnswered}
+use Rattle.node_model.proofs.Schedules.{pipes_run}
+use Rattle.node_progress.specs.Completion.{IsAnswered, IsServed, AreAnswered, asked_since}
+use Rattle.node_progress.specs.Firsts.{IsFirst}
 use Rattle.node_progress.proofs.Bags.{same_place}
-use Rattle.node_progress.proofs.BagRuns.{BagIn, IsNoDelivery, start_bag, event_keeps, events_keep, delivery_bag}
+use Rattle.node_progress.proofs.BagRuns.{BagIn, IsNoDelivery, first_bag, event_keeps, events_keep, delivery_bag}
+use Rattle.node_progress.proofs.Firsts.{first_true, first_rests}
+use Rattle.node_progress.proofs.Lives.{TakenSince, taken_since}
 use Rattle.node_progress.proofs.Answered.{are_answered, stay_answered}
 
 -- MESSAGES IN ORDER OF SENDING
@@ -36,8 +39,8 @@ delivery_keeps w v next at b h =
     by_place n le (inl same) = inr same
     by_place n le (inr other) = inl (omega (arith, le, other))
 
-start_at : (routers : ℕ) → BagAt (start routers) 0
-start_at routers = record { true_there = start_true routers; bag = start_bag (λ n. 0 ≤ n) routers (λ n. omega arith) }
+first_at : (first : World) → IsFirst first → BagAt first 0
+first_at first is = record { true_there = first_true first is; bag = first_bag (λ n. 0 ≤ n) first (first_rests first is) (λ n. omega arith) }
 
 -- A ROUND
 
@@ -61,12 +64,13 @@ round_asked u given asked next r b run came =
     event_keeps (λ n. next ≤ n) given asked (client_event r.at r.link r.number r.request) tt
     (events_keep (λ n. next ≤ n) u (moments_given 0 (length u.nodes) r.moment) given (moments_deliver_none 0 (length u.nodes) r.moment) b run) came
 
-pub pipes_bag : (routers : ℕ) (rounds : List Round) (events : List Event) (w : World) (next : ℕ) → Pipes routers rounds events w next → BagAt w next
-pipes_bag routers _ _ _ _ (opens w run) =
-    events_keep (λ n. 0 ≤ n) (start routers) (openings 0 (length (start routers).nodes)) w (openings_deliver_none 0 (length (start routers).nodes)) (start_at routers) run
-pipes_bag routers _ _ _ _ (serves rounds r before events u w next pipes round) =
+pub pipes_bag : (first : World) → IsFirst first → (rounds : List Round) (events : List Event) (w : World) (next : ℕ) → Pipes first rounds events w next
+    → BagAt w next
+pipes_bag first is _ _ _ _ (opens w run) =
+    events_keep (λ n. 0 ≤ n) first (openings 0 (length first.nodes)) w (openings_deliver_none 0 (length first.nodes)) (first_at first is) run
+pipes_bag first is _ _ _ _ (serves rounds r before events u w next pipes round) =
     deliveries_keep round.asked next round.deliveries w (length w.sent)
-    (round_asked u round.given round.asked next r (pipes_bag routers rounds before u next pipes) round.moments round.comes) round.settles
+    (round_asked u round.given round.asked next r (pipes_bag first is rounds before u next pipes) round.moments round.comes) round.settles
 
 -- ALL IS ANSWERED
 
@@ -91,23 +95,29 @@ openings_send_none first (suc count) _ _ _ is (goes u v w e es h run) =
     openings_send_none (first + 1) count v w es rest run ∙ opening_sends_none u v first (subst (λ x. Happens u x v) one h)
 
 -- after a round no message is left
-none_left : (routers : ℕ) (rounds : List Round) (events : List Event) (w : World) (next : ℕ) → Pipes routers rounds events w next
+none_left : (first : World) → IsFirst first → (rounds : List Round) (events : List Event) (w : World) (next : ℕ) → Pipes first rounds events w next
     → (n : ℕ) → n < length w.sent → next ≤ n → ⊥
-none_left routers _ _ _ _ (opens w run) n below left =
+none_left first is _ _ _ _ (opens w run) n below left =
     let same : length w.sent ≡ 0 =
-    ap (λ (l : List Letter). length l) (openings_send_none 0 (length (start routers).nodes) (start routers) w (openings 0 (length (start routers).nodes)) refl run) in
+    ap (λ (l : List Letter). length l)
+    (openings_send_none 0 (length first.nodes) first w (openings 0 (length first.nodes)) refl run ∙ (first_rests first is).none_sent) in
     omega (arith, below, same)
-none_left routers _ _ _ _ (serves rounds r before events u w next pipes round) n below left = omega (arith, below, left)
+none_left first is _ _ _ _ (serves rounds r before events u w next pipes round) n below left = omega (arith, below, left)
 
-pub piped_requests_are_answered : (routers : ℕ) (rounds : List Round) (events : List Event) (w : World) (next : ℕ) → Pipes routers rounds events w next
-    → AreAnswered w
-piped_requests_are_answered routers rounds events w next pipes =
-    let b = pipes_bag routers rounds events w next pipes in
-    are_answered (λ n. next ≤ n) w b.true_there b.bag (none_left routers rounds events w next pipes)
+pub piped_since : (first : World) → IsFirst first → (rounds : List Round) (events : List Event) (w : World) (next : ℕ) → Pipes first rounds events w next
+    → TakenSince first w
+piped_since first is rounds events w next pipes = taken_since first (first_true first is) events w (pipes_run first rounds events w next pipes)
 
-pub earlier_requests_stay_answered : (routers : ℕ) (rounds : List Round) (events : List Event) (u : World) (next : ℕ) → Pipes routers rounds events u next
-    → (more : List Event) (w : World) → Run u more w
-    → AllByRecursion (IsAnswered w.answered) u.asked × AllByRecursion (IsServed (account_of w)) u.asked
-earlier_requests_stay_answered routers rounds events u next pipes more w run =
-    stay_answered u more w (run_keeps u w more (pipes_bag routers rounds events u next pipes).true_there run) run
-    (piped_requests_are_answered routers rounds events u next pipes).answered
+pub piped_requests_are_answered : (first : World) (rounds : List Round) (events : List Event) (w : World) (next : ℕ) → IsFirst first
+    → Pipes first rounds events w next → AreAnswered first w
+piped_requests_are_answered first rounds events w next is pipes =
+    let b = pipes_bag first is rounds events w next pipes in
+    are_answered first (λ n. next ≤ n) w b.true_there b.bag (piped_since first is rounds events w next pipes)
+    (none_left first is rounds events w next pipes)
+
+pub earlier_requests_stay_answered : (first : World) (rounds : List Round) (events : List Event) (u : World) (next : ℕ) → IsFirst first
+    → Pipes first rounds events u next → (more : List Event) (w : World) → Run u more w
+    → AllByRecursion (IsAnswered w.answered) (asked_since first u) × AllByRecursion (IsServed (account_of w)) (asked_since first u)
+earlier_requests_stay_answered first rounds events u next is pipes more w run =
+    stay_answered u more w (run_keeps u w more (pipes_bag first is rounds events u next pipes).true_there run) run (asked_since first u)
+    (piped_since first is rounds events u next pipes).among (piped_requests_are_answered first rounds events u next is pipes).answered

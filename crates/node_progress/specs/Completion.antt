@@ -1,6 +1,7 @@
 -- What it means that every request is answered.
-use Rattle.std.specs.Prelude.{◌≡◌, List, [], None, Ok}
-use Rattle.std.specs.List.{AllByRecursion}
+use Rattle.std.specs.Prelude.{◌≡◌, List, [], None, Some, Ok, length, drop}
+use Rattle.std.specs.List.{AllByRecursion, slice_get}
+use Rattle.base_model.specs.Identities.{RequestId}
 use Rattle.command_model.specs.Writes.{WriteCommand}
 use Rattle.command_model.specs.Command.{write_command, command_of}
 use Rattle.history_model.specs.History.{IsIn}
@@ -9,7 +10,8 @@ use Rattle.reply_model.specs.Accounts.{Account}
 use Rattle.reply_model.specs.Right.{AreTold, IsWhole}
 use Rattle.reply_model.specs.Outcomes.{Done}
 use Rattle.reply_model.specs.OneHistory.{ids_told}
-use Rattle.node_model.specs.States.{NodeState, catalogue_state, shard_state, router_state}
+use Rattle.node_model.specs.Journal.{Kept}
+use Rattle.node_model.specs.States.{Router, NodeState, catalogue_state, shard_state, router_state}
 use Rattle.node_model.specs.World.{Held, World, account_of}
 
 -- no request is open, and none waits for a table
@@ -17,6 +19,17 @@ abbrev pub IsQuiet : NodeState → Type 0
 IsQuiet (catalogue_state c) = Unit {0}
 IsQuiet (shard_state s) = s.parked ≡ []
 IsQuiet (router_state r) = r.requests ≡ []
+
+-- the request is of a router, in the life that goes on
+pub record IsOfRouter (nodes : List Held) (id : RequestId) : Type 0 where
+  pub router : Router
+  pub kept : List Kept
+  pub here : slice_get nodes id.router ≡ Some (record { state = router_state router; kept = kept })
+  pub life : id.life ≡ router.life
+
+-- the requests that were taken since the first world
+abbrev pub asked_since : (first w : World) → List Asked
+asked_since first w = drop (length first.asked) w.asked
 
 -- the request got a reply
 abbrev pub IsAnswered : List Answered → Asked → Type 0
@@ -39,8 +52,8 @@ pub record IsServedAs (account : Account) (a : Asked) (write : WriteCommand) : T
 abbrev pub IsServed : Account → Asked → Type 0
 IsServed account a = (write : WriteCommand) → command_of a.request ≡ Ok (write_command write) → IsServedAs account a write
 
--- Every request that was taken is answered, every write among them is served, and nothing is under way.
-pub record AreAnswered (w : World) : Type 0 where
-  pub answered : AllByRecursion (IsAnswered w.answered) w.asked
-  pub served : AllByRecursion (IsServed (account_of w)) w.asked
+-- Every request that was taken since the first world is answered, every write among them is served, and nothing is under way.
+pub record AreAnswered (first w : World) : Type 0 where
+  pub answered : AllByRecursion (IsAnswered w.answered) (asked_since first w)
+  pub served : AllByRecursion (IsServed (account_of w)) (asked_since first w)
   pub quiet : AllByRecursion (λ (h : Held). IsQuiet h.state) w.nodes

@@ -1,3 +1,4 @@
 pub mod Completion
+pub mod Firsts
 pub mod UnderWay
 pub mod Arrivals

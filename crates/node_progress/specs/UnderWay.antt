@@ -13,7 +13,7 @@ use Rattle.node_model.specs.States.{Shard, Router, Wait, for_time, for_catalogue
 use Rattle.node_model.specs.ShardRows.{Ask, ask_in}
 use Rattle.node_model.specs.RouterRows.{id_of}
 use Rattle.node_model.specs.World.{World, Event, deliver_event}
-use Rattle.node_progress.specs.Completion.{IsAnswered}
+use Rattle.node_progress.specs.Completion.{IsAnswered, asked_since}
 
 -- THINGS
 
@@ -111,10 +111,10 @@ pub record IsServedNext (left : ℕ → Type 0) (w : World) (a : Asked) : Type 0
   pub own : a.id ≡ id_of router request.count
   pub coming : AllByRecursion (IsComing left w) (things_of router request)
 
--- Where the messages at these places are left to deliver: each request that was taken is answered, or is open, and all that it waits for is under way;
--- all that any open request waits for is, and so is the table of each request that is parked.
-pub record IsUnderWay (left : ℕ → Type 0) (w : World) : Type 0 where
-  pub taken : AllByRecursion (λ (a : Asked). IsAnswered w.answered a ⊎ IsServedNext left w a) w.asked
+-- Where the messages at these places are left to deliver: each request that was taken since the first world is answered, or is open, and all that it waits
+-- for is under way; all that any open request waits for is, and so is the table of each request that is parked.
+pub record IsUnderWay (first : World) (left : ℕ → Type 0) (w : World) : Type 0 where
+  pub taken : AllByRecursion (λ (a : Asked). IsAnswered w.answered a ⊎ IsServedNext left w a) (asked_since first w)
   pub waiting : (at : ℕ) (r : Router) (kept : List Kept) (q : Open) → slice_get w.nodes at ≡ Some (record { state = router_state r; kept = kept })
       → IsIn q r.requests → AllByRecursion (IsComing left w) (things_of r q)
   pub parked : (at : ℕ) (s : Shard) (kept : List Kept) (p : Letter) → slice_get w.nodes at ≡ Some (record { state = shard_state s; kept = kept })

@@ -1,63 +1,78 @@
 //! What is under way in each world of a run, and that requests are answered.
 
-ghost use Rattle.std.specs.Prelude.{ℕ, List, length, map, ◌<◌, ◌≡◌};
+ghost use Rattle.std.specs.Prelude.{ℕ, List, length, map, ◌<◌, ◌++◌, ◌≡◌};
 ghost use Rattle.std.specs.List.{AllByRecursion};
+ghost use Rattle.reply_model.specs.Exchanges.{Asked};
 ghost use Rattle.node_model.specs.Letters.{Letter};
-ghost use Rattle.node_model.specs.World.{Event, Run, World, start, account_of};
+ghost use Rattle.node_model.specs.World.{Event, Run, World, account_of};
 ghost use Rattle.node_model.specs.Schedule.{Pipes, Round};
 ghost use Rattle.node_progress.specs.Arrivals.{arrival_of, arrivals};
-ghost use Rattle.node_progress.specs.Completion.{AreAnswered, IsAnswered, IsServed};
+ghost use Rattle.node_progress.specs.Completion.{AreAnswered, IsAnswered, IsOfRouter, IsServed, asked_since};
+ghost use Rattle.node_progress.specs.Firsts.{IsAtRest, IsFirst};
 ghost use Rattle.node_progress.specs.UnderWay.{IsDelivered, IsLeft, IsNotStale, IsUnderWay};
 
+/// In a world that a call begins in nothing is under way.
+#[tactic(auto, using(crate::proofs::Firsts::first_rests))]
+pub fn calls_begin_at_rest()
+    ensures { (first : World) → IsFirst first → IsAtRest first }
+{}
+
 /// Each request that comes is taken, once and in order.
-#[tactic(auto, using(crate::proofs::Arrivals::each_request_is_taken))]
+#[tactic(auto, using(crate::proofs::Progress::each_request_is_taken))]
 pub fn each_request_is_taken()
-    ensures { (routers : ℕ) (events : List Event) (w : World) → Run (start routers) events w → map arrival_of w.asked ≡ arrivals events }
+    ensures { (first : World) (events : List Event) (w : World) → IsFirst first → Run first events w → map arrival_of w.asked ≡ map arrival_of first.asked ++ arrivals events }
+{}
+
+/// Each request that was taken since a call began is of a life of its router that goes on.
+#[tactic(auto, using(crate::proofs::Progress::requests_are_of_lives))]
+pub fn requests_are_of_lives()
+    ensures { (first : World) (events : List Event) (w : World) → IsFirst first → Run first events w → AllByRecursion (λ (a : Asked). IsOfRouter w.nodes a.id) (asked_since first w) }
 {}
 
 /// In each world of each run, for any number of open requests, and however messages were delivered: all that an open request waits for is under
 /// way, in a message that is not delivered yet or parked at a shard, with the table that it wants there under way.
 #[tactic(auto, using(crate::proofs::Progress::run_under_way))]
 pub fn requests_stay_under_way()
-    ensures { (routers : ℕ) (events : List Event) (w : World) → Run (start routers) events w → IsUnderWay (IsLeft events) w }
+    ensures { (first : World) (events : List Event) (w : World) → IsFirst first → Run first events w → IsUnderWay first (IsLeft events) w }
 {}
 
 /// So where each message was delivered, in any order, and maybe more than once, every request that was taken is answered, every write is served,
 /// no request is open and no request to a shard is parked.
 #[tactic(auto, using(crate::proofs::Answered::delivered_runs_are_answered))]
 pub fn delivered_runs_are_answered()
-    ensures { (routers : ℕ) (events : List Event) (w : World) → Run (start routers) events w → ((n : ℕ) → n < length w.sent → IsDelivered events n) → AreAnswered w }
+    ensures { (first : World) (events : List Event) (w : World) → IsFirst first → Run first events w → ((n : ℕ) → n < length w.sent → IsDelivered events n) → AreAnswered first w }
 {}
 
 /// No shard sends a request back as one with an older table: currently no chunk moves.
 #[tactic(auto, using(crate::proofs::Answered::none_is_sent_back))]
 pub fn no_request_is_sent_back()
-    ensures { (routers : ℕ) (events : List Event) (w : World) → Run (start routers) events w → AllByRecursion (λ (m : Letter). IsNotStale m.body) w.sent }
+    ensures { (first : World) (events : List Event) (w : World) → IsFirst first → Run first events w → AllByRecursion (λ (m : Letter). IsNotStale m.body) w.sent }
 {}
 
 /// Each message goes to one of the nodes.
 #[tactic(auto, using(crate::proofs::Answered::messages_go_to_nodes))]
 pub fn messages_go_to_nodes()
-    ensures { (routers : ℕ) (events : List Event) (w : World) → Run (start routers) events w → AllByRecursion (λ (m : Letter). m.receiver < length w.nodes) w.sent }
+    ensures { (first : World) (events : List Event) (w : World) → IsFirst first → Run first events w → AllByRecursion (λ (m : Letter). m.receiver < length w.nodes) w.sent }
 {}
 
 /// Where nodes are opened and requests arrive by the schedule of `pipe`, at any of the routers: after each round every request that was
 /// taken is answered, every write is served, also one that wants no reply, no request is open and no request to a shard is parked.
 #[tactic(auto, using(crate::proofs::Rounds::piped_requests_are_answered))]
 pub fn piped_requests_are_answered()
-    ensures { (routers : ℕ) (rounds : List Round) (events : List Event) (w : World) (next : ℕ) → Pipes routers rounds events w next → AreAnswered w }
+    ensures { (first : World) (rounds : List Round) (events : List Event) (w : World) (next : ℕ) → IsFirst first → Pipes first rounds events w next → AreAnswered first w }
 {}
 
 /// Whatever happens after a round, as in one that is cut short, the requests of the rounds before are answered and their writes are served.
 #[tactic(auto, using(crate::proofs::Rounds::earlier_requests_stay_answered))]
 pub fn earlier_requests_stay_answered()
-    ensures answered { (routers : ℕ) (rounds : List Round) (events more : List Event) (u w : World) (next : ℕ) → Pipes routers rounds events u next → Run u more w → AllByRecursion (IsAnswered w.answered) u.asked }
-    ensures served { (routers : ℕ) (rounds : List Round) (events more : List Event) (u w : World) (next : ℕ) → Pipes routers rounds events u next
-        → Run u more w → AllByRecursion (IsServed (account_of w)) u.asked }
+    ensures answered { (first : World) (rounds : List Round) (events more : List Event) (u w : World) (next : ℕ) → IsFirst first → Pipes first rounds events u next
+        → Run u more w → AllByRecursion (IsAnswered w.answered) (asked_since first u) }
+    ensures served { (first : World) (rounds : List Round) (events more : List Event) (u w : World) (next : ℕ) → IsFirst first → Pipes first rounds events u next
+        → Run u more w → AllByRecursion (IsServed (account_of w)) (asked_since first u) }
 {}
 
 /// The events of the schedule are a run, so what is true of each run is true after each round.
 #[tactic(auto, using(node_model::proofs::Schedules::pipes_run))]
 pub fn piped_rounds_are_a_run()
-    ensures { (routers : ℕ) (rounds : List Round) (events : List Event) (w : World) (next : ℕ) → Pipes routers rounds events w next → Run (start routers) events w }
+    ensures { (first : World) (rounds : List Round) (events : List Event) (w : World) (next : ℕ) → Pipes first rounds events w next → Run first events w }
 {}

@@ -7,12 +7,12 @@ use Rattle.outside.proofs.Relations.{took_then}
 use Rattle.opmsg_frames.specs.Requests.{Request}
 use Rattle.opmsg_frames.specs.Outline.{FrameFault, outline, partial_outline, message_outline, faulty_outline}
 use Rattle.opmsg_frames.specs.Frames.{FramesFrom, ends, fails, goes_on}
-use Rattle.node_model.specs.World.{Held, World, start}
+use Rattle.node_model.specs.World.{Held, World}
 use Rattle.node_model.specs.Schedule.{Round}
 use Rattle.node_progress.proofs.Rounds.{piped_requests_are_answered}
 use Rattle.driver_steps.specs.Crashes.{Noted}
 use Rattle.driver_steps.specs.Seats.{SeatView, AreKept, LeaveKept}
-use Rattle.driver_steps.specs.Worlds.{NetworkView, puts_given}
+use Rattle.driver_steps.specs.Worlds.{NetworkView}
 use Rattle.driver_steps.proofs.Seats.{held_kept}
 use Rattle.pipe_driver.specs.Buffers.{EndsTaking, at_source_end, at_read_fault}
 use Rattle.pipe_driver.specs.Endings.{AllServed, SomeServed, LastCutShort, Cause, input_ended, read_failed, write_failed, disk_failed, no_memory, no_request}
@@ -20,7 +20,7 @@ use Rattle.pipe_driver.specs.Endings.{too_long, IsPiped}
 use Rattle.pipe_driver.specs.Acknowledgements.{AreCovered}
 use Rattle.pipe_driver.specs.Progress.{AreAsked, Serving, CutShort, PutShort, all_replies}
 use Rattle.pipe_driver.specs.Rest.{Unframed}
-use Rattle.pipe_driver.specs.Rounds.{requests_of, bytes_of}
+use Rattle.pipe_driver.specs.Rounds.{requests_of, bytes_of, puts_since}
 use Rattle.pipe_driver.specs.Schedules.{Came, IsLast}
 use Rattle.pipe_driver.specs.Stops.{IsMalformed, StopsServing, at_write_fault, at_disk_fault, at_no_memory}
 use Rattle.pipe_driver.specs.declared.status.Status.{Status}
@@ -72,28 +72,28 @@ framed limit count source consumed rest left more fault asked are took most fram
   counted = counted;
 }
 
-module _ {S : Type 0} (view : S → SeatView) (seats : List S) (source : SourceCall) (sink : SinkCall) (gives : ℕ → Type 0) (router : ℕ) (noted : List Noted) (routers limit count : ℕ)
+module _ {S : Type 0} (view : S → SeatView) (seats : List S) (source : SourceCall) (sink : SinkCall) (gives : ℕ → Type 0) (router : ℕ) (noted : List Noted) (first : World) (limit count : ℕ)
     (status : Status) (consumed rest : List ℕ) where
   -- what the journals owed before bytes were put
   abbrev pub Owed : World → List ℕ → Type 0
-  Owed last put = IsTrue sink.tells → AreCovered all_replies (start routers) noted sink.held_before put last
+  Owed last put = IsTrue sink.tells → AreCovered (all_replies first) first noted sink.held_before put last
 
   -- ALL WAS SERVED
 
   -- all requests had their rounds
   ended : (network : NetworkView) (replied : ℕ) (known : Status) (fault : Option (FrameFault × ℕ)) → status ≡ known
-      → (s : Serving view seats network gives router routers sink.tells noted sink.held_before sink.held_after consumed replied)
+      → (s : Serving view seats network gives router first sink.tells noted sink.held_before sink.held_after consumed replied)
       → Took source.tells source.left_before (consumed ++ rest) source.left_after → length consumed + length rest ≤ limit
       → FramesFrom (0 + length (bytes_asked (requests_of s.rounds))) rest [] rest fault → count ≡ length rest
-      → ((put : List ℕ) (requests : List Request) → AllServed routers put requests s.rounds s.world
-      → Cause limit (IsTrue source.tells → source.left_after ≡ []) (consumed ++ rest) fault (AllServed routers put requests s.rounds s.world)
-      (SomeServed routers gives router put requests s.rounds s.world) (LastCutShort routers put requests s.rounds s.world) known)
-      → IsPiped source sink gives router (AreKept view seats) (LeaveKept view seats) Owed routers limit status count
+      → ((put : List ℕ) (requests : List Request) → AllServed first put requests s.rounds s.world
+      → Cause limit (IsTrue source.tells → source.left_after ≡ []) (consumed ++ rest) fault (AllServed first put requests s.rounds s.world)
+      (SomeServed first gives router put requests s.rounds s.world) (LastCutShort first put requests s.rounds s.world) known)
+      → IsPiped source sink gives router (AreKept view seats) (LeaveKept view seats) Owed first limit status count
   ended network replied known fault is s took most frames counted cause =
       let f = framed limit count source consumed rest rest [] fault (requests_of s.rounds) s.asked took most frames counted in
       record {
         taken = consumed ++ rest;
-        put = bytes_of (puts_given s.world.answered);
+        put = bytes_of (puts_since first s.world);
         requests = requests_of s.rounds ++ [];
         left = rest;
         fault = fault;
@@ -106,16 +106,16 @@ module _ {S : Type 0} (view : S → SeatView) (seats : List S) (source : SourceC
         most = f.most;
         one = s.one;
         cause = subst (λ (n : Status). Cause limit (IsTrue source.tells → source.left_after ≡ []) (consumed ++ rest) fault
-            (AllServed routers (bytes_of (puts_given s.world.answered)) (requests_of s.rounds ++ []) s.rounds s.world)
-            (SomeServed routers gives router (bytes_of (puts_given s.world.answered)) (requests_of s.rounds ++ []) s.rounds s.world)
-            (LastCutShort routers (bytes_of (puts_given s.world.answered)) (requests_of s.rounds ++ []) s.rounds s.world) n) (sym is)
-            (cause (bytes_of (puts_given s.world.answered)) (requests_of s.rounds ++ [])
+            (AllServed first (bytes_of (puts_since first s.world)) (requests_of s.rounds ++ []) s.rounds s.world)
+            (SomeServed first gives router (bytes_of (puts_since first s.world)) (requests_of s.rounds ++ []) s.rounds s.world)
+            (LastCutShort first (bytes_of (puts_since first s.world)) (requests_of s.rounds ++ []) s.rounds s.world) n) (sym is)
+            (cause (bytes_of (puts_since first s.world)) (requests_of s.rounds ++ [])
             (record {
               events = s.events;
               next = s.next;
               asked = append-nil (requests_of s.rounds);
               served = s.pipes;
-              answered = piped_requests_are_answered routers s.rounds s.events s.world s.next s.pipes;
+              answered = piped_requests_are_answered first s.rounds s.events s.world s.next s.begins s.pipes;
               replied = refl;
             }));
         files = held_kept view seats s.world.nodes s.stands.nodes;
@@ -127,10 +127,10 @@ module _ {S : Type 0} (view : S → SeatView) (seats : List S) (source : SourceC
 
   -- the input is at its limit, and the rest is less than a whole message
   pub ended_at_limit : (network : NetworkView) (replied : ℕ) → status ≡ statuses.InputTooLong
-      → Serving view seats network gives router routers sink.tells noted sink.held_before sink.held_after consumed replied
+      → Serving view seats network gives router first sink.tells noted sink.held_before sink.held_after consumed replied
       → Took source.tells source.left_before (consumed ++ rest) source.left_after → length consumed + length rest ≡ limit
       → outline rest ≡ partial_outline → count ≡ length rest
-      → IsPiped source sink gives router (AreKept view seats) (LeaveKept view seats) Owed routers limit status count
+      → IsPiped source sink gives router (AreKept view seats) (LeaveKept view seats) Owed first limit status count
   ended_at_limit network replied is s took most partial counted =
       let full : length (consumed ++ rest) ≡ limit = omega (arith, most, length-append consumed rest) in
       ended network replied statuses.InputTooLong None is s took (omega (arith, most)) (ends _ rest partial) counted
@@ -138,10 +138,10 @@ module _ {S : Type 0} (view : S → SeatView) (seats : List S) (source : SourceC
 
   -- the rest begins no message
   ended_malformed : (network : NetworkView) (replied : ℕ) → status ≡ statuses.BadInput
-      → Serving view seats network gives router routers sink.tells noted sink.held_before sink.held_after consumed replied
+      → Serving view seats network gives router first sink.tells noted sink.held_before sink.held_after consumed replied
       → Took source.tells source.left_before (consumed ++ rest) source.left_after → length consumed + length rest ≤ limit
       → IsMalformed rest → count ≡ length rest
-      → IsPiped source sink gives router (AreKept view seats) (LeaveKept view seats) Owed routers limit status count
+      → IsPiped source sink gives router (AreKept view seats) (LeaveKept view seats) Owed first limit status count
   ended_malformed network replied is s took most malformed counted =
       let place : ℕ = 0 + length (bytes_asked (requests_of s.rounds)) in
       ended network replied statuses.BadInput (Some (malformed.0, place)) is s took most (fails place rest malformed.0 malformed.1) counted
@@ -155,20 +155,20 @@ module _ {S : Type 0} (view : S → SeatView) (seats : List S) (source : SourceC
   last_with known is P Q end last (inr (disk, further, e, more)) on = inr (is ∙ disk, on further, e, more)
 
   -- some requests had their rounds, and one more may be under way
-  ended_cut : (known : Status) → status ≡ known → (s : CutShort view seats gives router routers sink.tells noted sink.held_before sink.held_after consumed known)
+  ended_cut : (known : Status) → status ≡ known → (s : CutShort view seats gives router first sink.tells noted sink.held_before sink.held_after consumed known)
       → Took source.tells source.left_before (consumed ++ rest) source.left_after → length consumed + length rest ≤ limit
       → Unframed rest count
-      → ((put : List ℕ) (requests : List Request) (fault : Option (FrameFault × ℕ)) → SomeServed routers gives router put requests s.rounds s.end
-      → Cause limit (IsTrue source.tells → source.left_after ≡ []) (consumed ++ rest) fault (AllServed routers put requests s.rounds s.end)
-      (SomeServed routers gives router put requests s.rounds s.end) (LastCutShort routers put requests s.rounds s.end) known)
-      → IsPiped source sink gives router (AreKept view seats) (LeaveKept view seats) Owed routers limit status count
+      → ((put : List ℕ) (requests : List Request) (fault : Option (FrameFault × ℕ)) → SomeServed first gives router put requests s.rounds s.end
+      → Cause limit (IsTrue source.tells → source.left_after ≡ []) (consumed ++ rest) fault (AllServed first put requests s.rounds s.end)
+      (SomeServed first gives router put requests s.rounds s.end) (LastCutShort first put requests s.rounds s.end) known)
+      → IsPiped source sink gives router (AreKept view seats) (LeaveKept view seats) Owed first limit status count
   ended_cut known is s took most unframed cause =
       let asked : List Request = requests_of s.rounds ++ s.under_way in
       let found = unframed (0 + length (bytes_asked asked)) in
       let f = framed limit count source consumed rest found.1 found.0 found.2 asked s.asked took most found.3 found.4 in
       record {
         taken = consumed ++ rest;
-        put = bytes_of (puts_given s.whole.answered);
+        put = bytes_of (puts_since first s.whole);
         requests = asked ++ found.0;
         left = found.1;
         fault = found.2;
@@ -181,25 +181,25 @@ module _ {S : Type 0} (view : S → SeatView) (seats : List S) (source : SourceC
         most = f.most;
         one = s.one;
         cause = subst (λ (n : Status). Cause limit (IsTrue source.tells → source.left_after ≡ []) (consumed ++ rest) found.2
-            (AllServed routers (bytes_of (puts_given s.whole.answered)) (asked ++ found.0) s.rounds s.end)
-            (SomeServed routers gives router (bytes_of (puts_given s.whole.answered)) (asked ++ found.0) s.rounds s.end)
-            (LastCutShort routers (bytes_of (puts_given s.whole.answered)) (asked ++ found.0) s.rounds s.end) n) (sym is)
-            (cause (bytes_of (puts_given s.whole.answered)) (asked ++ found.0) found.2
+            (AllServed first (bytes_of (puts_since first s.whole)) (asked ++ found.0) s.rounds s.end)
+            (SomeServed first gives router (bytes_of (puts_since first s.whole)) (asked ++ found.0) s.rounds s.end)
+            (LastCutShort first (bytes_of (puts_since first s.whole)) (asked ++ found.0) s.rounds s.end) n) (sym is)
+            (cause (bytes_of (puts_since first s.whole)) (asked ++ found.0) found.2
             (record { under_way = s.under_way; others = found.0; whole = s.whole; asked = refl; came = s.came; replied = refl }));
         files = s.kept;
         last = s.last;
-        is_last = last_with known is (λ w. Came routers gives router s.rounds s.under_way s.whole w)
-            (λ w. SomeServed routers gives router (bytes_of (puts_given s.whole.answered)) (asked ++ found.0) s.rounds w) s.end s.last s.is_last
+        is_last = last_with known is (λ w. Came first gives router s.rounds s.under_way s.whole w)
+            (λ w. SomeServed first gives router (bytes_of (puts_since first s.whole)) (asked ++ found.0) s.rounds w) s.end s.last s.is_last
             (λ came. record { under_way = s.under_way; others = found.0; whole = s.whole; asked = refl; came = came; replied = refl });
         crashes = s.crashes;
         acknowledged = s.covered;
       }
 
   -- the replies of the last round were put in part
-  ended_short : status ≡ statuses.WriteFailed → (s : PutShort view seats gives router routers sink.tells noted sink.held_before sink.held_after consumed)
+  ended_short : status ≡ statuses.WriteFailed → (s : PutShort view seats gives router first sink.tells noted sink.held_before sink.held_after consumed)
       → Took source.tells source.left_before (consumed ++ rest) source.left_after → length consumed + length rest ≤ limit
       → Unframed rest count
-      → IsPiped source sink gives router (AreKept view seats) (LeaveKept view seats) Owed routers limit status count
+      → IsPiped source sink gives router (AreKept view seats) (LeaveKept view seats) Owed first limit status count
   ended_short is s took most unframed =
       let rounds : List Round = s.earlier ++ s.last ∷ [] in
       let asked : List Request = requests_of rounds in
@@ -220,8 +220,8 @@ module _ {S : Type 0} (view : S → SeatView) (seats : List S) (source : SourceC
         most = f.most;
         one = s.one;
         cause = subst (λ (n : Status). Cause limit (IsTrue source.tells → source.left_after ≡ []) (consumed ++ rest) found.2
-            (AllServed routers s.part (asked ++ found.0) rounds s.end) (SomeServed routers gives router s.part (asked ++ found.0) rounds s.end)
-            (LastCutShort routers s.part (asked ++ found.0) rounds s.end) n) (sym is)
+            (AllServed first s.part (asked ++ found.0) rounds s.end) (SomeServed first gives router s.part (asked ++ found.0) rounds s.end)
+            (LastCutShort first s.part (asked ++ found.0) rounds s.end) n) (sym is)
             (write_failed (record {
               earlier = s.earlier;
               last = s.last;
@@ -246,21 +246,21 @@ module _ {S : Type 0} (view : S → SeatView) (seats : List S) (source : SourceC
 
   -- memory ran out, between two rounds
   pub ended_full : (network : NetworkView) (replied : ℕ) → status ≡ statuses.OutOfMemory
-      → Serving view seats network gives router routers sink.tells noted sink.held_before sink.held_after consumed replied
+      → Serving view seats network gives router first sink.tells noted sink.held_before sink.held_after consumed replied
       → Took source.tells source.left_before (consumed ++ rest) source.left_after → length consumed + length rest ≤ limit
       → outline rest ≡ partial_outline → count ≡ length rest
-      → IsPiped source sink gives router (AreKept view seats) (LeaveKept view seats) Owed routers limit status count
+      → IsPiped source sink gives router (AreKept view seats) (LeaveKept view seats) Owed first limit status count
   ended_full network replied is s took most partial counted =
       ended_cut statuses.OutOfMemory is
-      (cut_between view seats gives router routers sink.tells noted sink.held_before sink.held_after consumed network replied s) took most
+      (cut_between view seats gives router first sink.tells noted sink.held_before sink.held_after consumed network replied s) took most
       (λ place. ([], rest, None, ends place rest partial, counted)) (λ put requests fault some. no_memory some)
 
   -- no more is taken, and the rest is less than a whole message
   pub ended_taking : (network : NetworkView) (replied : ℕ) (told : Status) → status ≡ told → EndsTaking source.tells source.left_after told
-      → Serving view seats network gives router routers sink.tells noted sink.held_before sink.held_after consumed replied
+      → Serving view seats network gives router first sink.tells noted sink.held_before sink.held_after consumed replied
       → Took source.tells source.left_before (consumed ++ rest) source.left_after → length (consumed ++ rest) < limit
       → outline rest ≡ partial_outline → count ≡ length rest
-      → IsPiped source sink gives router (AreKept view seats) (LeaveKept view seats) Owed routers limit status count
+      → IsPiped source sink gives router (AreKept view seats) (LeaveKept view seats) Owed first limit status count
   ended_taking network replied told is (at_source_end at_end) s took below partial counted =
       ended network replied statuses.InputEnded None is s took (omega (arith, below, length-append consumed rest)) (ends _ rest partial) counted
       (λ put requests all. input_ended at_end below refl all)
@@ -284,9 +284,9 @@ module _ {S : Type 0} (view : S → SeatView) (seats : List S) (source : SourceC
 
   -- no further request is served
   pub ended_serving : (network : NetworkView) (told : Status) → status ≡ told
-      → StopsServing told view seats network gives router routers sink.tells noted sink.held_before sink.held_after consumed rest
+      → StopsServing told view seats network gives router first sink.tells noted sink.held_before sink.held_after consumed rest
       → Took source.tells source.left_before (consumed ++ rest) source.left_after → length consumed + length rest ≤ limit → Unframed rest count
-      → IsPiped source sink gives router (AreKept view seats) (LeaveKept view seats) Owed routers limit status count
+      → IsPiped source sink gives router (AreKept view seats) (LeaveKept view seats) Owed first limit status count
   ended_serving network told is (inl (bad, malformed, (replied, s))) took most unframed =
       ended_malformed network replied (is ∙ bad) s took most malformed (malformed_left malformed unframed)
   ended_serving network told is (inr (at_write_fault s)) took most unframed = ended_short is s took most unframed
@@ -303,11 +303,11 @@ taking_stops tells left status at_read_fault = (λ e. cc, λ e. cc)
 
 -- the same with another view of what the journals store
 pub piped_with : (source : SourceCall) (sink : SinkCall) (gives : ℕ → Type 0) (router : ℕ) (kept plain : List Held → Type 0) (leaves leaves' : World → Type 0)
-    (owed owed' : World → List ℕ → Type 0) (routers limit : ℕ) (status : Status) (rest : ℕ)
-    → IsPiped source sink gives router kept leaves owed routers limit status rest
+    (owed owed' : World → List ℕ → Type 0) (first : World) (limit : ℕ) (status : Status) (rest : ℕ)
+    → IsPiped source sink gives router kept leaves owed first limit status rest
     → ((nodes : List Held) → kept nodes → plain nodes) → ((w : World) → leaves w → leaves' w) → ((w : World) (put : List ℕ) → leaves w → owed w put → owed' w put)
-    → IsPiped source sink gives router plain leaves' owed' routers limit status rest
-piped_with source sink gives router kept plain leaves leaves' owed owed' routers limit status rest p told weaker pays = record {
+    → IsPiped source sink gives router plain leaves' owed' first limit status rest
+piped_with source sink gives router kept plain leaves leaves' owed owed' first limit status rest p told weaker pays = record {
   taken = p.taken;
   put = p.put;
   requests = p.requests;

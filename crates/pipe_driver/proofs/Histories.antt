@@ -8,40 +8,43 @@ use Rattle.node_model.specs.OneHistory.{OneHistory}
 use Rattle.node_model.specs.Accounts.{changes_in}
 use Rattle.node_model.specs.Requests.{Request}
 use Rattle.node_model.specs.Schedule.{Round, serves}
-use Rattle.node_model.specs.World.{Held, World, Event, Run, journal_at, start, account_of}
+use Rattle.node_model.specs.World.{Held, World, Event, Run, journal_at, account_of}
 use Rattle.node_model.proofs.Schedules.{pipes_run, run_then}
-use Rattle.node_laws.proofs.Runs.{run_keeps_changes, run_makes_one_history}
+use Rattle.node_laws.proofs.Runs.{makes_one_history}
+use Rattle.node_laws.proofs.StepsKeep.{run_keeps}
+use Rattle.node_progress.specs.Firsts.{IsFirst}
+use Rattle.node_progress.proofs.Firsts.{first_true}
 use Rattle.pipe_driver.specs.Schedules.{Came, came_whole, came_opening, came_part}
 use Rattle.pipe_driver.specs.Endings.{AllServed, SomeServed, LastCutShort, Cause, input_ended, read_failed, write_failed}
 use Rattle.pipe_driver.specs.Endings.{disk_failed, no_memory, no_request, too_long, IsPiped}
 use Rattle.pipe_driver.specs.declared.status.Status.{Status}
 
-came_run : (routers : ℕ) (gives : ℕ → Type 0) (router : ℕ) (rounds : List Round) (under_way : List Request) (whole end : World)
-    → Came routers gives router rounds under_way whole end
-    → (events : List Event) × Run (start routers) events end
-came_run routers gives router _ _ _ _ (came_whole rounds events w next pipes) = (events, pipes_run routers rounds events w next pipes)
-came_run routers gives router _ _ _ _ (came_opening events w first run) = (events, run)
-came_run routers gives router _ _ _ _ (came_part rounds before events u w next moment request pipes given part run) =
-    (before ++ events, run_then (start routers) before u events w (pipes_run routers rounds before u next pipes) run)
+came_run : (first : World) (gives : ℕ → Type 0) (router : ℕ) (rounds : List Round) (under_way : List Request) (whole end : World)
+    → Came first gives router rounds under_way whole end
+    → (events : List Event) × Run first events end
+came_run first gives router _ _ _ _ (came_whole rounds events w next pipes) = (events, pipes_run first rounds events w next pipes)
+came_run first gives router _ _ _ _ (came_opening events w begun run) = (events, run)
+came_run first gives router _ _ _ _ (came_part rounds before events u w next moment request pipes given part run) =
+    (before ++ events, run_then first before u events w (pipes_run first rounds before u next pipes) run)
 
-module _ (routers limit : ℕ) (gives : ℕ → Type 0) (router : ℕ) (put : List ℕ) (requests : List Request) (rounds : List Round) (end : World) where
-  all_run : AllServed routers put requests rounds end → (events : List Event) × Run (start routers) events end
-  all_run all = (all.events, pipes_run routers rounds all.events end all.next all.served)
+module _ (first : World) (limit : ℕ) (gives : ℕ → Type 0) (router : ℕ) (put : List ℕ) (requests : List Request) (rounds : List Round) (end : World) where
+  all_run : AllServed first put requests rounds end → (events : List Event) × Run first events end
+  all_run all = (all.events, pipes_run first rounds all.events end all.next all.served)
 
-  some_run : SomeServed routers gives router put requests rounds end → (events : List Event) × Run (start routers) events end
-  some_run some = came_run routers gives router rounds some.under_way some.whole end some.came
+  some_run : SomeServed first gives router put requests rounds end → (events : List Event) × Run first events end
+  some_run some = came_run first gives router rounds some.under_way some.whole end some.came
 
-  short_run : LastCutShort routers put requests rounds end → (events : List Event) × Run (start routers) events end
+  short_run : LastCutShort first put requests rounds end → (events : List Event) × Run first events end
   short_run short = (
     short.events ++ short.more,
-    pipes_run routers (short.earlier ++ short.last ∷ []) (short.events ++ short.more) end (length end.sent)
+    pipes_run first (short.earlier ++ short.last ∷ []) (short.events ++ short.more) end (length end.sent)
         (serves short.earlier short.last short.events short.more short.before end short.next short.served short.round),
   )
 
   cause_run : (at_end : Type 0) (taken : List ℕ) (fault : Option (FrameFault × ℕ)) (status : Status)
-      → Cause limit at_end taken fault (AllServed routers put requests rounds end)
-      (SomeServed routers gives router put requests rounds end) (LastCutShort routers put requests rounds end) status
-      → (events : List Event) × Run (start routers) events end
+      → Cause limit at_end taken fault (AllServed first put requests rounds end)
+      (SomeServed first gives router put requests rounds end) (LastCutShort first put requests rounds end) status
+      → (events : List Event) × Run first events end
   cause_run at_end taken fault status (input_ended at_its_end short none all) = all_run all
   cause_run at_end taken fault status (read_failed short none all) = all_run all
   cause_run at_end taken fault status (write_failed short) = short_run short
@@ -52,15 +55,19 @@ module _ (routers limit : ℕ) (gives : ℕ → Type 0) (router : ℕ) (put : Li
 
 -- whatever was requested, and however the connection ended
 module _ (source : SourceCall) (sink : SinkCall) (gives : ℕ → Type 0) (router : ℕ) (kept : List Held → Type 0) (leaves : World → Type 0)
-    (owed : World → List ℕ → Type 0) (routers limit : ℕ) (status : Status) (rest : ℕ) where
-  pub piped_run : (piped : IsPiped source sink gives router kept leaves owed routers limit status rest) → (events : List Event) × Run (start routers) events piped.end
-  piped_run piped = cause_run routers limit gives router piped.put piped.requests piped.rounds piped.end _ piped.taken piped.fault status piped.cause
+    (owed : World → List ℕ → Type 0) (first : World) (limit : ℕ) (status : Status) (rest : ℕ) where
+  pub piped_run : (piped : IsPiped source sink gives router kept leaves owed first limit status rest) → (events : List Event) × Run first events piped.end
+  piped_run piped = cause_run first limit gives router piped.put piped.requests piped.rounds piped.end _ piped.taken piped.fault status piped.cause
 
-  pub piped_history : (piped : IsPiped source sink gives router kept leaves owed routers limit status rest)
+  pub piped_history : IsFirst first → (piped : IsPiped source sink gives router kept leaves owed first limit status rest)
       → OneHistory (account_of piped.end)
-  piped_history piped = let run = piped_run piped in run_makes_one_history routers run.0 piped.end run.1
+  piped_history begins piped =
+      let run = piped_run piped in
+      makes_one_history piped.end (run_keeps first piped.end run.0 (first_true first begins) run.1)
 
   -- its changes of the catalogue are those that the catalogue's journal stores
-  pub piped_changes : (piped : IsPiped source sink gives router kept leaves owed routers limit status rest)
+  pub piped_changes : IsFirst first → (piped : IsPiped source sink gives router kept leaves owed first limit status rest)
       → changes_in piped.end.changed ≡ changes_kept (journal_at piped.end.nodes 0)
-  piped_changes piped = let run = piped_run piped in run_keeps_changes routers run.0 piped.end run.1
+  piped_changes begins piped =
+      let run = piped_run piped in
+      (run_keeps first piped.end run.0 (first_true first begins) run.1).0.good.dated

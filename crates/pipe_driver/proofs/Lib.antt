@@ -11,3 +11,4 @@ pub mod RestLengths
 pub mod Rounds
 pub mod Routers
 pub mod Serving
+pub mod Since

@@ -8,8 +8,10 @@ use Rattle.node_model.specs.ShardRows.{shard_opened}
 use Rattle.node_model.specs.RouterRows.{router_begin, router_opened}
 use Rattle.node_model.specs.Steps.{Step, catalogue_step, shard_step, router_step, begin_step}
 use Rattle.node_model.specs.World.{World, Moves, Event, client_event, deliver_event, moment_event, opened_event, answered_by, Happens, comes, delivers}
-use Rattle.node_model.specs.World.{passes, begins as was_opened, Run, stands, goes, start}
+use Rattle.node_model.specs.World.{passes, begins as was_opened, Run, stands, goes}
 use Rattle.node_model.specs.Schedule.{openings}
+use Rattle.node_progress.specs.Firsts.{IsFirst}
+use Rattle.node_progress.proofs.Firsts.{first_rests}
 use Rattle.node_traits.specs.declared.outputs.ToLink.{ToLink}
 use Rattle.driver_steps.specs.declared.network.Network.{Network}
 use Rattle.driver_steps.specs.Seats.{SeatView, AreHeld, LeaveKept}
@@ -46,19 +48,19 @@ run_tells : (u : World) (es : List Event) (w : World) → AllByRecursion IsOpeni
 run_tells _ _ _ all (stands w) = refl
 run_tells _ _ _ all (goes u v w e es h run) = run_tells v es w all.1 run ∙ opening_tells u v e all.0 h
 
-pub nothing_told : (routers count : ℕ) (w : World) → Run (start routers) (openings 0 count) w → w.answered ≡ []
-nothing_told routers count w run = run_tells (start routers) (openings 0 count) w (openings_are 0 count) run
+pub nothing_told : (first : World) (count : ℕ) (w : World) → Run first (openings 0 count) w → w.answered ≡ first.answered
+nothing_told first count w run = run_tells first (openings 0 count) w (openings_are 0 count) run
 
 -- AT THE START
 
-pub starts : {S M : Type 0} (view : S → SeatView) (letter : M → Letter) (seats : List S) (routers : ℕ) (network : Network M)
-    → AreHeld view seats (start routers).nodes → LeaveKept view seats (start routers) → network.waiting.items ≡ [] → network.replies.items ≡ []
-    → StandsFor view seats (network_view letter network) [] (start routers) 0
-starts {S} {M} view letter seats routers network are leave none silent = record {
+pub starts : {S M : Type 0} (view : S → SeatView) (letter : M → Letter) (seats : List S) (first : World) (network : Network M)
+    → IsFirst first → AreHeld view seats first.nodes → LeaveKept view seats first → network.waiting.items ≡ [] → network.replies.items ≡ []
+    → StandsFor view seats (network_view letter network) (puts_given first.answered) first 0
+starts {S} {M} view letter seats first network begins are leave none silent = record {
   nodes = are;
   crashes = leave;
   past = [];
-  sent = sym (ap (λ (l : List M). map letter l) none);
+  sent = (first_rests first begins).none_sent ∙ sym (ap (λ (l : List M). map letter l) none);
   place = refl;
-  given = sym silent;
+  given = sym (ap (λ (l : List ToLink). puts_given first.answered ++ l) silent ∙ append-nil (puts_given first.answered));
 }

@@ -7,7 +7,7 @@ use Rattle.node_model.specs.Letters.{Letter, Input, Effect}
 use Rattle.node_model.specs.States.{Router, NodeState, catalogue_state, shard_state, router_state, new_router}
 use Rattle.node_model.specs.Steps.{Step, catalogue_step, shard_step, router_step, begin_step, other_step}
 use Rattle.node_model.specs.World.{Held, World, IsRouter, Moves, Event, deliver_event, Happens, comes, delivers, passes, begins as was_opened, Run, stands}
-use Rattle.node_model.specs.World.{goes, start}
+use Rattle.node_model.specs.World.{goes}
 use Rattle.node_model.specs.Schedule.{Round, Pipes, Delivers}
 use Rattle.node_model.proofs.Schedules.{pipes_run}
 use Rattle.node_progress.proofs.BagRuns.{goes_to_node}
@@ -54,10 +54,10 @@ run_stays _ _ _ at (stands w) is = is
 run_stays _ _ _ at (goes u v w e es h run) is = run_stays v es w at run (happens_stays u v e at h is)
 
 -- the connection's router is there after each round
-pub router_there : (routers router : ℕ) (rounds : List Round) (events : List Event) (w : World) (next : ℕ) → IsRouter (start routers).nodes router
-    → Pipes routers rounds events w next → IsRouter w.nodes router
-router_there routers router rounds events w next there pipes =
-    run_stays (start routers) events w router (pipes_run routers rounds events w next pipes) there
+pub router_there : (first : World) (router : ℕ) (rounds : List Round) (events : List Event) (w : World) (next : ℕ) → IsRouter first.nodes router
+    → Pipes first rounds events w next → IsRouter w.nodes router
+router_there first router rounds events w next there pipes =
+    run_stays first events w router (pipes_run first rounds events w next pipes) there
 
 -- MESSAGES
 

@@ -5,9 +5,10 @@ use Rattle.outside.specs.Streams.{Put}
 use Rattle.outside.proofs.Relations.{put_then}
 use Rattle.opmsg_frames.specs.Requests.{Request, IsRequest}
 use Rattle.node_model.specs.Letters.{Letter}
-use Rattle.node_model.specs.World.{World, Event, client_event, Happens, Run, stands, goes, start}
+use Rattle.node_model.specs.World.{World, Event, client_event, Happens, Run, stands, goes}
 use Rattle.node_model.proofs.Schedules.{delivers_run, pipes_run, run_then}
 use Rattle.node_model.specs.Schedule.{openings, moments_given, Round, IsRound, Pipes, opens, serves}
+use Rattle.node_progress.specs.Firsts.{IsFirst}
 use Rattle.node_traits.specs.Effects.{ByStepFault}
 use Rattle.node_traits.specs.declared.outputs.StepFault.{StepFault}
 use Rattle.node_traits.specs.declared.outputs.StepFault.TheVariants.{Disk, Steps, Memory}
@@ -23,7 +24,7 @@ use Rattle.driver_steps.proofs.Runs.{handed_on}
 use Rattle.pipe_driver.specs.Pieces.{PutInPart}
 use Rattle.pipe_driver.specs.Acknowledgements.{AreCovered}
 use Rattle.pipe_driver.specs.Progress.{AreAsked, Serving, CutShort, PutShort, all_replies}
-use Rattle.pipe_driver.specs.Rounds.{first_link, requests_of, replies_after, replies_behind, number_behind, AreOfOne, bytes_of}
+use Rattle.pipe_driver.specs.Rounds.{first_link, requests_of, replies_after, replies_behind, number_behind, AreOfOne, bytes_of, puts_since}
 use Rattle.pipe_driver.specs.Schedules.{round_of, IsLast, IsPart, HasServed, Came, came_whole, came_opening, came_part}
 use Rattle.pipe_driver.specs.Stops.{status_for, StopsAtRequest, at_write_fault, at_disk_fault, at_no_memory}
 use Rattle.pipe_driver.specs.declared.status.Status.{Status}
@@ -32,6 +33,7 @@ use Rattle.pipe_driver.proofs.Covers.{covered_more, covered_none, covered_on, co
 use Rattle.pipe_driver.proofs.Openings.{nothing_told}
 use Rattle.pipe_driver.proofs.Puts.{bytes_then}
 use Rattle.pipe_driver.proofs.Rounds.{asked_more, behind_more, one_more, requests_more}
+use Rattle.pipe_driver.proofs.Since.{since_more, since_none}
 
 -- what the logs keep after a fault
 pub kept_at : {S : Type 0} (fault : StepFault) (view : S → SeatView) (seats : List S) (w : World) → AreHeldOrKept fault view seats w.nodes
@@ -61,18 +63,18 @@ last_leads Memory end last P same = subst (λ (w : World). LeadsTo end w) (sym s
 run_one_more : (u : World) (events : List Event) (v : World) (e : Event) (w : World) → Run u events v → Happens v e w → Run u (events ++ e ∷ []) w
 run_one_more u events v e w run more = run_then u events v (e ∷ []) w run (goes v w w e [] more (stands w))
 
-module _ {S : Type 0} (view : S → SeatView) (seats : List S) (gives : ℕ → Type 0) (router routers : ℕ) (tells : Bool) (noted : List Noted) (held_before held consumed : List ℕ) where
+module _ {S : Type 0} (view : S → SeatView) (seats : List S) (gives : ℕ → Type 0) (router : ℕ) (first : World) (tells : Bool) (noted : List Noted) (held_before held consumed : List ℕ) where
   pub stops_by : (fault : StepFault) (status : Status) → status ≡ status_for fault
-      → CutShort view seats gives router routers tells noted held_before held consumed (status_for fault)
-      → StopsAtRequest view seats gives router routers tells noted held_before held consumed status
-  stops_by (Disk faults) status is cut = subst (λ (s : Status). StopsAtRequest view seats gives router routers tells noted held_before held consumed s) (sym is)
+      → CutShort view seats gives router first tells noted held_before held consumed (status_for fault)
+      → StopsAtRequest view seats gives router first tells noted held_before held consumed status
+  stops_by (Disk faults) status is cut = subst (λ (s : Status). StopsAtRequest view seats gives router first tells noted held_before held consumed s) (sym is)
       (at_disk_fault cut)
-  stops_by Steps status is cut = subst (λ (s : Status). StopsAtRequest view seats gives router routers tells noted held_before held consumed s) (sym is) (at_no_memory cut)
-  stops_by Memory status is cut = subst (λ (s : Status). StopsAtRequest view seats gives router routers tells noted held_before held consumed s) (sym is) (at_no_memory cut)
+  stops_by Steps status is cut = subst (λ (s : Status). StopsAtRequest view seats gives router first tells noted held_before held consumed s) (sym is) (at_no_memory cut)
+  stops_by Memory status is cut = subst (λ (s : Status). StopsAtRequest view seats gives router first tells noted held_before held consumed s) (sym is) (at_no_memory cut)
 
   -- between two rounds
-  pub cut_between : (network : NetworkView) (replied : ℕ) → Serving view seats network gives router routers tells noted held_before held consumed replied
-      → CutShort view seats gives router routers tells noted held_before held consumed statuses.OutOfMemory
+  pub cut_between : (network : NetworkView) (replied : ℕ) → Serving view seats network gives router first tells noted held_before held consumed replied
+      → CutShort view seats gives router first tells noted held_before held consumed statuses.OutOfMemory
   cut_between network replied s = record {
     rounds = s.rounds;
     under_way = [];
@@ -98,50 +100,51 @@ but_for_disks Memory status holds is other given = given
 
 -- THE START
 
-module _ {S : Type 0} (view : S → SeatView) (seats : List S) (gives : ℕ → Type 0) (router routers : ℕ) (tells : Bool) (held : List ℕ) (count : ℕ)
-    (as_many : count ≡ length (start routers).nodes) where
-  pub opened_serving : (network : NetworkView) → HasRun view seats network [] (start routers) 0 (openings 0 count)
-      → Serving view seats network gives router routers tells [] held held [] 0
-  opened_serving network r =
-      let none : r.end.answered ≡ [] = nothing_told routers count r.end r.run in
-      let silent : puts_given r.end.answered ≡ [] = ap puts_given none in
-      let run : Run (start routers) (openings 0 (length (start routers).nodes)) r.end =
-      subst (λ (n : ℕ). Run (start routers) (openings 0 n) r.end) as_many r.run in
+module _ {S : Type 0} (view : S → SeatView) (seats : List S) (gives : ℕ → Type 0) (router : ℕ) (first : World) (tells : Bool) (held : List ℕ) (count : ℕ)
+    (as_many : count ≡ length first.nodes) where
+  pub opened_serving : (network : NetworkView) → IsFirst first → HasRun view seats network (puts_given first.answered) first 0 (openings 0 count)
+      → Serving view seats network gives router first tells [] held held [] 0
+  opened_serving network begins r =
+      let none : r.end.answered ≡ first.answered = nothing_told first count r.end r.run in
+      let silent : puts_since first r.end ≡ [] = since_none first r.end none in
+      let run : Run first (openings 0 (length first.nodes)) r.end =
+      subst (λ (n : ℕ). Run first (openings 0 n) r.end) as_many r.run in
       record {
         rounds = [];
-        events = openings 0 (length (start routers).nodes);
+        events = openings 0 (length first.nodes);
         world = r.end;
         next = 0;
+        begins = begins;
         pipes = opens r.end run;
         one = record { moments = tt; routers = tt; links = tt; numbers = tt };
-        stands = subst (λ (l : List ToLink). StandsFor view seats network l r.end 0) (sym silent) r.stands;
+        stands = subst (λ (l : List ToLink). StandsFor view seats network l r.end 0) (ap puts_given (sym none)) r.stands;
         put = λ told. sym (ap (λ (l : List ToLink). held ++ bytes_of l) silent ∙ append-nil held);
         asked = record { all = refl; each = tt };
         count = refl;
-        covered = λ told. covered_none all_replies (start routers) held [] _ r.end (ap bytes_of silent);
+        covered = λ told. covered_none (all_replies first) first held [] _ r.end (ap bytes_of silent);
       }
 
   pub opening_cut : (replies : List ToLink) (fault : StepFault)
-      → HasStopped view seats replies [] (start routers) (λ events. BeginWith events (openings 0 count)) fault
-      → CutShort view seats gives router routers tells [] held held [] (status_for fault)
+      → HasStopped view seats replies (puts_given first.answered) first (λ events. BeginWith events (openings 0 count)) fault
+      → CutShort view seats gives router first tells [] held held [] (status_for fault)
   opening_cut replies fault s = record {
     rounds = [];
     under_way = [];
-    whole = start routers;
+    whole = first;
     end = s.end;
     came = came_opening s.events s.end (subst (λ (n : ℕ). BeginWith s.events (openings 0 n)) as_many s.which) s.run;
     one = record { moments = tt; routers = tt; links = tt; numbers = tt };
-    put = λ told. sym (append-nil held);
+    put = λ told. sym (ap (λ (l : List ToLink). held ++ bytes_of l) (since_none first first refl) ∙ append-nil held);
     asked = record { all = refl; each = tt };
     kept = kept_at fault view seats s.end s.nodes;
     last = s.last;
     is_last = last_by fault s.end s.last (λ e. BeginWith (s.events ++ e ∷ []) (openings 0 count))
-        (λ w. Came routers gives router [] [] (start routers) w) s.up_to
-        (λ e first more. came_opening (s.events ++ e ∷ []) s.last
-        (subst (λ (n : ℕ). BeginWith (s.events ++ e ∷ []) (openings 0 n)) as_many first)
-        (run_one_more (start routers) s.events s.end e s.last s.run more));
+        (λ w. Came first gives router [] [] first w) s.up_to
+        (λ e begun more. came_opening (s.events ++ e ∷ []) s.last
+        (subst (λ (n : ℕ). BeginWith (s.events ++ e ∷ []) (openings 0 n)) as_many begun)
+        (run_one_more first s.events s.end e s.last s.run more));
     crashes = s.crashes;
-    covered = λ told. covered_none all_replies (start routers) held [] _ s.last refl;
+    covered = λ told. covered_none (all_replies first) first held [] _ s.last (ap bytes_of (since_none first first refl));
   }
 
 round_run : (u : World) (next : ℕ) (r : Round) (events : List Event) (w : World) → IsRound u next r events w → Run u events w
@@ -153,8 +156,8 @@ round_run u next r events w round =
 
 -- ONE REQUEST
 
-module _ {S : Type 0} (view : S → SeatView) (seats seats_after : List S) (before : NetworkView) (gives : ℕ → Type 0) (router routers : ℕ) (tells : Bool) (noted : List Noted)
-    (held_before held consumed : List ℕ) (replied : ℕ) (s : Serving view seats before gives router routers tells noted held_before held consumed replied)
+module _ {S : Type 0} (view : S → SeatView) (seats seats_after : List S) (before : NetworkView) (gives : ℕ → Type 0) (router : ℕ) (first : World) (tells : Bool) (noted : List Noted)
+    (held_before held consumed : List ℕ) (replied : ℕ) (s : Serving view seats before gives router first tells noted held_before held consumed replied)
     (moment : ℕ) (number : ℤ) (asked q : Request) (given : gives moment) (numbered : number ≡ number_behind replied) (same : asked ≡ q) (is : IsRequest q) where
   numbered_behind : number ≡ number_behind (replies_behind 0 (requests_of s.rounds))
   numbered_behind = numbered ∙ ap (λ (n : ℕ). number_behind n) s.count
@@ -184,7 +187,7 @@ module _ {S : Type 0} (view : S → SeatView) (seats seats_after : List S) (befo
   -- a step failed
   pub cut_in_round : (count : ℕ) (replies : List ToLink) (fault : StepFault) → count ≡ length s.world.nodes
       → HasStopped view seats_after replies (puts_given s.world.answered) s.world (IsPart count (round_of router moment number asked)) fault
-      → CutShort view seats_after gives router routers tells noted held_before held (consumed ++ q.bytes) (status_for fault)
+      → CutShort view seats_after gives router first tells noted held_before held (consumed ++ q.bytes) (status_for fault)
   cut_in_round count replies fault as_many h = record {
     rounds = s.rounds;
     under_way = q ∷ [];
@@ -198,70 +201,76 @@ module _ {S : Type 0} (view : S → SeatView) (seats seats_after : List S) (befo
     kept = kept_at fault view seats_after h.end h.nodes;
     last = h.last;
     is_last = last_by fault h.end h.last (λ e. IsPart count (round_of router moment number asked) (h.events ++ e ∷ []))
-        (λ w. Came routers gives router s.rounds (q ∷ []) s.world w) h.up_to
+        (λ w. Came first gives router s.rounds (q ∷ []) s.world w) h.up_to
         (λ e part more. came_part s.rounds s.events (h.events ++ e ∷ []) s.world h.last s.next moment q s.pipes given
         (part_in_round count (h.events ++ e ∷ []) as_many part) (run_one_more s.world h.events h.end e h.last h.run more));
     crashes = h.crashes;
-    covered = λ told. covered_on all_replies (start routers) held_before noted _ s.world h.last (s.covered told)
+    covered = λ told. covered_on (all_replies first) first held_before noted _ s.world h.last (s.covered told)
         (leads_on s.world h.end h.last (h.events, h.run) (last_leads fault h.end h.last _ h.up_to));
   }
 
   -- the replies of a round are written after one note more of all disks
   module _ (network : NetworkView) (h : HasServed view seats_after network (puts_given s.world.answered) s.world s.next (round_of router moment number asked))
       (moments : List ℕ) (told : IsTrue tells) where
+    round_from : LeadsTo first s.world
+    round_from = (s.events, pipes_run first s.rounds s.events s.world s.next s.pipes)
+
     round_on : LeadsTo s.world h.end
     round_on = (h.events, round_run s.world s.next (round_of router moment number asked) h.events h.end h.round)
 
-    round_few : length held ≤ length held_before + length (bytes_of (puts_given s.world.answered))
+    round_few : length held ≤ length held_before + length (bytes_of (puts_since first s.world))
     round_few = omega (
       arith,
       ap (λ (l : List ℕ). length l) (s.put told),
-      length-append held_before (bytes_of (puts_given s.world.answered)),
+      length-append held_before (bytes_of (puts_since first s.world)),
     )
 
-    pub covers_round : AreCovered all_replies (start routers) (record { world = h.end; moments = moments; length = length held } ∷ noted) held_before
-        (bytes_of (puts_given s.world.answered) ++ bytes_of network.replies) h.end
+    pub covers_round : AreCovered (all_replies first) first (record { world = h.end; moments = moments; length = length held } ∷ noted) held_before
+        (bytes_of (puts_since first s.world) ++ bytes_of network.replies) h.end
     covers_round =
-        covered_more all_replies (start routers) held_before s.world h.end noted moments (length held) (bytes_of (puts_given s.world.answered))
-        (bytes_of network.replies) (s.covered told) (sym (ap bytes_of h.stands.given ∙ bytes_then (puts_given s.world.answered) network.replies))
-        (leads_on (start routers) s.world h.end (s.events, pipes_run routers s.rounds s.events s.world s.next s.pipes) round_on) round_on round_few
+        covered_more (all_replies first) first held_before s.world h.end noted moments (length held) (bytes_of (puts_since first s.world))
+        (bytes_of network.replies) (s.covered told) (sym (ap bytes_of (since_more first s.world h.end network.replies round_from round_on h.stands.given) ∙ bytes_then (puts_since first s.world) network.replies))
+        (leads_on first s.world h.end round_from round_on) round_on round_few
 
   module _ {M : Type 0} (letter : M → Letter) (old new : Network M) (after_view : S → SeatView) (noted_after : List Noted)
       (h : HasServed after_view seats_after (network_view letter old) (puts_given s.world.answered) s.world s.next (round_of router moment number asked))
       (waits : new.waiting.items ≡ old.waiting.items) (none : new.replies.items ≡ [])
-      (covers : IsTrue tells → AreCovered all_replies (start routers) noted_after held_before (bytes_of (puts_given s.world.answered)
+      (covers : IsTrue tells → AreCovered (all_replies first) first noted_after held_before (bytes_of (puts_since first s.world)
       ++ bytes_of old.replies.items) h.end) where
     puts_are : puts_given h.end.answered ≡ puts_given s.world.answered ++ old.replies.items
     puts_are = h.stands.given
 
-    bytes_are : bytes_of (puts_given h.end.answered) ≡ bytes_of (puts_given s.world.answered) ++ bytes_of old.replies.items
-    bytes_are = ap bytes_of puts_are ∙ bytes_then (puts_given s.world.answered) old.replies.items
+    bytes_are : bytes_of (puts_since first h.end) ≡ bytes_of (puts_since first s.world) ++ bytes_of old.replies.items
+    bytes_are =
+        ap bytes_of (since_more first s.world h.end old.replies.items (s.events, pipes_run first s.rounds s.events s.world s.next s.pipes)
+        (h.events, round_run s.world s.next (round_of router moment number asked) h.events h.end h.round) puts_are) ∙ bytes_then (puts_since first s.world) old.replies.items
 
     -- all replies of the round were put
     pub served_one : (held' : List ℕ) (after : ℕ) → Put tells held (bytes_of old.replies.items) held' → after ≡ replies_after q.more replied
-        → Serving after_view seats_after (network_view letter new) gives router routers tells noted_after held_before held' (consumed ++ q.bytes) after
+        → Serving after_view seats_after (network_view letter new) gives router first tells noted_after held_before held' (consumed ++ q.bytes) after
     served_one held' after put counted = record {
       rounds = s.rounds ++ round_of router moment number asked ∷ [];
       events = s.events ++ h.events;
       world = h.end;
       next = length h.end.sent;
+      begins = s.begins;
       pipes = serves s.rounds (round_of router moment number asked) s.events h.events s.world h.end s.next s.pipes h.round;
       one = rounds_one;
       stands = subst (λ (l : List ToLink). StandsFor after_view seats_after (network_view letter new) l h.end (length h.end.sent)) (sym puts_are)
           (handed_on after_view letter seats_after (puts_given s.world.answered) h.end (length h.end.sent) old new h.stands waits none);
       put = subst (λ (b : List ℕ). Put tells held_before b held') (sym bytes_are)
-          (put_then tells held_before (bytes_of (puts_given s.world.answered)) held (bytes_of old.replies.items) held' s.put put);
+          (put_then tells held_before (bytes_of (puts_since first s.world)) held (bytes_of old.replies.items) held' s.put put);
       asked = asked_rounds;
       count = counted ∙ (ap (λ (n : ℕ). replies_after q.more n) s.count
           ∙ (sym (behind_more 0 (requests_of s.rounds) q)
           ∙ ap (λ (l : List Request). replies_behind 0 l)
           (ap (λ (x : Request). requests_of s.rounds ++ x ∷ []) (sym same) ∙ sym (requests_more s.rounds (round_of router moment number asked)))));
-      covered = λ told. subst (λ (b : List ℕ). AreCovered all_replies (start routers) noted_after held_before b h.end) (sym bytes_are) (covers told);
+      covered = λ told. subst (λ (b : List ℕ). AreCovered (all_replies first) first noted_after held_before b h.end) (sym bytes_are) (covers told);
     }
 
     -- a prefix of them was put
     pub put_short : (held' : List ℕ) → PutInPart tells held (bytes_of old.replies.items) held'
-        → PutShort after_view seats_after gives router routers tells noted_after held_before held' (consumed ++ q.bytes)
+        → PutShort after_view seats_after gives router first tells noted_after held_before held' (consumed ++ q.bytes)
     put_short held' (part, (others, prefix), put) = record {
       earlier = s.rounds;
       last = round_of router moment number asked;
@@ -273,20 +282,20 @@ module _ {S : Type 0} (view : S → SeatView) (seats seats_after : List S) (befo
       served = s.pipes;
       round = h.round;
       one = rounds_one;
-      part = bytes_of (puts_given s.world.answered) ++ part;
+      part = bytes_of (puts_since first s.world) ++ part;
       earlier_put = (part, refl);
       in_part = (
         others,
-        bytes_are ∙ (ap (λ (b : List ℕ). bytes_of (puts_given s.world.answered) ++ b) prefix
-            ∙ sym (append_assoc (bytes_of (puts_given s.world.answered)) part others)),
+        bytes_are ∙ (ap (λ (b : List ℕ). bytes_of (puts_since first s.world) ++ b) prefix
+            ∙ sym (append_assoc (bytes_of (puts_since first s.world)) part others)),
       );
-      put = put_then tells held_before (bytes_of (puts_given s.world.answered)) held part held' s.put put;
+      put = put_then tells held_before (bytes_of (puts_since first s.world)) held part held' s.put put;
       asked = asked_rounds;
       kept = held_kept after_view seats_after h.end.nodes h.stands.nodes;
       crashes = h.stands.crashes;
-      covered = λ told. covered_part all_replies (start routers) held_before noted_after (bytes_of (puts_given s.world.answered) ++ part)
-          (bytes_of (puts_given s.world.answered) ++ bytes_of old.replies.items) h.end (
+      covered = λ told. covered_part (all_replies first) first held_before noted_after (bytes_of (puts_since first s.world) ++ part)
+          (bytes_of (puts_since first s.world) ++ bytes_of old.replies.items) h.end (
             others,
-            ap (λ (b : List ℕ). bytes_of (puts_given s.world.answered) ++ b) prefix ∙ sym (append_assoc (bytes_of (puts_given s.world.answered)) part others),
+            ap (λ (b : List ℕ). bytes_of (puts_since first s.world) ++ b) prefix ∙ sym (append_assoc (bytes_of (puts_since first s.world)) part others),
           ) (covers told);
     }

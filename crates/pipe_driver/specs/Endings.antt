@@ -8,9 +8,8 @@ use Rattle.node_model.specs.Requests.{Request}
 use Rattle.node_model.specs.World.{Held, World, Event}
 use Rattle.node_model.specs.Schedule.{Round, IsRound, Pipes}
 use Rattle.node_progress.specs.Completion.{AreAnswered}
-use Rattle.driver_steps.specs.Worlds.{puts_given}
 use Rattle.pipe_driver.specs.Pieces.{IsPrefix}
-use Rattle.pipe_driver.specs.Rounds.{requests_of, AreOfOne, bytes_of}
+use Rattle.pipe_driver.specs.Rounds.{requests_of, AreOfOne, bytes_of, puts_since}
 use Rattle.pipe_driver.specs.Schedules.{Came, IsLast}
 use Rattle.pipe_driver.specs.declared.status.Status.{Status}
 use Rattle.pipe_driver.specs.declared.status.Status.TheVariants as statuses
@@ -20,25 +19,25 @@ abbrev pub most_taken : ℕ
 most_taken = 2 ^ 40
 
 -- each request had its round, every one is answered, and all replies were put, and nothing else
-pub record AllServed (routers : ℕ) (put : List ℕ) (requests : List Request) (rounds : List Round) (end : World) : Type 0 where
+pub record AllServed (first : World) (put : List ℕ) (requests : List Request) (rounds : List Round) (end : World) : Type 0 where
   pub events : List Event
   pub next : ℕ
   pub asked : requests ≡ requests_of rounds
-  pub served : Pipes routers rounds events end next
-  pub answered : AreAnswered end
-  pub replied : put ≡ bytes_of (puts_given end.answered)
+  pub served : Pipes first rounds events end next
+  pub answered : AreAnswered first end
+  pub replied : put ≡ bytes_of (puts_since first end)
 
 -- The first requests had their rounds, and all replies of these were put, and nothing else. One request more may be under way.
-pub record SomeServed (routers : ℕ) (gives : ℕ → Type 0) (router : ℕ) (put : List ℕ) (requests : List Request) (rounds : List Round) (end : World) : Type 0 where
+pub record SomeServed (first : World) (gives : ℕ → Type 0) (router : ℕ) (put : List ℕ) (requests : List Request) (rounds : List Round) (end : World) : Type 0 where
   pub under_way : List Request
   pub others : List Request
   pub whole : World
   pub asked : requests ≡ (requests_of rounds ++ under_way) ++ others
-  pub came : Came routers gives router rounds under_way whole end
-  pub replied : put ≡ bytes_of (puts_given whole.answered)
+  pub came : Came first gives router rounds under_way whole end
+  pub replied : put ≡ bytes_of (puts_since first whole)
 
 -- The first requests had their rounds, all replies but those of the last round were put, and a prefix of these.
-pub record LastCutShort (routers : ℕ) (put : List ℕ) (requests : List Request) (rounds : List Round) (end : World) : Type 0 where
+pub record LastCutShort (first : World) (put : List ℕ) (requests : List Request) (rounds : List Round) (end : World) : Type 0 where
   pub earlier : List Round
   pub last : Round
   pub before : World
@@ -48,10 +47,10 @@ pub record LastCutShort (routers : ℕ) (put : List ℕ) (requests : List Reques
   pub others : List Request
   pub all : rounds ≡ earlier ++ last ∷ []
   pub asked : requests ≡ requests_of rounds ++ others
-  pub served : Pipes routers earlier events before next
+  pub served : Pipes first earlier events before next
   pub round : IsRound before next last more end
-  pub earlier_put : IsPrefix (bytes_of (puts_given before.answered)) put
-  pub in_part : IsPrefix put (bytes_of (puts_given end.answered))
+  pub earlier_put : IsPrefix (bytes_of (puts_since first before)) put
+  pub in_part : IsPrefix put (bytes_of (puts_since first end))
 
 -- The causes of a status. `fault` is that of the bytes after the requests, if there is one, with its offset, and `at_end` whether the input is
 -- at its end.
@@ -72,12 +71,12 @@ pub data Cause (limit : ℕ) (at_end : Type 0) (taken : List ℕ) (fault : Optio
   -- as many bytes were taken as may be
   too_long : length taken ≡ limit → fault ≡ None → all → Cause limit at_end taken fault all some short statuses.InputTooLong
 
--- One connection was served by the schedule, all by one router, from empty journals: these bytes were taken and put, and these rounds led to this world. `kept`
+-- One connection was served by the schedule, all by one router, from the first world on: these bytes were taken and put, and these rounds led to this world. `kept`
 -- says of the nodes of that world that the journals keep what they keep; and `leaves` of a world that a crash at any moment since the start
 -- left, of each log, what it might have left before, or a file in which an opening finds what that node kept in a world on the way; and `owed` of that
 -- world and the bytes that were put what the journals owed before each of these was put.
 pub record IsPiped (source : SourceCall) (sink : SinkCall) (gives : ℕ → Type 0) (router : ℕ) (kept : List Held → Type 0) (leaves : World → Type 0)
-    (owed : World → (put : List ℕ) → Type 0) (routers limit : ℕ) (status : Status) (rest : ℕ) : Type 0 where
+    (owed : World → (put : List ℕ) → Type 0) (first : World) (limit : ℕ) (status : Status) (rest : ℕ) : Type 0 where
   pub taken : List ℕ
   pub put : List ℕ
   pub requests : List Request
@@ -91,10 +90,10 @@ pub record IsPiped (source : SourceCall) (sink : SinkCall) (gives : ℕ → Type
   pub rest_left : rest ≡ length left
   pub most : length taken ≤ limit
   pub one : AreOfOne gives router rounds
-  pub cause : Cause limit (IsTrue source.tells → source.left_after ≡ []) taken fault (AllServed routers put requests rounds end)
-      (SomeServed routers gives router put requests rounds end) (LastCutShort routers put requests rounds end) status
+  pub cause : Cause limit (IsTrue source.tells → source.left_after ≡ []) taken fault (AllServed first put requests rounds end)
+      (SomeServed first gives router put requests rounds end) (LastCutShort first put requests rounds end) status
   pub files : kept end.nodes
   pub last : World
-  pub is_last : IsLast status (λ w. SomeServed routers gives router put requests rounds w) end last
+  pub is_last : IsLast status (λ w. SomeServed first gives router put requests rounds w) end last
   pub crashes : leaves last
   pub acknowledged : owed last put

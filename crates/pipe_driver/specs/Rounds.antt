@@ -1,9 +1,11 @@
 -- The rounds of one connection: its requests, in order, each with a moment, a link, a router and the number of its reply (own).
-use Rattle.std.specs.Prelude.{◌≡◌, ℕ, ℤ, ◌+◌, ◌%◌, ◌^◌, pos, Bool, List, [], ◌∷◌, map, if◌then◌else◌}
+use Rattle.std.specs.Prelude.{◌≡◌, ℕ, ℤ, ◌+◌, ◌%◌, ◌^◌, pos, Bool, List, [], ◌∷◌, map, length, drop, if◌then◌else◌}
 use Rattle.std.specs.List.{flat_map, AllByRecursion}
 use Rattle.node_model.specs.Requests.{Request}
 use Rattle.node_model.specs.Schedule.{Round}
+use Rattle.node_model.specs.World.{World}
 use Rattle.node_traits.specs.declared.outputs.ToLink.{ToLink}
+use Rattle.driver_steps.specs.Worlds.{puts_given}
 
 -- the first router: nodes before it are the catalogue and the shard
 abbrev pub first_router : ℕ
@@ -44,3 +46,7 @@ pub record AreOfOne (gives : ℕ → Type 0) (router : ℕ) (rounds : List Round
 -- the bytes of replies, one after another
 abbrev pub bytes_of : List ToLink → List ℕ
 bytes_of replies = flat_map (λ (t : ToLink). t.bytes) replies
+
+-- what is put for the answers that were given since the first world, in order
+abbrev pub puts_since : (first w : World) → List ToLink
+puts_since first w = puts_given (drop (length first.answered) w.answered)

@@ -2,7 +2,7 @@
 
 ghost use Rattle.std.specs.Prelude.{◌≡◌, ◌≢◌, ℕ, ◌<◌, ◌≤◌, [], IsTrue, vec_len};
 ghost use Rattle.outside.specs.Devices.{sink_call, source_call};
-ghost use Rattle.node_model.specs.World.{IsRouter, start};
+ghost use Rattle.node_model.specs.World.{World};
 ghost use Rattle.driver_steps.specs.Crashes.{Since, with_notes};
 ghost use Rattle.driver_steps.specs.Seats.{AreHeld, AreKept, AreOpen, LeaveKept, faults_of, places_of, seat_since, seat_view, since_then};
 ghost use Rattle.driver_steps.specs.Worlds.{network_view};
@@ -10,6 +10,7 @@ ghost use Rattle.pipe_driver.specs.Acknowledgements.{AreAcknowledgedBy, AreCover
 ghost use Rattle.pipe_driver.specs.Counts.{HaveRisenWhere, RoseWhere};
 ghost use Rattle.pipe_driver.specs.Endings.{IsPiped, most_taken};
 ghost use Rattle.pipe_driver.specs.Progress.{AreAskedAsRead, Serving, all_replies};
+ghost use Rattle.pipe_driver.specs.Schedules.{MayServe};
 ghost use Rattle.pipe_driver.specs.declared.status.Status.TheVariants as statuses;
 
 use crate::requests::answer_all;
@@ -45,8 +46,8 @@ fn ended(status: Status, rest: usize) -> Ending
 }
 
 /// Serves one connection from `input` to `out`, in which at most `limit` bytes are taken, by the nodes in order of their numbers, whose logs
-/// are open and empty at the start. All nodes are opened; then each whole request is served in a round of its own, at one moment of the clock,
-/// by the router with this number, before more is taken, and the replies of the round are put.
+/// are open and keep what they keep in the world that the call begins in. All nodes are opened; then each whole request is served in a round of
+/// its own, at one moment of the clock, by the router with this number, before more is taken, and the replies of the round are put.
 ///
 /// The status is `DiskFailed` where the disk of a log failed: the logs must be opened again. It is `OutOfMemory` also where a node is at its
 /// last step.
@@ -70,13 +71,13 @@ pub fn pipe<
     requires at { router < vec_len seats.old }
     requires open { AreOpen L.facts.is_open seats.old.items }
     requires limit { limit ≤ most_taken }
-    ensures piped { AreAskedAsRead N.asks → (routers : ℕ) → IsRouter (start routers).nodes router →
-        AreHeld (seat_view N.state L.facts) seats.old.items (start routers).nodes →
+    ensures piped { AreAskedAsRead N.asks → (first : World) → MayServe first router →
+        AreHeld (seat_view N.state L.facts) seats.old.items first.nodes →
         IsPiped (source_call S.tells S.left S.fault_count input.old input.new) (sink_call K.tells K.held K.fault_count out.old out.new)
         (C.gives clock.now) router (AreKept (seat_view N.state L.facts) seats.new.items)
-        (LeaveKept (seat_since N.state L.facts (since_then seats.old.items (start routers))) seats.new.items)
-        (AreAcknowledgedBy L.facts K.tells all_replies (start routers) (K.noted out.new) (K.held out.old) seats.new.items)
-        routers limit result.status result.rest }
+        (LeaveKept (seat_since N.state L.facts (since_then seats.old.items first)) seats.new.items)
+        (AreAcknowledgedBy L.facts K.tells (all_replies first) first (K.noted out.new) (K.held out.old) seats.new.items)
+        first limit result.status result.rest }
 
     // But where a disk failed, records can be appended to each log.
     ensures open { result.status ≢ statuses.DiskFailed → AreOpen L.facts.is_open seats.new.items }
@@ -118,15 +119,15 @@ fn serve<
     requires at { router < vec_len seats.old }
     requires open { AreOpen L.facts.is_open seats.old.items }
     requires limit { limit ≤ most_taken }
-    ensures piped { AreAskedAsRead N.asks → (since : Since L) (routers : ℕ) → IsRouter (start routers).nodes router →
+    ensures piped { AreAskedAsRead N.asks → (since : Since L) (first : World) → MayServe first router →
         Serving (seat_since N.state L.facts since) seats.old.items (network_view (λ m. N.Mail.letter m) network)
-        (C.gives clock.now) router routers K.tells since.noted (K.held out.old) (K.held out.old) [] 0 →
+        (C.gives clock.now) router first K.tells since.noted (K.held out.old) (K.held out.old) [] 0 →
         AreNoted K.tells (K.noted out.old) (places_of L.facts.place seats.old.items) since.noted →
         WithNotes K.tells (K.noted out.new) (places_of L.facts.place seats.new.items)
         (λ noted. IsPiped (source_call S.tells S.left S.fault_count input.old input.new) (sink_call K.tells K.held K.fault_count out.old out.new)
         (C.gives clock.now) router (AreKept (seat_since N.state L.facts (with_notes since noted)) seats.new.items)
         (LeaveKept (seat_since N.state L.facts (with_notes since noted)) seats.new.items)
-        (λ last put. IsTrue K.tells → AreCovered all_replies (start routers) noted (K.held out.old) put last) routers limit
+        (λ last put. IsTrue K.tells → AreCovered (all_replies first) first noted (K.held out.old) put last) first limit
         result.status result.rest) }
     ensures open { result.status ≢ statuses.DiskFailed → AreOpen L.facts.is_open seats.new.items }
     ensures len { vec_len seats.new ≡ vec_len seats.old }

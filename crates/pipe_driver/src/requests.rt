@@ -5,7 +5,7 @@ ghost use Rattle.std.specs.Prelude.{None, Err, OnOk, IfErr, IfOk};
 ghost use Rattle.opmsg_frames.specs.Outline.{outline, partial_outline};
 ghost use Rattle.opmsg_frames.specs.Requests as wire;
 ghost use Rattle.opmsg_frames.specs.RequestMeanings.{IsMeant};
-ghost use Rattle.node_model.specs.World.{IsRouter, start};
+ghost use Rattle.node_model.specs.World.{World};
 ghost use Rattle.driver_steps.specs.Crashes.{Since, with_notes};
 ghost use Rattle.driver_steps.specs.Seats.{AreOpen, faults_of, places_of, seat_since};
 ghost use Rattle.driver_steps.specs.Worlds.{network_view};
@@ -13,6 +13,7 @@ ghost use Rattle.pipe_driver.specs.Acknowledgements.{AreNoted, WithNotes};
 ghost use Rattle.pipe_driver.specs.Counts.{HaveRisenWhere, RoseWhere};
 ghost use Rattle.pipe_driver.specs.Endings.{most_taken};
 ghost use Rattle.pipe_driver.specs.Progress.{AreAskedAsRead, Serving};
+ghost use Rattle.pipe_driver.specs.Schedules.{MayServe};
 ghost use Rattle.pipe_driver.specs.Stops.{AfterOne, AfterRequests, IsOfServing};
 ghost use Rattle.pipe_driver.specs.declared.status.Status.TheVariants as statuses;
 
@@ -57,14 +58,14 @@ pub fn answer_one<
     requires open { AreOpen L.facts.is_open seats.old.items }
     requires count { replied < 2 ^ 63 }
     ensures served { AreAskedAsRead N.asks → (meant : wire.Request) → IsMeant request meant → wire.IsRequest meant →
-        (since : Since L) (routers : ℕ) → IsRouter (start routers).nodes router → (held_before consumed : List ℕ) →
+        (since : Since L) (first : World) → MayServe first router → (held_before consumed : List ℕ) →
         Serving (seat_since N.state L.facts since) seats.old.items (network_view (λ m. N.Mail.letter m) network.old)
-        (C.gives clock.now) router routers K.tells since.noted held_before (K.held out.old) consumed replied →
+        (C.gives clock.now) router first K.tells since.noted held_before (K.held out.old) consumed replied →
         AreNoted K.tells (K.noted out.old) (places_of L.facts.place seats.old.items) since.noted →
         WithNotes K.tells (K.noted out.new) (places_of L.facts.place seats.new.items)
         (λ noted. AfterOne result (seat_since N.state L.facts (with_notes since noted)) seats.new.items
         (network_view (λ m. N.Mail.letter m) network.new)
-        (C.gives clock.now) router routers K.tells noted held_before (K.held out.new) (consumed ++ meant.bytes)) }
+        (C.gives clock.now) router first K.tells noted held_before (K.held out.new) (consumed ++ meant.bytes)) }
     ensures replied { IfOk result (λ after. after ≤ replied + 1) }
     ensures len { vec_len seats.new ≡ vec_len seats.old }
     ensures open { OnOk result (AreOpen L.facts.is_open seats.new.items) }
@@ -118,14 +119,14 @@ pub fn answer_all<
     requires fed { framer.old.offset + length framer.old.bytes ≤ most_taken }
     requires fault { framer.old.fault ≡ None }
     requires count { replied ≤ framer.old.offset }
-    ensures served { AreAskedAsRead N.asks → (since : Since L) (routers : ℕ) → IsRouter (start routers).nodes router → (held_before consumed : List ℕ) →
+    ensures served { AreAskedAsRead N.asks → (since : Since L) (first : World) → MayServe first router → (held_before consumed : List ℕ) →
         Serving (seat_since N.state L.facts since) seats.old.items (network_view (λ m. N.Mail.letter m) network.old)
-        (C.gives clock.now) router routers K.tells since.noted held_before (K.held out.old) consumed replied →
+        (C.gives clock.now) router first K.tells since.noted held_before (K.held out.old) consumed replied →
         AreNoted K.tells (K.noted out.old) (places_of L.facts.place seats.old.items) since.noted →
         WithNotes K.tells (K.noted out.new) (places_of L.facts.place seats.new.items)
         (λ noted. AfterRequests result (seat_since N.state L.facts (with_notes since noted)) seats.new.items
         (network_view (λ m. N.Mail.letter m) network.new)
-        (C.gives clock.now) router routers K.tells noted held_before (K.held out.new) (consumed ++ framer.old.bytes) framer.new.bytes) }
+        (C.gives clock.now) router first K.tells noted held_before (K.held out.new) (consumed ++ framer.old.bytes) framer.new.bytes) }
     ensures partial { OnOk result (outline framer.new.bytes ≡ partial_outline) }
     ensures fed { framer.new.offset + length framer.new.bytes ≡ framer.old.offset + length framer.old.bytes }
     ensures fault { OnOk result (framer.new.fault ≡ None) }

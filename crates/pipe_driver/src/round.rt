@@ -2,13 +2,13 @@
 
 ghost use Rattle.std.specs.Prelude.{◌≡◌, ℕ, ◌<◌, List, vec_len, IfErr, OnOk};
 ghost use Rattle.node_model.specs.Schedule.{Pipes, Round};
-ghost use Rattle.node_model.specs.World.{Event, IsRouter, World, start};
+ghost use Rattle.node_model.specs.World.{Event, World};
 ghost use Rattle.node_traits.specs.declared.outputs.ToLink.{ToLink};
 ghost use Rattle.driver_steps.specs.Crashes.{Since};
 ghost use Rattle.driver_steps.specs.Seats.{AreOpen, TellsFaults, UnlessDiskFailed, faults_of, places_of, seat_since};
 ghost use Rattle.driver_steps.specs.Moves.{HasStopped};
 ghost use Rattle.driver_steps.specs.Worlds.{StandsFor, network_view};
-ghost use Rattle.pipe_driver.specs.Schedules.{HasServed, IsPart, round_of};
+ghost use Rattle.pipe_driver.specs.Schedules.{HasServed, IsPart, MayServe, round_of};
 
 use driver_steps::{Network, Seat, ask, give_moments, settle};
 use node_traits::{Node, StepFault};
@@ -40,15 +40,15 @@ pub fn serve_round<R: Threads + Sync, N: Node, L: Log>(
 ) -> Result<(), StepFault>
     requires at { router < vec_len seats.old }
     requires open { AreOpen L.facts.is_open seats.old.items }
-    ensures served { (since : Since L) (routers : ℕ) (rounds : List Round) (events : List Event) (w : World) (next : ℕ) (handed : List ToLink) →
-        IsRouter (start routers).nodes router → Pipes routers rounds events w next →
+    ensures served { (since : Since L) (first : World) (rounds : List Round) (events : List Event) (w : World) (next : ℕ) (handed : List ToLink) →
+        MayServe first router → Pipes first rounds events w next →
         StandsFor (seat_since N.state L.facts since) seats.old.items
         (network_view (λ m. N.Mail.letter m) network.old) handed w next →
         OnOk result (HasServed (seat_since N.state L.facts since) seats.new.items
         (network_view (λ m. N.Mail.letter m) network.new) handed w next
         (round_of router moment number (N.asks request))) }
-    ensures stopped { (since : Since L) (routers : ℕ) (rounds : List Round) (events : List Event) (w : World) (next : ℕ) (handed : List ToLink) →
-        IsRouter (start routers).nodes router → Pipes routers rounds events w next →
+    ensures stopped { (since : Since L) (first : World) (rounds : List Round) (events : List Event) (w : World) (next : ℕ) (handed : List ToLink) →
+        MayServe first router → Pipes first rounds events w next →
         StandsFor (seat_since N.state L.facts since) seats.old.items
         (network_view (λ m. N.Mail.letter m) network.old) handed w next →
         IfErr result (λ e. HasStopped (seat_since N.state L.facts since) seats.new.items

@@ -4,36 +4,39 @@ use Rattle.outside.specs.Devices.{SourceCall, SinkCall}
 use Rattle.node_model.specs.Journal.{changes_kept}
 use Rattle.node_model.specs.OneHistory.{OneHistory}
 use Rattle.node_model.specs.Accounts.{changes_in}
-use Rattle.node_model.specs.World.{Held, World, Event, Run, journal_at, start, account_of}
+use Rattle.node_model.specs.World.{Held, World, Event, Run, journal_at, account_of}
 use Rattle.node_model.proofs.Schedules.{run_then}
-use Rattle.node_laws.proofs.Runs.{run_keeps_changes, run_makes_one_history}
+use Rattle.node_laws.proofs.Runs.{makes_one_history}
+use Rattle.node_laws.proofs.StepsKeep.{run_keeps}
+use Rattle.node_progress.specs.Firsts.{IsFirst}
+use Rattle.node_progress.proofs.Firsts.{first_true}
 use Rattle.pipe_driver.specs.declared.status.Status.{Status}
 use Rattle.sim_driver.specs.Simulations.{AllPlayed, CameTo, came_opening, came_lines, came_part, LastPutShort, Cause, IsSimulated}
 use Rattle.sim_driver.specs.Simulations.{input_ended, read_failed, write_failed, disk_failed, no_memory, line_refused, line_unended, too_long}
 use Rattle.sim_driver.proofs.Plays.{played_run, plays_run}
 
-module _ (routers : ℕ) where
-  all_run : (lines : List (List ℕ)) (put : List ℕ) (end : World) → AllPlayed routers lines put end → (events : List Event) × Run (start routers) events end
-  all_run lines put end all = (all.events, plays_run routers lines all.events end all.script put all.played)
+module _ (first : World) where
+  all_run : (lines : List (List ℕ)) (put : List ℕ) (end : World) → AllPlayed first lines put end → (events : List Event) × Run first events end
+  all_run lines put end all = (all.events, plays_run first lines all.events end all.script put all.played)
 
-  came_run : (lines : List (List ℕ)) (left put : List ℕ) (end : World) → CameTo routers lines left put end
-      → (events : List Event) × Run (start routers) events end
-  came_run _ _ _ _ (came_opening left events w first run) = (events, run)
+  came_run : (lines : List (List ℕ)) (left put : List ℕ) (end : World) → CameTo first lines left put end
+      → (events : List Event) × Run first events end
+  came_run _ _ _ _ (came_opening left events w begun run) = (events, run)
   came_run _ _ _ _ (came_lines lines left put w all) = all_run lines put w all
   came_run _ _ _ _ (came_part lines before events left put bytes others u w s plays next part run) =
-      (before ++ events, run_then (start routers) before u events w (plays_run routers lines before u s put plays) run)
+      (before ++ events, run_then first before u events w (plays_run first lines before u s put plays) run)
 
-  short_run : (lines : List (List ℕ)) (left put : List ℕ) (end : World) → LastPutShort routers lines left put end
-      → (events : List Event) × Run (start routers) events end
+  short_run : (lines : List (List ℕ)) (left put : List ℕ) (end : World) → LastPutShort first lines left put end
+      → (events : List Event) × Run first events end
   short_run lines left put end short = (
     short.before ++ short.events,
-    run_then (start routers) short.before short.earlier short.events end
-        (plays_run routers lines short.before short.earlier short.script short.out short.played)
+    run_then first short.before short.earlier short.events end
+        (plays_run first lines short.before short.earlier short.script short.out short.played)
         (played_run short.earlier short.script short.line short.events end short.new short.closed short.last),
   )
 
   cause_run : (limit : ℕ) (at_end : Type 0) (taken : List ℕ) (lines : List (List ℕ)) (left put : List ℕ) (end : World) (status : Status)
-      → Cause routers limit at_end taken lines left put end status → (events : List Event) × Run (start routers) events end
+      → Cause first limit at_end taken lines left put end status → (events : List Event) × Run first events end
   cause_run limit at_end taken lines left put end _ (input_ended ends below none all) = all_run lines put end all
   cause_run limit at_end taken lines left put end _ (read_failed below none all) = all_run lines put end all
   cause_run limit at_end taken lines left put end _ (write_failed short) = short_run lines left put end short
@@ -45,16 +48,16 @@ module _ (routers : ℕ) where
 
 -- whatever the script says, and however it ended
 module _ (source : SourceCall) (sink : SinkCall) (kept : List Held → Type 0) (leaves : World → Type 0)
-    (owed : World → List ℕ → Type 0) (routers limit : ℕ) (status : Status) where
-  pub simulated_run : (s : IsSimulated source sink kept leaves owed routers limit status) → (events : List Event) × Run (start routers) events s.end
+    (owed : World → List ℕ → Type 0) (first : World) (limit : ℕ) (status : Status) where
+  pub simulated_run : (s : IsSimulated source sink kept leaves owed first limit status) → (events : List Event) × Run first events s.end
   simulated_run s =
-      cause_run routers limit _ s.taken s.lines s.left s.put s.end status s.cause
+      cause_run first limit _ s.taken s.lines s.left s.put s.end status s.cause
 
-  pub simulated_history : (s : IsSimulated source sink kept leaves owed routers limit status)
+  pub simulated_history : IsFirst first → (s : IsSimulated source sink kept leaves owed first limit status)
       → OneHistory (account_of s.end)
-  simulated_history s = let run = simulated_run s in run_makes_one_history routers run.0 s.end run.1
+  simulated_history begins s = let run = simulated_run s in makes_one_history s.end (run_keeps first s.end run.0 (first_true first begins) run.1)
 
   -- its changes of the catalogue are those that the catalogue's journal stores
-  pub simulated_changes : (s : IsSimulated source sink kept leaves owed routers limit status)
+  pub simulated_changes : IsFirst first → (s : IsSimulated source sink kept leaves owed first limit status)
       → changes_in s.end.changed ≡ changes_kept (journal_at s.end.nodes 0)
-  simulated_changes s = let run = simulated_run s in run_keeps_changes routers run.0 s.end run.1
+  simulated_changes begins s = let run = simulated_run s in (run_keeps first s.end run.0 (first_true first begins) run.1).0.good.dated

@@ -13,12 +13,13 @@ use Rattle.node_model.specs.States.{Router, new_router, router_state}
 use Rattle.node_model.specs.World.{Held, World, IsRouter, Moves, Event, deliver_event, moment_event, Happens, comes, delivers, passes, begins as was_opened}
 use Rattle.node_model.specs.World.{Run, stands, goes, routers_from, start}
 use Rattle.node_model.proofs.Schedules.{run_then}
+use Rattle.node_progress.specs.Firsts.{first_start}
 use Rattle.pipe_driver.specs.Progress.{AreAsked}
 use Rattle.pipe_driver.specs.Rounds.{first_router}
 use Rattle.pipe_driver.proofs.Routers.{run_stays}
 use Rattle.script_lines.specs.Lines.{Line, client_line}
 use Rattle.sim_driver.specs.Links.{LinkView}
-use Rattle.sim_driver.specs.Moves.{HasRouters}
+use Rattle.sim_driver.specs.Moves.{HasRouters, MayPlay}
 use Rattle.sim_driver.specs.Plays.{IsPlayed, plays_client, closes, plays_deliver, plays_moment, plays_settle, plays_next, loses_next, events_on}
 use Rattle.sim_driver.specs.Plays.{SettlesBut, but_none, but_passed, but_next, but_lost, IsPartOfLine, part_of_client, part_of_deliver, part_of_moment}
 use Rattle.sim_driver.specs.Plays.{part_of_settle, part_of_next}
@@ -38,11 +39,11 @@ played_run u s _ _ _ _ _ (plays_settle except events w ds settles) = but_run exc
 played_run u s _ _ _ _ _ (plays_next kind which m w place got h) = goes u w w (deliver_event m.receiver which) [] h (stands w)
 played_run u s _ _ _ _ _ (loses_next kind which m place got none) = stands u
 
-pub plays_run : (routers : ℕ) (lines : List (List ℕ)) (events : List Event) (w : World) (s : ScriptView) (out : List ℕ)
-    → Plays routers lines events w s out → Run (start routers) events w
-plays_run routers _ _ _ _ _ (plays_none w run) = run
-plays_run routers _ _ _ _ _ (plays_more lines before events u w s t out bytes line closed given earlier says played gave) =
-    run_then (start routers) before u events w (plays_run routers lines before u s out earlier) (played_run u s line events w t closed played)
+pub plays_run : (first : World) (lines : List (List ℕ)) (events : List Event) (w : World) (s : ScriptView) (out : List ℕ)
+    → Plays first lines events w s out → Run first events w
+plays_run first _ _ _ _ _ (plays_none w run) = run
+plays_run first _ _ _ _ _ (plays_more lines before events u w s t out bytes line closed given earlier says played gave) =
+    run_then first before u events w (plays_run first lines before u s out earlier) (played_run u s line events w t closed played)
 
 -- NODES
 
@@ -88,16 +89,22 @@ start_router routers router below =
     there : suc (suc router) ≡ first_router + router
     there = omega arith
 
-pub plays_count : (routers : ℕ) (lines : List (List ℕ)) (events : List Event) (w : World) (s : ScriptView) (out : List ℕ)
-    → Plays routers lines events w s out → length w.nodes ≡ first_router + routers
-plays_count routers lines events w s out plays =
-    run_count (start routers) events w (plays_run routers lines events w s out plays) ∙ start_count routers
+-- a script may be played from empty journals on
+pub start_may_play : (routers : ℕ) → MayPlay (start routers)
+start_may_play routers = record {
+  begins = first_start routers;
+  routers = λ router below. start_router routers router (omega (arith, below, start_count routers));
+}
 
-pub plays_routers : (routers : ℕ) (lines : List (List ℕ)) (events : List Event) (w : World) (s : ScriptView) (out : List ℕ)
-    → Plays routers lines events w s out → HasRouters w
-plays_routers routers lines events w s out plays router below =
-    run_stays (start routers) events w (first_router + router) (plays_run routers lines events w s out plays)
-    (start_router routers router (omega (arith, below, plays_count routers lines events w s out plays)))
+pub plays_count : (first : World) (lines : List (List ℕ)) (events : List Event) (w : World) (s : ScriptView) (out : List ℕ)
+    → Plays first lines events w s out → length w.nodes ≡ length first.nodes
+plays_count first lines events w s out plays = run_count first events w (plays_run first lines events w s out plays)
+
+pub plays_routers : (first : World) → HasRouters first → (lines : List (List ℕ)) (events : List Event) (w : World) (s : ScriptView) (out : List ℕ)
+    → Plays first lines events w s out → HasRouters w
+plays_routers first there lines events w s out plays router below =
+    run_stays first events w (first_router + router) (plays_run first lines events w s out plays)
+    (there router (omega (arith, below, plays_count first lines events w s out plays)))
 
 -- MESSAGES
 
@@ -145,11 +152,11 @@ played_marks u s _ _ _ _ _ most (loses_next kind which m place got none) =
     marked_length which (length u.sent) s.delivered most (slice_get_within u.sent which m got)
 
 -- what was delivered was sent
-pub plays_marks : (routers : ℕ) (lines : List (List ℕ)) (events : List Event) (w : World) (s : ScriptView) (out : List ℕ)
-    → Plays routers lines events w s out → length s.delivered ≤ length w.sent
-plays_marks routers _ _ _ _ _ (plays_none w run) = omega arith
-plays_marks routers _ _ _ _ _ (plays_more lines before events u w s t out bytes line closed given earlier says played gave) =
-    played_marks u s line events w t closed (plays_marks routers lines before u s out earlier) played
+pub plays_marks : (first : World) (lines : List (List ℕ)) (events : List Event) (w : World) (s : ScriptView) (out : List ℕ)
+    → Plays first lines events w s out → length s.delivered ≤ length w.sent
+plays_marks first _ _ _ _ _ (plays_none w run) = omega arith
+plays_marks first _ _ _ _ _ (plays_more lines before events u w s t out bytes line closed given earlier says played gave) =
+    played_marks u s line events w t closed (plays_marks first lines before u s out earlier) played
 
 -- A LINE THAT WAS PLAYED WHOLE, AS A PART
 

@@ -1,17 +1,20 @@
 -- What is under way after the lines of a script; and after `settle` every request is answered.
-use Rattle.std.proofs.Common.{◌≡◌, ◌≢◌, ◌⊎◌, inl, inr, ℕ, zero, suc, ◌+◌, ◌<◌, ◌≤◌, List, [], ◌∷◌, length, refl, ap, subst, ◌∙◌, arith, true, false}
+use Rattle.std.proofs.Common.{◌≡◌, ◌≢◌, ◌⊎◌, inl, inr, ℕ, zero, suc, ◌+◌, ◌<◌, ◌≤◌, List, [], ◌∷◌, ◌++◌, length, refl, ap, subst, ◌∙◌, arith, true, false}
 use Rattle.std.specs.Prelude.{Bool, Option, Some, None, ◌||◌, codes}
 use Rattle.std.specs.List.{AllByRecursion, slice_get}
 use Rattle.std.proofs.lemmas.List.{length_push, same_from_push}
 use Rattle.node_model.specs.Letters.{Letter}
 use Rattle.node_model.specs.Requests.{Request}
-use Rattle.node_model.specs.World.{World, Event, deliver_event, moment_event, Happens, start}
+use Rattle.node_model.specs.World.{World, Event, deliver_event, moment_event, Happens}
 use Rattle.node_model.specs.Schedule.{openings}
-use Rattle.node_laws.proofs.Runs.{start_true}
+use Rattle.node_model.proofs.Schedules.{run_then}
 use Rattle.node_progress.specs.Completion.{AreAnswered}
+use Rattle.node_progress.specs.Firsts.{IsFirst}
 use Rattle.node_progress.specs.UnderWay.{IsUnderWay}
 use Rattle.node_progress.proofs.Bags.{same_place}
-use Rattle.node_progress.proofs.BagRuns.{BagIn, IsNoDelivery, start_bag, goes_to_node, delivery_bag, event_keeps, events_keep}
+use Rattle.node_progress.proofs.BagRuns.{BagIn, IsNoDelivery, first_bag, goes_to_node, delivery_bag, event_keeps, events_keep}
+use Rattle.node_progress.proofs.Firsts.{first_true, first_rests}
+use Rattle.node_progress.proofs.Lives.{TakenSince, taken_since}
 use Rattle.node_progress.proofs.Progress.{bag_under_way}
 use Rattle.node_progress.proofs.Answered.{are_answered}
 use Rattle.node_progress.proofs.Rounds.{openings_deliver_none, sent_before}
@@ -21,6 +24,8 @@ use Rattle.sim_driver.specs.Plays.{client_events, events_on, SettlesBut, but_non
 use Rattle.sim_driver.specs.Scripts.{ScriptView, is_delivered, marked}
 use Rattle.sim_driver.specs.Simulations.{Plays, plays_none, plays_more, EndInSettle}
 use Rattle.sim_driver.specs.Undelivered.{IsUndelivered}
+use Rattle.sim_driver.proofs.Deliveries.{but_run}
+use Rattle.sim_driver.proofs.Plays.{plays_run}
 
 -- MARKS
 
@@ -94,20 +99,24 @@ played_bag u s _ _ _ _ _ (plays_settle except events w delivered settles) b = bu
 played_bag u s _ _ _ _ _ (plays_next kind which m w place got h) b = marked_bag u w s.delivered m.receiver which b h
 played_bag u s _ _ _ _ _ (loses_next kind which m place got none) b = absurd (never_lost u (IsUndelivered s.delivered) which m b got none)
 
-plays_bag : (routers : ℕ) (lines : List (List ℕ)) (events : List Event) (w : World) (s : ScriptView) (out : List ℕ)
-    → Plays routers lines events w s out → BagIn (IsUndelivered s.delivered) w
-plays_bag routers _ _ _ _ _ (plays_none w run) =
-    events_keep (IsUndelivered []) (start routers) (openings 0 (length (start routers).nodes)) w (openings_deliver_none 0 (length (start routers).nodes))
-    (record { true_there = start_true routers; bag = start_bag (IsUndelivered []) routers (λ n. refl) }) run
-plays_bag routers _ _ _ _ _ (plays_more lines before events u w s t out bytes line closed given played says is gives) =
-    played_bag u s line events w t closed is (plays_bag routers lines before u s out played)
+plays_bag : (first : World) → IsFirst first → (lines : List (List ℕ)) (events : List Event) (w : World) (s : ScriptView) (out : List ℕ)
+    → Plays first lines events w s out → BagIn (IsUndelivered s.delivered) w
+plays_bag first begins _ _ _ _ _ (plays_none w run) =
+    events_keep (IsUndelivered []) first (openings 0 (length first.nodes)) w (openings_deliver_none 0 (length first.nodes))
+    (record { true_there = first_true first begins; bag = first_bag (IsUndelivered []) first (first_rests first begins) (λ n. refl) }) run
+plays_bag first begins _ _ _ _ _ (plays_more lines before events u w s t out bytes line closed given played says is gives) =
+    played_bag u s line events w t closed is (plays_bag first begins lines before u s out played)
+
+plays_since : (first : World) → IsFirst first → (lines : List (List ℕ)) (events : List Event) (w : World) (s : ScriptView) (out : List ℕ)
+    → Plays first lines events w s out → TakenSince first w
+plays_since first begins lines events w s out plays = taken_since first (first_true first begins) events w (plays_run first lines events w s out plays)
 
 -- after the lines of a script all that open requests wait for is under way
-pub scripts_are_under_way : (routers : ℕ) (lines : List (List ℕ)) (events : List Event) (w : World) (s : ScriptView) (out : List ℕ)
-    → Plays routers lines events w s out → IsUnderWay (IsUndelivered s.delivered) w
-scripts_are_under_way routers lines events w s out plays =
-    let b = plays_bag routers lines events w s out plays in
-    bag_under_way (IsUndelivered s.delivered) w b.true_there.0.book b.true_there.0.good b.bag
+pub scripts_are_under_way : (first : World) (lines : List (List ℕ)) (events : List Event) (w : World) (s : ScriptView) (out : List ℕ) → IsFirst first
+    → Plays first lines events w s out → IsUnderWay first (IsUndelivered s.delivered) w
+scripts_are_under_way first lines events w s out begins plays =
+    let b = plays_bag first begins lines events w s out plays in
+    bag_under_way (IsUndelivered s.delivered) w b.true_there.0.book b.true_there.0.good b.bag first (plays_since first begins lines events w s out plays)
 
 -- SETTLE
 
@@ -153,17 +162,19 @@ settled_between _ _ _ _ _ _ _ n (but_lost u w ds es next later m events got new 
     by_place (inl same) stays later_on = stays (ap (λ k. is_delivered (marked next ds) k) same ∙ marked_here next ds)
     by_place (inr other) stays later_on = later_on (omega (arith, from, other))
 
-settled_answered : (u : World) (ds : List Bool) (events : List Event) (w : World) (es : List Bool) → SettlesBut None u ds 0 events w es (length w.sent)
-    → BagIn (IsUndelivered ds) u → AreAnswered w
-settled_answered u ds events w es settles b =
+settled_answered : (first u : World) (ds : List Bool) (events : List Event) (w : World) (es : List Bool)
+    → SettlesBut None u ds 0 events w es (length w.sent) → BagIn (IsUndelivered ds) u → TakenSince first w → AreAnswered first w
+settled_answered first u ds events w es settles b taken =
     let after = but_bag None u ds 0 events w es (length w.sent) settles b in
-    are_answered (IsUndelivered es) w after.true_there after.bag
+    are_answered first (IsUndelivered es) w after.true_there after.bag taken
     (λ n below left. let done = settled_between u ds 0 events w es (length w.sent) n settles (omega arith) below in cc (done, left))
 
-pub settled_scripts_are_answered : (routers : ℕ) (lines : List (List ℕ)) (before events : List Event) (u w : World) (s t : ScriptView) (out : List ℕ)
-    (closed : Option ℕ) → Plays routers lines before u s out → IsPlayed u s (settle_line None) events w t closed → AreAnswered w
-settled_scripts_are_answered routers lines before _ u _ s _ out _ plays (plays_settle _ events w delivered settles) =
-    settled_answered u s.delivered events w delivered settles (plays_bag routers lines before u s out plays)
+pub settled_scripts_are_answered : (first : World) (lines : List (List ℕ)) (before events : List Event) (u w : World) (s t : ScriptView) (out : List ℕ)
+    (closed : Option ℕ) → IsFirst first → Plays first lines before u s out → IsPlayed u s (settle_line None) events w t closed → AreAnswered first w
+settled_scripts_are_answered first lines before _ u _ s _ out _ begins plays (plays_settle _ events w delivered settles) =
+    settled_answered first u s.delivered events w delivered settles (plays_bag first begins lines before u s out plays)
+    (taken_since first (first_true first begins) (before ++ events) w
+    (run_then first before u events w (plays_run first lines before u s out plays) (but_run None u s.delivered 0 events w delivered (length w.sent) settles)))
 
 -- THE LAST LINE
 
@@ -180,10 +191,10 @@ settles_alone _ _ (says_except kind known) is = absurd (cc is)
 settles_alone _ _ (says_next kind known) is = let other : 110 ≡ 115 = ap first_byte is in absurd (omega (arith, other))
 
 -- where the last line of a script is `settle`, every request is answered
-pub ends_answered : (routers : ℕ) (lines : List (List ℕ)) (events : List Event) (w : World) (s : ScriptView) (out : List ℕ)
-    → Plays routers lines events w s out → EndInSettle lines → AreAnswered w
-ends_answered routers _ _ _ _ _ (plays_none w run) (before, is) =
+pub ends_answered : (first : World) → IsFirst first → (lines : List (List ℕ)) (events : List Event) (w : World) (s : ScriptView) (out : List ℕ)
+    → Plays first lines events w s out → EndInSettle lines → AreAnswered first w
+ends_answered first begins _ _ _ _ _ (plays_none w run) (before, is) =
     absurd (omega (arith, length_push before (codes "settle"), ap (λ (l : List (List ℕ)). length l) is))
-ends_answered routers _ _ _ _ _ (plays_more lines earlier events u w s t out bytes line closed given played says is_played gives) (before, is) =
+ends_answered first begins _ _ _ _ _ (plays_more lines earlier events u w s t out bytes line closed given played says is_played gives) (before, is) =
     let settle : line ≡ settle_line None = settles_alone bytes line says (same_from_push lines before bytes (codes "settle") is).1 in
-    settled_scripts_are_answered routers lines earlier events u w s t out closed played (subst (λ l. IsPlayed u s l events w t closed) settle is_played)
+    settled_scripts_are_answered first lines earlier events u w s t out closed begins played (subst (λ l. IsPlayed u s l events w t closed) settle is_played)

@@ -5,8 +5,9 @@ use Rattle.std.proofs.lemmas.Grind.{flat_map-append}
 use Rattle.outside.specs.Streams.{Put}
 use Rattle.outside.proofs.Relations.{put_then}
 use Rattle.node_model.specs.Letters.{Letter}
-use Rattle.node_model.specs.World.{World, Event, Happens, Run, start}
+use Rattle.node_model.specs.World.{World, Event, Happens, Run}
 use Rattle.node_model.specs.Schedule.{openings}
+use Rattle.node_progress.specs.Firsts.{IsFirst}
 use Rattle.node_traits.specs.declared.outputs.StepFault.{StepFault}
 use Rattle.node_traits.specs.declared.outputs.StepFault.TheVariants.{Disk, Steps, Memory}
 use Rattle.node_traits.specs.declared.outputs.ToLink.{ToLink}
@@ -32,7 +33,7 @@ use Rattle.pipe_driver.proofs.Serving.{kept_at}
 use Rattle.sim_driver.specs.Scripts.{ScriptView, new_script, printed}
 use Rattle.sim_driver.specs.Moves.{AreStill, IsCut, IsLastOf}
 use Rattle.sim_driver.specs.LineOutcomes.{HasPlayedBytes, IsPartOfBytes, part_read, StopsBytes, bytes_refused, bytes_at_disk, bytes_at_memory}
-use Rattle.sim_driver.specs.Simulations.{newline, bytes_of_lines, Plays, plays_none, plays_more, CameTo, came_opening, came_lines, came_part, all_printed}
+use Rattle.sim_driver.specs.Simulations.{newline, bytes_of_lines, Plays, plays_none, plays_more, CameTo, came_opening, came_lines, came_part, all_printed, router_count}
 use Rattle.sim_driver.specs.Progress.{Playing, StopsAt, at_refused_line, at_write_fault, at_disk_fault, at_no_memory, Stopped}
 use Rattle.sim_driver.proofs.Faults.{run_more, still}
 use Rattle.sim_driver.proofs.Plays.{plays_count, plays_run, whole_is_part}
@@ -66,43 +67,43 @@ last_in_line status end last events P goes_on on (inr (is, e, has, h)) = inr (is
 
 -- THE START
 
-module _ {S : Type 0} (view : S → SeatView) (seats : List S) (routers : ℕ) (tells : Bool) (held : List ℕ) (count : ℕ)
-    (as_many : count ≡ length (start routers).nodes) where
-  pub opened_playing : (network : NetworkView) → HasRun view seats network [] (start routers) 0 (openings 0 count)
-      → Playing view seats network routers tells [] held held (new_script routers) []
-  opened_playing network r =
-      let none : r.end.answered ≡ [] = nothing_told routers count r.end r.run in
-      let silent : puts_given r.end.answered ≡ [] = ap puts_given none in
-      let run : Run (start routers) (openings 0 (length (start routers).nodes)) r.end =
-      subst (λ (n : ℕ). Run (start routers) (openings 0 n) r.end) as_many r.run in
+module _ {S : Type 0} (view : S → SeatView) (seats : List S) (first : World) (tells : Bool) (held : List ℕ) (count : ℕ)
+    (as_many : count ≡ length first.nodes) where
+  pub opened_playing : (network : NetworkView) → IsFirst first → HasRun view seats network (puts_given first.answered) first 0 (openings 0 count)
+      → Playing view seats network first tells [] held held (new_script (router_count first)) []
+  opened_playing network begins r =
+      let none : r.end.answered ≡ first.answered = nothing_told first count r.end r.run in
+      let run : Run first (openings 0 (length first.nodes)) r.end =
+      subst (λ (n : ℕ). Run first (openings 0 n) r.end) as_many r.run in
       record {
         lines = [];
-        events = openings 0 (length (start routers).nodes);
+        events = openings 0 (length first.nodes);
         world = r.end;
         out = [];
+        begins = begins;
         plays = plays_none r.end run;
-        stands = subst (λ (l : List ToLink). StandsFor view seats network l r.end 0) (sym silent) r.stands;
+        stands = subst (λ (l : List ToLink). StandsFor view seats network l r.end 0) (ap puts_given (sym none)) r.stands;
         put = λ told. sym (append-nil held);
         all = refl;
         each = tt;
-        covered = λ told. covered_none (all_printed routers) (start routers) held [] [] r.end refl;
+        covered = λ told. covered_none (all_printed first) first held [] [] r.end refl;
       }
 
   opening_came : (left : List ℕ) (replies : List ToLink) (fault : StepFault)
-      → (s : HasStopped view seats replies [] (start routers) (λ events. BeginWith events (openings 0 count)) fault) → CameTo routers [] left [] s.end
+      → (s : HasStopped view seats replies (puts_given first.answered) first (λ events. BeginWith events (openings 0 count)) fault) → CameTo first [] left [] s.end
   opening_came left replies fault s =
       came_opening left s.events s.end (subst (λ (n : ℕ). BeginWith s.events (openings 0 n)) as_many s.which) s.run
 
   stops_by : (fault : StepFault) (status : Status) → status ≡ status_for fault → (lines : List (List ℕ)) (left put : List ℕ) (end : World)
-      → CameTo routers lines left put end → StopsAt routers lines left put end status
+      → CameTo first lines left put end → StopsAt first lines left put end status
   stops_by (Disk faults) status is lines left put end came =
-      subst (λ (n : Status). StopsAt routers lines left put end n) (sym is) (at_disk_fault came)
-  stops_by Steps status is lines left put end came = subst (λ (n : Status). StopsAt routers lines left put end n) (sym is) (at_no_memory came)
-  stops_by Memory status is lines left put end came = subst (λ (n : Status). StopsAt routers lines left put end n) (sym is) (at_no_memory came)
+      subst (λ (n : Status). StopsAt first lines left put end n) (sym is) (at_disk_fault came)
+  stops_by Steps status is lines left put end came = subst (λ (n : Status). StopsAt first lines left put end n) (sym is) (at_no_memory came)
+  stops_by Memory status is lines left put end came = subst (λ (n : Status). StopsAt first lines left put end n) (sym is) (at_no_memory came)
 
   pub opening_stopped : (left : List ℕ) (replies : List ToLink) (fault : StepFault) (status : Status) → status ≡ status_for fault
-      → HasStopped view seats replies [] (start routers) (λ events. BeginWith events (openings 0 count)) fault
-      → Stopped view seats routers tells [] held held [] left status
+      → HasStopped view seats replies (puts_given first.answered) first (λ events. BeginWith events (openings 0 count)) fault
+      → Stopped view seats first tells [] held held [] left status
   opening_stopped left replies fault status is s = record {
     lines = [];
     end = s.end;
@@ -113,28 +114,28 @@ module _ {S : Type 0} (view : S → SeatView) (seats : List S) (routers : ℕ) (
     each = tt;
     kept = kept_at fault view seats s.end s.nodes;
     last = s.last;
-    is_last = last_by fault status is s.end s.last s.events (λ events. BeginWith events (openings 0 count)) (λ w. CameTo routers [] left [] w)
-        (λ e first h.
-        came_opening left (s.events ++ e ∷ []) s.last (subst (λ (n : ℕ). BeginWith (s.events ++ e ∷ []) (openings 0 n)) as_many first)
-        (run_more (start routers) s.events s.end e s.last s.run h)) s.up_to;
+    is_last = last_by fault status is s.end s.last s.events (λ events. BeginWith events (openings 0 count)) (λ w. CameTo first [] left [] w)
+        (λ e begun h.
+        came_opening left (s.events ++ e ∷ []) s.last (subst (λ (n : ℕ). BeginWith (s.events ++ e ∷ []) (openings 0 n)) as_many begun)
+        (run_more first s.events s.end e s.last s.run h)) s.up_to;
     crashes = s.crashes;
-    covered = λ told. covered_none (all_printed routers) (start routers) held [] [] s.last refl;
+    covered = λ told. covered_none (all_printed first) first held [] [] s.last refl;
   }
 
 -- ONE LINE
 
-module _ {S : Type 0} (view : S → SeatView) (seats seats_after : List S) (before : NetworkView) (routers : ℕ) (tells : Bool) (noted : List Noted)
-    (held_before held consumed : List ℕ) (s : ScriptView) (p : Playing view seats before routers tells noted held_before held s consumed)
+module _ {S : Type 0} (view : S → SeatView) (seats seats_after : List S) (before : NetworkView) (first : World) (tells : Bool) (noted : List Noted)
+    (held_before held consumed : List ℕ) (s : ScriptView) (p : Playing view seats before first tells noted held_before held s consumed)
     (bytes : List ℕ) (none : HasNone newline bytes) where
   came_in : (others : List ℕ) (events : List Event) (end : World) → IsPartOfBytes p.world s bytes events → Run p.world events end
-      → CameTo routers p.lines (bytes ++ newline ∷ others) p.out end
+      → CameTo first p.lines (bytes ++ newline ∷ others) p.out end
   came_in others events end part run =
       came_part p.lines p.events events (bytes ++ newline ∷ others) p.out bytes others p.world end s p.plays (next_line bytes others none) part run
 
   -- the script stops within the line, of which nothing was put
   stops_within : (others : List ℕ) (status : Status) → (c : IsCut view seats_after p.world (IsPartOfBytes p.world s bytes) status)
-      → StopsAt routers p.lines (bytes ++ newline ∷ others) p.out c.end status
-      → Stopped view seats_after routers tells noted held_before held consumed (bytes ++ newline ∷ others) status
+      → StopsAt first p.lines (bytes ++ newline ∷ others) p.out c.end status
+      → Stopped view seats_after first tells noted held_before held consumed (bytes ++ newline ∷ others) status
   stops_within others status c cause = record {
     lines = p.lines;
     end = c.end;
@@ -145,16 +146,16 @@ module _ {S : Type 0} (view : S → SeatView) (seats seats_after : List S) (befo
     each = p.each;
     kept = c.kept;
     last = c.last;
-    is_last = last_in_line status c.end c.last c.events (IsPartOfBytes p.world s bytes) (λ w. CameTo routers p.lines (bytes ++ newline ∷ others) p.out w)
+    is_last = last_in_line status c.end c.last c.events (IsPartOfBytes p.world s bytes) (λ w. CameTo first p.lines (bytes ++ newline ∷ others) p.out w)
         (λ e part h. came_in others (c.events ++ e ∷ []) c.last part (run_more p.world c.events c.end e c.last c.run h)) c.is_last;
     crashes = c.crashes;
-    covered = λ told. covered_on (all_printed routers) (start routers) held_before noted p.out p.world c.last (p.covered told)
+    covered = λ told. covered_on (all_printed first) first held_before noted p.out p.world c.last (p.covered told)
         (leads_on p.world c.end c.last (c.events, c.run) (last_leads status c.end c.last c.events (IsPartOfBytes p.world s bytes) c.is_last));
   }
 
   -- the script stops where nothing is cut short, and of the line nothing was put
-  stops_here : (others : List ℕ) (status : Status) (end : World) → StopsAt routers p.lines (bytes ++ newline ∷ others) p.out end status
-      → AreStill view seats_after end → LeadsTo p.world end → Stopped view seats_after routers tells noted held_before held consumed (bytes ++ newline ∷ others) status
+  stops_here : (others : List ℕ) (status : Status) (end : World) → StopsAt first p.lines (bytes ++ newline ∷ others) p.out end status
+      → AreStill view seats_after end → LeadsTo p.world end → Stopped view seats_after first tells noted held_before held consumed (bytes ++ newline ∷ others) status
   stops_here others status end cause are on = record {
     lines = p.lines;
     end = end;
@@ -167,18 +168,18 @@ module _ {S : Type 0} (view : S → SeatView) (seats seats_after : List S) (befo
     last = end;
     is_last = inl refl;
     crashes = are.crashes;
-    covered = λ told. covered_on (all_printed routers) (start routers) held_before noted p.out p.world end (p.covered told) on;
+    covered = λ told. covered_on (all_printed first) first held_before noted p.out p.world end (p.covered told) on;
   }
 
   pub line_stopped : (others : List ℕ) (status : Status) → StopsBytes view seats_after p.world bytes s status
-      → Stopped view seats_after routers tells noted held_before held consumed (bytes ++ newline ∷ others) status
+      → Stopped view seats_after first tells noted held_before held consumed (bytes ++ newline ∷ others) status
   line_stopped others _ (bytes_refused refused are) =
       stops_here others statuses.BadInput p.world
       (at_refused_line bytes others (next_line bytes others none) (record {
         events = p.events;
         script = s;
         played = p.plays;
-        answered = ends_answered routers p.lines p.events p.world s p.out p.plays;
+        answered = ends_answered first p.begins p.lines p.events p.world s p.out p.plays;
       }) refused) are (leads_nowhere p.world)
   line_stopped others _ (bytes_at_disk c) = stops_within others statuses.DiskFailed c (at_disk_fault (came_in others c.events c.end c.which c.run))
   line_stopped others _ (bytes_at_memory c) = stops_within others statuses.OutOfMemory c (at_no_memory (came_in others c.events c.end c.which c.run))
@@ -189,7 +190,7 @@ module _ {S : Type 0} (view : S → SeatView) (seats seats_after : List S) (befo
     puts_are = h.played.stands.given
 
     -- memory ran out for what it prints
-    pub line_unprinted : (others : List ℕ) → Stopped view seats_after routers tells noted held_before held consumed (bytes ++ newline ∷ others) statuses.OutOfMemory
+    pub line_unprinted : (others : List ℕ) → Stopped view seats_after first tells noted held_before held consumed (bytes ++ newline ∷ others) statuses.OutOfMemory
     line_unprinted others =
         stops_here others statuses.OutOfMemory h.played.end
         (at_no_memory (came_in others h.played.events h.played.end
@@ -203,31 +204,31 @@ module _ {S : Type 0} (view : S → SeatView) (seats seats_after : List S) (befo
     line_on : LeadsTo p.world h.played.end
     line_on = (h.played.events, h.played.run)
 
-    played_line : Plays routers (p.lines ++ bytes ∷ []) (p.events ++ h.played.events) h.played.end t (p.out ++ printed s.links old.replies.items closed)
+    played_line : Plays first (p.lines ++ bytes ∷ []) (p.events ++ h.played.events) h.played.end t (p.out ++ printed s.links old.replies.items closed)
     played_line =
         plays_more p.lines p.events h.played.events p.world h.played.end s t p.out bytes h.line closed old.replies.items p.plays h.says
         h.played.played puts_are
 
     pub covers_line : (moments : List ℕ) → IsTrue tells
-        → AreCovered (all_printed routers) (start routers) (record { world = h.played.end; moments = moments; length = length held } ∷ noted) held_before
+        → AreCovered (all_printed first) first (record { world = h.played.end; moments = moments; length = length held } ∷ noted) held_before
         (p.out ++ printed s.links old.replies.items closed) h.played.end
     covers_line moments told =
-        covered_more (all_printed routers) (start routers) held_before p.world h.played.end noted moments (length held) p.out
+        covered_more (all_printed first) first held_before p.world h.played.end noted moments (length held) p.out
         (printed s.links old.replies.items closed) (p.covered told) (
           p.lines ++ bytes ∷ [],
           record {
             events = p.events ++ h.played.events;
             script = t;
             played = played_line;
-            answered = ends_answered routers (p.lines ++ bytes ∷ []) (p.events ++ h.played.events) h.played.end t
+            answered = ends_answered first p.begins (p.lines ++ bytes ∷ []) (p.events ++ h.played.events) h.played.end t
                 (p.out ++ printed s.links old.replies.items closed) played_line;
           },
         )
-        (leads_on (start routers) p.world h.played.end (p.events, plays_run routers p.lines p.events p.world s p.out p.plays) line_on) line_on (line_few told)
+        (leads_on first p.world h.played.end (p.events, plays_run first p.lines p.events p.world s p.out p.plays) line_on) line_on (line_few told)
 
   module _ {M : Type 0} (letter : M → Letter) (old new : Network M) (t : ScriptView) (closed : Option ℕ) (after_view : S → SeatView) (noted_after : List Noted)
       (h : HasPlayedBytes after_view seats_after (network_view letter old) (puts_given p.world.answered) p.world bytes s t closed)
-      (covers : IsTrue tells → AreCovered (all_printed routers) (start routers) noted_after held_before (p.out ++ printed s.links old.replies.items closed)
+      (covers : IsTrue tells → AreCovered (all_printed first) first noted_after held_before (p.out ++ printed s.links old.replies.items closed)
       h.played.end) where
     gave : puts_given h.played.end.answered ≡ puts_given p.world.answered ++ old.replies.items
     gave = h.played.stands.given
@@ -235,12 +236,13 @@ module _ {S : Type 0} (view : S → SeatView) (seats seats_after : List S) (befo
     -- what it prints was put
     pub line_answered : (held' : List ℕ) → new.waiting.items ≡ old.waiting.items → new.replies.items ≡ []
         → Put tells held (printed s.links old.replies.items closed) held'
-        → Playing after_view seats_after (network_view letter new) routers tells noted_after held_before held' t (consumed ++ (bytes ++ newline ∷ []))
+        → Playing after_view seats_after (network_view letter new) first tells noted_after held_before held' t (consumed ++ (bytes ++ newline ∷ []))
     line_answered held' waits silent put = record {
       lines = p.lines ++ bytes ∷ [];
       events = p.events ++ h.played.events;
       world = h.played.end;
       out = p.out ++ printed s.links old.replies.items closed;
+      begins = p.begins;
       plays = plays_more p.lines p.events h.played.events p.world h.played.end s t p.out bytes h.line closed old.replies.items p.plays h.says
           h.played.played gave;
       stands = subst (λ (l : List ToLink). StandsFor after_view seats_after (network_view letter new) l h.played.end 0) (sym gave)
@@ -253,7 +255,7 @@ module _ {S : Type 0} (view : S → SeatView) (seats seats_after : List S) (befo
 
     -- a prefix of what it prints was put
     pub line_put_short : (others held' : List ℕ) → PutInPart tells held (printed s.links old.replies.items closed) held'
-        → Stopped after_view seats_after routers tells noted_after held_before held' consumed (bytes ++ newline ∷ others) statuses.WriteFailed
+        → Stopped after_view seats_after first tells noted_after held_before held' consumed (bytes ++ newline ∷ others) statuses.WriteFailed
     line_put_short others held' (part, prefix, put) = record {
       lines = p.lines;
       end = h.played.end;
@@ -286,7 +288,7 @@ module _ {S : Type 0} (view : S → SeatView) (seats seats_after : List S) (befo
       last = h.played.end;
       is_last = inl refl;
       crashes = h.played.stands.crashes;
-      covered = λ told. covered_part (all_printed routers) (start routers) held_before noted_after (p.out ++ part)
+      covered = λ told. covered_part (all_printed first) first held_before noted_after (p.out ++ part)
           (p.out ++ printed s.links old.replies.items closed) h.played.end (
             prefix.0,
             ap (λ (b : List ℕ). p.out ++ b) prefix.1 ∙ sym (append_assoc p.out part prefix.0),
@@ -296,11 +298,11 @@ module _ {S : Type 0} (view : S → SeatView) (seats seats_after : List S) (befo
 -- BETWEEN LINES
 
 -- memory ran out for the next line
-pub playing_full : {S : Type 0} (view : S → SeatView) (seats : List S) (network : NetworkView) (routers : ℕ) (tells : Bool) (noted : List Noted)
+pub playing_full : {S : Type 0} (view : S → SeatView) (seats : List S) (network : NetworkView) (first : World) (tells : Bool) (noted : List Noted)
     (held_before held consumed left : List ℕ)
-    (s : ScriptView) → Playing view seats network routers tells noted held_before held s consumed
-    → Stopped view seats routers tells noted held_before held consumed left statuses.OutOfMemory
-playing_full view seats network routers tells noted held_before held consumed left s p = record {
+    (s : ScriptView) → Playing view seats network first tells noted held_before held s consumed
+    → Stopped view seats first tells noted held_before held consumed left statuses.OutOfMemory
+playing_full view seats network first tells noted held_before held consumed left s p = record {
   lines = p.lines;
   end = p.world;
   out = p.out;
@@ -308,7 +310,7 @@ playing_full view seats network routers tells noted held_before held consumed le
     events = p.events;
     script = s;
     played = p.plays;
-    answered = ends_answered routers p.lines p.events p.world s p.out p.plays;
+    answered = ends_answered first p.begins p.lines p.events p.world s p.out p.plays;
   }));
   put = p.put;
   all = p.all;
@@ -341,15 +343,15 @@ bytes_next all more begun rest first behind grown whole cut grows =
     ∙ ap (λ (b : List ℕ). more ++ (b ++ newline ∷ behind)) (sym grows)))
 
 -- what the script has, said otherwise
-pub playing_from : {S : Type 0} (view : S → SeatView) (seats : List S) (network : NetworkView) (routers : ℕ) (tells : Bool) (noted : List Noted) (held_before held consumed : List ℕ)
-    (s t : ScriptView) → s ≡ t → Playing view seats network routers tells noted held_before held s consumed
-    → Playing view seats network routers tells noted held_before held t consumed
-playing_from view seats network routers tells noted held_before held consumed s t same p =
-    subst (λ (x : ScriptView). Playing view seats network routers tells noted held_before held x consumed) same p
+pub playing_from : {S : Type 0} (view : S → SeatView) (seats : List S) (network : NetworkView) (first : World) (tells : Bool) (noted : List Noted) (held_before held consumed : List ℕ)
+    (s t : ScriptView) → s ≡ t → Playing view seats network first tells noted held_before held s consumed
+    → Playing view seats network first tells noted held_before held t consumed
+playing_from view seats network first tells noted held_before held consumed s t same p =
+    subst (λ (x : ScriptView). Playing view seats network first tells noted held_before held x consumed) same p
 
 -- so many routers there are
-pub routers_are : {S : Type 0} (view : S → SeatView) (seats : List S) (network : NetworkView) (routers : ℕ) (tells : Bool) (noted : List Noted)
-    (held_before held consumed : List ℕ) (s : ScriptView) → Playing view seats network routers tells noted held_before held s consumed
-    → (count : ℕ) → count ≡ length seats → routers ≡ count - 2
-routers_are view seats network routers tells noted held_before held consumed s p count counted =
-    omega (arith, counted, held_len view seats p.world.nodes p.stands.nodes, plays_count routers p.lines p.events p.world s p.out p.plays)
+pub routers_are : {S : Type 0} (view : S → SeatView) (seats : List S) (network : NetworkView) (first : World) (tells : Bool) (noted : List Noted)
+    (held_before held consumed : List ℕ) (s : ScriptView) → Playing view seats network first tells noted held_before held s consumed
+    → (count : ℕ) → count ≡ length seats → router_count first ≡ count - 2
+routers_are view seats network first tells noted held_before held consumed s p count counted =
+    omega (arith, counted, held_len view seats p.world.nodes p.stands.nodes, plays_count first p.lines p.events p.world s p.out p.plays)

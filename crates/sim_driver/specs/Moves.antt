@@ -6,6 +6,7 @@ use Rattle.opmsg_frames.specs.Frames.{FramesFrom}
 use Rattle.node_model.specs.Letters.{Letter}
 use Rattle.node_model.specs.Requests.{Request}
 use Rattle.node_model.specs.World.{World, IsRouter, Event, deliver_event, Happens, Run}
+use Rattle.node_progress.specs.Firsts.{IsFirst}
 use Rattle.node_traits.specs.declared.outputs.ToLink.{ToLink}
 use Rattle.driver_steps.specs.Seats.{SeatView, AreHeld, AreKept, LeaveKept}
 use Rattle.driver_steps.specs.Worlds.{NetworkView, StandsFor}
@@ -98,6 +99,11 @@ pub record IsFirstAsked (at link replied : ℕ) (bytes : List ℕ) (events : Lis
 -- the nodes from the first router on are routers
 abbrev pub HasRouters : World → Type 0
 HasRouters w = (router : ℕ) → first_router + router < length w.nodes → IsRouter w.nodes (first_router + router)
+
+-- a call may begin in the world, and its nodes are a catalogue, a shard and routers
+pub record MayPlay (first : World) : Type 0 where
+  pub begins : IsFirst first
+  pub routers : HasRouters first
 
 -- a message at a place goes to this node
 abbrev pub IsReceiverAt : List Letter → (at node : ℕ) → Type 0

@@ -2,7 +2,8 @@
 use Rattle.std.specs.Prelude.{◌≡◌, ◌≢◌, ℕ, Bool, IsTrue, List, ◌++◌}
 use Rattle.std.specs.List.{AllByRecursion}
 use Rattle.outside.specs.Streams.{Put}
-use Rattle.node_model.specs.World.{World, Event, start}
+use Rattle.node_model.specs.World.{World, Event}
+use Rattle.node_progress.specs.Firsts.{IsFirst}
 use Rattle.driver_steps.specs.Crashes.{Noted}
 use Rattle.driver_steps.specs.Seats.{SeatView, AreKept, LeaveKept}
 use Rattle.driver_steps.specs.Worlds.{NetworkView, StandsFor, puts_given}
@@ -16,59 +17,60 @@ use Rattle.sim_driver.specs.LineOutcomes.{IsRefused}
 use Rattle.sim_driver.specs.Simulations.{newline, bytes_of_lines, Plays, AllPlayed, CameTo, LastPutShort, all_printed}
 
 -- These bytes were played, in whole lines: nodes, logs and messages are those of the world after them, and what they print was put.
-pub record Playing {S : Type 0} (view : S → SeatView) (seats : List S) (network : NetworkView) (routers : ℕ) (tells : Bool) (noted : List Noted) (held_before held : List ℕ)
+pub record Playing {S : Type 0} (view : S → SeatView) (seats : List S) (network : NetworkView) (first : World) (tells : Bool) (noted : List Noted) (held_before held : List ℕ)
     (script : ScriptView) (consumed : List ℕ) : Type 0 where
   pub lines : List (List ℕ)
   pub events : List Event
   pub world : World
   pub out : List ℕ
-  pub plays : Plays routers lines events world script out
+  pub begins : IsFirst first
+  pub plays : Plays first lines events world script out
   pub stands : StandsFor view seats network (puts_given world.answered) world 0
   pub put : Put tells held_before out held
   pub all : consumed ≡ bytes_of_lines lines
   pub each : AllByRecursion (HasNone newline) lines
-  pub covered : IsTrue tells → AreCovered (all_printed routers) (start routers) noted held_before out world
+  pub covered : IsTrue tells → AreCovered (all_printed first) first noted held_before out world
 
 -- why no further line is played
-pub data StopsAt (routers : ℕ) (lines : List (List ℕ)) (left put : List ℕ) (end : World) : Status → Type 0 where
-  at_refused_line : (bytes others : List ℕ) → IsCutAt newline left bytes others → (played : AllPlayed routers lines put end)
+pub data StopsAt (first : World) (lines : List (List ℕ)) (left put : List ℕ) (end : World) : Status → Type 0 where
+  at_refused_line : (bytes others : List ℕ) → IsCutAt newline left bytes others → (played : AllPlayed first lines put end)
       → IsRefused end played.script bytes
-      → StopsAt routers lines left put end statuses.BadInput
-  at_write_fault : LastPutShort routers lines left put end → StopsAt routers lines left put end statuses.WriteFailed
-  at_disk_fault : CameTo routers lines left put end → StopsAt routers lines left put end statuses.DiskFailed
-  at_no_memory : CameTo routers lines left put end → StopsAt routers lines left put end statuses.OutOfMemory
+      → StopsAt first lines left put end statuses.BadInput
+  at_write_fault : LastPutShort first lines left put end → StopsAt first lines left put end statuses.WriteFailed
+  at_disk_fault : CameTo first lines left put end → StopsAt first lines left put end statuses.DiskFailed
+  at_no_memory : CameTo first lines left put end → StopsAt first lines left put end statuses.OutOfMemory
 
 -- These bytes were played, in whole lines, and with what is left the script stops.
-pub record Stopped {S : Type 0} (view : S → SeatView) (seats : List S) (routers : ℕ) (tells : Bool) (noted : List Noted) (held_before held consumed left : List ℕ)
+pub record Stopped {S : Type 0} (view : S → SeatView) (seats : List S) (first : World) (tells : Bool) (noted : List Noted) (held_before held consumed left : List ℕ)
     (status : Status)
     : Type 0 where
   pub lines : List (List ℕ)
   pub end : World
   pub out : List ℕ
-  pub cause : StopsAt routers lines left out end status
+  pub cause : StopsAt first lines left out end status
   pub put : Put tells held_before out held
   pub all : consumed ≡ bytes_of_lines lines
   pub each : AllByRecursion (HasNone newline) lines
   pub kept : AreKept view seats end.nodes
   pub last : World
-  pub is_last : IsLast status (λ w. CameTo routers lines left out w) end last
+  pub is_last : IsLast status (λ w. CameTo first lines left out w) end last
   pub crashes : LeaveKept view seats last
-  pub covered : IsTrue tells → AreCovered (all_printed routers) (start routers) noted held_before out last
+  pub covered : IsTrue tells → AreCovered (all_printed first) first noted held_before out last
 
 -- The lines that end in these bytes were played; after them comes the beginning of one.
-pub record HasPlayedLines {S : Type 0} (view : S → SeatView) (seats : List S) (network : NetworkView) (routers : ℕ) (tells : Bool) (noted : List Noted) (held_before held : List ℕ)
+pub record HasPlayedLines {S : Type 0} (view : S → SeatView) (seats : List S) (network : NetworkView) (first : World) (tells : Bool) (noted : List Noted) (held_before held : List ℕ)
     (script : ScriptView) (bytes begun : List ℕ) : Type 0 where
   pub consumed : List ℕ
   pub whole : bytes ≡ consumed ++ begun
-  pub playing : Playing view seats network routers tells noted held_before held script consumed
+  pub playing : Playing view seats network first tells noted held_before held script consumed
 
 -- Some lines that end in these bytes were played, and with what is left the script stops.
-pub record HasStoppedIn {S : Type 0} (view : S → SeatView) (seats : List S) (routers : ℕ) (tells : Bool) (noted : List Noted) (held_before held bytes : List ℕ) (status : Status)
+pub record HasStoppedIn {S : Type 0} (view : S → SeatView) (seats : List S) (first : World) (tells : Bool) (noted : List Noted) (held_before held bytes : List ℕ) (status : Status)
     : Type 0 where
   pub consumed : List ℕ
   pub left : List ℕ
   pub whole : bytes ≡ consumed ++ left
-  pub stopped : Stopped view seats routers tells noted held_before held consumed left status
+  pub stopped : Stopped view seats first tells noted held_before held consumed left status
 
 -- a status that playing may stop with: not that of a read, nor one of an input at its end
 abbrev pub IsOfPlaying : Status → Type 0

@@ -1,14 +1,15 @@
 -- Scripts that were played, line by line, and how they ended (own).
-use Rattle.std.specs.Prelude.{◌≡◌, ◌≢◌, ℕ, ◌<◌, ◌≤◌, IsTrue, List, [], ◌∷◌, ◌++◌, length, Option, codes}
+use Rattle.std.specs.Prelude.{◌≡◌, ◌≢◌, ℕ, ◌-◌, ◌<◌, ◌≤◌, IsTrue, List, [], ◌∷◌, ◌++◌, length, Option, codes}
 use Rattle.std.specs.List.{flat_map, AllByRecursion}
 use Rattle.outside.specs.Devices.{SourceCall, SinkCall, SourceGave, SinkTook}
-use Rattle.node_model.specs.World.{Held, World, Event, Run, start}
+use Rattle.node_model.specs.World.{Held, World, Event, Run}
 use Rattle.node_model.specs.Schedule.{openings}
 use Rattle.node_progress.specs.Completion.{AreAnswered}
 use Rattle.node_traits.specs.declared.outputs.ToLink.{ToLink}
 use Rattle.driver_steps.specs.Moves.{BeginWith}
 use Rattle.driver_steps.specs.Worlds.{puts_given}
 use Rattle.pipe_driver.specs.Pieces.{IsPrefix}
+use Rattle.pipe_driver.specs.Rounds.{first_router}
 use Rattle.pipe_driver.specs.Schedules.{IsLast}
 use Rattle.pipe_driver.specs.declared.status.Status.{Status}
 use Rattle.pipe_driver.specs.declared.status.Status.TheVariants as statuses
@@ -26,46 +27,51 @@ newline = 10
 abbrev pub bytes_of_lines : List (List ℕ) → List ℕ
 bytes_of_lines lines = flat_map (λ (l : List ℕ). l ++ newline ∷ []) lines
 
--- These lines were played, from empty journals on: these events led to this world, the script has this, and that was printed.
-pub data Plays (routers : ℕ) : (lines : List (List ℕ)) → List Event → World → ScriptView → (out : List ℕ) → Type 0 where
+-- how many of the nodes are routers
+abbrev pub router_count : World → ℕ
+router_count w = length w.nodes - first_router
+
+-- These lines were played, from the first world on: these events led to this world, the script has this, and that was printed.
+pub data Plays (first : World) : (lines : List (List ℕ)) → List Event → World → ScriptView → (out : List ℕ) → Type 0 where
   -- each node was opened
-  plays_none : (w : World) → Run (start routers) (openings 0 (length (start routers).nodes)) w
-      → Plays routers [] (openings 0 (length (start routers).nodes)) w (new_script routers) []
+  plays_none : (w : World) → Run first (openings 0 (length first.nodes)) w
+      → Plays first [] (openings 0 (length first.nodes)) w (new_script (router_count first)) []
   -- one line more: what its events gave is printed
   plays_more : (lines : List (List ℕ)) (before events : List Event) (u w : World) (s t : ScriptView) (out : List ℕ) (bytes : List ℕ) (line : Line)
-      (closed : Option ℕ) (given : List ToLink) → Plays routers lines before u s out → Says bytes line → IsPlayed u s line events w t closed
+      (closed : Option ℕ) (given : List ToLink) → Plays first lines before u s out → Says bytes line → IsPlayed u s line events w t closed
       → puts_given w.answered ≡ puts_given u.answered ++ given
-      → Plays routers (lines ++ bytes ∷ []) (before ++ events) w t (out ++ printed s.links given closed)
+      → Plays first (lines ++ bytes ∷ []) (before ++ events) w t (out ++ printed s.links given closed)
 
 -- the last line is `settle`, which passes over no message
 abbrev pub EndInSettle : List (List ℕ) → Type 0
 EndInSettle lines = (before : List (List ℕ)) × (lines ≡ before ++ codes "settle" ∷ [])
 
--- All these lines were played, and what they print was put, and nothing else. Where they end in `settle`, every request that was taken is answered.
-pub record AllPlayed (routers : ℕ) (lines : List (List ℕ)) (put : List ℕ) (end : World) : Type 0 where
+-- All these lines were played, and what they print was put, and nothing else. Where they end in `settle`, every request that was taken
+-- since the first world is answered.
+pub record AllPlayed (first : World) (lines : List (List ℕ)) (put : List ℕ) (end : World) : Type 0 where
   pub events : List Event
   pub script : ScriptView
-  pub played : Plays routers lines events end script put
-  pub answered : EndInSettle lines → AreAnswered end
+  pub played : Plays first lines events end script put
+  pub answered : EndInSettle lines → AreAnswered first end
 
--- all output of a script: what the lines print that were played
-abbrev pub all_printed : (routers : ℕ) → World → List ℕ → Type 0
-all_printed routers w out = (lines : List (List ℕ)) × AllPlayed routers lines out w
+-- all output of a script: what the lines print that were played since the first world
+abbrev pub all_printed : (first w : World) → List ℕ → Type 0
+all_printed first w out = (lines : List (List ℕ)) × AllPlayed first lines out w
 
--- How far the script came; what is put is what the lines print that were played whole.
-pub data CameTo (routers : ℕ) : (lines : List (List ℕ)) → (left put : List ℕ) → (end : World) → Type 0 where
+-- How far the script came from the first world; what is put is what the lines print that were played whole.
+pub data CameTo (first : World) : (lines : List (List ℕ)) → (left put : List ℕ) → (end : World) → Type 0 where
   -- within the openings
-  came_opening : (left : List ℕ) (events : List Event) (w : World) → BeginWith events (openings 0 (length (start routers).nodes))
-      → Run (start routers) events w → CameTo routers [] left [] w
+  came_opening : (left : List ℕ) (events : List Event) (w : World) → BeginWith events (openings 0 (length first.nodes))
+      → Run first events w → CameTo first [] left [] w
   -- to an end of lines
-  came_lines : (lines : List (List ℕ)) (left put : List ℕ) (w : World) → AllPlayed routers lines put w → CameTo routers lines left put w
+  came_lines : (lines : List (List ℕ)) (left put : List ℕ) (w : World) → AllPlayed first lines put w → CameTo first lines left put w
   -- within the line that is next
   came_part : (lines : List (List ℕ)) (before events : List Event) (left put bytes others : List ℕ) (u w : World) (s : ScriptView)
-      → Plays routers lines before u s put → IsCutAt newline left bytes others → IsPartOfBytes u s bytes events → Run u events w
-      → CameTo routers lines left put w
+      → Plays first lines before u s put → IsCutAt newline left bytes others → IsPartOfBytes u s bytes events → Run u events w
+      → CameTo first lines left put w
 
 -- These lines were played, and one more; of what the last one prints a prefix was put, and all that the others print.
-pub record LastPutShort (routers : ℕ) (lines : List (List ℕ)) (left put : List ℕ) (end : World) : Type 0 where
+pub record LastPutShort (first : World) (lines : List (List ℕ)) (left put : List ℕ) (end : World) : Type 0 where
   pub before : List Event
   pub events : List Event
   pub earlier : World
@@ -78,7 +84,7 @@ pub record LastPutShort (routers : ℕ) (lines : List (List ℕ)) (left put : Li
   pub closed : Option ℕ
   pub given : List ToLink
   pub part : List ℕ
-  pub played : Plays routers lines before earlier script out
+  pub played : Plays first lines before earlier script out
   pub next : IsCutAt newline left bytes others
   pub says : Says bytes line
   pub last : IsPlayed earlier script line events end new closed
@@ -87,35 +93,35 @@ pub record LastPutShort (routers : ℕ) (lines : List (List ℕ)) (left put : Li
   pub all : put ≡ out ++ part
 
 -- The causes of a status: `lines` were played of the bytes taken, which leaves these, and `at_end` says whether the input is at its end.
-pub data Cause (routers limit : ℕ) (at_end : Type 0) (taken : List ℕ) (lines : List (List ℕ)) (left put : List ℕ) (end : World) : Status → Type 0 where
+pub data Cause (first : World) (limit : ℕ) (at_end : Type 0) (taken : List ℕ) (lines : List (List ℕ)) (left put : List ℕ) (end : World) : Status → Type 0 where
   -- the input was read to its end, and its last byte is a newline, if it has any
-  input_ended : at_end → length taken < limit → left ≡ [] → AllPlayed routers lines put end
-      → Cause routers limit at_end taken lines left put end statuses.InputEnded
+  input_ended : at_end → length taken < limit → left ≡ [] → AllPlayed first lines put end
+      → Cause first limit at_end taken lines left put end statuses.InputEnded
   -- a read failed
-  read_failed : length taken < limit → HasNone newline left → AllPlayed routers lines put end
-      → Cause routers limit at_end taken lines left put end statuses.ReadFailed
+  read_failed : length taken < limit → HasNone newline left → AllPlayed first lines put end
+      → Cause first limit at_end taken lines left put end statuses.ReadFailed
   -- a write failed
-  write_failed : LastPutShort routers lines left put end → Cause routers limit at_end taken lines left put end statuses.WriteFailed
+  write_failed : LastPutShort first lines left put end → Cause first limit at_end taken lines left put end statuses.WriteFailed
   -- a disk failed
-  disk_failed : CameTo routers lines left put end → Cause routers limit at_end taken lines left put end statuses.DiskFailed
+  disk_failed : CameTo first lines left put end → Cause first limit at_end taken lines left put end statuses.DiskFailed
   -- memory ran out
-  no_memory : CameTo routers lines left put end → Cause routers limit at_end taken lines left put end statuses.OutOfMemory
+  no_memory : CameTo first lines left put end → Cause first limit at_end taken lines left put end statuses.OutOfMemory
   -- the next line is refused
-  line_refused : (bytes others : List ℕ) → IsCutAt newline left bytes others → (played : AllPlayed routers lines put end) → IsRefused end played.script bytes
-      → Cause routers limit at_end taken lines left put end statuses.BadInput
+  line_refused : (bytes others : List ℕ) → IsCutAt newline left bytes others → (played : AllPlayed first lines put end) → IsRefused end played.script bytes
+      → Cause first limit at_end taken lines left put end statuses.BadInput
   -- the input was read to its end, and its last line has no newline
-  line_unended : at_end → length taken < limit → left ≢ [] → HasNone newline left → AllPlayed routers lines put end
-      → Cause routers limit at_end taken lines left put end statuses.BadInput
+  line_unended : at_end → length taken < limit → left ≢ [] → HasNone newline left → AllPlayed first lines put end
+      → Cause first limit at_end taken lines left put end statuses.BadInput
   -- as many bytes were taken as may be
-  too_long : length taken ≡ limit → HasNone newline left → AllPlayed routers lines put end
-      → Cause routers limit at_end taken lines left put end statuses.InputTooLong
+  too_long : length taken ≡ limit → HasNone newline left → AllPlayed first lines put end
+      → Cause first limit at_end taken lines left put end statuses.InputTooLong
 
--- A script was played, from empty journals: these bytes were taken and put, and the lines in them led to this world. `kept` says of the nodes
+-- A script was played, from the first world on: these bytes were taken and put, and the lines in them led to this world. `kept` says of the nodes
 -- of that world that the journals keep what they keep; and `leaves` of a world that a crash at any moment since the start left, of each log,
 -- what it might have left before, or a file in which an opening finds what that node kept in a world on the way; and `owed` of that world and the
 -- bytes that were put what the journals owed before each of these was put.
 pub record IsSimulated (source : SourceCall) (sink : SinkCall) (kept : List Held → Type 0) (leaves : World → Type 0)
-    (owed : World → (put : List ℕ) → Type 0) (routers limit : ℕ) (status : Status) : Type 0 where
+    (owed : World → (put : List ℕ) → Type 0) (first : World) (limit : ℕ) (status : Status) : Type 0 where
   pub taken : List ℕ
   pub put : List ℕ
   pub lines : List (List ℕ)
@@ -126,9 +132,9 @@ pub record IsSimulated (source : SourceCall) (sink : SinkCall) (kept : List Held
   pub parts : taken ≡ bytes_of_lines lines ++ left
   pub each : AllByRecursion (HasNone newline) lines
   pub most : length taken ≤ limit
-  pub cause : Cause routers limit (IsTrue source.tells → source.left_after ≡ []) taken lines left put end status
+  pub cause : Cause first limit (IsTrue source.tells → source.left_after ≡ []) taken lines left put end status
   pub files : kept end.nodes
   pub last : World
-  pub is_last : IsLast status (λ w. CameTo routers lines left put w) end last
+  pub is_last : IsLast status (λ w. CameTo first lines left put w) end last
   pub crashes : leaves last
   pub acknowledged : owed last put

@@ -3,6 +3,7 @@
 ghost use Rattle.std.specs.Prelude.{ℕ, List, None, Option};
 ghost use Rattle.node_model.specs.World.{Event, World};
 ghost use Rattle.node_progress.specs.Completion.{AreAnswered};
+ghost use Rattle.node_progress.specs.Firsts.{IsFirst};
 ghost use Rattle.node_progress.specs.UnderWay.{IsUnderWay};
 ghost use Rattle.script_lines.specs.Lines.{settle_line};
 ghost use Rattle.sim_driver.specs.Plays.{IsPlayed};
@@ -14,12 +15,12 @@ ghost use Rattle.sim_driver.specs.Undelivered.{IsUndelivered};
 /// parked at a shard, with the table that it wants there under way.
 #[tactic(auto, using(crate::proofs::Settled::scripts_are_under_way))]
 pub fn scripts_are_under_way()
-    ensures { (routers : ℕ) (lines : List (List ℕ)) (events : List Event) (w : World) (s : ScriptView) (out : List ℕ) → Plays routers lines events w s out → IsUnderWay (IsUndelivered s.delivered) w }
+    ensures { (first : World) (lines : List (List ℕ)) (events : List Event) (w : World) (s : ScriptView) (out : List ℕ) → IsFirst first → Plays first lines events w s out → IsUnderWay first (IsUndelivered s.delivered) w }
 {}
 
 /// After a line `settle` without `except` every request that was taken is answered, every write is served, no request is open and none is parked
 /// at a shard: no message is lost, whatever the lines before delivered, held or repeated.
 #[tactic(auto, using(crate::proofs::Settled::settled_scripts_are_answered))]
 pub fn settled_scripts_are_answered()
-    ensures { (routers : ℕ) (lines : List (List ℕ)) (before events : List Event) (u w : World) (s t : ScriptView) (out : List ℕ) (closed : Option ℕ) → Plays routers lines before u s out → IsPlayed u s (settle_line None) events w t closed → AreAnswered w }
+    ensures { (first : World) (lines : List (List ℕ)) (before events : List Event) (u w : World) (s t : ScriptView) (out : List ℕ) (closed : Option ℕ) → IsFirst first → Plays first lines before u s out → IsPlayed u s (settle_line None) events w t closed → AreAnswered first w }
 {}

@@ -1,6 +1,7 @@
 //! The lines of a script, one after another.
 
 ghost use Rattle.std.specs.Prelude.{◌≡◌, ◌≢◌, ℕ, ◌+◌, ◌<◌, List, [], ◌∷◌, ◌++◌, vec_len, IfErr, OnOk, Err};
+ghost use Rattle.node_model.specs.World.{World};
 ghost use Rattle.driver_steps.specs.Crashes.{Since, with_notes};
 ghost use Rattle.driver_steps.specs.Seats.{AreOpen, faults_of, places_of, seat_since};
 ghost use Rattle.driver_steps.specs.Worlds.{network_view};
@@ -10,6 +11,7 @@ ghost use Rattle.pipe_driver.specs.Progress.{AreAskedAsRead};
 ghost use Rattle.pipe_driver.specs.Rounds.{first_router};
 ghost use Rattle.pipe_driver.specs.declared.status.Status.TheVariants as statuses;
 ghost use Rattle.script_lines.specs.Words.{HasNone};
+ghost use Rattle.sim_driver.specs.Moves.{MayPlay};
 ghost use Rattle.sim_driver.specs.Progress.{HasPlayedLines, HasStoppedIn, IsOfPlaying, Playing, Stopped};
 ghost use Rattle.sim_driver.specs.Scripts.{script_view};
 ghost use Rattle.sim_driver.specs.Simulations.{newline};
@@ -48,20 +50,20 @@ pub fn answer_line<R: Threads + Sync, N: Node<Request = Request>, L: Log, K: Wit
     requires open { AreOpen L.facts.is_open seats.old.items }
     requires links { first_router + vec_len script.old.links ≡ vec_len seats.old }
     requires line { HasNone newline line.now }
-    ensures answered { AreAskedAsRead N.asks → (since : Since L) (routers : ℕ) → 0 < routers → (held_before consumed : List ℕ) →
+    ensures answered { AreAskedAsRead N.asks → (since : Since L) (first : World) → MayPlay first → (held_before consumed : List ℕ) →
         Playing (seat_since N.state L.facts since) seats.old.items (network_view (λ m. N.Mail.letter m) network.old)
-        routers K.tells since.noted held_before (K.held out.old) (script_view script.old) consumed →
+        first K.tells since.noted held_before (K.held out.old) (script_view script.old) consumed →
         AreNoted K.tells (K.noted out.old) (places_of L.facts.place seats.old.items) since.noted →
         OnOk result (WithNotes K.tells (K.noted out.new) (places_of L.facts.place seats.new.items)
         (λ noted. Playing (seat_since N.state L.facts (with_notes since noted)) seats.new.items (network_view
         (λ m. N.Mail.letter m) network.new)
-        routers K.tells noted held_before (K.held out.new) (script_view script.new) (consumed ++ (line.now ++ newline ∷ [])))) }
-    ensures stopped { AreAskedAsRead N.asks → (since : Since L) (routers : ℕ) → 0 < routers → (held_before consumed others : List ℕ) →
+        first K.tells noted held_before (K.held out.new) (script_view script.new) (consumed ++ (line.now ++ newline ∷ [])))) }
+    ensures stopped { AreAskedAsRead N.asks → (since : Since L) (first : World) → MayPlay first → (held_before consumed others : List ℕ) →
         Playing (seat_since N.state L.facts since) seats.old.items (network_view (λ m. N.Mail.letter m) network.old)
-        routers K.tells since.noted held_before (K.held out.old) (script_view script.old) consumed →
+        first K.tells since.noted held_before (K.held out.old) (script_view script.old) consumed →
         AreNoted K.tells (K.noted out.old) (places_of L.facts.place seats.old.items) since.noted →
         IfErr result (λ status. WithNotes K.tells (K.noted out.new) (places_of L.facts.place seats.new.items)
-        (λ noted. Stopped (seat_since N.state L.facts (with_notes since noted)) seats.new.items routers K.tells noted held_before
+        (λ noted. Stopped (seat_since N.state L.facts (with_notes since noted)) seats.new.items first K.tells noted held_before
         (K.held out.new) consumed
         (line.now ++ newline ∷ others) status)) }
     ensures links { vec_len script.new.links ≡ vec_len script.old.links }
@@ -111,20 +113,20 @@ pub fn play_piece<R: Threads + Sync, N: Node<Request = Request>, L: Log, K: Witn
     requires open { AreOpen L.facts.is_open seats.old.items }
     requires links { first_router + vec_len script.old.links ≡ vec_len seats.old }
     requires begun { HasNone newline begun.old.items }
-    ensures played { AreAskedAsRead N.asks → (since : Since L) (routers : ℕ) → 0 < routers → (held_before consumed : List ℕ) →
+    ensures played { AreAskedAsRead N.asks → (since : Since L) (first : World) → MayPlay first → (held_before consumed : List ℕ) →
         Playing (seat_since N.state L.facts since) seats.old.items (network_view (λ m. N.Mail.letter m) network.old)
-        routers K.tells since.noted held_before (K.held out.old) (script_view script.old) consumed →
+        first K.tells since.noted held_before (K.held out.old) (script_view script.old) consumed →
         AreNoted K.tells (K.noted out.old) (places_of L.facts.place seats.old.items) since.noted →
         OnOk result (WithNotes K.tells (K.noted out.new) (places_of L.facts.place seats.new.items)
         (λ noted. HasPlayedLines (seat_since N.state L.facts (with_notes since noted)) seats.new.items (network_view
         (λ m. N.Mail.letter m) network.new)
-        routers K.tells noted held_before (K.held out.new) (script_view script.new) (consumed ++ (begun.old.items ++ piece.now)) begun.new.items)) }
-    ensures stopped { AreAskedAsRead N.asks → (since : Since L) (routers : ℕ) → 0 < routers → (held_before consumed : List ℕ) →
+        first K.tells noted held_before (K.held out.new) (script_view script.new) (consumed ++ (begun.old.items ++ piece.now)) begun.new.items)) }
+    ensures stopped { AreAskedAsRead N.asks → (since : Since L) (first : World) → MayPlay first → (held_before consumed : List ℕ) →
         Playing (seat_since N.state L.facts since) seats.old.items (network_view (λ m. N.Mail.letter m) network.old)
-        routers K.tells since.noted held_before (K.held out.old) (script_view script.old) consumed →
+        first K.tells since.noted held_before (K.held out.old) (script_view script.old) consumed →
         AreNoted K.tells (K.noted out.old) (places_of L.facts.place seats.old.items) since.noted →
         IfErr result (λ status. WithNotes K.tells (K.noted out.new) (places_of L.facts.place seats.new.items)
-        (λ noted. HasStoppedIn (seat_since N.state L.facts (with_notes since noted)) seats.new.items routers K.tells noted
+        (λ noted. HasStoppedIn (seat_since N.state L.facts (with_notes since noted)) seats.new.items first K.tells noted
         held_before (K.held out.new)
         (consumed ++ (begun.old.items ++ piece.now)) status)) }
     ensures begun { OnOk result (HasNone newline begun.new.items) }

@@ -2,7 +2,7 @@
 
 ghost use Rattle.std.specs.Prelude.{◌≡◌, ◌≢◌, ◌⊎◌, ℕ, ◌<◌, [], None, IsTrue, vec_len};
 ghost use Rattle.outside.specs.Devices.{sink_call, source_call};
-ghost use Rattle.node_model.specs.World.{start};
+ghost use Rattle.node_model.specs.World.{World};
 ghost use Rattle.driver_steps.specs.Crashes.{Since, with_notes};
 ghost use Rattle.driver_steps.specs.Seats.{AreHeld, AreKept, AreOpen, LeaveKept, faults_of, places_of, seat_since, seat_view, since_then};
 ghost use Rattle.driver_steps.specs.Worlds.{network_view};
@@ -11,9 +11,10 @@ ghost use Rattle.pipe_driver.specs.Counts.{HaveRisenWhere, RoseWhere};
 ghost use Rattle.pipe_driver.specs.Progress.{AreAskedAsRead};
 ghost use Rattle.pipe_driver.specs.Rounds.{first_router};
 ghost use Rattle.pipe_driver.specs.declared.status.Status.TheVariants as statuses;
+ghost use Rattle.sim_driver.specs.Moves.{MayPlay};
 ghost use Rattle.sim_driver.specs.Progress.{Playing};
 ghost use Rattle.sim_driver.specs.Scripts.{new_script};
-ghost use Rattle.sim_driver.specs.Simulations.{IsSimulated, all_printed};
+ghost use Rattle.sim_driver.specs.Simulations.{IsSimulated, all_printed, router_count};
 
 use crate::lines::play_piece;
 use crate::script::{FIRST_ROUTER, Script};
@@ -41,8 +42,9 @@ fn unended(cause: Status, begun: &[u8]) -> Status
     }
 }
 
-/// Plays the script in `input`, of which at most `limit` bytes are taken, for the nodes in order of their numbers, whose logs are open and empty
-/// at the start. All nodes are opened; then each line is played, and what it prints is put into `out`, before the next.
+/// Plays the script in `input`, of which at most `limit` bytes are taken, for the nodes in order of their numbers, whose logs are open and keep
+/// what they keep in the world that the call begins in. All nodes are opened; then each line is played, and what it prints is put into `out`,
+/// before the next.
 ///
 /// The status is `BadInput` where the next line is refused, and `DiskFailed` where the disk of a log failed: the logs must be opened again. It
 /// is `OutOfMemory` also where a node is at its last step.
@@ -62,13 +64,13 @@ pub fn simulate<
 ) -> Status
     requires at { first_router < vec_len seats.old }
     requires open { AreOpen L.facts.is_open seats.old.items }
-    ensures simulated { AreAskedAsRead N.asks → (routers : ℕ) → 0 < routers →
-        AreHeld (seat_view N.state L.facts) seats.old.items (start routers).nodes →
+    ensures simulated { AreAskedAsRead N.asks → (first : World) → MayPlay first →
+        AreHeld (seat_view N.state L.facts) seats.old.items first.nodes →
         IsSimulated (source_call S.tells S.left S.fault_count input.old input.new) (sink_call K.tells K.held K.fault_count out.old out.new)
         (AreKept (seat_view N.state L.facts) seats.new.items)
-        (LeaveKept (seat_since N.state L.facts (since_then seats.old.items (start routers))) seats.new.items)
-        (AreAcknowledgedBy L.facts K.tells (all_printed routers) (start routers) (K.noted out.new) (K.held out.old) seats.new.items)
-        routers limit result }
+        (LeaveKept (seat_since N.state L.facts (since_then seats.old.items first)) seats.new.items)
+        (AreAcknowledgedBy L.facts K.tells (all_printed first) first (K.noted out.new) (K.held out.old) seats.new.items)
+        first limit result }
 
     // But where a disk failed, records can be appended to each log.
     ensures open { result ≢ statuses.DiskFailed → AreOpen L.facts.is_open seats.new.items }
@@ -99,15 +101,15 @@ fn play_all<R: Threads + Sync, N: Node<Request = Request>, L: Log, S: Source, K:
 ) -> Status
     requires at { first_router < vec_len seats.old }
     requires open { AreOpen L.facts.is_open seats.old.items }
-    ensures simulated { AreAskedAsRead N.asks → (since : Since L) (routers : ℕ) → 0 < routers →
+    ensures simulated { AreAskedAsRead N.asks → (since : Since L) (first : World) → MayPlay first →
         Playing (seat_since N.state L.facts since) seats.old.items (network_view (λ m. N.Mail.letter m) network)
-        routers K.tells since.noted (K.held out.old) (K.held out.old) (new_script routers) [] →
+        first K.tells since.noted (K.held out.old) (K.held out.old) (new_script (router_count first)) [] →
         AreNoted K.tells (K.noted out.old) (places_of L.facts.place seats.old.items) since.noted →
         WithNotes K.tells (K.noted out.new) (places_of L.facts.place seats.new.items)
         (λ noted. IsSimulated (source_call S.tells S.left S.fault_count input.old input.new) (sink_call K.tells K.held K.fault_count out.old out.new)
         (AreKept (seat_since N.state L.facts (with_notes since noted)) seats.new.items)
         (LeaveKept (seat_since N.state L.facts (with_notes since noted)) seats.new.items)
-        (λ last put. IsTrue K.tells → AreCovered (all_printed routers) (start routers) noted (K.held out.old) put last) routers limit result) }
+        (λ last put. IsTrue K.tells → AreCovered (all_printed first) first noted (K.held out.old) put last) first limit result) }
     ensures open { result ≢ statuses.DiskFailed → AreOpen L.facts.is_open seats.new.items }
     ensures len { vec_len seats.new ≡ vec_len seats.old }
     ensures read_fault { RoseWhere (result ≡ statuses.ReadFailed) (S.fault_count input.old) (S.fault_count input.new) }

@@ -33,15 +33,15 @@ pub returns-in-Err-clause-headline : goal.returns-in-Err-clause-headline
 returns-in-Err-clause-headline g c = λ asked new empty other.
     rw (c.untouched-in-Err.ensures.disks, c.untouched-in-Err.ensures.status)
     (unopened (source_call g.S.Source.tells g.S.Source.left g.S.Source.fault_count c.args.input.now c.args.input.now) (sink_call g.K.Sink.tells g.K.Sink.held g.K.Sink.fault_count c.args.out.now c.args.out.now)
-    g.D.Disk.tells (map g.D.Disk.content c.are_empty.new.disks.items) (LeaveTheWay (routers_of c.args.command) g.D.Disk.tells g.D.Disk.moment g.D.Disk.left_since c.args.disks.items c.are_empty.new.disks.items)
-    (AreDurableBefore g.K.Sink.tells g.D.Disk.tells g.D.Disk.place g.D.Disk.moment g.D.Disk.left_since c.args.command (g.K.Sink.noted c.args.out.now) (g.K.Sink.held c.args.out.now) c.are_empty.new.disks.items)
+    g.D.Disk.tells (map g.D.Disk.content c.are_empty.new.disks.items) (LeaveTheWay (start (routers_of c.args.command)) g.D.Disk.tells g.D.Disk.moment g.D.Disk.left_since c.args.disks.items c.are_empty.new.disks.items)
+    (AreDurableBefore g.K.Sink.tells g.D.Disk.tells g.D.Disk.place g.D.Disk.moment g.D.Disk.left_since c.args.command (start (routers_of c.args.command)) (g.K.Sink.noted c.args.out.now) (g.K.Sink.held c.args.out.now) c.are_empty.new.disks.items)
     (g.C.Clock.gives c.args.clock.now) _ c.args.command statuses.DiskFailed at_opening_fault (λ e. cc)
     c.untouched-in-Err.ensures.rest (λ told. refl) (λ told. sym (append-nil (g.K.Sink.held c.args.out.now)))
     (λ told. all_empty_kept (routers_of c.args.command) (map g.D.Disk.content c.are_empty.new.disks.items)
     (still_empty g.D.Disk.tells (map g.D.Disk.content c.args.disks.items) (map g.D.Disk.content c.are_empty.new.disks.items) c.in-Err.ensures.same empty told)
     (length-map c.are_empty.new.disks.items g.D.Disk.content ∙ omega (arith, c.requires.disks, c.in-Err.ensures.len, c.are_empty.new.disks.ok, c.args.disks.ok)))
-    (λ told. all_weaker g.D.Disk.moment g.D.Disk.left_since (λ at file. ⊥) (λ at file. IsOfTheWay (routers_of c.args.command) (start (routers_of c.args.command)) at file) c.args.disks.items c.are_empty.new.disks.items (never_of (routers_of c.args.command)) (c.in-Err.ensures.leaves told))
-    (none_owed g.K.Sink.tells g.D.Disk.tells g.D.Disk.place g.D.Disk.moment g.D.Disk.left_since c.args.command (g.K.Sink.noted c.args.out.now) (g.K.Sink.held c.args.out.now) _ (start (routers_of c.args.command))))
+    (λ told. all_weaker g.D.Disk.moment g.D.Disk.left_since (λ at file. ⊥) (λ at file. IsOfTheWay (start (routers_of c.args.command)) (start (routers_of c.args.command)) at file) c.args.disks.items c.are_empty.new.disks.items (never_of (routers_of c.args.command)) (c.in-Err.ensures.leaves told))
+    (none_owed g.K.Sink.tells g.D.Disk.tells g.D.Disk.place g.D.Disk.moment g.D.Disk.left_since c.args.command (start (routers_of c.args.command)) (g.K.Sink.noted c.args.out.now) (g.K.Sink.held c.args.out.now) _ (start (routers_of c.args.command))))
 
 pub returns-in-Err-clause-disk_fault : goal.returns-in-Err-clause-disk_fault
 returns-in-Err-clause-disk_fault g c =
@@ -56,16 +56,16 @@ returns-in-Err-open_all-clause-headline g c = λ asked new empty other.
     rw (c.untouched-in-Err-open_all.ensures.disks, c.untouched-in-Err-open_all.ensures.status)
     (unopened (source_call g.S.Source.tells g.S.Source.left g.S.Source.fault_count c.args.input.now c.args.input.now) (sink_call g.K.Sink.tells g.K.Sink.held g.K.Sink.fault_count c.args.out.now c.args.out.now)
     g.D.Disk.tells (map g.D.Disk.content c.in-Err-open_all.field-0.disks.items)
-    (LeaveTheWay (routers_of c.args.command) g.D.Disk.tells g.D.Disk.moment g.D.Disk.left_since c.args.disks.items c.in-Err-open_all.field-0.disks.items)
-    (AreDurableBefore g.K.Sink.tells g.D.Disk.tells g.D.Disk.place g.D.Disk.moment g.D.Disk.left_since c.args.command (g.K.Sink.noted c.args.out.now) (g.K.Sink.held c.args.out.now) c.in-Err-open_all.field-0.disks.items) (g.C.Clock.gives c.args.clock.now) _ c.args.command c.in-Err-open_all.field-0.status (unopened_stops (disk_facts g.D.Disk.tells g.D.Disk.content g.D.Disk.may_leave g.D.Disk.moment g.D.Disk.left_since g.D.Disk.place g.D.Disk.fault_count) c.in-Err-open_all.field-0.status c.are_empty.new.disks.items c.in-Err-open_all.field-0.disks.items c.in-Err-open_all.ensures.unopened)
+    (LeaveTheWay (start (routers_of c.args.command)) g.D.Disk.tells g.D.Disk.moment g.D.Disk.left_since c.args.disks.items c.in-Err-open_all.field-0.disks.items)
+    (AreDurableBefore g.K.Sink.tells g.D.Disk.tells g.D.Disk.place g.D.Disk.moment g.D.Disk.left_since c.args.command (start (routers_of c.args.command)) (g.K.Sink.noted c.args.out.now) (g.K.Sink.held c.args.out.now) c.in-Err-open_all.field-0.disks.items) (g.C.Clock.gives c.args.clock.now) _ c.args.command c.in-Err-open_all.field-0.status (unopened_stops (disk_facts g.D.Disk.tells g.D.Disk.content g.D.Disk.may_leave g.D.Disk.moment g.D.Disk.left_since g.D.Disk.place g.D.Disk.fault_count) c.in-Err-open_all.field-0.status c.are_empty.new.disks.items c.in-Err-open_all.field-0.disks.items c.in-Err-open_all.ensures.unopened)
     (λ is. other (c.untouched-in-Err-open_all.ensures.status ∙ is)) c.untouched-in-Err-open_all.ensures.rest (λ told. refl) (λ told. sym (append-nil (g.K.Sink.held c.args.out.now)))
     (λ told. none_kept (routers_of c.args.command) (map g.D.Disk.content c.in-Err-open_all.field-0.disks.items) (unopened_none (disk_facts g.D.Disk.tells g.D.Disk.content g.D.Disk.may_leave g.D.Disk.moment g.D.Disk.left_since g.D.Disk.place g.D.Disk.fault_count) c.in-Err-open_all.field-0.status c.are_empty.new.disks.items c.in-Err-open_all.field-0.disks.items c.in-Err-open_all.ensures.unopened still told)
     (length-map c.in-Err-open_all.field-0.disks.items g.D.Disk.content ∙ (unopened_len (disk_facts g.D.Disk.tells g.D.Disk.content g.D.Disk.may_leave g.D.Disk.moment g.D.Disk.left_since g.D.Disk.place g.D.Disk.fault_count) c.in-Err-open_all.field-0.status c.are_empty.new.disks.items c.in-Err-open_all.field-0.disks.items c.in-Err-open_all.ensures.unopened ∙ omega (arith, c.requires.disks, c.in-Ok-true.ensures.len, c.are_empty.new.disks.ok, c.args.disks.ok))))
-    (λ told. all_weaker g.D.Disk.moment g.D.Disk.left_since (λ at file. Stands file []) (λ at file. IsOfTheWay (routers_of c.args.command) (start (routers_of c.args.command)) at file) c.args.disks.items c.in-Err-open_all.field-0.disks.items
+    (λ told. all_weaker g.D.Disk.moment g.D.Disk.left_since (λ at file. Stands file []) (λ at file. IsOfTheWay (start (routers_of c.args.command)) (start (routers_of c.args.command)) at file) c.args.disks.items c.in-Err-open_all.field-0.disks.items
     (λ at file none. of_the_start (routers_of c.args.command) (start (routers_of c.args.command)) at file (leads_nowhere (start (routers_of c.args.command))) none)
     (all_then g.D.Disk.moment g.D.Disk.left_since (λ at file. Stands file []) c.args.disks.items c.are_empty.new.disks.items c.in-Err-open_all.field-0.disks.items (c.in-Ok-true.ensures.leaves told)
     (unopened_leave (disk_facts g.D.Disk.tells g.D.Disk.content g.D.Disk.may_leave g.D.Disk.moment g.D.Disk.left_since g.D.Disk.place g.D.Disk.fault_count) c.in-Err-open_all.field-0.status c.are_empty.new.disks.items c.in-Err-open_all.field-0.disks.items c.in-Err-open_all.ensures.unopened still told)))
-    (none_owed g.K.Sink.tells g.D.Disk.tells g.D.Disk.place g.D.Disk.moment g.D.Disk.left_since c.args.command (g.K.Sink.noted c.args.out.now) (g.K.Sink.held c.args.out.now) _ (start (routers_of c.args.command))))
+    (none_owed g.K.Sink.tells g.D.Disk.tells g.D.Disk.place g.D.Disk.moment g.D.Disk.left_since c.args.command (start (routers_of c.args.command)) (g.K.Sink.noted c.args.out.now) (g.K.Sink.held c.args.out.now) _ (start (routers_of c.args.command))))
 
 pub returns-in-Err-open_all-clause-status : goal.returns-in-Err-open_all-clause-status
 returns-in-Err-open_all-clause-status g c = λ is. (opening_not_refused _ (unopened_stops (disk_facts g.D.Disk.tells g.D.Disk.content g.D.Disk.may_leave g.D.Disk.moment g.D.Disk.left_since g.D.Disk.place g.D.Disk.fault_count) c.in-Err-open_all.field-0.status c.are_empty.new.disks.items c.in-Err-open_all.field-0.disks.items c.in-Err-open_all.ensures.unopened)).0 (sym c.untouched-in-Err-open_all.ensures.status ∙ is)
@@ -144,15 +144,15 @@ pub returns-in-Err-nodes-clause-headline : goal.returns-in-Err-nodes-clause-head
 returns-in-Err-nodes-clause-headline g c = λ asked new empty other.
     rw (c.untouched-in-Err-nodes.ensures.disks, c.untouched-in-Err-nodes.ensures.status)
     (unopened (source_call g.S.Source.tells g.S.Source.left g.S.Source.fault_count c.args.input.now c.args.input.now) (sink_call g.K.Sink.tells g.K.Sink.held g.K.Sink.fault_count c.args.out.now c.args.out.now)
-    g.D.Disk.tells (map g.D.Disk.content c.are_empty.new.disks.items) (LeaveTheWay (routers_of c.args.command) g.D.Disk.tells g.D.Disk.moment g.D.Disk.left_since c.args.disks.items c.are_empty.new.disks.items)
-    (AreDurableBefore g.K.Sink.tells g.D.Disk.tells g.D.Disk.place g.D.Disk.moment g.D.Disk.left_since c.args.command (g.K.Sink.noted c.args.out.now) (g.K.Sink.held c.args.out.now) c.are_empty.new.disks.items)
+    g.D.Disk.tells (map g.D.Disk.content c.are_empty.new.disks.items) (LeaveTheWay (start (routers_of c.args.command)) g.D.Disk.tells g.D.Disk.moment g.D.Disk.left_since c.args.disks.items c.are_empty.new.disks.items)
+    (AreDurableBefore g.K.Sink.tells g.D.Disk.tells g.D.Disk.place g.D.Disk.moment g.D.Disk.left_since c.args.command (start (routers_of c.args.command)) (g.K.Sink.noted c.args.out.now) (g.K.Sink.held c.args.out.now) c.are_empty.new.disks.items)
     (g.C.Clock.gives c.args.clock.now) _ c.args.command statuses.OutOfMemory at_opening_memory (λ e. cc)
     c.untouched-in-Err-nodes.ensures.rest (λ told. refl) (λ told. sym (append-nil (g.K.Sink.held c.args.out.now)))
     (λ told. all_empty_kept (routers_of c.args.command) (map g.D.Disk.content c.are_empty.new.disks.items)
     (still_empty g.D.Disk.tells (map g.D.Disk.content c.args.disks.items) (map g.D.Disk.content c.are_empty.new.disks.items) c.in-Ok-true.ensures.same empty told)
     (length-map c.are_empty.new.disks.items g.D.Disk.content ∙ omega (arith, c.requires.disks, c.in-Ok-true.ensures.len, c.are_empty.new.disks.ok, c.args.disks.ok)))
-    (λ told. all_weaker g.D.Disk.moment g.D.Disk.left_since (λ at file. ⊥) (λ at file. IsOfTheWay (routers_of c.args.command) (start (routers_of c.args.command)) at file) c.args.disks.items c.are_empty.new.disks.items (never_of (routers_of c.args.command)) (c.in-Ok-true.ensures.leaves told))
-    (none_owed g.K.Sink.tells g.D.Disk.tells g.D.Disk.place g.D.Disk.moment g.D.Disk.left_since c.args.command (g.K.Sink.noted c.args.out.now) (g.K.Sink.held c.args.out.now) _ (start (routers_of c.args.command))))
+    (λ told. all_weaker g.D.Disk.moment g.D.Disk.left_since (λ at file. ⊥) (λ at file. IsOfTheWay (start (routers_of c.args.command)) (start (routers_of c.args.command)) at file) c.args.disks.items c.are_empty.new.disks.items (never_of (routers_of c.args.command)) (c.in-Ok-true.ensures.leaves told))
+    (none_owed g.K.Sink.tells g.D.Disk.tells g.D.Disk.place g.D.Disk.moment g.D.Disk.left_since c.args.command (start (routers_of c.args.command)) (g.K.Sink.noted c.args.out.now) (g.K.Sink.held c.args.out.now) _ (start (routers_of c.args.command))))
 
 pub returns-in-Err-nodes-clause-durable : goal.returns-in-Err-nodes-clause-durable
 returns-in-Err-nodes-clause-durable g c = λ told empty failed.

@@ -8,7 +8,9 @@ use Rattle.pipe_driver.specs.Acknowledgements.{AreAcknowledgedBy}
 use Rattle.driver_steps.specs.Seats.{AreHeld, AreKept, LeaveKept, faults_of, seat_since, seat_view, since_then}
 use Rattle.driver_steps.proofs.Crashes.{leads_nowhere}
 use Rattle.node_model.specs.World.{Held, World, start}
+use Rattle.node_progress.specs.Firsts.{first_start}
 use Rattle.pipe_driver.proofs.Counts.{still}
+use Rattle.sim_driver.proofs.Plays.{start_may_play}
 use Rattle.cluster_top.specs.Counts.{OneRoseWhere}
 use Rattle.cluster_top.specs.Crashes.{AreDurableBefore, IsOfTheWay, LeaveSuch, LeaveTheWay}
 use Rattle.cluster_top.specs.Drivers.{output_of}
@@ -28,17 +30,17 @@ pub returns-then-is_err-clause-headline : goal.returns-then-is_err-clause-headli
 returns-then-is_err-clause-headline g c = λ asked new fresh disks first.
     rw (c.untouched.ensures.disks, c.untouched.ensures.status)
     (unopened (source_call g.S.Source.tells g.S.Source.left g.S.Source.fault_count c.args.input.now c.args.input.now) (sink_call g.K.Sink.tells g.K.Sink.held g.K.Sink.fault_count c.args.out.now c.args.out.now) g.D.Disk.tells (map g.D.Disk.content c.close_all.new.back.items)
-    (LeaveTheWay (routers_of c.args.command) g.D.Disk.tells g.D.Disk.moment g.D.Disk.left_since disks c.close_all.new.back.items)
-    (AreDurableBefore g.K.Sink.tells g.D.Disk.tells g.D.Disk.place g.D.Disk.moment g.D.Disk.left_since c.args.command (g.K.Sink.noted c.args.out.now) (g.K.Sink.held c.args.out.now) c.close_all.new.back.items) (g.C.Clock.gives c.args.clock.now) _ c.args.command statuses.OutOfMemory at_opening_memory (λ e. cc)
+    (LeaveTheWay (start (routers_of c.args.command)) g.D.Disk.tells g.D.Disk.moment g.D.Disk.left_since disks c.close_all.new.back.items)
+    (AreDurableBefore g.K.Sink.tells g.D.Disk.tells g.D.Disk.place g.D.Disk.moment g.D.Disk.left_since c.args.command (start (routers_of c.args.command)) (g.K.Sink.noted c.args.out.now) (g.K.Sink.held c.args.out.now) c.close_all.new.back.items) (g.C.Clock.gives c.args.clock.now) _ c.args.command statuses.OutOfMemory at_opening_memory (λ e. cc)
     c.untouched.ensures.rest (λ told. refl) (λ told. sym (append-nil (g.K.Sink.held c.args.out.now)))
     (λ told. subst (λ (ds : List g.row.D.Denot). AreJournals (map g.D.Disk.content ds) (start (routers_of c.args.command)).nodes) (sym c.close_all.ensures.disks)
     (none_kept (routers_of c.args.command) (map g.D.Disk.content (disks_of c.args.opened.journals.items))
     (fresh_files g.D.Disk.tells g.D.Disk.content c.args.opened.journals.items fresh told)
     (files_len g.D.Disk.content c.args.opened.journals.items ∙ omega (arith, c.requires.journals, c.args.opened.journals.ok))))
-    (λ told. subst (λ (ds : List g.row.D.Denot). LeaveSuch g.D.Disk.moment g.D.Disk.left_since (λ at file. IsOfTheWay (routers_of c.args.command) (start (routers_of c.args.command)) at file) disks ds) (sym c.close_all.ensures.disks)
-    (all_weaker g.D.Disk.moment g.D.Disk.left_since (λ at file. Stands file []) (λ at file. IsOfTheWay (routers_of c.args.command) (start (routers_of c.args.command)) at file) disks (disks_of c.args.opened.journals.items)
+    (λ told. subst (λ (ds : List g.row.D.Denot). LeaveSuch g.D.Disk.moment g.D.Disk.left_since (λ at file. IsOfTheWay (start (routers_of c.args.command)) (start (routers_of c.args.command)) at file) disks ds) (sym c.close_all.ensures.disks)
+    (all_weaker g.D.Disk.moment g.D.Disk.left_since (λ at file. Stands file []) (λ at file. IsOfTheWay (start (routers_of c.args.command)) (start (routers_of c.args.command)) at file) disks (disks_of c.args.opened.journals.items)
     (λ at file none. of_the_start (routers_of c.args.command) (start (routers_of c.args.command)) at file (leads_nowhere (start (routers_of c.args.command))) none) (first told)))
-    (none_owed g.K.Sink.tells g.D.Disk.tells g.D.Disk.place g.D.Disk.moment g.D.Disk.left_since c.args.command (g.K.Sink.noted c.args.out.now) (g.K.Sink.held c.args.out.now) _ (start (routers_of c.args.command))))
+    (none_owed g.K.Sink.tells g.D.Disk.tells g.D.Disk.place g.D.Disk.moment g.D.Disk.left_since c.args.command (start (routers_of c.args.command)) (g.K.Sink.noted c.args.out.now) (g.K.Sink.held c.args.out.now) _ (start (routers_of c.args.command))))
 
 pub returns-then-is_err-clause-status : goal.returns-then-is_err-clause-status
 returns-then-is_err-clause-status g c = rw c.untouched.ensures.status (λ e. cc, λ e. cc)
@@ -85,26 +87,26 @@ returns-clause-headline g c = λ asked new fresh disks first.
     λ nodes keeps told. subst (λ (ds : List g.row.D.Denot). AreJournals (map g.D.Disk.content ds) nodes) (sym c.take_disks.ensures.disks)
     (kept_in_files g.N.Node.state g.D.Disk.tells g.D.Disk.content g.D.Disk.moment g.D.Disk.left_since g.D.Disk.fault_count g.D.Disk.place c.drive-ending.new.seats.items nodes keeps told) in
     let leaves : (w : World) → LeaveKept (seat_since g.N.Node.state facts (since_then c.put_in.new.seats.items (start (routers_of c.args.command)))) c.drive-ending.new.seats.items w
-    → LeaveTheWay (routers_of c.args.command) g.D.Disk.tells g.D.Disk.moment g.D.Disk.left_since disks c.take_disks.new.back.items w =
-    λ w leave told. subst (λ (ds : List g.row.D.Denot). LeaveSuch g.D.Disk.moment g.D.Disk.left_since (λ at file. IsOfTheWay (routers_of c.args.command) w at file) disks ds) (sym c.take_disks.ensures.disks)
+    → LeaveTheWay (start (routers_of c.args.command)) g.D.Disk.tells g.D.Disk.moment g.D.Disk.left_since disks c.take_disks.new.back.items w =
+    λ w leave told. subst (λ (ds : List g.row.D.Denot). LeaveSuch g.D.Disk.moment g.D.Disk.left_since (λ at file. IsOfTheWay (start (routers_of c.args.command)) w at file) disks ds) (sym c.take_disks.ensures.disks)
     (seats_leave g.N.Node.state g.D.Disk.tells g.D.Disk.content g.D.Disk.moment g.D.Disk.left_since g.D.Disk.fault_count g.D.Disk.place (routers_of c.args.command) w told disks c.put_in.new.seats.items c.drive-ending.new.seats.items
     (subst (λ seats. LeaveSuch g.D.Disk.moment g.D.Disk.left_since (λ at file. Stands file []) disks (map (λ s. s.log.disk) seats)) (sym c.put_in.ensures.items)
     (subst (λ (ds : List g.row.D.Denot). LeaveSuch g.D.Disk.moment g.D.Disk.left_since (λ at file. Stands file []) disks ds)
     (sym (seat_disks c.args.nodes.items c.args.opened.journals.items (omega (arith, c.requires.nodes, c.requires.journals, c.args.nodes.ok, c.args.opened.journals.ok)))) (first told)))
     (omega (arith, c.put_in.new.seats.ok, c.drive-ending.new.seats.ok, c.drive-ending.ensures.len)) leave) in
-    let pays : (w : World) (put : List ℕ) → AreAcknowledgedBy facts g.K.Sink.tells (output_of c.args.command) (start (routers_of c.args.command)) (g.K.Sink.noted c.drive-ending.new.out) (g.K.Sink.held c.args.out.now) c.drive-ending.new.seats.items w put
-    → AreDurableBefore g.K.Sink.tells g.D.Disk.tells g.D.Disk.place g.D.Disk.moment g.D.Disk.left_since c.args.command (g.K.Sink.noted c.drive-ending.new.out) (g.K.Sink.held c.args.out.now) c.take_disks.new.back.items w put =
-    λ w put owed. subst (λ (ds : List g.row.D.Denot). AreDurableBefore g.K.Sink.tells g.D.Disk.tells g.D.Disk.place g.D.Disk.moment g.D.Disk.left_since c.args.command (g.K.Sink.noted c.drive-ending.new.out) (g.K.Sink.held c.args.out.now) ds w put) (sym c.take_disks.ensures.disks)
-    (disks_owed g.K.Sink.tells g.D.Disk.tells g.D.Disk.content g.D.Disk.moment g.D.Disk.left_since g.D.Disk.fault_count g.D.Disk.place c.args.command (g.K.Sink.noted c.drive-ending.new.out) (g.K.Sink.held c.args.out.now) c.drive-ending.new.seats.items w put owed) in (
+    let pays : (w : World) (put : List ℕ) → AreAcknowledgedBy facts g.K.Sink.tells (output_of c.args.command (start (routers_of c.args.command))) (start (routers_of c.args.command)) (g.K.Sink.noted c.drive-ending.new.out) (g.K.Sink.held c.args.out.now) c.drive-ending.new.seats.items w put
+    → AreDurableBefore g.K.Sink.tells g.D.Disk.tells g.D.Disk.place g.D.Disk.moment g.D.Disk.left_since c.args.command (start (routers_of c.args.command)) (g.K.Sink.noted c.drive-ending.new.out) (g.K.Sink.held c.args.out.now) c.take_disks.new.back.items w put =
+    λ w put owed. subst (λ (ds : List g.row.D.Denot). AreDurableBefore g.K.Sink.tells g.D.Disk.tells g.D.Disk.place g.D.Disk.moment g.D.Disk.left_since c.args.command (start (routers_of c.args.command)) (g.K.Sink.noted c.drive-ending.new.out) (g.K.Sink.held c.args.out.now) ds w put) (sym c.take_disks.ensures.disks)
+    (disks_owed g.K.Sink.tells g.D.Disk.tells g.D.Disk.content g.D.Disk.moment g.D.Disk.left_since g.D.Disk.fault_count g.D.Disk.place c.args.command (start (routers_of c.args.command)) (g.K.Sink.noted c.drive-ending.new.out) (g.K.Sink.held c.args.out.now) c.drive-ending.new.seats.items w put owed) in (
       c.drive-ending.result.status,
       c.of.ensures,
-      headline_of source sink g.D.Disk.tells (map g.D.Disk.content c.take_disks.new.back.items) (LeaveTheWay (routers_of c.args.command) g.D.Disk.tells g.D.Disk.moment g.D.Disk.left_since disks c.take_disks.new.back.items)
-          (AreDurableBefore g.K.Sink.tells g.D.Disk.tells g.D.Disk.place g.D.Disk.moment g.D.Disk.left_since c.args.command (g.K.Sink.noted c.drive-ending.new.out) (g.K.Sink.held c.args.out.now) c.take_disks.new.back.items) (g.C.Clock.gives c.args.clock.now) c.drive-ending.result.rest
-          c.args.command c.drive-ending.result.status
-          (driven_as c.args.command source sink (g.C.Clock.gives c.args.clock.now) (AreKept view c.drive-ending.new.seats.items) _ _ (LeaveTheWay (routers_of c.args.command) g.D.Disk.tells g.D.Disk.moment g.D.Disk.left_since disks c.take_disks.new.back.items) _
-          (AreDurableBefore g.K.Sink.tells g.D.Disk.tells g.D.Disk.place g.D.Disk.moment g.D.Disk.left_since c.args.command (g.K.Sink.noted c.drive-ending.new.out) (g.K.Sink.held c.args.out.now) c.take_disks.new.back.items)
+      headline_of source sink g.D.Disk.tells (map g.D.Disk.content c.take_disks.new.back.items) (LeaveTheWay (start (routers_of c.args.command)) g.D.Disk.tells g.D.Disk.moment g.D.Disk.left_since disks c.take_disks.new.back.items)
+          (AreDurableBefore g.K.Sink.tells g.D.Disk.tells g.D.Disk.place g.D.Disk.moment g.D.Disk.left_since c.args.command (start (routers_of c.args.command)) (g.K.Sink.noted c.drive-ending.new.out) (g.K.Sink.held c.args.out.now) c.take_disks.new.back.items) (g.C.Clock.gives c.args.clock.now) c.drive-ending.result.rest
+          c.args.command (start (routers_of c.args.command)) (first_start (routers_of c.args.command)) c.drive-ending.result.status
+          (driven_as c.args.command (start (routers_of c.args.command)) source sink (g.C.Clock.gives c.args.clock.now) (AreKept view c.drive-ending.new.seats.items) _ _ (LeaveTheWay (start (routers_of c.args.command)) g.D.Disk.tells g.D.Disk.moment g.D.Disk.left_since disks c.take_disks.new.back.items) _
+          (AreDurableBefore g.K.Sink.tells g.D.Disk.tells g.D.Disk.place g.D.Disk.moment g.D.Disk.left_since c.args.command (start (routers_of c.args.command)) (g.K.Sink.noted c.drive-ending.new.out) (g.K.Sink.held c.args.out.now) c.take_disks.new.back.items)
           c.drive-ending.result.status c.drive-ending.result.rest kept leaves pays
-          (c.drive-ending.ensures.driven asked start_with)),
+          (c.drive-ending.ensures.driven asked (start (routers_of c.args.command)) (start_may_play (routers_of c.args.command)) start_with)),
     )
 
 pub returns-clause-durable : goal.returns-clause-durable

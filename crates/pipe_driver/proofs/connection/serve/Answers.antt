@@ -26,23 +26,23 @@ pieces-init g c = record {
   sink_calm = refl;
   disks_calm = refl;
   places = refl;
-  went = λ asks since routers some s n. (since.noted, n, ([], rw c.new-framer.ensures refl, (λ told. rw c.new-framer.ensures refl), s));
+  went = λ asks since first some s n. (since.noted, n, ([], rw c.new-framer.ensures refl, (λ told. rw c.new-framer.ensures refl), s));
 }
 
 pub returns-in_default-clause-piped : goal.returns-in_default-clause-piped
-returns-in_default-clause-piped g c = λ asks since routers some s n. (
+returns-in_default-clause-piped g c = λ asks since first some s n. (
   since.noted,
   n,
   ended_full (seat_since g.N.Node.state g.L.Log.facts (with_notes since since.noted))
       c.args.seats.now.items
       (source_call g.S.Source.tells g.S.Source.left g.S.Source.fault_count c.args.input.now c.args.input.now)
-      (sink_call g.K.Sink.tells g.K.Sink.held g.K.Sink.fault_count c.args.out.now c.args.out.now) (g.C.Clock.gives c.args.clock.now) c.args.router since.noted routers c.args.limit
+      (sink_call g.K.Sink.tells g.K.Sink.held g.K.Sink.fault_count c.args.out.now c.args.out.now) (g.C.Clock.gives c.args.clock.now) c.args.router since.noted first c.args.limit
       c.ended.result.rest c.ended.result.status [] [] _ 0 c.ended.ensures.status s (λ told. refl) (omega arith) refl c.ended.ensures.rest,
 )
 
 pub returns-then-is_err-clause-piped : goal.returns-then-is_err-clause-piped
-returns-then-is_err-clause-piped g c = λ asks since routers some s n.
-    let went = c.pieces.invariant.went asks since routers some s n in
+returns-then-is_err-clause-piped g c = λ asks since first some s n.
+    let went = c.pieces.invariant.went asks since first some s n in
     let counted : c.ended-then-is_err.result.rest ≡ length c.pieces.framer.bytes =
     omega (arith, c.ended-then-is_err.ensures.rest, ap length c.rest.ensures, ap length c.reserve.ensures.bytes) in (
       went.0,
@@ -50,14 +50,14 @@ returns-then-is_err-clause-piped g c = λ asks since routers some s n.
       ended_full (seat_since g.N.Node.state g.L.Log.facts (with_notes since went.0))
           c.pieces.seats.items
           (source_call g.S.Source.tells g.S.Source.left g.S.Source.fault_count c.args.input.now c.pieces.input)
-          (sink_call g.K.Sink.tells g.K.Sink.held g.K.Sink.fault_count c.args.out.now c.pieces.out) (g.C.Clock.gives c.args.clock.now) c.args.router went.0 routers c.args.limit
+          (sink_call g.K.Sink.tells g.K.Sink.held g.K.Sink.fault_count c.args.out.now c.pieces.out) (g.C.Clock.gives c.args.clock.now) c.args.router went.0 first c.args.limit
           c.ended-then-is_err.result.rest c.ended-then-is_err.result.status went.2.0 c.pieces.framer.bytes _ c.pieces.puts c.ended-then-is_err.ensures.status went.2.3
           went.2.2 (omega (arith, went.2.1, c.pieces.invariant.most)) c.pieces.invariant.partial counted,
     )
 
 pub returns-in-Err-clause-piped : goal.returns-in-Err-clause-piped
-returns-in-Err-clause-piped g c = λ asks since routers some s n.
-    let went = c.pieces.invariant.went asks since routers some s n in
+returns-in-Err-clause-piped g c = λ asks since first some s n.
+    let went = c.pieces.invariant.went asks since first some s n in
     let size : length (went.2.0 ++ c.pieces.framer.bytes) ≡ c.pieces.taken = length-append went.2.0 c.pieces.framer.bytes ∙ went.2.1 in
     let below : length (went.2.0 ++ c.pieces.framer.bytes) < c.args.limit = omega (arith, size, c.pieces-test.true) in
     let counted : c.ended-in-Err.result.rest ≡ length c.pieces.framer.bytes =
@@ -67,7 +67,7 @@ returns-in-Err-clause-piped g c = λ asks since routers some s n.
       ended_taking (seat_since g.N.Node.state g.L.Log.facts (with_notes since went.0))
           c.pieces.seats.items
           (source_call g.S.Source.tells g.S.Source.left g.S.Source.fault_count c.args.input.now c.take_more.new.input)
-          (sink_call g.K.Sink.tells g.K.Sink.held g.K.Sink.fault_count c.args.out.now c.pieces.out) (g.C.Clock.gives c.args.clock.now) c.args.router went.0 routers c.args.limit
+          (sink_call g.K.Sink.tells g.K.Sink.held g.K.Sink.fault_count c.args.out.now c.pieces.out) (g.C.Clock.gives c.args.clock.now) c.args.router went.0 first c.args.limit
           c.ended-in-Err.result.rest c.ended-in-Err.result.status went.2.0 c.pieces.framer.bytes _ c.pieces.puts c.in-Err.status
           c.ended-in-Err.ensures.status c.in-Err.ensures.taken.1 went.2.3
           (took_no_more _ _ _ _ _ went.2.2 c.in-Err.ensures.taken.0) below c.pieces.invariant.partial counted,
@@ -88,7 +88,7 @@ returns-in-Err-clause-disk_fault g c =
 
 -- room was made for what is fed
 pub returns-in_default-feed-clause-piped : goal.returns-in_default-feed-clause-piped
-returns-in_default-feed-clause-piped g c = λ asks since routers some s n.
+returns-in_default-feed-clause-piped g c = λ asks since first some s n.
     let size : length (take c.in-Ok-take_more.count c.take_more.new.piece.items) ≡ c.in-Ok-take_more.count =
     length-take-le c.in-Ok-take_more.count c.take_more.new.piece.items (omega (
       arith,
@@ -186,8 +186,8 @@ pieces-preserved g c =
       sink_calm = c.answer_all.ensures.write_fault.1 (λ e. cc) ∙ c.pieces.invariant.sink_calm;
       disks_calm = c.answer_all.ensures.disk_fault.1 (λ e. cc) ∙ c.pieces.invariant.disks_calm;
       places = c.answer_all.ensures.places ∙ c.pieces.invariant.places;
-      went = λ asks since routers some s n.
-          let went = c.pieces.invariant.went asks since routers some s n in
+      went = λ asks since first some s n.
+          let went = c.pieces.invariant.went asks since first some s n in
           let more = c.in-Ok-take_more.ensures.taken in
           let bytes : List ℕ = take c.in-Ok-take_more.count c.take_more.new.piece.items in
           let size : length bytes ≡ c.in-Ok-take_more.count =
@@ -204,7 +204,7 @@ pieces-preserved g c =
           let fed : c.feed.new.self.bytes ≡ c.pieces.framer.bytes ++ bytes =
           all_fed c.pieces.framer.bytes c.reserve.new.self.bytes c.feed.new.self.bytes _ bytes c.reserve.ensures.bytes step.0
           (ap (λ (b : List ℕ). take c.in-Ok-take_more.count b) c.deref.ensures.value) in
-          let round = c.in-Ok-answer_all.ensures.served asks (with_notes since went.0) routers some (g.K.Sink.held c.args.out.now) went.2.0 went.2.3 went.1 in
+          let round = c.in-Ok-answer_all.ensures.served asks (with_notes since went.0) first some (g.K.Sink.held c.args.out.now) went.2.0 went.2.3 went.1 in
           let sum : length round.2.0 + length rest ≡ c.pieces.taken + c.in-Ok-take_more.count =
           round_length went.2.0 c.pieces.framer.bytes bytes c.feed.new.self.bytes round.2.0 rest c.pieces.taken c.in-Ok-take_more.count went.2.1 size fed
           round.2.1 in
@@ -213,8 +213,8 @@ pieces-preserved g c =
     }
 
 pub returns-in-Err-answer_all-clause-piped : goal.returns-in-Err-answer_all-clause-piped
-returns-in-Err-answer_all-clause-piped g c = λ asks since routers some s n.
-    let went = c.pieces.invariant.went asks since routers some s n in
+returns-in-Err-answer_all-clause-piped g c = λ asks since first some s n.
+    let went = c.pieces.invariant.went asks since first some s n in
     let more = c.in-Ok-take_more.ensures.taken in
     let bytes : List ℕ = take c.in-Ok-take_more.count c.take_more.new.piece.items in
     let size : length bytes ≡ c.in-Ok-take_more.count =
@@ -231,7 +231,7 @@ returns-in-Err-answer_all-clause-piped g c = λ asks since routers some s n.
     let fed : c.feed.new.self.bytes ≡ c.pieces.framer.bytes ++ bytes =
     all_fed c.pieces.framer.bytes c.reserve.new.self.bytes c.feed.new.self.bytes _ bytes c.reserve.ensures.bytes step.0
     (ap (λ (b : List ℕ). take c.in-Ok-take_more.count b) c.deref.ensures.value) in
-    let round = c.in-Err-answer_all.ensures.served asks (with_notes since went.0) routers some (g.K.Sink.held c.args.out.now) went.2.0 went.2.3 went.1 in
+    let round = c.in-Err-answer_all.ensures.served asks (with_notes since went.0) first some (g.K.Sink.held c.args.out.now) went.2.0 went.2.3 went.1 in
     let sum : length round.2.0 + length rest ≡ c.pieces.taken + c.in-Ok-take_more.count =
     round_length went.2.0 c.pieces.framer.bytes bytes c.feed.new.self.bytes round.2.0 rest c.pieces.taken c.in-Ok-take_more.count went.2.1 size fed round.2.1 in
     let took = took_round _ _ _ _ went.2.0 c.pieces.framer.bytes bytes c.feed.new.self.bytes round.2.0 rest went.2.2 more.took fed round.2.1 in
@@ -243,7 +243,7 @@ returns-in-Err-answer_all-clause-piped g c = λ asks since routers some s n.
       ended_serving (seat_since g.N.Node.state g.L.Log.facts (with_notes since round.0))
           c.answer_all.new.seats.items
           (source_call g.S.Source.tells g.S.Source.left g.S.Source.fault_count c.args.input.now c.take_more.new.input)
-          (sink_call g.K.Sink.tells g.K.Sink.held g.K.Sink.fault_count c.args.out.now c.answer_all.new.out) (g.C.Clock.gives c.args.clock.now) c.args.router round.0 routers c.args.limit
+          (sink_call g.K.Sink.tells g.K.Sink.held g.K.Sink.fault_count c.args.out.now c.answer_all.new.out) (g.C.Clock.gives c.args.clock.now) c.args.router round.0 first c.args.limit
           c.ended-in-Err-answer_all.result.rest c.ended-in-Err-answer_all.result.status round.2.0 rest _ c.in-Err-answer_all.status
           c.ended-in-Err-answer_all.ensures.status round.2.2 took (omega (arith, sum, most)) counted,
     )
@@ -264,15 +264,15 @@ returns-in-Err-answer_all-clause-disk_fault g c =
     c.ended-in-Err-answer_all.ensures.status c.pieces.invariant.disks_calm c.answer_all.ensures.disk_fault
 
 pub returns-clause-piped : goal.returns-clause-piped
-returns-clause-piped g c = λ asks since routers some s n.
-    let went = c.pieces.invariant.went asks since routers some s n in
+returns-clause-piped g c = λ asks since first some s n.
+    let went = c.pieces.invariant.went asks since first some s n in
     let counted : c.ended-2.result.rest ≡ length c.pieces.framer.bytes = omega (arith, c.ended-2.ensures.rest, ap length c.rest-2.ensures) in (
       went.0,
       went.1,
       ended_at_limit (seat_since g.N.Node.state g.L.Log.facts (with_notes since went.0))
           c.pieces.seats.items
           (source_call g.S.Source.tells g.S.Source.left g.S.Source.fault_count c.args.input.now c.pieces.input)
-          (sink_call g.K.Sink.tells g.K.Sink.held g.K.Sink.fault_count c.args.out.now c.pieces.out) (g.C.Clock.gives c.args.clock.now) c.args.router went.0 routers c.args.limit
+          (sink_call g.K.Sink.tells g.K.Sink.held g.K.Sink.fault_count c.args.out.now c.pieces.out) (g.C.Clock.gives c.args.clock.now) c.args.router went.0 first c.args.limit
           c.ended-2.result.rest c.ended-2.result.status went.2.0 c.pieces.framer.bytes _ c.pieces.puts c.ended-2.ensures.status went.2.3 went.2.2
           (omega (arith, went.2.1, c.pieces.invariant.most, c.pieces-test.false)) c.pieces.invariant.partial counted,
     )

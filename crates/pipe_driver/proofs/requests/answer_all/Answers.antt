@@ -12,8 +12,8 @@ use Rattle.pipe_driver.specs.declared.status.Status.TheVariants as statuses
 use Rattle.pipe_driver.proofs.requests.answer_all.Goals as goal
 
 pub returns-in-Ok-None-clause-served : goal.returns-in-Ok-None-clause-served
-returns-in-Ok-None-clause-served g c = λ asks since routers some held_before consumed s n.
-    let was = c.requests.invariant.served asks since routers some held_before consumed s n in
+returns-in-Ok-None-clause-served g c = λ asks since first some held_before consumed s n.
+    let was = c.requests.invariant.served asks since first some held_before consumed s n in
     let told = next_none c.requests.framer c.next.new.self c.in-Ok-None.field-0 c.in-Ok-None.field-0-is c.in-Ok-None.ensures in (
       was.0,
       was.1,
@@ -26,8 +26,8 @@ returns-in-Ok-None-clause-served g c = λ asks since routers some held_before co
     )
 
 pub returns-in-Err-Malformed-clause-served : goal.returns-in-Err-Malformed-clause-served
-returns-in-Err-Malformed-clause-served g c = λ asks since routers some held_before consumed s n.
-    let was = c.requests.invariant.served asks since routers some held_before consumed s n in
+returns-in-Err-Malformed-clause-served g c = λ asks since first some held_before consumed s n.
+    let was = c.requests.invariant.served asks since first some held_before consumed s n in
     let told = next_malformed c.requests.framer c.next.new.self c.in-Err-Malformed.field-0 c.in-Err-Malformed.field-0-0 c.in-Err-Malformed.field-0-1
     c.in-Err-Malformed.field-0-is c.in-Err-Malformed.ensures in (
       was.0,
@@ -45,8 +45,8 @@ returns-in-Err-Malformed-clause-served g c = λ asks since routers some held_bef
     )
 
 pub returns-in-Err-Memory-clause-served : goal.returns-in-Err-Memory-clause-served
-returns-in-Err-Memory-clause-served g c = λ asks since routers some held_before consumed s n.
-    let was = c.requests.invariant.served asks since routers some held_before consumed s n in
+returns-in-Err-Memory-clause-served g c = λ asks since first some held_before consumed s n.
+    let was = c.requests.invariant.served asks since first some held_before consumed s n in
     let told = next_memory c.requests.framer c.next.new.self c.in-Err-Memory.field-0 c.in-Err-Memory.field-0-is c.in-Err-Memory.ensures in (
       was.0,
       was.1,
@@ -55,15 +55,15 @@ returns-in-Err-Memory-clause-served g c = λ asks since routers some held_before
         none_given (consumed ++ c.args.framer.now.bytes) was.2.0 c.requests.framer c.next.new.self was.2.1 (same_bytes c.requests.framer c.next.new.self told),
         inr (at_no_memory (cut_between
             (seat_since g.N.Node.state g.L.Log.facts (with_notes since was.0)) c.requests.seats.items
-            (g.C.Clock.gives c.args.clock.now) c.args.router routers _ was.0 held_before _ was.2.0 _ c.requests.replied was.2.2)),
+            (g.C.Clock.gives c.args.clock.now) c.args.router first _ was.0 held_before _ was.2.0 _ c.requests.replied was.2.2)),
       ),
     )
 
 pub returns-in-Err-clause-served : goal.returns-in-Err-clause-served
-returns-in-Err-clause-served g c = λ asks since routers some held_before consumed s n.
-    let was = c.requests.invariant.served asks since routers some held_before consumed s n in
+returns-in-Err-clause-served g c = λ asks since first some held_before consumed s n.
+    let was = c.requests.invariant.served asks since first some held_before consumed s n in
     let given = next_given c.requests.framer c.next.new.self c.in-Ok-Some.field-0 c.in-Ok-Some.request c.in-Ok-Some.field-0-is c.in-Ok-Some.ensures in
-    let then = c.in-Err.ensures.served asks given.0 given.1.meant_is given.1.first.reads (with_notes since was.0) routers some held_before was.2.0 was.2.2 was.1 in (
+    let then = c.in-Err.ensures.served asks given.0 given.1.meant_is given.1.first.reads (with_notes since was.0) first some held_before was.2.0 was.2.2 was.1 in (
       then.0,
       then.1,
       (
@@ -96,10 +96,10 @@ requests-preserved g c =
       sink_calm = c.answer_one.ensures.write_fault.1 (λ e. cc) ∙ c.requests.invariant.sink_calm;
       disks_calm = c.answer_one.ensures.disk_fault.1 (λ e. cc) ∙ c.requests.invariant.disks_calm;
       places = c.answer_one.ensures.places ∙ c.requests.invariant.places;
-      served = λ asks since routers some held_before consumed s n.
-          let was = c.requests.invariant.served asks since routers some held_before consumed s n in
+      served = λ asks since first some held_before consumed s n.
+          let was = c.requests.invariant.served asks since first some held_before consumed s n in
           let then =
-          c.in-Ok.ensures.served asks given.0 given.1.meant_is given.1.first.reads (with_notes since was.0) routers some held_before was.2.0 was.2.2 was.1 in (
+          c.in-Ok.ensures.served asks given.0 given.1.meant_is given.1.first.reads (with_notes since was.0) first some held_before was.2.0 was.2.2 was.1 in (
             then.0,
             then.1,
             (was.2.0 ++ given.0.bytes, one_given (consumed ++ c.args.framer.now.bytes) was.2.0 c.requests.framer.bytes c.next.new.self.bytes given.0 was.2.1 given.1.first, then.2),

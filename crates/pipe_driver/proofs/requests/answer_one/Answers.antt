@@ -13,36 +13,36 @@ use Rattle.pipe_driver.proofs.Serving.{but_for_disks, covers_round, cut_in_round
 use Rattle.pipe_driver.proofs.requests.answer_one.Goals as goal
 
 pub returns-in-Err-clause-served : goal.returns-in-Err-clause-served
-returns-in-Err-clause-served g c asks q is reads since routers some held_before consumed s n =
+returns-in-Err-clause-served g c asks q is reads since first some held_before consumed s n =
     let as_many = c.args.seats.now.ok.0
     ∙ held_len (seat_since g.N.Node.state g.L.Log.facts since)
     c.args.seats.now.items s.world.nodes s.stands.nodes in (
       since.noted,
       noted_places g.K.Sink.tells _ _ _ since.noted c.serve_round.ensures.places n,
       stops_by (seat_since g.N.Node.state g.L.Log.facts since)
-          _ _ c.args.router routers _ _ held_before _ _ c.in-Err.e _ c.of.ensures
+          _ _ c.args.router first _ _ held_before _ _ c.in-Err.e _ c.of.ensures
           (cut_in_round (seat_since g.N.Node.state g.L.Log.facts since)
-          _ _ _ (g.C.Clock.gives c.args.clock.now) c.args.router routers _ _ held_before _
+          _ _ _ (g.C.Clock.gives c.args.clock.now) c.args.router first _ _ held_before _
           consumed
           c.args.replied s c.now-moment.result (to_z w32 (of_z w32 c.next_number-number.result)) (g.N.Node.asks c.args.request) q c.now-moment.ensures
           (number_is c.next_number-number.result c.args.replied c.next_number-number.ensures) (asks c.args.request q is) reads (vec_len c.args.seats.now) _
           c.in-Err.e as_many
-          (c.in-Err.ensures.stopped since routers s.rounds s.events s.world s.next (puts_given s.world.answered) some s.pipes s.stands)),
+          (c.in-Err.ensures.stopped since first s.rounds s.events s.world s.next (puts_given s.world.answered) some s.pipes s.stands)),
     )
 
 pub returns-in-Ok-put_replies-clause-served : goal.returns-in-Ok-put_replies-clause-served
-returns-in-Ok-put_replies-clause-served g c asks q is reads since routers some held_before consumed s n =
+returns-in-Ok-put_replies-clause-served g c asks q is reads since first some held_before consumed s n =
     let facts = g.L.Log.facts in
     let seats = c.serve_round.new.seats.items in
     let count = length (g.K.Sink.held c.args.out.now) in
-    let h = c.in-Ok.ensures.served since routers s.rounds s.events s.world s.next (puts_given s.world.answered) some s.pipes s.stands in
+    let h = c.in-Ok.ensures.served since first s.rounds s.events s.world s.next (puts_given s.world.answered) some s.pipes s.stands in
     let numbered = number_is c.next_number-number.result c.args.replied c.next_number-number.ensures in
     let same = asks c.args.request q is in
     let noted : List Noted = now_noted facts seats h.end count ∷ since.noted in (
       noted,
       noted_more facts seats h.end count g.K.Sink.tells _ _ _ since.noted n c.serve_round.ensures.places c.put_replies.ensures.noted,
       served_one (seat_since g.N.Node.state facts since)
-          _ _ _ (g.C.Clock.gives c.args.clock.now) c.args.router routers _ _ held_before _ consumed
+          _ _ _ (g.C.Clock.gives c.args.clock.now) c.args.router first _ _ held_before _ consumed
           c.args.replied s c.now-moment.result (to_z w32 (of_z w32 c.next_number-number.result)) (g.N.Node.asks c.args.request) q c.now-moment.ensures
           numbered same reads
           (λ m. g.N.Mail.Mail.letter m) c.serve_round.new.network c.hand_on-replies.new.self
@@ -50,7 +50,7 @@ returns-in-Ok-put_replies-clause-served g c asks q is reads since routers some h
           (note_served facts seats count g.N.Node.state since _ _ _ _ _ c.put_replies.ensures.durable h)
           c.hand_on-replies.ensures.waiting c.hand_on-replies.ensures.none
           (covers_round (seat_since g.N.Node.state facts since)
-          _ _ _ (g.C.Clock.gives c.args.clock.now) c.args.router routers _ _ held_before _ consumed
+          _ _ _ (g.C.Clock.gives c.args.clock.now) c.args.router first _ _ held_before _ consumed
           c.args.replied s c.now-moment.result (to_z w32 (of_z w32 c.next_number-number.result)) (g.N.Node.asks c.args.request) q c.now-moment.ensures
           numbered same reads _ h _) _ _
           (rw (c.deref.ensures.value, c.hand_on-replies.ensures.replies) at c.in-Ok-put_replies.ensures.put)
@@ -58,18 +58,18 @@ returns-in-Ok-put_replies-clause-served g c asks q is reads since routers some h
     )
 
 pub returns-clause-served : goal.returns-clause-served
-returns-clause-served g c asks q is reads since routers some held_before consumed s n =
+returns-clause-served g c asks q is reads since first some held_before consumed s n =
     let facts = g.L.Log.facts in
     let seats = c.serve_round.new.seats.items in
     let count = length (g.K.Sink.held c.args.out.now) in
-    let h = c.in-Ok.ensures.served since routers s.rounds s.events s.world s.next (puts_given s.world.answered) some s.pipes s.stands in
+    let h = c.in-Ok.ensures.served since first s.rounds s.events s.world s.next (puts_given s.world.answered) some s.pipes s.stands in
     let numbered = number_is c.next_number-number.result c.args.replied c.next_number-number.ensures in
     let same = asks c.args.request q is in
     let noted : List Noted = now_noted facts seats h.end count ∷ since.noted in (
       noted,
       noted_more facts seats h.end count g.K.Sink.tells _ _ _ since.noted n c.serve_round.ensures.places c.put_replies.ensures.noted,
       at_write_fault (put_short (seat_since g.N.Node.state facts since)
-          _ _ _ (g.C.Clock.gives c.args.clock.now) c.args.router routers _ _ held_before _ consumed
+          _ _ _ (g.C.Clock.gives c.args.clock.now) c.args.router first _ _ held_before _ consumed
           c.args.replied s c.now-moment.result (to_z w32 (of_z w32 c.next_number-number.result)) (g.N.Node.asks c.args.request) q c.now-moment.ensures
           numbered same reads
           (λ m. g.N.Mail.Mail.letter m) c.serve_round.new.network c.hand_on-replies.new.self
@@ -77,7 +77,7 @@ returns-clause-served g c asks q is reads since routers some held_before consume
           (note_served facts seats count g.N.Node.state since _ _ _ _ _ c.put_replies.ensures.durable h)
           c.hand_on-replies.ensures.waiting c.hand_on-replies.ensures.none
           (covers_round (seat_since g.N.Node.state facts since)
-          _ _ _ (g.C.Clock.gives c.args.clock.now) c.args.router routers _ _ held_before _ consumed
+          _ _ _ (g.C.Clock.gives c.args.clock.now) c.args.router first _ _ held_before _ consumed
           c.args.replied s c.now-moment.result (to_z w32 (of_z w32 c.next_number-number.result)) (g.N.Node.asks c.args.request) q c.now-moment.ensures
           numbered same reads _ h _) _
           (rw (c.deref.ensures.value, c.hand_on-replies.ensures.replies) at c.in-Err-put_replies.ensures.prefix)),

@@ -1,11 +1,13 @@
 use Rattle.std.proofs.Common.{◌≡◌, ℕ, List, ◌<◌, ◌++◌, length}
 use Rattle.std.specs.Prelude.{vec_len}
+use Rattle.node_model.specs.World.{World}
 use Rattle.driver_steps.specs.Crashes.{Since, with_notes}
 use Rattle.driver_steps.specs.Seats.{AreOpen, faults_of, places_of, seat_since}
 use Rattle.driver_steps.specs.Worlds.{network_view}
 use Rattle.pipe_driver.specs.Acknowledgements.{AreNoted, WithNotes}
 use Rattle.pipe_driver.specs.Progress.{AreAskedAsRead}
 use Rattle.script_lines.specs.Words.{HasNone}
+use Rattle.sim_driver.specs.Moves.{MayPlay}
 use Rattle.sim_driver.specs.Progress.{Playing}
 use Rattle.sim_driver.specs.Scripts.{script_view}
 use Rattle.sim_driver.specs.Simulations.{newline}
@@ -24,14 +26,14 @@ invariant-lines g l = record {
   sink_calm : g.K.Sink.fault_count l.out ≡ g.K.Sink.fault_count l.fn.out;
   disks_calm : faults_of g.L.Log.facts.fault_count l.seats.items ≡ faults_of g.L.Log.facts.fault_count l.fn.seats.items;
   places : places_of g.L.Log.facts.place l.seats.items ≡ places_of g.L.Log.facts.place l.fn.seats.items;
-  went : AreAskedAsRead g.N.Node.asks → (since : Since g.row.L.Denot) (routers : ℕ) → 0 < routers → (held_before consumed : List ℕ) →
+  went : AreAskedAsRead g.N.Node.asks → (since : Since g.row.L.Denot) (first : World) → MayPlay first → (held_before consumed : List ℕ) →
       Playing (seat_since g.N.Node.state g.L.Log.facts since)
-      l.fn.seats.items (network_view (λ m. g.N.Mail.Mail.letter m) l.fn.network) routers g.K.Sink.tells since.noted held_before (g.K.Sink.held l.fn.out)
+      l.fn.seats.items (network_view (λ m. g.N.Mail.Mail.letter m) l.fn.network) first g.K.Sink.tells since.noted held_before (g.K.Sink.held l.fn.out)
       (script_view l.fn.script) consumed
       → AreNoted g.K.Sink.tells (g.K.Sink.noted l.fn.out) (places_of g.L.Log.facts.place l.fn.seats.items) since.noted
       → WithNotes g.K.Sink.tells (g.K.Sink.noted l.out) (places_of g.L.Log.facts.place l.seats.items)
       (λ noted. (more : List ℕ) × (consumed ++ (l.fn.begun.items ++ l.piece) ≡ more ++ (l.begun.items ++ l.rest))
       × Playing (seat_since g.N.Node.state g.L.Log.facts (with_notes since noted))
-      l.seats.items (network_view (λ m. g.N.Mail.Mail.letter m) l.network) routers g.K.Sink.tells noted held_before (g.K.Sink.held l.out)
+      l.seats.items (network_view (λ m. g.N.Mail.Mail.letter m) l.network) first g.K.Sink.tells noted held_before (g.K.Sink.held l.out)
       (script_view l.script) more);
 }

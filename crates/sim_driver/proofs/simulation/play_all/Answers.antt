@@ -12,6 +12,7 @@ use Rattle.pipe_driver.specs.declared.status.Status.TheVariants as statuses
 use Rattle.pipe_driver.proofs.Counts.{have_risen_by, none_has_risen, rose_by, still}
 use Rattle.pipe_driver.proofs.Endings.{took_no_more}
 use Rattle.sim_driver.specs.Scripts.{new_script, script_view}
+use Rattle.sim_driver.specs.Simulations.{router_count}
 use Rattle.sim_driver.proofs.Endings.{ended_at_limit, ended_stopped, ended_taking, ended_within, no_fault_of_disks, no_fault_of_writes, piece_taken, reads_by}
 use Rattle.sim_driver.proofs.Steps.{playing_from, playing_full, routers_are}
 use Rattle.sim_driver.proofs.simulation.play_all.Goals as goal
@@ -28,56 +29,56 @@ pieces-init g c = record {
   sink_calm = refl;
   disks_calm = refl;
   places = refl;
-  went = λ asks since routers some p n. (
+  went = λ asks since first some p n. (
     since.noted,
     n,
     (
       [],
       rw c.new-begun.ensures.items refl,
       (λ told. rw c.new-begun.ensures.items refl),
-      playing_from (seat_since g.N.Node.state g.L.Log.facts (with_notes since since.noted)) _ _ routers _ since.noted
-          _ _ [] (new_script routers) (script_view c.in-Ok.script)
-          (ap new_script (routers_are (seat_since g.N.Node.state g.L.Log.facts since) _ _ routers _ _ _ _ _ _ p (vec_len c.args.seats.now)
+      playing_from (seat_since g.N.Node.state g.L.Log.facts (with_notes since since.noted)) _ _ first _ since.noted
+          _ _ [] (new_script (router_count first)) (script_view c.in-Ok.script)
+          (ap new_script (routers_are (seat_since g.N.Node.state g.L.Log.facts since) _ _ first _ _ _ _ _ _ p (vec_len c.args.seats.now)
           c.args.seats.now.ok.0) ∙ (ap (λ (n : ℕ). new_script (n - 2)) (sym c.len.ensures) ∙ sym c.in-Ok.ensures.view)) p,
     ),
   );
 }
 
 pub returns-in_default-clause-simulated : goal.returns-in_default-clause-simulated
-returns-in_default-clause-simulated g c asks since routers some p n =
+returns-in_default-clause-simulated g c asks since first some p n =
     let view = seat_since g.N.Node.state g.L.Log.facts (with_notes since since.noted) in (
       since.noted,
       n,
       ended_stopped view c.args.seats.now.items
           (source_call g.S.Source.tells g.S.Source.left g.S.Source.fault_count c.args.input.now c.args.input.now)
-          (sink_call g.K.Sink.tells g.K.Sink.held g.K.Sink.fault_count c.args.out.now c.args.out.now) since.noted routers c.args.limit
+          (sink_call g.K.Sink.tells g.K.Sink.held g.K.Sink.fault_count c.args.out.now c.args.out.now) since.noted first c.args.limit
           statuses.OutOfMemory [] [] statuses.OutOfMemory refl
-          (playing_full view c.args.seats.now.items (network_view (λ m. g.N.Mail.Mail.letter m) c.args.network) routers g.K.Sink.tells since.noted (g.K.Sink.held c.args.out.now)
-          (g.K.Sink.held c.args.out.now) [] [] (new_script routers) p) (λ told. refl) (omega arith),
+          (playing_full view c.args.seats.now.items (network_view (λ m. g.N.Mail.Mail.letter m) c.args.network) first g.K.Sink.tells since.noted (g.K.Sink.held c.args.out.now)
+          (g.K.Sink.held c.args.out.now) [] [] (new_script (router_count first)) p) (λ told. refl) (omega arith),
     )
 
 pub returns-in_default-new_piece-clause-simulated : goal.returns-in_default-new_piece-clause-simulated
-returns-in_default-new_piece-clause-simulated g c asks since routers some p n =
+returns-in_default-new_piece-clause-simulated g c asks since first some p n =
     let view = seat_since g.N.Node.state g.L.Log.facts (with_notes since since.noted) in (
       since.noted,
       n,
       ended_stopped view c.args.seats.now.items
           (source_call g.S.Source.tells g.S.Source.left g.S.Source.fault_count c.args.input.now c.args.input.now)
-          (sink_call g.K.Sink.tells g.K.Sink.held g.K.Sink.fault_count c.args.out.now c.args.out.now) since.noted routers c.args.limit
+          (sink_call g.K.Sink.tells g.K.Sink.held g.K.Sink.fault_count c.args.out.now c.args.out.now) since.noted first c.args.limit
           statuses.OutOfMemory [] [] statuses.OutOfMemory refl
-          (playing_full view c.args.seats.now.items (network_view (λ m. g.N.Mail.Mail.letter m) c.args.network) routers g.K.Sink.tells since.noted (g.K.Sink.held c.args.out.now)
-          (g.K.Sink.held c.args.out.now) [] [] (new_script routers) p) (λ told. refl) (omega arith),
+          (playing_full view c.args.seats.now.items (network_view (λ m. g.N.Mail.Mail.letter m) c.args.network) first g.K.Sink.tells since.noted (g.K.Sink.held c.args.out.now)
+          (g.K.Sink.held c.args.out.now) [] [] (new_script (router_count first)) p) (λ told. refl) (omega arith),
     )
 
 pub returns-in-Err-clause-simulated : goal.returns-in-Err-clause-simulated
-returns-in-Err-clause-simulated g c asks since routers some p n =
-    let went = c.pieces.invariant.went asks since routers some p n in (
+returns-in-Err-clause-simulated g c asks since first some p n =
+    let went = c.pieces.invariant.went asks since first some p n in (
       went.0,
       went.1,
       ended_taking (seat_since g.N.Node.state g.L.Log.facts (with_notes since went.0))
           c.pieces.seats.items
           (source_call g.S.Source.tells g.S.Source.left g.S.Source.fault_count c.args.input.now c.take_more.new.input)
-          (sink_call g.K.Sink.tells g.K.Sink.held g.K.Sink.fault_count c.args.out.now c.pieces.out) went.0 routers c.args.limit c.unended.result
+          (sink_call g.K.Sink.tells g.K.Sink.held g.K.Sink.fault_count c.args.out.now c.pieces.out) went.0 first c.args.limit c.unended.result
           went.2.0 c.pieces.begun.items (network_view (λ m. g.N.Mail.Mail.letter m) c.pieces.network) (script_view c.pieces.script) went.2.3
           (took_no_more _ _ _ _ _ went.2.2 c.in-Err.ensures.taken.0) c.pieces.invariant.begun
           (omega (arith, went.2.1, c.pieces-test.true)) c.in-Err.status (λ e. c.unended.ensures.none (c.as_slice.ensures.value ∙ e))
@@ -121,8 +122,8 @@ pieces-preserved g c =
       sink_calm = c.play_piece.ensures.write_fault.1 (λ e. cc) ∙ c.pieces.invariant.sink_calm;
       disks_calm = c.play_piece.ensures.disk_fault.1 (λ e. cc) ∙ c.pieces.invariant.disks_calm;
       places = c.play_piece.ensures.places ∙ c.pieces.invariant.places;
-      went = λ asks since routers some p n.
-          let went = c.pieces.invariant.went asks since routers some p n in
+      went = λ asks since first some p n.
+          let went = c.pieces.invariant.went asks since first some p n in
           let more = c.in-Ok-take_more.ensures.taken in
           let bytes : List ℕ = take c.in-Ok-take_more.count c.take_more.new.piece.items in
           let size : length bytes ≡ c.in-Ok-take_more.count =
@@ -134,7 +135,7 @@ pieces-preserved g c =
             c.pieces.invariant.room,
             c.take_more.new.piece.ok,
           )) in
-          let then = c.in-Ok-play_piece.ensures.played asks (with_notes since went.0) routers some (g.K.Sink.held c.args.out.now) went.2.0 went.2.3 went.1 in
+          let then = c.in-Ok-play_piece.ensures.played asks (with_notes since went.0) first some (g.K.Sink.held c.args.out.now) went.2.0 went.2.3 went.1 in
           let h = then.2 in
           let t = piece_taken _ _ _ _ went.2.0 c.pieces.begun.items bytes _
           c.pieces.taken c.in-Ok-take_more.count went.2.2 more.took
@@ -151,8 +152,8 @@ pieces-preserved g c =
     }
 
 pub returns-in-Err-play_piece-clause-simulated : goal.returns-in-Err-play_piece-clause-simulated
-returns-in-Err-play_piece-clause-simulated g c asks since routers some p n =
-    let went = c.pieces.invariant.went asks since routers some p n in
+returns-in-Err-play_piece-clause-simulated g c asks since first some p n =
+    let went = c.pieces.invariant.went asks since first some p n in
     let more = c.in-Ok-take_more.ensures.taken in
     let bytes : List ℕ = take c.in-Ok-take_more.count c.take_more.new.piece.items in
     let size : length bytes ≡ c.in-Ok-take_more.count =
@@ -167,13 +168,13 @@ returns-in-Err-play_piece-clause-simulated g c asks since routers some p n =
     let t = piece_taken _ _ _ _ went.2.0 c.pieces.begun.items bytes _
     c.pieces.taken c.in-Ok-take_more.count went.2.2 more.took
     (ap (λ (b : List ℕ). take c.in-Ok-take_more.count b) c.deref.ensures.value) went.2.1 size in
-    let then = c.in-Err-play_piece.ensures.stopped asks (with_notes since went.0) routers some (g.K.Sink.held c.args.out.now) went.2.0 went.2.3 went.1 in (
+    let then = c.in-Err-play_piece.ensures.stopped asks (with_notes since went.0) first some (g.K.Sink.held c.args.out.now) went.2.0 went.2.3 went.1 in (
       then.0,
       then.1,
       ended_within (seat_since g.N.Node.state g.L.Log.facts (with_notes since then.0))
           c.play_piece.new.seats.items
           (source_call g.S.Source.tells g.S.Source.left g.S.Source.fault_count c.args.input.now c.take_more.new.input)
-          (sink_call g.K.Sink.tells g.K.Sink.held g.K.Sink.fault_count c.args.out.now c.play_piece.new.out) then.0 routers c.args.limit
+          (sink_call g.K.Sink.tells g.K.Sink.held g.K.Sink.fault_count c.args.out.now c.play_piece.new.out) then.0 first c.args.limit
           c.in-Err-play_piece.status _
           then.2 t.0
           (omega (arith, t.1, c.in-Ok-take_more.ensures.most, c.min-room.ensures, c.pieces-test.true)),
@@ -194,14 +195,14 @@ returns-in-Err-play_piece-clause-disk_fault g c =
     c.pieces.invariant.disks_calm c.play_piece.ensures.disk_fault
 
 pub returns-clause-simulated : goal.returns-clause-simulated
-returns-clause-simulated g c asks since routers some p n =
-    let went = c.pieces.invariant.went asks since routers some p n in (
+returns-clause-simulated g c asks since first some p n =
+    let went = c.pieces.invariant.went asks since first some p n in (
       went.0,
       went.1,
       ended_at_limit (seat_since g.N.Node.state g.L.Log.facts (with_notes since went.0))
           c.pieces.seats.items
           (source_call g.S.Source.tells g.S.Source.left g.S.Source.fault_count c.args.input.now c.pieces.input)
-          (sink_call g.K.Sink.tells g.K.Sink.held g.K.Sink.fault_count c.args.out.now c.pieces.out) went.0 routers c.args.limit
+          (sink_call g.K.Sink.tells g.K.Sink.held g.K.Sink.fault_count c.args.out.now c.pieces.out) went.0 first c.args.limit
           statuses.InputTooLong went.2.0 c.pieces.begun.items (network_view (λ m. g.N.Mail.Mail.letter m) c.pieces.network) (script_view c.pieces.script) went.2.3
           went.2.2 c.pieces.invariant.begun refl (omega (arith, went.2.1, c.pieces.invariant.most, c.pieces-test.false)),
     )

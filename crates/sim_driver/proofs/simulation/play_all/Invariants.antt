@@ -2,6 +2,7 @@ use Rattle.std.proofs.Common.{◌≡◌, ℕ, List, [], ◌+◌, ◌-◌, ◌<�
 use Rattle.std.specs.Prelude.{vec_len}
 use Rattle.pipe_driver.specs.Rounds.{first_router}
 use Rattle.outside.specs.Streams.{Took}
+use Rattle.node_model.specs.World.{World}
 use Rattle.driver_steps.specs.Crashes.{Since, with_notes}
 use Rattle.driver_steps.specs.Seats.{AreOpen, faults_of, places_of, seat_since}
 use Rattle.driver_steps.specs.Worlds.{network_view}
@@ -9,9 +10,10 @@ use Rattle.pipe_driver.specs.Acknowledgements.{AreNoted, WithNotes}
 use Rattle.pipe_driver.specs.Buffers.{piece_room}
 use Rattle.pipe_driver.specs.Progress.{AreAskedAsRead}
 use Rattle.script_lines.specs.Words.{HasNone}
+use Rattle.sim_driver.specs.Moves.{MayPlay}
 use Rattle.sim_driver.specs.Progress.{Playing}
 use Rattle.sim_driver.specs.Scripts.{new_script, script_view}
-use Rattle.sim_driver.specs.Simulations.{newline}
+use Rattle.sim_driver.specs.Simulations.{newline, router_count}
 use Rattle.sim_driver.proofs.simulation.play_all.Given as goal
 
 abbrev pub decreases-pieces : goal.decreases-pieces
@@ -30,15 +32,15 @@ invariant-pieces g l = record {
   sink_calm : g.K.Sink.fault_count l.out ≡ g.K.Sink.fault_count l.fn.out;
   disks_calm : faults_of g.L.Log.facts.fault_count l.seats.items ≡ faults_of g.L.Log.facts.fault_count l.fn.seats.items;
   places : places_of g.L.Log.facts.place l.seats.items ≡ places_of g.L.Log.facts.place l.fn.seats.items;
-  went : AreAskedAsRead g.N.Node.asks → (since : Since g.row.L.Denot) (routers : ℕ) → 0 < routers
+  went : AreAskedAsRead g.N.Node.asks → (since : Since g.row.L.Denot) (first : World) → MayPlay first
       → Playing (seat_since g.N.Node.state g.L.Log.facts since)
-      l.fn.seats.items (network_view (λ m. g.N.Mail.Mail.letter m) l.fn.network) routers g.K.Sink.tells since.noted (g.K.Sink.held l.fn.out)
-      (g.K.Sink.held l.fn.out) (new_script routers) []
+      l.fn.seats.items (network_view (λ m. g.N.Mail.Mail.letter m) l.fn.network) first g.K.Sink.tells since.noted (g.K.Sink.held l.fn.out)
+      (g.K.Sink.held l.fn.out) (new_script (router_count first)) []
       → AreNoted g.K.Sink.tells (g.K.Sink.noted l.fn.out) (places_of g.L.Log.facts.place l.fn.seats.items) since.noted
       → WithNotes g.K.Sink.tells (g.K.Sink.noted l.out) (places_of g.L.Log.facts.place l.seats.items)
       (λ noted. (consumed : List ℕ) × (length consumed + length l.begun.items ≡ l.taken)
       × Took g.S.Source.tells (g.S.Source.left l.fn.input) (consumed ++ l.begun.items) (g.S.Source.left l.input)
       × Playing (seat_since g.N.Node.state g.L.Log.facts (with_notes since noted))
-      l.seats.items (network_view (λ m. g.N.Mail.Mail.letter m) l.network) routers g.K.Sink.tells noted (g.K.Sink.held l.fn.out) (g.K.Sink.held l.out)
+      l.seats.items (network_view (λ m. g.N.Mail.Mail.letter m) l.network) first g.K.Sink.tells noted (g.K.Sink.held l.fn.out) (g.K.Sink.held l.out)
       (script_view l.script) consumed);
 }
