@@ -37,7 +37,7 @@ module _ {N D : Type 0} (state : N → NodeState) (tells : Bool) (content : D �
   is_held : (node : N) (journal : JournalView D) (new : NodeState) → state node ≡ new → IsFresh tells content journal
       → IsHeld (seat_view state (journal_facts tells content moment left_since fault_count place) (record { node = node; log = journal }))
       (record { state = new; kept = [] })
-  is_held node journal new same fresh = record { same = sym same; written = fresh.none; keeps = record { sound = tt; found = λ told. fresh.file } }
+  is_held node journal new same fresh = record { same = sym same; written = fresh.none; keeps = record { readable = tt; found = λ told. fresh.file } }
 
   held_routers : (first routers : ℕ) (nodes : List N) (journals : List (JournalView D)) → map state nodes ≡ map (λ h. h.state) (routers_from first routers)
       → AreFresh tells content journals → length journals ≡ routers
@@ -71,7 +71,7 @@ module _ {N D : Type 0} (state : N → NodeState) (tells : Bool) (content : D �
   pub kept_in_files : (seats : List (Seat N (JournalView D))) (nodes : List Held) → AreKept (seat_view state (journal_facts tells content moment left_since fault_count place)) seats nodes
       → IsTrue tells → AreJournals (map content (map (λ s. s.log.disk) seats)) nodes
   kept_in_files [] [] kept told = tt
-  kept_in_files (s ∷ seats) (h ∷ nodes) kept told = (record { stands = kept.0.found told told; sound = kept.0.sound }, kept_in_files seats nodes kept.1 told)
+  kept_in_files (s ∷ seats) (h ∷ nodes) kept told = (record { stands = kept.0.found told told; readable = kept.0.readable }, kept_in_files seats nodes kept.1 told)
   kept_in_files [] (h ∷ nodes) kept told = absurd kept
   kept_in_files (s ∷ seats) [] kept told = absurd kept
 

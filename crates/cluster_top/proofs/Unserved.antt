@@ -35,15 +35,15 @@ kept_routers first zero [] none count = tt
 kept_routers first zero (file ∷ files) none count = absurd (omega (arith, count))
 kept_routers first (suc routers) [] none count = absurd (omega (arith, count))
 kept_routers first (suc routers) (file ∷ files) none count =
-    (record { stands = none.0; sound = tt }, kept_routers (first + 1) routers files none.1 (omega (arith, count)))
+    (record { stands = none.0; readable = tt }, kept_routers (first + 1) routers files none.1 (omega (arith, count)))
 
 -- files without records are the journals of the nodes at the start
 pub none_kept : (routers : ℕ) (files : List (List ℕ)) → HaveNoRecord files → length files ≡ 2 + routers → AreJournals files (start routers).nodes
 none_kept routers [] none count = absurd (omega (arith, count))
 none_kept routers (a ∷ []) none count = absurd (omega (arith, count))
 none_kept routers (a ∷ b ∷ files) none count = (
-  record { stands = none.0; sound = tt },
-  (record { stands = none.1.0; sound = tt }, kept_routers 2 routers files none.1.1 (omega (arith, count))),
+  record { stands = none.0; readable = tt },
+  (record { stands = none.1.0; readable = tt }, kept_routers 2 routers files none.1.1 (omega (arith, count))),
 )
 
 -- empty files are such

@@ -6,12 +6,12 @@ use Rattle.node_model.specs.History.{Legal}
 use Rattle.node_model.specs.Journal.{Kept, changes_kept}
 use Rattle.node_model.specs.OneHistory.{IsPlaced}
 use Rattle.node_model.specs.World.{Held, journal_at, history_of}
-use Rattle.node_traits.specs.Effects.{AreSound, spellings}
+use Rattle.node_traits.specs.Effects.{AreReadable, spellings}
 
 -- an opening of the file finds the encoding of each record that is stored, and nothing else
 pub record IsJournal (file : List ℕ) (kept : List Kept) : Type 0 where
   pub stands : Stands file (spellings kept)
-  pub sound : AreSound kept
+  pub readable : AreReadable kept
 
 -- the files, in order of their nodes, are the journals of these
 abbrev pub AreJournals : List (List ℕ) → List Held → Type 0

@@ -12,14 +12,15 @@ use Rattle.node_model.specs.CatalogueRows.{none_at}
 use Rattle.node_model.specs.Journal.{change_record}
 use Rattle.node_model.specs.Letters.{Letter, letter_input, table_told, split_done}
 use Rattle.node_model.specs.States.{Catalogue}
-use Rattle.node_traits.specs.Effects.{AreSound, spellings}
+use Rattle.node_traits.specs.Effects.{AreReadable, spellings}
 use Rattle.node_traits.specs.Ids.{id_view}
 use Rattle.protocol_model.specs.Bodies.{at_view, split_ask_view, table_ask_view}
 use Rattle.protocol_model.specs.Messages.{letter_of}
 use Rattle.protocol_model.specs.declared.message.Message.{Message}
 use Rattle.protocol_model.specs.declared.splits.SplitAsk.{SplitAsk}
 use Rattle.protocol_model.specs.declared.tables.TableAsk.{TableAsk}
-use Rattle.record_model.specs.RecordFormat.{spelled, IsSound}
+use Rattle.record_model.specs.RecordFormat.{spelled}
+use Rattle.shard_records.specs.Readable.{IsReadable}
 use Rattle.config_node.proofs.Plans.{Planned, made_planned, stored_planned, told_planned}
 use Rattle.config_node.proofs.Rows.{creates, has_bound, has_none, says, splits, tells}
 use Rattle.config_node.specs.declared.plan.StepPlan.{StepPlan}
@@ -33,22 +34,22 @@ module _ (n : Catalogue) (m : Letter) (sender : NodeId) (heard : Time) (answer :
         → answer.time ≡ next → letter_of answer ≡ says n sender.0 next.0 (table_told ask.namespace ask.create (at_view ask.at) found)
         → IfOk r (λ p. p.time ≡ answer.time) → IfOk r (λ p. p.change ≡ Some x) → IfOk r (λ p. map letter_of p.mail ≡ letter_of answer ∷ [])
         → IfOk r (λ p. p.records.items ≡ spelled 1 (change_record (change_view x.fields)) ∷ [])
-        → IfOk r (λ p. IsSound (change_record (change_view x.fields))) → IfOk r (λ p. Planned n (letter_input m) p)
-    create_planned x next r after create_true answered known now said timed one sent written sound =
+        → IfOk r (λ p. IsReadable (change_record (change_view x.fields))) → IfOk r (λ p. Planned n (letter_input m) p)
+    create_planned x next r after create_true answered known now said timed one sent written readable =
         made_planned n m answer next now here x r
         (creates n m (letter_of answer) sender.0 next.0 from ask.namespace ask.create (at_view ask.at) found is said (change_view x.fields) create_true
         (after ∙ ap (λ t. t + 1) late) answered (sym known))
-        timed one sent written sound
+        timed one sent written readable
 
     -- the present table, or none, is returned; that there is none at a time is stored
     pub tell_planned : (p : StepPlan) → (ask.create ≡ false) ⊎ IsSome (known_table ask.namespace n.changes) → found ≡ known_table ask.namespace n.changes
         → answer.time ≡ heard → letter_of answer ≡ says n sender.0 heard.0 (table_told ask.namespace ask.create (at_view ask.at) found)
         → p.time ≡ answer.time → p.change ≡ None → map letter_of p.mail ≡ letter_of answer ∷ [] → p.records.items ≡ spellings (none_at (at_view ask.at) found)
-        → AreSound (none_at (at_view ask.at) found) → Planned n (letter_input m) p
-    tell_planned p may known now said timed none sent written sound =
+        → AreReadable (none_at (at_view ask.at) found) → Planned n (letter_input m) p
+    tell_planned p may known now said timed none sent written readable =
         stored_planned n m answer heard now here (none_at (at_view ask.at) found) p
         (tells n m (letter_of answer) sender.0 heard.0 from ask.namespace ask.create (at_view ask.at) found is said may late known)
-        timed none sent written sound
+        timed none sent written readable
 
   module _ (ask : SplitAsk) (is : m.body ≡ split_ask_view ask) (next : Time) (after : next.0 ≡ heard.0 + 1) where
     -- a chunk is split
@@ -57,12 +58,12 @@ module _ (n : Catalogue) (m : Letter) (sender : NodeId) (heard : Time) (answer :
         → answer.time ≡ next → letter_of answer ≡ says n sender.0 next.0 (split_done (id_view ask.id) true)
         → IfOk r (λ p. p.time ≡ answer.time) → IfOk r (λ p. p.change ≡ Some x) → IfOk r (λ p. map letter_of p.mail ≡ letter_of answer ∷ [])
         → IfOk r (λ p. p.records.items ≡ spelled 1 (change_record (change_view x.fields)) ∷ [])
-        → IfOk r (λ p. IsSound (change_record (change_view x.fields))) → IfOk r (λ p. Planned n (letter_input m) p)
-    split_planned x r answered now said timed one sent written sound =
+        → IfOk r (λ p. IsReadable (change_record (change_view x.fields))) → IfOk r (λ p. Planned n (letter_input m) p)
+    split_planned x r answered now said timed one sent written readable =
         made_planned n m answer next now here x r
         (splits n m (letter_of answer) sender.0 next.0 from (id_view ask.id) ask.namespace ask.middle true is said (change_view x.fields) refl
         (after ∙ ap (λ t. t + 1) late) answered)
-        timed one sent written sound
+        timed one sent written readable
 
     -- a chunk begins there
     pub bound_planned : (p : StepPlan) → split_answer ask.namespace ask.middle next.0 n.changes ≡ unchanged

@@ -11,11 +11,12 @@ use Rattle.node_model.specs.Journal.{Kept, change_record, kept_change}
 use Rattle.node_model.specs.Letters.{Letter, Input, letter_input, moment_input, nothing, sends, writes}
 use Rattle.node_model.specs.States.{Catalogue, catalogue_state}
 use Rattle.node_model.specs.Steps.{IsFor, catalogue_step, other_step}
-use Rattle.node_traits.specs.Effects.{AreSound, StepPlanned, spellings}
+use Rattle.node_traits.specs.Effects.{AreReadable, StepPlanned, spellings}
 use Rattle.cluster_base.specs.declared.time.Time.{Time}
 use Rattle.protocol_model.specs.Messages.{letter_of}
 use Rattle.protocol_model.specs.declared.message.Message.{Message}
-use Rattle.record_model.specs.RecordFormat.{spelled, IsSound}
+use Rattle.record_model.specs.RecordFormat.{spelled}
+use Rattle.shard_records.specs.Readable.{IsReadable}
 use Rattle.config_node.specs.Plans.{at_then}
 use Rattle.config_node.specs.declared.plan.StepPlan.{StepPlan}
 
@@ -31,29 +32,29 @@ sends_planned : (c : Catalogue) (i : Input) (time : ℕ) (change : Option Change
     → StepPlanned (catalogue_state c) i mail [] records (at_then c.me time change c.changes)
 sends_planned c i time change mail sent records for row none said unwritten =
     subst (λ x. StepPlanned (catalogue_state c) i mail [] records (at_then c.me time x c.changes)) (sym none)
-    (record { effect = sends sent; step = catalogue_step _ _ _ _ for row; sent = sym said; told = refl; sound = tt; spelled = unwritten })
+    (record { effect = sends sent; step = catalogue_step _ _ _ _ for row; sent = sym said; told = refl; readable = tt; spelled = unwritten })
 
 -- a transition that stores these, and changes nothing but the time
 stores_planned : (c : Catalogue) (i : Input) (time : ℕ) (change : Option Change) (kept : List Kept) (mail sent : List Letter) (records : List (List ℕ))
-    → IsFor c.me i → CatalogueRow c i (writes kept sent) (at_later c time) → change ≡ None → mail ≡ sent → records ≡ spellings kept → AreSound kept
+    → IsFor c.me i → CatalogueRow c i (writes kept sent) (at_later c time) → change ≡ None → mail ≡ sent → records ≡ spellings kept → AreReadable kept
     → StepPlanned (catalogue_state c) i mail [] records (at_then c.me time change c.changes)
-stores_planned c i time change kept mail sent records for row none said written sound =
+stores_planned c i time change kept mail sent records for row none said written readable =
     subst (λ x. StepPlanned (catalogue_state c) i mail [] records (at_then c.me time x c.changes)) (sym none)
-    (record { effect = writes kept sent; step = catalogue_step _ _ _ _ for row; sent = sym said; told = refl; sound = sound; spelled = written })
+    (record { effect = writes kept sent; step = catalogue_step _ _ _ _ for row; sent = sym said; told = refl; readable = readable; spelled = written })
 
 -- a transition that stores a change
 writes_planned : (c : Catalogue) (i : Input) (x : Change) (time : ℕ) (change : Option Change) (mail sent : List Letter) (records : List (List ℕ)) → IsFor c.me i
     → CatalogueRow c i (writes (kept_change x ∷ []) sent) (with_change c time x) → change ≡ Some x → mail ≡ sent
-    → records ≡ spelled 1 (change_record x) ∷ [] → IsSound (change_record x)
+    → records ≡ spelled 1 (change_record x) ∷ [] → IsReadable (change_record x)
     → StepPlanned (catalogue_state c) i mail [] records (at_then c.me time change c.changes)
-writes_planned c i x time change mail sent records for row one said written sound =
+writes_planned c i x time change mail sent records for row one said written readable =
     subst (λ y. StepPlanned (catalogue_state c) i mail [] records (at_then c.me time y c.changes)) (sym one)
     (record {
       effect = writes (kept_change x ∷ []) sent;
       step = catalogue_step _ _ _ _ for row;
       sent = sym said;
       told = refl;
-      sound = (sound, tt);
+      readable = (readable, tt);
       spelled = written;
     })
 
@@ -88,7 +89,7 @@ module _ (c : Catalogue) (p : StepPlan) (none : p.change ≡ None) (silent : p.m
         step = other_step (catalogue_state c) m other;
         sent = sym (ap (λ (l : List Message). map letter_of l) silent);
         told = refl;
-        sound = tt;
+        readable = tt;
         spelled = unwritten;
       }))
 
@@ -103,13 +104,13 @@ module _ (c : Catalogue) (m : Letter) (answer : Message) (time : Time) (now : an
       (ap (λ o. option_map (λ x. change_view x.fields) o) none) sent unwritten
 
   pub stored_planned : (kept : List Kept) (p : StepPlan) → CatalogueRow c (letter_input m) (writes kept (letter_of answer ∷ [])) (at_later c time.0)
-      → p.time ≡ answer.time → p.change ≡ None → map letter_of p.mail ≡ letter_of answer ∷ [] → p.records.items ≡ spellings kept → AreSound kept
+      → p.time ≡ answer.time → p.change ≡ None → map letter_of p.mail ≡ letter_of answer ∷ [] → p.records.items ≡ spellings kept → AreReadable kept
       → Planned c (letter_input m) p
-  stored_planned kept p row late none sent written sound =
+  stored_planned kept p row late none sent written readable =
       stores_planned c (letter_input m) p.time.0 (option_map (λ x. change_view x.fields) p.change) kept (map letter_of p.mail) (letter_of answer ∷ [])
       p.records.items here
       (subst (λ t. CatalogueRow c (letter_input m) (writes kept (letter_of answer ∷ [])) (at_later c t.0)) (sym (late ∙ now)) row)
-      (ap (λ o. option_map (λ x. change_view x.fields) o) none) sent written sound
+      (ap (λ o. option_map (λ x. change_view x.fields) o) none) sent written readable
 
   module _ {E : Type 0} (change : Made) where
     pub made_planned : (r : Result StepPlan E)
@@ -117,11 +118,11 @@ module _ (c : Catalogue) (m : Letter) (answer : Message) (time : Time) (now : an
         (with_change c time.0 (change_view change.fields))
         → IfOk r (λ p. p.time ≡ answer.time) → IfOk r (λ p. p.change ≡ Some change) → IfOk r (λ p. map letter_of p.mail ≡ letter_of answer ∷ [])
         → IfOk r (λ p. p.records.items ≡ spelled 1 (change_record (change_view change.fields)) ∷ [])
-        → IfOk r (λ p. IsSound (change_record (change_view change.fields))) → IfOk r (λ p. Planned c (letter_input m) p)
-    made_planned (Err e) row late one sent written sound = tt
-    made_planned (Ok p) row late one sent written sound =
+        → IfOk r (λ p. IsReadable (change_record (change_view change.fields))) → IfOk r (λ p. Planned c (letter_input m) p)
+    made_planned (Err e) row late one sent written readable = tt
+    made_planned (Ok p) row late one sent written readable =
         writes_planned c (letter_input m) (change_view change.fields) p.time.0 (option_map (λ x. change_view x.fields) p.change) (map letter_of p.mail)
         (letter_of answer ∷ []) p.records.items here
         (subst (λ t. CatalogueRow c (letter_input m) (writes (kept_change (change_view change.fields) ∷ []) (letter_of answer ∷ []))
         (with_change c t.0 (change_view change.fields))) (sym (late ∙ now)) row)
-        (ap (λ o. option_map (λ x. change_view x.fields) o) one) sent written sound
+        (ap (λ o. option_map (λ x. change_view x.fields) o) one) sent written readable

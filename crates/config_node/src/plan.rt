@@ -8,11 +8,12 @@ ghost use Rattle.config_node.specs.Plans.{IsWritableChange};
 ghost use Rattle.node_model.specs.CatalogueRows.{none_at};
 ghost use Rattle.node_model.specs.Journal.{change_record};
 ghost use Rattle.node_model.specs.Letters.{split_done, table_told};
-ghost use Rattle.node_traits.specs.Effects.{AreSound, spellings};
+ghost use Rattle.node_traits.specs.Effects.{AreReadable, spellings};
 ghost use Rattle.node_traits.specs.Ids.{id_view};
 ghost use Rattle.protocol_model.specs.Bodies.{at_view};
 ghost use Rattle.protocol_model.specs.Messages.{letter_of};
-ghost use Rattle.record_model.specs.RecordFormat.{spelled, IsSound};
+ghost use Rattle.record_model.specs.RecordFormat.{spelled};
+ghost use Rattle.shard_records.specs.Readable.{IsReadable};
 ghost use Rattle.record_model.specs.Records.{catalogue_ceiling_record};
 ghost use Rattle.shard_records.specs.MoveViews.{commit_view, split_view};
 
@@ -91,7 +92,7 @@ impl StepPlan {
         ensures change { IfOk result (λ p. p.change ≡ Some change) }
         ensures mail { IfOk result (λ p. map letter_of p.mail ≡ letter_of message ∷ []) }
         ensures records { IfOk result (λ p. p.records.items ≡ spelled 1 (change_record (change_view change.fields)) ∷ []) }
-        ensures sound { IfOk result (λ p. IsSound (change_record (change_view change.fields))) }
+        ensures readable { IfOk result (λ p. IsReadable (change_record (change_view change.fields))) }
     {
         match change_records(alloc, &change.fields) {
             Ok(records) => Ok(StepPlan {
@@ -178,7 +179,7 @@ fn one_record(alloc: Global, bytes: &[u8]) -> Result<Vec<Blob>, Memory>
 // Returns the records of a ceiling, or `Memory` if memory runs out.
 fn ceiling_records(alloc: Global, at: Time) -> Result<Vec<Blob>, Memory>
     ensures records { IfOk result (λ records. records.items ≡ spelled 1 (catalogue_ceiling_record at.0) ∷ []) }
-    ensures sound { OnOk result (IsSound (catalogue_ceiling_record at.0)) }
+    ensures readable { OnOk result (IsReadable (catalogue_ceiling_record at.0)) }
 {
     let mut bytes = Vec::new(alloc);
     write_catalogue_ceiling(at, &mut bytes)?;
@@ -192,7 +193,7 @@ pub(crate) fn none_records(
     table: &Option<Arc<Table, Global>>,
 ) -> Result<Vec<Blob>, Memory>
     ensures records { IfOk result (λ records. records.items ≡ spellings (none_at (at_view at) (option_map (λ t. arc_value t) table.now))) }
-    ensures sound { OnOk result (AreSound (none_at (at_view at) (option_map (λ t. arc_value t) table.now))) }
+    ensures readable { OnOk result (AreReadable (none_at (at_view at) (option_map (λ t. arc_value t) table.now))) }
 {
     match (at, table) {
         (At::NoTime, _) => Ok(Vec::new(alloc)),
@@ -205,7 +206,7 @@ pub(crate) fn none_records(
 fn change_records(alloc: Global, fields: &ChangeFields) -> Result<Vec<Blob>, Memory>
     requires { IsWritableChange (change_view fields.now) }
     ensures records { IfOk result (λ records. records.items ≡ spelled 1 (change_record (change_view fields.now)) ∷ []) }
-    ensures sound { OnOk result (IsSound (change_record (change_view fields.now))) }
+    ensures readable { OnOk result (IsReadable (change_record (change_view fields.now))) }
 {
     let mut bytes = Vec::new(alloc);
     put_change(fields, &mut bytes)?;
@@ -253,7 +254,7 @@ fn commit_of(
 fn put_change(fields: &ChangeFields, out: &mut Vec<u8>) -> Result<(), Memory>
     requires { IsWritableChange (change_view fields.now) }
     ensures ok { OnOk result (out.new.items ≡ out.old.items ++ spelled 1 (change_record (change_view fields.now))) }
-    ensures sound { OnOk result (IsSound (change_record (change_view fields.now))) }
+    ensures readable { OnOk result (IsReadable (change_record (change_view fields.now))) }
 {
     match fields {
         ChangeFields::Create {

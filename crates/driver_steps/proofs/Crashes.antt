@@ -181,7 +181,7 @@ module _ {N L : Type 0} (state : N → NodeState) (facts : LogFacts L) where
       record {
         same = are.0.same;
         written = are.0.written;
-        keeps = record { sound = are.0.keeps.sound; found = are.0.keeps.found };
+        keeps = record { readable = are.0.keeps.readable; found = are.0.keeps.found };
       },
       held_since seats held are.1,
     )
@@ -195,7 +195,7 @@ module _ {N L : Type 0} (state : N → NodeState) (facts : LogFacts L) where
       record {
         same = are.0.same;
         written = are.0.written;
-        keeps = record { sound = are.0.keeps.sound; found = are.0.keeps.found };
+        keeps = record { readable = are.0.keeps.readable; found = are.0.keeps.found };
       },
       held_plain seats held are.1,
     )
@@ -205,7 +205,7 @@ module _ {N L : Type 0} (state : N → NodeState) (facts : LogFacts L) where
     kept_plain [] [] are = tt
     kept_plain [] (h ∷ held) are = absurd are
     kept_plain (s ∷ seats) [] are = absurd are
-    kept_plain (s ∷ seats) (h ∷ held) are = (record { sound = are.0.sound; found = are.0.found }, kept_plain seats held are.1)
+    kept_plain (s ∷ seats) (h ∷ held) are = (record { readable = are.0.readable; found = are.0.found }, kept_plain seats held are.1)
 
     -- A NOTE OF ALL DISKS
 

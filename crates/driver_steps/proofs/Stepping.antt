@@ -12,7 +12,7 @@ use Rattle.node_model.specs.Steps.{Step}
 use Rattle.node_model.specs.World.{Held, World, Event, Moves, after, answered_by, is_given, tick, journal_at}
 use Rattle.node_model.proofs.Journals.{journal_got, journal_here}
 use Rattle.node_traits.specs.Calls.{LeavesAlso, log_call}
-use Rattle.node_traits.specs.Effects.{AreSound, ByStepFault, StepBroken, StepDone, put_by, puts_of, spellings}
+use Rattle.node_traits.specs.Effects.{AreReadable, ByStepFault, StepBroken, StepDone, put_by, puts_of, spellings}
 use Rattle.node_traits.specs.declared.outputs.StepFault.{StepFault}
 use Rattle.node_traits.specs.declared.outputs.StepFault.TheVariants.{Disk, Steps, Memory}
 use Rattle.node_traits.specs.declared.outputs.ToLink.{ToLink}
@@ -41,9 +41,9 @@ puts_answered now [] = refl
 puts_answered now (r ∷ replies) =
     ap (λ (l : List ToLink). if r.request.more then l else record { link = r.link; bytes = put_by r } ∷ l) (puts_answered now replies)
 
-sound_append : (kept more : List Kept) → AreSound kept → AreSound more → AreSound (kept ++ more)
-sound_append [] more all rest = rest
-sound_append (k ∷ kept) more all rest = (all.0, sound_append kept more all.1 rest)
+readable_append : (kept more : List Kept) → AreReadable kept → AreReadable more → AreReadable (kept ++ more)
+readable_append [] more all rest = rest
+readable_append (k ∷ kept) more all rest = (all.0, readable_append kept more all.1 rest)
 
 -- what is put after a step
 pub puts_moved : (w : World) (at : ℕ) (i : Input) (v : World) → Moves w at i v → (more : List ToLink) ×
@@ -56,7 +56,7 @@ puts_moved w at i v m = (
 
 -- ONE NODE
 
-module _ (s t : SeatView) (w : World) (at : ℕ) (i : Input) (f : Effect) (stands : StandsAt s w at) (sound : AreSound f.written)
+module _ (s t : SeatView) (w : World) (at : ℕ) (i : Input) (f : Effect) (stands : StandsAt s w at) (readable : AreReadable f.written)
     (same : IsTrue t.tells → IsTrue s.tells) (leaves : (x : World) → LeadsTo w x → journal_at w.nodes at ≡ stands.held.kept
     → journal_at x.nodes at ≡ stands.held.kept ++ f.written → t.leaves at x) where
   abbrev held_by : NodeState → Held
@@ -99,7 +99,7 @@ module _ (s t : SeatView) (w : World) (at : ℕ) (i : Input) (f : Effect) (stand
           same = refl;
           written = written;
           keeps = record {
-            sound = sound_append stands.held.kept f.written stands.is.keeps.sound sound;
+            readable = readable_append stands.held.kept f.written stands.is.keeps.readable readable;
             found = λ tells. subst (λ (l : List (List ℕ)). t.holds l) (written tells)
                 (kept (subst (λ (l : List (List ℕ)). s.holds l) (sym (stands.is.written (same tells))) (stands.is.keeps.found (same tells))));
           };
@@ -118,7 +118,7 @@ module _ (s t : SeatView) (w : World) (at : ℕ) (i : Input) (f : Effect) (stand
     held = stands.held;
     here = stands.here;
     keeps = record {
-      sound = stands.is.keeps.sound;
+      readable = stands.is.keeps.readable;
       found = λ tells. subst (λ (l : List (List ℕ)). t.holds l) (stands.is.written (same tells)) before;
     };
     crashes = leaves_to new step;
@@ -131,7 +131,7 @@ module _ (s t : SeatView) (w : World) (at : ℕ) (i : Input) (f : Effect) (stand
     held = held_by new;
     here = get_set w.nodes at stands.held (held_by new) stands.here;
     keeps = record {
-      sound = sound_append stands.held.kept f.written stands.is.keeps.sound sound;
+      readable = readable_append stands.held.kept f.written stands.is.keeps.readable readable;
       found = λ tells. subst (λ (l : List (List ℕ)). t.holds l) (grown_with (s.records ++ spellings f.written) (λ told. refl) tells) behind;
     };
     crashes = leaves_to new step;
@@ -154,7 +154,7 @@ module _ {N L : Type 0} (state : N → NodeState) (facts : LogFacts L) where
       same = stands.is.same ∙ sym same;
       written = λ tells. ap facts.records unchanged ∙ stands.is.written tells;
       keeps = record {
-        sound = stands.is.keeps.sound;
+        readable = stands.is.keeps.readable;
         found = λ tells. subst (λ (l : L). facts.holds l (spellings stands.held.kept)) (sym unchanged) (stands.is.keeps.found tells);
       };
     };
@@ -179,13 +179,13 @@ module _ {N L : Type 0} (state : N → NodeState) (facts : LogFacts L) where
         → StepDone (state s.node) i mail replies (log_call facts s.log t.log) (state t.node)
         → (facts.holds s.log (facts.records s.log) → facts.holds t.log (facts.records t.log)) → StepsAt (view_since since t) w at i mail replies
     seat_stepped mail replies d kept =
-        stepped (view_since since s) (view_since since t) w at i d.effect stands d.sound (λ tells. tells) (leaves_by d.effect.written d.kept.whole)
+        stepped (view_since since s) (view_since since t) w at i d.effect stands d.readable (λ tells. tells) (leaves_by d.effect.written d.kept.whole)
         mail replies d.step d.sent d.told d.kept.grown kept
 
     pub seat_failed : (fault : StepFault) → Fails fault i s t
         → ByStepFault fault (λ faults. BreaksAt (view_since since t) w at i) (StandsAt (view_since since t) w at)
     seat_failed (Disk faults) b =
-        broken (view_since since s) (view_since since t) w at i b.effect stands b.sound (λ tells. tells) (leaves_by b.effect.written b.left.whole)
+        broken (view_since since s) (view_since since t) w at i b.effect stands b.readable (λ tells. tells) (leaves_by b.effect.written b.left.whole)
         b.new b.step b.left.left
     seat_failed Steps unchanged = same_stands since w at s t unchanged stands
     seat_failed Memory unchanged = same_stands since w at s t unchanged stands

@@ -7,7 +7,7 @@ use Rattle.outside.specs.Notes.{Note}
 use Rattle.node_model.specs.Journal.{Kept}
 use Rattle.node_model.specs.States.{NodeState}
 use Rattle.node_model.specs.World.{Held, World}
-use Rattle.node_traits.specs.Effects.{AreSound, ByStepFault, spellings}
+use Rattle.node_traits.specs.Effects.{AreReadable, ByStepFault, spellings}
 use Rattle.node_traits.specs.declared.outputs.StepFault.{StepFault}
 use Rattle.driver_steps.specs.Crashes.{Since, leaves_kept}
 use Rattle.driver_steps.specs.declared.seat.Seat.{Seat}
@@ -43,7 +43,7 @@ seat_since state_of facts since seat = record {
 
 -- an opening of the log finds what is stored, and nothing else
 pub record Keeps (seat : SeatView) (kept : List Kept) : Type 0 where
-  pub sound : AreSound kept
+  pub readable : AreReadable kept
   pub found : IsTrue seat.tells → seat.holds (spellings kept)
 
 -- the node is in this state, and its log has what its journal stores

@@ -13,7 +13,7 @@ planned_done old new input mail replies records call plan appended = record {
   step = plan.step;
   sent = plan.sent;
   told = plan.told;
-  sound = plan.sound;
+  readable = plan.readable;
   kept = subst (λ r. Appended call r) plan.spelled appended;
 }
 
@@ -23,6 +23,6 @@ planned_broken old new input mail replies records call plan left = record {
   effect = plan.effect;
   new = new;
   step = plan.step;
-  sound = plan.sound;
+  readable = plan.readable;
   left = subst (λ r. LeftOff call r) plan.spelled left;
 }

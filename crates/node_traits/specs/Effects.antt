@@ -4,7 +4,8 @@ use Rattle.std.specs.List.{AllByRecursion}
 use Rattle.node_model.specs.Exchanges.{reply_put}
 use Rattle.node_model.specs.Journal.{Kept, record_kept}
 use Rattle.node_model.specs.Letters.{Letter, Input, client_input, letter_input, moment_input, opened_input, Reply, Effect}
-use Rattle.node_model.specs.RecordFormat.{spelled, IsSound}
+use Rattle.node_model.specs.RecordFormat.{spelled}
+use Rattle.shard_records.specs.Readable.{IsReadable}
 use Rattle.node_model.specs.States.{NodeState, time_of_node}
 use Rattle.node_model.specs.Steps.{Step}
 use Rattle.node_model.specs.Times.{time_of_moment}
@@ -27,8 +28,8 @@ abbrev pub spellings : List Kept → List (List ℕ)
 spellings kept = map (λ k. spelled 1 (record_kept k)) kept
 
 -- each has an encoding that determines it
-abbrev pub AreSound : List Kept → Type 0
-AreSound kept = AllByRecursion (λ k. IsSound (record_kept k)) kept
+abbrev pub AreReadable : List Kept → Type 0
+AreReadable kept = AllByRecursion (λ k. IsReadable (record_kept k)) kept
 
 -- A step is planned: nothing is written yet; these are its messages, replies and records.
 pub record StepPlanned (old : NodeState) (input : Input) (mail : List Letter) (replies : List ToLink) (records : List (List ℕ)) (new : NodeState) : Type 0 where
@@ -36,7 +37,7 @@ pub record StepPlanned (old : NodeState) (input : Input) (mail : List Letter) (r
   pub step : Step old input effect new
   pub sent : effect.mail ≡ mail
   pub told : replies ≡ puts_of effect.replies
-  pub sound : AreSound effect.written
+  pub readable : AreReadable effect.written
   pub spelled : records ≡ spellings effect.written
 
 -- A step was taken: these messages and replies are sent, and its records were appended.
@@ -45,7 +46,7 @@ pub record StepDone (old : NodeState) (input : Input) (mail : List Letter) (repl
   pub step : Step old input effect new
   pub sent : effect.mail ≡ mail
   pub told : replies ≡ puts_of effect.replies
-  pub sound : AreSound effect.written
+  pub readable : AreReadable effect.written
   pub kept : Appended call (spellings effect.written)
 
 -- A disk failed: the records of a step are stored or they aren't. Nothing is said of the state of the node.
@@ -53,7 +54,7 @@ pub record StepBroken (old : NodeState) (input : Input) (call : LogCall) : Type 
   pub effect : Effect
   pub new : NodeState
   pub step : Step old input effect new
-  pub sound : AreSound effect.written
+  pub readable : AreReadable effect.written
   pub left : LeftOff call (spellings effect.written)
 
 -- one thing holds where a disk failed, with its count of faults, and another with each other fault

@@ -8,7 +8,7 @@ use Rattle.reply_model.specs.Outcomes.{Done}
 use Rattle.node_model.specs.RouterRows.{heard, knows, open_of, id_of, reached, with_work, router_late, IsLate, RouterRow}
 use Rattle.node_model.specs.States.{Open, Router, Work, writing, reading, sharding, splitting, open_with, replaced}
 use Rattle.command_model.specs.Writes.{WriteKind}
-use Rattle.node_traits.specs.Effects.{AreSound, puts_of, spellings}
+use Rattle.node_traits.specs.Effects.{AreReadable, puts_of, spellings}
 use Rattle.node_traits.specs.declared.outputs.ToLink.{ToLink}
 use Rattle.router_requests.specs.Works.{wait_view}
 use Rattle.router_requests.specs.declared.work.Wait.{Wait}
@@ -34,20 +34,20 @@ module _ (r : Router) (m : Letter) (p : StepPlan) (time : ℕ) (late : time ≡ 
     row = subst (λ (q : Router). RouterRow r (letter_input m) took.effect q) (sym (h.new ∙ ap (λ (t : ℕ). changed r t r.begun r.moment change) late)) took.row;
     sent = took.sent ∙ sym h.sent;
     told = h.told ∙ took.told;
-    sound = subst (λ w. AreSound w) (sym took.written) tt;
+    readable = subst (λ w. AreReadable w) (sym took.written) tt;
     spelled = h.unkept ∙ ap spellings (sym took.written);
     follows = follows_so r p r.begun change h.begun h.is follows;
   }
 
   -- a plan that writes records
   pub heard_keeping : (change : Change) (replies : List ToLink) (effect : Effect) → HearsKeeping r time change replies effect.written p → FollowsBy r r.begun change
-      → RouterRow r (letter_input m) effect (changed r (heard r m) r.begun r.moment change) → effect.mail ≡ [] → replies ≡ puts_of effect.replies → AreSound effect.written → IsHeard r m p
-  heard_keeping change replies effect h follows row none told sound = record {
+      → RouterRow r (letter_input m) effect (changed r (heard r m) r.begun r.moment change) → effect.mail ≡ [] → replies ≡ puts_of effect.replies → AreReadable effect.written → IsHeard r m p
+  heard_keeping change replies effect h follows row none told readable = record {
     effect = effect;
     row = subst (λ (q : Router). RouterRow r (letter_input m) effect q) (sym (h.new ∙ ap (λ (t : ℕ). changed r t r.begun r.moment change) late)) row;
     sent = none ∙ sym h.sent;
     told = h.told ∙ told;
-    sound = sound;
+    readable = readable;
     spelled = h.spelled;
     follows = follows_so r p r.begun change h.begun h.is follows;
   }

@@ -17,7 +17,7 @@ use Rattle.base_model.specs.Refusals.{cursor_evidence}
 use Rattle.opmsg_model.specs.Requests.{Request}
 use Rattle.node_model.specs.RouterRows.{RouterRow, Opened, router_more, router_no_cursor, router_kill, answers_at_once, as_before, gives_number, heard, id_of, needs_batch, needs_end, next_number, plan_of, reply_to}
 use Rattle.node_model.specs.States.{Open, Router}
-use Rattle.node_traits.specs.Effects.{AreSound, puts_of}
+use Rattle.node_traits.specs.Effects.{AreReadable, puts_of}
 use Rattle.node_traits.specs.declared.outputs.ToLink.{ToLink}
 use Rattle.router_cursors.specs.CursorLists.{advanced, closed_all}
 use Rattle.router_cursors.specs.Marks.{is_left}
@@ -129,10 +129,10 @@ module _ (r : Router) (m : Letter) (p : StepPlan) (time : ℕ) (late : time ≡ 
 
   -- with one
   pub told_cursor : (opened : NewCursor) → HearsKeeping r time (Shelves q.count opened) replies (block_kept (block_given r.blocks r.gave)) p → is_left (map (λ d. arc_value d) opened.rest.items) ≡ true
-      → AreSound (block_kept (block_given r.blocks r.gave)) → MayTell r m q answer (gives_number r (cursors_then r (Shelves q.count opened))) → IsHeard r m p
-  told_cursor opened h left sound may =
+      → AreReadable (block_kept (block_given r.blocks r.gave)) → MayTell r m q answer (gives_number r (cursors_then r (Shelves q.count opened))) → IsHeard r m p
+  told_cursor opened h left readable may =
       let cursors = cursors_then r (Shelves q.count opened) in
       let f : Opened = record { written = block_kept (block_given r.blocks r.gave); cursors = cursors; blocks = blocks_then r.blocks r.gave; gave = next_number r } in
       heard_keeping r m p time late (Shelves q.count opened) replies
       (record { written = f.written; mail = []; taken = []; replies = reply_to r (heard r m) q answer ∷ [] }) h ((λ e. e), left)
-      (subst (λ (g : Opened). MayTell r m q answer g) (gives_is r cursors) may) refl told sound
+      (subst (λ (g : Opened). MayTell r m q answer g) (gives_is r cursors) may) refl told readable

@@ -11,7 +11,7 @@ use Rattle.node_model.specs.RouterRows.{RouterRow, router_begin, router_opened, 
 use Rattle.node_model.specs.States.{Router, Work, Wait, Open, router_state}
 use Rattle.node_model.specs.Steps.{Step, IsFor, BeginsBefore, router_step, begin_step, other_step}
 use Rattle.base_model.specs.Times.{time_of_moment}
-use Rattle.node_traits.specs.Effects.{AreSound, puts_of, spellings}
+use Rattle.node_traits.specs.Effects.{AreReadable, puts_of, spellings}
 use Rattle.node_traits.specs.declared.outputs.ToLink.{ToLink}
 use Rattle.router_requests.proofs.Askers.{asked_alike}
 use Rattle.router_requests.specs.Works.{open_view, wait_view, work_view}
@@ -62,7 +62,7 @@ module _ (r : Router) (p : StepPlan) where
       step = started_step r (router_then r p) i took.effect quiet for before (subst (λ (q : Router). RouterRow (started r) i took.effect q) (sym s.new) took.row);
       sent = took.sent ∙ sym s.sent;
       told = s.told ∙ took.told;
-      sound = subst (λ w. AreSound (life_kept r ++ w)) (sym took.written) (subst (λ w. AreSound w) (sym (append-nil (life_kept r))) s.sound);
+      readable = subst (λ w. AreReadable (life_kept r ++ w)) (sym took.written) (subst (λ w. AreReadable w) (sym (append-nil (life_kept r))) s.readable);
       spelled = s.kept ∙ ap spellings (sym (append-nil (life_kept r)) ∙ ap (λ w. life_kept r ++ w) (sym took.written));
     };
     follows = follows_so r p true change s.begun s.is follows;
@@ -76,7 +76,7 @@ module _ (r : Router) (p : StepPlan) where
       step = subst (λ (q : Router). Step (router_state r) opened_input (writes (life_kept r) []) (router_state q)) (sym s.new) (opened_step r quiet);
       sent = sym s.sent;
       told = s.told;
-      sound = s.sound;
+      readable = s.readable;
       spelled = s.kept;
     };
     follows = follows_so r p true Stays s.begun s.is (λ e. absurd (cc e));
@@ -90,7 +90,7 @@ module _ (r : Router) (p : StepPlan) where
       step = router_step r (router_then r p) (letter_input m) h.effect here h.row;
       sent = h.sent;
       told = h.told;
-      sound = h.sound;
+      readable = h.readable;
       spelled = h.spelled;
     };
     follows = h.follows;
@@ -104,7 +104,7 @@ module _ (r : Router) (p : StepPlan) where
       step = subst (λ (q : Router). Step (router_state r) (letter_input m) nothing (router_state q)) (sym h.new) (other_step (router_state r) m other);
       sent = sym h.sent;
       told = h.told;
-      sound = tt;
+      readable = tt;
       spelled = h.unkept;
     };
     follows = follows_so r p r.begun Stays h.begun h.is (λ e. e);
@@ -117,7 +117,7 @@ module _ (r : Router) (p : StepPlan) where
     row = subst (λ (q : Router). RouterRow r (letter_input m) nothing q) (sym h.new) (router_skip r m none);
     sent = sym h.sent;
     told = h.told;
-    sound = tt;
+    readable = tt;
     spelled = h.unkept;
     follows = follows_so r p r.begun Stays h.begun h.is (λ e. e);
   }

@@ -11,7 +11,7 @@ use Rattle.node_model.specs.RouterRows.{RouterRow, adopted, id_of, next_number, 
 use Rattle.node_model.specs.States.{Open, Router, router_state, writing, reading, sharding, splitting, open_with, without, replaced}
 use Rattle.chunk_model.specs.Tables.{Table}
 use Rattle.command_model.specs.Writes.{WriteKind}
-use Rattle.node_traits.specs.Effects.{AreSound, StepPlanned, puts_of, spellings}
+use Rattle.node_traits.specs.Effects.{AreReadable, StepPlanned, puts_of, spellings}
 use Rattle.node_traits.specs.declared.outputs.ToLink.{ToLink}
 use Rattle.router_requests.specs.Lists.{has_room}
 use Rattle.router_requests.specs.Works.{open_view, wait_view}
@@ -169,7 +169,7 @@ pub record Starts (r : Router) (time moment : ℕ) (change : Change) (mail : Lis
   pub sent : map letter_of p.mail ≡ mail
   pub told : p.replies ≡ replies
   pub kept : p.records.items ≡ spellings (life_kept r)
-  pub sound : AreSound (life_kept r)
+  pub readable : AreReadable (life_kept r)
   pub begun : p.begun ≡ true
   pub is : p.change ≡ change
 
@@ -201,7 +201,7 @@ pub record IsHeard (r : Router) (m : Letter) (p : StepPlan) : Type 0 where
   pub row : RouterRow r (letter_input m) effect (router_then r p)
   pub sent : effect.mail ≡ map letter_of p.mail
   pub told : p.replies ≡ puts_of effect.replies
-  pub sound : AreSound effect.written
+  pub readable : AreReadable effect.written
   pub spelled : p.records.items ≡ spellings effect.written
   pub follows : Follows r p
 

@@ -2,7 +2,7 @@
 
 ghost use Rattle.std.specs.Prelude.{◌≡◌, ◌∷◌, [], IfOk, OnOk};
 ghost use Rattle.node_model.specs.Journal.{kept_block, kept_life};
-ghost use Rattle.node_traits.specs.Effects.{AreSound, spellings};
+ghost use Rattle.node_traits.specs.Effects.{AreReadable, spellings};
 ghost use Rattle.router_cursors.specs.Numbers.{block_kept};
 
 use bson_values::{Blob, Memory};
@@ -12,7 +12,7 @@ use std::alloc::Global;
 /// Returns the record of a life, or `Memory` if memory runs out.
 pub fn life_record(alloc: Global, life: u64) -> Result<Blob, Memory>
     ensures record { IfOk result (λ bytes. bytes ∷ [] ≡ spellings (kept_life life ∷ [])) }
-    ensures sound { OnOk result (AreSound (kept_life life ∷ [])) }
+    ensures readable { OnOk result (AreReadable (kept_life life ∷ [])) }
 {
     let mut bytes = Vec::new(alloc);
     write_life(life, &mut bytes)?;
@@ -22,7 +22,7 @@ pub fn life_record(alloc: Global, life: u64) -> Result<Blob, Memory>
 /// Returns the record of a block of numbers, or `Memory` if memory runs out.
 fn block_record(alloc: Global, block: u64) -> Result<Blob, Memory>
     ensures record { IfOk result (λ bytes. bytes ∷ [] ≡ spellings (kept_block block ∷ [])) }
-    ensures sound { OnOk result (AreSound (kept_block block ∷ [])) }
+    ensures readable { OnOk result (AreReadable (kept_block block ∷ [])) }
 {
     let mut bytes = Vec::new(alloc);
     write_block(block, &mut bytes)?;
@@ -32,7 +32,7 @@ fn block_record(alloc: Global, block: u64) -> Result<Blob, Memory>
 /// Returns the records of a block of numbers of cursors, if a new one is needed. Returns `Memory` if memory runs out.
 pub fn block_records(alloc: Global, block: Option<u64>) -> Result<Vec<Blob>, Memory>
     ensures records { IfOk result (λ records. records.items ≡ spellings (block_kept block)) }
-    ensures sound { OnOk result (AreSound (block_kept block)) }
+    ensures readable { OnOk result (AreReadable (block_kept block)) }
 {
     let mut records = Vec::new(alloc);
     if let Some(number) = block {

@@ -11,12 +11,13 @@ use Rattle.chunk_table.specs.Verdicts.{Sent, fits, verdict_of}
 use Rattle.node_model.specs.Service.{Serves, serves_no_more, serves_again, serves_new, ends_again, ends_new, entry_for}
 use Rattle.node_model.specs.Times.{time_of_moment}
 use Rattle.base_model.specs.Identities.{RequestId}
-use Rattle.node_traits.specs.Effects.{AreSound, puts_of, spellings}
+use Rattle.node_traits.specs.Effects.{AreReadable, puts_of, spellings}
 use Rattle.node_traits.specs.Journal.{kept_entry}
 use Rattle.node_traits.specs.Outcomes.{Done}
 use Rattle.node_traits.specs.Steps.{IsFor, Step, shard_step, other_step}
 use Rattle.shard_records.specs.Records.{record_of}
-use Rattle.shard_records.specs.RecordFormat.{spelled, IsSound}
+use Rattle.shard_records.specs.RecordFormat.{spelled}
+use Rattle.shard_records.specs.Readable.{IsReadable}
 use Rattle.shard_node.specs.Writes.{AreKept, spellings_of}
 use Rattle.node_traits.specs.Letters as letters
 use Rattle.node_traits.specs.Letters.{Letter, Body, Input, letter_input, table_told, write_ask, write_done, Effect, sends, writes, nothing}
@@ -54,7 +55,7 @@ sends_planned s i p time mail timed none unwritten sent row = record {
   row = subst (λ (t : Shard). ShardRow s i (sends mail) t) (quiet_after s p time timed none) row;
   sent = sent;
   untold = refl;
-  sound = tt;
+  readable = tt;
   spelled = unwritten;
 }
 
@@ -66,7 +67,7 @@ quiet_planned s i p time timed none unwritten unsent row = record {
   row = subst (λ (t : Shard). ShardRow s i nothing t) (quiet_after s p time timed none) row;
   sent = sym unsent;
   untold = refl;
-  sound = tt;
+  readable = tt;
   spelled = unwritten;
 }
 
@@ -100,13 +101,13 @@ write_planned s m p id turn ordered namespace statements sent time (d ∷ dones)
       (subst (λ (n : ℕ). Serves s.me namespace ordered s.entries n statements (d ∷ dones) made last) late serves));
   sent = sym mail;
   untold = refl;
-  sound = all_sound made kept.sound;
+  readable = all_readable made kept.readable;
   spelled = kept.spelled ∙ same_spellings made;
 }
   where
-    all_sound : (es : List Entry) → AllByRecursion (λ e. IsSound (record_of e)) es → AreSound (map kept_entry es)
-    all_sound [] all = tt
-    all_sound (e ∷ es) all = (all.0, all_sound es all.1)
+    all_readable : (es : List Entry) → AllByRecursion (λ e. IsReadable (record_of e)) es → AreReadable (map kept_entry es)
+    all_readable [] all = tt
+    all_readable (e ∷ es) all = (all.0, all_readable es all.1)
 
     same_spellings : (es : List Entry) → spellings_of es ≡ spellings (map kept_entry es)
     same_spellings [] = refl
@@ -159,7 +160,7 @@ row_step s i p for planned = (
     step = shard_step s (after s p) i planned.effect for planned.row;
     sent = planned.sent;
     told = sym (ap (λ rs. puts_of rs) planned.untold);
-    sound = planned.sound;
+    readable = planned.readable;
     spelled = planned.spelled;
   },
   subst (λ (n : ℕ). s.time ≤ n) (time_after s p.time.0 p.change) (row_later s (after s p) i planned.effect planned.row),
@@ -174,7 +175,7 @@ other_planned s m p other timed none unwritten unsent = (
     step = subst (λ (t : Shard). Step (shard_state s) (letter_input m) nothing (shard_state t)) (quiet_after s p s.time timed none) (other_step (shard_state s) m other);
     sent = sym unsent;
     told = refl;
-    sound = tt;
+    readable = tt;
     spelled = unwritten;
   },
   omega (arith, timed),

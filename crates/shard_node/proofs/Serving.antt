@@ -5,7 +5,7 @@ use Rattle.std.specs.List.{AllByRecursion}
 use Rattle.std.specs.Option.{option_map}
 use Rattle.std.proofs.lemmas.List.{map-append}
 use Rattle.shard_records.specs.Records.{record_of}
-use Rattle.shard_records.specs.RecordFormat.{IsSound}
+use Rattle.shard_records.specs.Readable.{IsReadable}
 use Rattle.node_model.specs.Right.{ends}
 use Rattle.node_model.specs.Service.{entry_for, seen_before, Serves, serves_no_more, serves_again, serves_new, ends_again, ends_new, Repeats, repeats, ends_repeat, repeats_no_more}
 use Rattle.node_traits.specs.History.{Entry}
@@ -153,17 +153,17 @@ pub kept_more : (made made_then more : List Entry) (records records_then : List 
 kept_more made made_then more records records_then r kept next grown written = record {
   spelled = written ∙ ap (λ (x : List (List ℕ)). x ++ record_in r) kept.spelled ∙ ap (λ (x : List (List ℕ)). spellings_of made ++ x) next.spelled
       ∙ sym (map-append _ made more) ∙ ap (λ (x : List Entry). spellings_of x) (sym grown);
-  sound = subst (λ (x : List Entry). AllByRecursion (λ e. IsSound (record_of e)) x) (sym grown) (both made kept.sound);
+  readable = subst (λ (x : List Entry). AllByRecursion (λ e. IsReadable (record_of e)) x) (sym grown) (both made kept.readable);
 }
   where
-    both : (es : List Entry) → AllByRecursion (λ e. IsSound (record_of e)) es → AllByRecursion (λ e. IsSound (record_of e)) (es ++ more)
-    both [] all = next.sound
+    both : (es : List Entry) → AllByRecursion (λ e. IsReadable (record_of e)) es → AllByRecursion (λ e. IsReadable (record_of e)) (es ++ more)
+    both [] all = next.readable
     both (e ∷ es) all = (all.0, both es all.1)
 
 pub kept_first : (made : List Entry) (records : List (List ℕ)) → made ≡ [] → records ≡ [] → AreKept made records
 kept_first made records none unwritten = record {
   spelled = unwritten ∙ sym (ap (λ (x : List Entry). spellings_of x) none);
-  sound = subst (λ (x : List Entry). AllByRecursion (λ e. IsSound (record_of e)) x) (sym none) tt;
+  readable = subst (λ (x : List Entry). AllByRecursion (λ e. IsReadable (record_of e)) x) (sym none) tt;
 }
 
 pub none_left : {X : Type 0} (items : List X) (i : ℕ) → length items ≤ i → i ≡ 0 → items ≡ []

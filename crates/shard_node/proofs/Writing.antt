@@ -15,7 +15,8 @@ use Rattle.node_traits.specs.Lists.{listed}
 use Rattle.protocol_model.specs.Statements as protocol
 use Rattle.statement_views.specs.Views as words
 use Rattle.shard_records.specs.Records.{Record, entry_record, outcome_words, record_of}
-use Rattle.shard_records.specs.RecordFormat.{spelled, IsSound}
+use Rattle.shard_records.specs.RecordFormat.{spelled}
+use Rattle.shard_records.specs.Readable.{IsReadable}
 use Rattle.shard_records.specs.Sizes.{IsWritableKey}
 use Rattle.shard_store.proofs.Seen.{number_is}
 use Rattle.shard_store.specs.Outcomes.{outcome_view, done_view, statement_of}
@@ -37,9 +38,9 @@ module _ (shard : ℕ) (namespace : List ℕ) (entries : List Entry) (time : ℕ
 
   -- where no time was taken nothing was made
   pub kept_none : (o : Option Done) (more : List Entry) (after : ℕ) → IsServed shard namespace entries time s o more after → after ≡ time → AreKept more []
-  kept_none o more after (served_again e seen) same = record { spelled = refl; sound = tt }
+  kept_none o more after (served_again e seen) same = record { spelled = refl; readable = tt }
   kept_none o more after (served_new unseen) same = absurd (never_later time (sym same))
-  kept_none o more after left_for_later same = record { spelled = refl; sound = tt }
+  kept_none o more after left_for_later same = record { spelled = refl; readable = tt }
 
   -- where one was, the key of the outcome is short
   pub told_short : (o : Option Done) (more : List Entry) (after : ℕ) (index : ℕ) (told : EntryResult) → IsServed shard namespace entries time s o more after → after ≢ time →
@@ -53,11 +54,11 @@ module _ (shard : ℕ) (namespace : List ℕ) (entries : List Entry) (time : ℕ
   -- where one was, the entry has the outcome that was returned
   pub kept_one : (o : Option Done) (more : List Entry) (after : ℕ) (index : ℕ) (told : EntryResult) (statement : Stmt) (operation : Operation) (bytes : List ℕ) →
       IsServed shard namespace entries time s o more after → after ≢ time → o ≡ Some (done_view index (WasDone told)) → words.number_view statement ≡ s.number →
-      s.operation ≡ operation → bytes ≡ spelled 1 (entry_record_of told namespace statement operation) → IsSound (entry_record_of told namespace statement operation) →
+      s.operation ≡ operation → bytes ≡ spelled 1 (entry_record_of told namespace statement operation) → IsReadable (entry_record_of told namespace statement operation) →
       AreKept more (bytes ∷ [])
-  kept_one o more after index told statement operation bytes (served_again e seen) later is number same_words spells sound = absurd (later refl)
-  kept_one o more after index told statement operation bytes left_for_later later is number same_words spells sound = absurd (later refl)
-  kept_one o more after index told statement operation bytes (served_new unseen) later is number same_words spells sound =
+  kept_one o more after index told statement operation bytes (served_again e seen) later is number same_words spells readable = absurd (later refl)
+  kept_one o more after index told statement operation bytes left_for_later later is number same_words spells readable = absurd (later refl)
+  kept_one o more after index told statement operation bytes (served_new unseen) later is number same_words spells readable =
       let e = entry_for entries (time + 1) shard namespace s in
       let same : done_of e ≡ done_view index (WasDone told) = cc in
       let parts = done_parts e.time told.time.0 e.outcome (outcome_view told.outcome) (ap (λ (d : Done). d.answer) same) in
@@ -71,7 +72,7 @@ module _ (shard : ℕ) (namespace : List ℕ) (entries : List Entry) (time : ℕ
       }) in
       record {
         spelled = ap (λ (b : List ℕ). b ∷ []) (spells ∙ ap (λ (x : Record). spelled 1 x) (sym r));
-        sound = (subst (λ (x : Record). IsSound x) (sym r) sound, tt);
+        readable = (subst (λ (x : Record). IsReadable x) (sym r) readable, tt);
       }
 
 -- the number of a statement of a request
@@ -105,9 +106,9 @@ pub step_new : (store shard : ℕ) (namespace : List ℕ) (entries : List Entry)
     → ((more : List Entry) × (made_by store namespace plan_then ≡ made_by store namespace plan ++ more) × IsServed store namespace (entries ++ made_by store namespace plan) time t o more after)
     → t ≡ s → o ≡ Some (done_view index (WasDone told)) → protocol.done_view served.done ≡ done_view index (WasDone told) → after ≢ time → statement ≡ statement_of given id index
     → number_for (given_view given) (id_view id) index ≡ s.number → s.operation ≡ operation
-    → bytes ≡ spelled 1 (entry_record_of told namespace statement operation) → IsSound (entry_record_of told namespace statement operation) → served.record ≡ Some bytes
+    → bytes ≡ spelled 1 (entry_record_of told namespace statement operation) → IsReadable (entry_record_of told namespace statement operation) → served.record ≡ Some bytes
     → IsStep shard namespace entries (made_by shard namespace plan) time s (Some served) (made_by shard namespace plan_then) after
-step_new store shard namespace entries plan plan_then time after t s o given id index told statement operation served bytes own served_there same is done later number numbered same_words spells sound written =
+step_new store shard namespace entries plan plan_then time after t s o given id index told statement operation served bytes own served_there same is done later number numbered same_words spells readable written =
     let served_is = subst
     (λ (n : ℕ). (more : List Entry) × (made_by n namespace plan_then ≡ made_by n namespace plan ++ more) × IsServed n namespace (entries ++ made_by n namespace plan) time t o more after)
     own served_there in
@@ -119,5 +120,5 @@ step_new store shard namespace entries plan plan_then time after t s o given id 
       served_is = subst (λ (x : Option Done). IsServed shard namespace (entries ++ made_by shard namespace plan) time s x served_is.0 after) (is ∙ ap (λ (d : Done). Some d) (sym done)) serving;
       kept = subst (λ (x : Option (List ℕ)). AreKept served_is.0 (listed x)) (sym written)
           (kept_one shard namespace (entries ++ made_by shard namespace plan) time s o served_is.0 after index told statement operation bytes serving later is
-          (own_number given id index statement number ∙ numbered) same_words spells sound);
+          (own_number given id index statement number ∙ numbered) same_words spells readable);
     }

@@ -3,7 +3,7 @@ use Rattle.std.specs.Prelude.{◌≡◌, ◌≤◌, ℕ, [], ◌∷◌, ◌++◌
 use Rattle.std.specs.Arc.{arc_value}
 use Rattle.chunk_table.specs.Tables.{with_table}
 use Rattle.node_model.specs.Service.{documents_at}
-use Rattle.node_traits.specs.Effects.{AreSound, StepPlanned, spellings}
+use Rattle.node_traits.specs.Effects.{AreReadable, StepPlanned, spellings}
 use Rattle.node_traits.specs.Ids.{id_view}
 use Rattle.node_traits.specs.Letters.{Body, Input, Effect, half_ask}
 use Rattle.node_traits.specs.ShardRows.{ShardRow, at_later, under, wants_table}
@@ -55,7 +55,7 @@ pub record IsPlanned (s : Shard) (i : Input) (p : StepPlan) : Type 0 where
   pub row : ShardRow s i effect (after s p)
   pub sent : effect.mail ≡ map letter_of p.mail
   pub untold : effect.replies ≡ []
-  pub sound : AreSound effect.written
+  pub readable : AreReadable effect.written
   pub spelled : p.records.items ≡ spellings effect.written
 
 -- The plan is a step of the shard: a row, if the input is none of another node.

@@ -5,7 +5,8 @@ ghost use Rattle.command_model.specs.CommandSizes.{IsKeepable};
 ghost use Rattle.protocol_model.specs.Statements.{operation_view};
 ghost use Rattle.shard_requests.specs.EntryRecords.{entry_record_of};
 ghost use Rattle.shard_records.specs.Meanings.{operation_lent};
-ghost use Rattle.record_model.specs.RecordFormat.{spelled, IsSound};
+ghost use Rattle.record_model.specs.RecordFormat.{spelled};
+ghost use Rattle.shard_records.specs.Readable.{IsReadable};
 ghost use Rattle.record_model.specs.Records.{ceiling_record, table_record};
 ghost use Rattle.shard_records.specs.Sizes.{IsWritableKey};
 ghost use Rattle.shard_store.specs.Entries.{operation_in};
@@ -54,7 +55,7 @@ pub fn entry_bytes(
 ) -> Result<Blob, Memory>
     requires key { IsWritableKey (outcome_view told.now.outcome).upserted }
     ensures { IfOk result (λ b. (b ≡ spelled 1 (entry_record_of told.now namespace.now statement.now (operation_view operation.now)))
-        × IsSound (entry_record_of told.now namespace.now statement.now (operation_view operation.now))) }
+        × IsReadable (entry_record_of told.now namespace.now statement.now (operation_view operation.now))) }
 {
     let mut bytes = Vec::new(alloc);
     let words = words_of(operation);
@@ -65,7 +66,7 @@ pub fn entry_bytes(
 
 // Returns the record of a table, or `Memory` if memory runs out.
 fn table_bytes(alloc: Global, table: &Table) -> Result<Blob, Memory>
-    ensures { IfOk result (λ b. (b ≡ spelled 1 (table_record table.now)) × IsSound (table_record table.now)) }
+    ensures { IfOk result (λ b. (b ≡ spelled 1 (table_record table.now)) × IsReadable (table_record table.now)) }
 {
     let mut bytes = Vec::new(alloc);
     write_table(table, &mut bytes)?;
@@ -75,7 +76,7 @@ fn table_bytes(alloc: Global, table: &Table) -> Result<Blob, Memory>
 /// Returns the records of a step that stores a table, or `Memory` if memory runs out.
 pub fn table_records(alloc: Global, table: &Table) -> Result<Vec<Blob>, Memory>
     ensures records { IfOk result (λ records. records.items ≡ spelled 1 (table_record table.now) ∷ []) }
-    ensures sound { IfOk result (λ records. IsSound (table_record table.now)) }
+    ensures readable { IfOk result (λ records. IsReadable (table_record table.now)) }
 {
     let mut records = Vec::new(alloc);
     records.push(table_bytes(alloc, table)?)?;
@@ -84,7 +85,7 @@ pub fn table_records(alloc: Global, table: &Table) -> Result<Vec<Blob>, Memory>
 
 // Returns the record of a ceiling, or `Memory` if memory runs out.
 fn ceiling_bytes(alloc: Global, at: Time) -> Result<Blob, Memory>
-    ensures { IfOk result (λ b. (b ≡ spelled 1 (ceiling_record at.0)) × IsSound (ceiling_record at.0)) }
+    ensures { IfOk result (λ b. (b ≡ spelled 1 (ceiling_record at.0)) × IsReadable (ceiling_record at.0)) }
 {
     let mut bytes = Vec::new(alloc);
     write_ceiling(at, &mut bytes)?;
@@ -94,7 +95,7 @@ fn ceiling_bytes(alloc: Global, at: Time) -> Result<Blob, Memory>
 /// Returns the records of a step that stores the time of a read as a ceiling, or `Memory` if memory runs out.
 pub fn ceiling_records(alloc: Global, at: Time) -> Result<Vec<Blob>, Memory>
     ensures records { IfOk result (λ records. records.items ≡ spelled 1 (ceiling_record at.0) ∷ []) }
-    ensures sound { IfOk result (λ records. IsSound (ceiling_record at.0)) }
+    ensures readable { IfOk result (λ records. IsReadable (ceiling_record at.0)) }
 {
     let mut records = Vec::new(alloc);
     records.push(ceiling_bytes(alloc, at)?)?;

@@ -22,7 +22,7 @@ returns-in-Ok-Some-clause-planned c = λ m late from is here.
     let made = c.make.ensures in
     let answered = rw c.in-Ok-Some.field-0-is at c.in-Ok-Some.ensures.answer in
     split_planned (catalogue_of c.args.self.now) m c.args.sender c.args.heard answer.result late from here c.args.ask.now is _ refl c.in-Ok-Some.change
-    c.make.result (sym answered) answer.ensures.time answer.ensures.letter made.time made.change made.mail made.records made.sound
+    c.make.result (sym answered) answer.ensures.time answer.ensures.letter made.time made.change made.mail made.records made.readable
 
 pub returns-in-Ok-Some-clause-ready : goal.returns-in-Ok-Some-clause-ready
 returns-in-Ok-Some-clause-ready c =

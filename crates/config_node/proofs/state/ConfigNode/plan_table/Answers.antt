@@ -21,7 +21,7 @@ returns-in-Ok-clause-planned c = λ m late from is here.
     let shared : arc_value x.table ≡ arc_value c.in-Ok.table = search rules in
     create_planned n m c.args.sender c.args.heard answer.result late from here c.args.ask (Some (arc_value c.in-Ok.table)) is x _ c.make.result
     refl requested answered (known ∙ ap (λ (t : Table). Some t) shared) answer.ensures.time answer.ensures.letter made.time made.change made.mail made.records
-    made.sound
+    made.readable
 
 pub returns-in_ok-records-in-None-clause-planned : goal.returns-in_ok-records-in-None-clause-planned
 returns-in_ok-records-in-None-clause-planned c = λ m late from is here.
@@ -33,4 +33,4 @@ returns-in_ok-records-in-None-clause-planned c = λ m late from is here.
     tell_planned n m c.args.sender c.args.heard answer.result late from here c.args.ask (option_map (λ t. arc_value t) c.in_ok-table-in-None.table) is
     c.store_and_tell.result
     (c.in_ok-change.ensures.none c.in-None.is) (c.in_ok-table-in-None.ensures ∙ ap (λ xs. known_table c.args.ask.namespace xs) same)
-    answer.ensures.time answer.ensures.letter told.time told.change told.mail (told.records ∙ stored.records) stored.sound
+    answer.ensures.time answer.ensures.letter told.time told.change told.mail (told.records ∙ stored.records) stored.readable

@@ -16,6 +16,6 @@ returns-in-Opened-clause-done g c =
       step = catalogue_step _ _ _ nothing tt (catalogue_opened _);
       sent = sym (ap (λ mail. map silent_letter mail) c.new.ensures);
       told = c.new-in-Opened.ensures;
-      sound = tt;
+      readable = tt;
       kept = left_alone g.L.Log.facts c.args._log.now;
     })

@@ -5,7 +5,7 @@ use Rattle.std.specs.Arc.{arc_value}
 use Rattle.command_replies.specs.AnswerMeanings.{answer_view}
 use Rattle.command_model.specs.Answers.{Answer, answer_document, first_answer}
 use Rattle.node_model.specs.RouterRows as rows
-use Rattle.node_traits.specs.Effects.{AreSound, spellings}
+use Rattle.node_traits.specs.Effects.{AreReadable, spellings}
 use Rattle.node_traits.specs.Lists.{listed}
 use Rattle.router_requests.specs.Works.{open_view}
 use Rattle.router_cursors.specs.Numbers.{block_given, block_kept}
@@ -34,7 +34,7 @@ returns c = λ m late left may.
     opened
     (c.hears_keeping.ensures (block_kept (block_given r.blocks r.gave)) (c.in_ok-records.ensures.records ∙ ap (λ (b : Option ℕ). spellings (block_kept b)) c.in-Some.ensures.block))
     left
-    (subst (λ (b : Option ℕ). AreSound (block_kept b)) c.in-Some.ensures.block c.in_ok-records.ensures.sound)
+    (subst (λ (b : Option ℕ). AreReadable (block_kept b)) c.in-Some.ensures.block c.in_ok-records.ensures.readable)
     (subst (λ (a : Answer). MayTell r m q a (rows.gives_number r (r.cursors ++ record {
       router = r.me;
       life = r.life;

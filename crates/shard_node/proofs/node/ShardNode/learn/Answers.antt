@@ -6,7 +6,8 @@ use Rattle.node_traits.specs.Journal.{kept_table}
 use Rattle.node_traits.specs.Letters.{letter_input, writes}
 use Rattle.node_traits.specs.ShardRows.{ShardRow, shard_learn, tries, wants_table}
 use Rattle.shard_records.specs.Records.{table_record}
-use Rattle.shard_records.specs.RecordFormat.{spelled, IsSound}
+use Rattle.shard_records.specs.RecordFormat.{spelled}
+use Rattle.shard_records.specs.Readable.{IsReadable}
 use Rattle.shard_node.specs.State.{shard_view}
 use Rattle.shard_node.proofs.node.ShardNode.learn.Goals as goal
 
@@ -24,6 +25,6 @@ returns-clause-planned c = λ m namespace create at body timed.
           (shard_learn s m namespace create at t body c.requires.news);
       sent = sym (c.in_ok-mail.ensures ∙ ap (λ (n : List ℕ). tries s c.args.time.0 (filter (wants_table n) s.parked)) name);
       untold = refl;
-      sound = (subst (λ (x : Table). IsSound (table_record x)) c.deref.ensures c.in_ok-records.ensures.sound, tt);
+      readable = (subst (λ (x : Table). IsReadable (table_record x)) c.deref.ensures c.in_ok-records.ensures.readable, tt);
       spelled = c.in_ok-records.ensures.records ∙ ap (λ (x : Table). spelled 1 (table_record x) ∷ []) c.deref.ensures;
     }

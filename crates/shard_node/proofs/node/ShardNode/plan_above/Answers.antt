@@ -26,6 +26,6 @@ returns-clause-planned c = λ m body timed.
           c.requires.above);
       sent = sym (ap (λ (l : List Message). map letter_of l) c.of_one.ensures ∙ ap (λ (x : Letter). x ∷ []) c.in_ok-message.ensures);
       untold = refl;
-      sound = (c.in_ok-records.ensures.sound, tt);
+      readable = (c.in_ok-records.ensures.readable, tt);
       spelled = c.in_ok-records.ensures.records;
     }

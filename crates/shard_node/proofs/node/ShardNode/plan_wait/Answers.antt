@@ -40,6 +40,6 @@ returns-clause-planned c =
           (shard_park s m (ask_view ask) (sym c.in-Some.ensures) c.requires.unseen verdict (sym (c.is_parked.ensures ∙ parked) ∙ c.if-is_parked.false));
       sent = sym (ap (λ (l : List Message). map letter_of l) c.of_one.ensures ∙ ap (λ (x : Letter). x ∷ []) c.in_ok-asked.ensures);
       untold = refl;
-      sound = tt;
+      readable = tt;
       spelled = c.new.ensures.items;
     }
