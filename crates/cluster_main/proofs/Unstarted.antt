@@ -5,9 +5,9 @@ use Rattle.outside.specs.Devices.{SourceCall, SinkCall, SinkIsUntouched, SourceI
 use Rattle.outside.specs.Disks.{Outcomes}
 use Rattle.outside.specs.Notes.{Note}
 use Rattle.outside.proofs.Relations.{none_fell_self}
-use Rattle.cluster_top.specs.declared.arguments.Command.{Command}
-use Rattle.cluster_top.proofs.Counts.{all_still}
-use Rattle.cluster_top.proofs.Unserved.{no_record}
+use Rattle.cluster_service.specs.declared.arguments.Command.{Command}
+use Rattle.cluster_service.proofs.Counts.{all_still}
+use Rattle.cluster_service.proofs.Unserved.{no_record}
 use Rattle.cluster_main.specs.Disks.{IsLeft}
 
 -- where it is not none there is some

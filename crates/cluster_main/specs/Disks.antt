@@ -5,14 +5,14 @@ use Rattle.outside.specs.Devices.{NoneFell, SinkCall, SinkIsUntouched, SourceCal
 use Rattle.outside.specs.Disks.{Outcomes}
 use Rattle.outside.specs.Notes.{Note}
 use Rattle.node_model.specs.World.{start}
-use Rattle.cluster_top.specs.Counts.{OneRoseWhere}
-use Rattle.cluster_top.specs.Crashes.{AreDurableBefore, LeaveTheWay}
+use Rattle.cluster_service.specs.Counts.{OneRoseWhere}
+use Rattle.cluster_service.specs.Crashes.{AreDurableBefore, LeaveTheWay}
 use Rattle.cluster_top.specs.Disks.{AreNoWorse, IsEmptyAll, SomeFile}
-use Rattle.cluster_top.specs.Arguments.{command_of, routers_of}
-use Rattle.cluster_top.specs.Headline.{HeadlineOf}
-use Rattle.cluster_top.specs.OpenJournals.{IsDurable, IsNotBegun}
-use Rattle.cluster_top.specs.Statuses.{OfConnection, OfStatus}
-use Rattle.cluster_top.specs.declared.arguments.Command.{Command}
+use Rattle.cluster_service.specs.Arguments.{command_of, routers_of}
+use Rattle.cluster_service.specs.Headline.{HeadlineOf}
+use Rattle.cluster_service.specs.OpenJournals.{IsDurable, IsNotBegun}
+use Rattle.cluster_service.specs.Statuses.{OfConnection, OfStatus}
+use Rattle.cluster_service.specs.declared.arguments.Command.{Command}
 
 -- Nothing was taken or put, the files are as they were, a crash leaves no more of them than before, and the status is 6, or 5 for
 -- a fault.

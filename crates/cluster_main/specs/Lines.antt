@@ -1,7 +1,7 @@
 -- What the program writes to standard error.
 use Rattle.std.specs.Prelude.{ℕ, List, Option, Some, None}
-use Rattle.cluster_top.specs.Statuses.{line_of, with_number}
-use Rattle.cluster_top.specs.declared.status.Status.{Status}
+use Rattle.cluster_service.specs.Statuses.{line_of, with_number}
+use Rattle.cluster_service.specs.declared.status.Status.{Status}
 
 -- the line of the status, if there is one
 abbrev pub line_if : Option Status → Option (List ℕ)

@@ -2,7 +2,7 @@
 
 ghost use Rattle.std.specs.Prelude.{◌≡◌, ◌≤◌, IfOk, IsErr, vec_len};
 ghost use Rattle.std.specs.Option.{unwrap_or};
-ghost use Rattle.cluster_top.specs.Arguments.{node_count_of};
+ghost use Rattle.cluster_service.specs.Arguments.{node_count_of};
 
 use crate::arguments::NoArguments;
 use crate::journals::name_of;

@@ -3,8 +3,8 @@
 ghost use Rattle.std.specs.Prelude.{◌≡◌, ◌↔◌, ◌⊎◌, ℕ, Err, IfOk, IfSome, IsNone, IsOkAnd, IsSome, vec_len};
 ghost use Rattle.outside.specs.Devices.{SinkIsUntouched, SourceIsUntouched, sink_call, source_call};
 ghost use Rattle.pipe_driver.specs.Counts.{RoseWhere};
-ghost use Rattle.cluster_top.specs.Arguments.{node_count_of};
-ghost use Rattle.cluster_top.specs.Statuses.{number_of};
+ghost use Rattle.cluster_service.specs.Arguments.{node_count_of};
+ghost use Rattle.cluster_service.specs.Statuses.{number_of};
 ghost use Rattle.std.specs.Process.{exit_status};
 ghost use Rattle.cluster_main.specs.Disks.{IsLeft, command_in};
 ghost use Rattle.cluster_main.specs.declared.arguments.NoArguments.TheVariants as none;

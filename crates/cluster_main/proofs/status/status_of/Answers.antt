@@ -1,7 +1,7 @@
 use Rattle.std.proofs.Common.{◌≡◌, sym, refl, ap, subst, inl, inr, append-nil, arith}
 use Rattle.std.specs.Prelude.{None, IsOkAnd, IsSome}
 use Rattle.outside.specs.Devices.{sink_call, source_call}
-use Rattle.cluster_top.specs.Arguments.{command_of, node_count_of}
+use Rattle.cluster_service.specs.Arguments.{command_of, node_count_of}
 use Rattle.cluster_main.specs.Disks.{command_in}
 use Rattle.cluster_main.proofs.Unstarted.{as_they_were, none_unless, some_unless}
 use Rattle.cluster_main.proofs.status.status_of.Goals as goal

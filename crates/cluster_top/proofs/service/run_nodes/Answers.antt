@@ -5,18 +5,18 @@ use Rattle.journal_frames.specs.Files.{Stands}
 use Rattle.node_model.specs.World.{start}
 use Rattle.driver_steps.proofs.Crashes.{leads_nowhere}
 use Rattle.pipe_driver.proofs.Counts.{none_fell_after, still}
-use Rattle.cluster_top.specs.Crashes.{AreDurableBefore, IsOfTheWay, LeaveTheWay}
-use Rattle.cluster_top.specs.Arguments.{routers_of}
+use Rattle.cluster_service.specs.Crashes.{AreDurableBefore, IsOfTheWay, LeaveTheWay}
+use Rattle.cluster_service.specs.Arguments.{routers_of}
 use Rattle.cluster_top.specs.Disks.{IsEmptyAll}
-use Rattle.cluster_top.specs.Openings.{IsOpened, disk_facts}
-use Rattle.cluster_top.specs.OpenJournals.{disks_of}
-use Rattle.cluster_top.specs.Stops.{at_opening_fault, at_opening_memory}
-use Rattle.cluster_top.specs.declared.status.Status.TheVariants as statuses
-use Rattle.cluster_top.proofs.Crashes.{all_then, all_weaker, never_of, none_owed, of_the_start}
-use Rattle.cluster_top.proofs.Openings.{opened_calm, opened_fresh, opened_leave, opened_open, opened_places, pairs_len, unopened_damaged, unopened_fault, unopened_later, unopened_leave, unopened_len, unopened_none, unopened_places, unopened_stops}
-use Rattle.cluster_top.proofs.NotBegun.{not_begun}
-use Rattle.cluster_top.proofs.Counts.{all_still, one_of_them_rose, one_rose_after, one_rose_as}
-use Rattle.cluster_top.proofs.Unserved.{all_empty_kept, no_record, none_kept, none_of_bytes, opening_not_refused, still_empty, unopened}
+use Rattle.cluster_service.specs.Openings.{IsOpened, disk_facts}
+use Rattle.cluster_service.specs.OpenJournals.{disks_of}
+use Rattle.cluster_service.specs.Stops.{at_opening_fault, at_opening_memory}
+use Rattle.cluster_service.specs.declared.status.Status.TheVariants as statuses
+use Rattle.cluster_service.proofs.Crashes.{all_then, all_weaker, never_of, none_owed, of_the_start}
+use Rattle.cluster_service.proofs.Openings.{opened_calm, opened_fresh, opened_leave, opened_open, opened_places, pairs_len, unopened_damaged, unopened_fault, unopened_later, unopened_leave, unopened_len, unopened_none, unopened_places, unopened_stops}
+use Rattle.cluster_service.proofs.NotBegun.{not_begun}
+use Rattle.cluster_service.proofs.Counts.{all_still, one_of_them_rose, one_rose_after, one_rose_as}
+use Rattle.cluster_service.proofs.Unserved.{all_empty_kept, no_record, none_kept, none_of_bytes, opening_not_refused, still_empty, unopened}
 use Rattle.cluster_top.proofs.service.run_nodes.Goals as goal
 
 pub returns-in-Ok-false-clause-damaged : goal.returns-in-Ok-false-clause-damaged

@@ -3,10 +3,10 @@ use Rattle.std.specs.Prelude.{IfOk}
 use Rattle.outside.proofs.Relations.{none_fell_self}
 use Rattle.any_node.specs.Kinds.{state_of}
 use Rattle.cluster_top.specs.Nodes.{AreNew}
-use Rattle.cluster_top.specs.declared.status.Status.TheVariants as statuses
-use Rattle.cluster_top.proofs.Asked.{asked_as_read}
-use Rattle.cluster_top.proofs.Counts.{one_rose_numbered, rose_numbered}
-use Rattle.cluster_top.proofs.Statuses.{has_number, is_status, refused_or_damaged, seven_or_durable, six_or_five}
+use Rattle.cluster_service.specs.declared.status.Status.TheVariants as statuses
+use Rattle.cluster_service.proofs.Asked.{asked_as_read}
+use Rattle.cluster_service.proofs.Counts.{one_rose_numbered, rose_numbered}
+use Rattle.cluster_service.proofs.Statuses.{has_number, is_status, refused_or_damaged, seven_or_durable, six_or_five}
 use Rattle.cluster_top.proofs.top.run.Goals as goal
 
 pub returns-in-None-clause-untouched : goal.returns-in-None-clause-untouched

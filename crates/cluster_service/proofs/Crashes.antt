@@ -1,0 +1,197 @@
+-- The files of disks after a crash: their lengths read, opened as journals, and written by nodes.
+use Rattle.std.specs.Prelude.{◌≡◌, ◌⊎◌, ℕ, zero, suc, ◌+◌, ◌≤◌, Some, Bool, IsTrue, List, [], ◌∷◌, length, map}
+use Rattle.std.proofs.Common.{refl, sym, subst, inl, inr, arith}
+use Rattle.std.specs.List.{slice_get}
+use Rattle.outside.specs.Disks.{Elapses, LeavesOnly, Outcomes, Within}
+use Rattle.outside.specs.Notes.{Note}
+use Rattle.journal_frames.specs.Files.{HaveSameRecords, Stands}
+use Rattle.journal_frames.specs.Views.{JournalView, journal_facts}
+use Rattle.journal_frames.proofs.Unique.{one_list}
+use Rattle.node_model.specs.Journal.{Kept}
+use Rattle.node_model.specs.States.{NodeState}
+use Rattle.node_model.specs.World.{World, journal_at, routers_from, start}
+use Rattle.node_traits.specs.Calls.{LeavesAlso}
+use Rattle.node_traits.specs.Effects.{spellings}
+use Rattle.driver_steps.specs.Crashes.{LeadsTo, LeavesKept}
+use Rattle.driver_steps.specs.Seats.{LeaveKept, seat_since, since_then}
+use Rattle.driver_steps.specs.declared.seat.Seat.{Seat}
+use Rattle.driver_steps.proofs.Crashes.{leads_nowhere}
+use Rattle.pipe_driver.specs.Acknowledgements.{AreAcknowledgedBy, IsNotedBefore}
+use Rattle.pipe_driver.proofs.Covers.{got_mapped}
+use Rattle.cluster_service.specs.Crashes.{AreDurableBefore, IsOfTheWay, LeaveSuch, LeaveTheWay}
+use Rattle.cluster_service.specs.Drivers.{output_of}
+use Rattle.cluster_service.specs.declared.arguments.Command.{Command}
+use Rattle.cluster_service.proofs.OpenJournals.{nothing}
+
+-- ONE DISK
+
+module _ {D : Type 0} (moment : D → ℕ) (left_since : D → ℕ → Outcomes) where
+  pub left_alone : (disk : D) (P : Outcomes) → LeavesAlso moment left_since disk disk P
+  left_alone disk P = record { later = omega arith; each = λ t file le left. inl left }
+
+  either : (X Y Z P Q : Type 0) → X ⊎ Q → (X → Y ⊎ P) → (P → Z) → (Q → Z) → Y ⊎ Z
+  either X Y Z P Q (inr q) before p_is q_is = inr (q_is q)
+  either X Y Z P Q (inl x) before p_is q_is = first (before x)
+    where
+      first : Y ⊎ P → Y ⊎ Z
+      first (inl y) = inl y
+      first (inr p) = inr (p_is p)
+
+  -- one call after another
+  pub leaves_then : (a b c : D) (P Q S : Outcomes) → LeavesAlso moment left_since a b P → LeavesAlso moment left_since b c Q
+      → ((file : List ℕ) → P file → S file) → ((file : List ℕ) → Q file → S file) → LeavesAlso moment left_since a c S
+  leaves_then a b c P Q S first second p_is q_is = record {
+    later = omega (arith, first.later, second.later);
+    each = λ t file le left.
+        either (left_since b t file) (left_since a t file) (S file) (P file) (Q file) (second.each t file (omega (arith, le, first.later)) left)
+        (λ before. first.each t file le before) (p_is file) (q_is file);
+  }
+
+  module _ (may_leave : D → Outcomes) (counts_now : (disk : D) (t : ℕ) (c : List ℕ) → t ≤ moment disk → may_leave disk c → left_since disk t c)
+      (old new : D) where
+    -- nothing was written: no other file
+    pub asked_leaves : Elapses (moment old) (moment new) (left_since old) (left_since new) (may_leave new) → Within (may_leave old) (may_leave new)
+        → LeavesAlso moment left_since old new (λ file. ⊥)
+    asked_leaves time within = record { later = time.later; each = λ t file le left. earlier t file le (time.nothing_else t file le left) }
+      where
+        earlier : (t : ℕ) (file : List ℕ) → t ≤ moment old → left_since old t file ⊎ may_leave new file → left_since old t file ⊎ ⊥
+        earlier t file le (inl left) = inl left
+        earlier t file le (inr now) = inl (counts_now old t file le (within file now))
+
+    -- an empty file was opened as a journal
+    pub opening_leaves : (content : List ℕ) → content ≡ []
+        → LeavesOnly moment left_since old new (λ file. may_leave old file ⊎ HaveSameRecords content file)
+        → LeavesAlso moment left_since old new (λ file. Stands file [])
+    opening_leaves content empty only = record { later = only.later; each = λ t file le left. earlier t file le (only.before t file le left) }
+      where
+        earlier : (t : ℕ) (file : List ℕ) → t ≤ moment old → left_since old t file ⊎ (may_leave old file ⊎ HaveSameRecords content file)
+            → left_since old t file ⊎ Stands file []
+        earlier t file le (inl left) = inl left
+        earlier t file le (inr (inl before)) = inl (counts_now old t file le before)
+        earlier t file le (inr (inr (records, here, there))) =
+            inr (subst (λ (l : List (List ℕ)). Stands file l) (one_list content records [] here (nothing content empty)) there)
+
+-- DISKS IN ORDER
+
+module _ {D : Type 0} (moment : D → ℕ) (left_since : D → ℕ → Outcomes) where
+  -- files of another kind too
+  pub all_weaker : (P Q : ℕ → Outcomes) (befores afters : List D) → ((at : ℕ) (file : List ℕ) → P at file → Q at file)
+      → LeaveSuch moment left_since P befores afters → LeaveSuch moment left_since Q befores afters
+  all_weaker P Q [] [] is leave = tt
+  all_weaker P Q [] (after ∷ afters) is leave = absurd leave
+  all_weaker P Q (before ∷ befores) [] is leave = absurd leave
+  all_weaker P Q (before ∷ befores) (after ∷ afters) is leave = (
+    leaves_then moment left_since before before after (λ file. ⊥) (P zero) (Q zero) (left_alone moment left_since before (λ file. ⊥)) leave.0
+        (λ file never. absurd never) (is zero),
+    all_weaker (λ at. P (suc at)) (λ at. Q (suc at)) befores afters (λ at. is (suc at)) leave.1,
+  )
+
+  -- they were left alone
+  pub all_alone : (P : ℕ → Outcomes) (disks : List D) → LeaveSuch moment left_since P disks disks
+  all_alone P [] = tt
+  all_alone P (disk ∷ disks) = (left_alone moment left_since disk (P zero), all_alone (λ at. P (suc at)) disks)
+
+  -- nothing was written before
+  pub all_then : (P : ℕ → Outcomes) (befores disks afters : List D) → LeaveSuch moment left_since (λ at file. ⊥) befores disks
+      → LeaveSuch moment left_since P disks afters → LeaveSuch moment left_since P befores afters
+  all_then P [] [] [] first second = tt
+  all_then P [] [] (after ∷ afters) first second = absurd second
+  all_then P [] (disk ∷ disks) afters first second = absurd first
+  all_then P (before ∷ befores) [] afters first second = absurd first
+  all_then P (before ∷ befores) (disk ∷ disks) [] first second = absurd second
+  all_then P (before ∷ befores) (disk ∷ disks) (after ∷ afters) first second = (
+    leaves_then moment left_since before disk after (λ file. ⊥) (P zero) (P zero) first.0 second.0 (λ file never. absurd never) (λ file is. is),
+    all_then (λ at. P (suc at)) befores disks afters first.1 second.1,
+  )
+
+-- THE NODES
+
+none_of_routers : (first routers at : ℕ) → journal_at (routers_from first routers) at ≡ []
+none_of_routers first zero at = refl
+none_of_routers first (suc routers) zero = refl
+none_of_routers first (suc routers) (suc at) = none_of_routers (first + 1) routers at
+
+none_at_start : (routers at : ℕ) → journal_at (start routers).nodes at ≡ []
+none_at_start routers zero = refl
+none_at_start routers (suc zero) = refl
+none_at_start routers (suc (suc at)) = none_of_routers 2 routers at
+
+-- no record is what each node stores at the start
+pub of_the_start : (routers : ℕ) (w : World) (at : ℕ) (file : List ℕ) → LeadsTo (start routers) w → Stands file [] → IsOfTheWay (start routers) w at file
+of_the_start routers w at file on stands = record {
+  world = start routers;
+  before = leads_nowhere (start routers);
+  behind = on;
+  has = subst (λ (l : List Kept). Stands file (spellings l)) (sym (none_at_start routers at)) stands;
+}
+
+pub never_of : (routers at : ℕ) (file : List ℕ) → ⊥ → IsOfTheWay (start routers) (start routers) at file
+never_of routers at file never = absurd never
+
+pub none_on_the_way : {D : Type 0} (routers : ℕ) (tells : Bool) (moment : D → ℕ) (left_since : D → ℕ → Outcomes) (disks : List D)
+    → LeaveTheWay (start routers) tells moment left_since disks disks (start routers)
+none_on_the_way routers tells moment left_since disks told = all_alone moment left_since (λ at file. IsOfTheWay (start routers) (start routers) at file) disks
+
+module _ {N D : Type 0} (state : N → NodeState) (tells : Bool) (content : D → List ℕ) (moment : D → ℕ) (left_since : D → ℕ → Outcomes) (fault_count : D → ℕ)
+    (place : D → List ℕ) (routers : ℕ) (w : World) (told : IsTrue tells) where
+  -- what is said of a log is said of its disk
+  at_place : (at : ℕ) (disk : D) (old new : JournalView D) → LeavesAlso moment left_since disk old.disk (λ file. Stands file [])
+      → LeavesKept (journal_facts tells content moment left_since fault_count place) (start routers) old new at w
+      → LeavesAlso moment left_since disk new.disk (λ file. IsOfTheWay (start routers) w at file)
+  at_place at disk old new first k =
+      leaves_then moment left_since disk old.disk new.disk (λ file. Stands file []) (λ file. IsOfTheWay (start routers) w at file) (λ file. IsOfTheWay (start routers) w at file) first
+      (record { later = k.left.later; each = k.left.each }) (λ file stands. of_the_start routers w at file k.came stands) (λ file is. is)
+
+  each_place : (node : ℕ → ℕ) (disks : List D) (olds news : List (Seat N (JournalView D)))
+      → LeaveSuch moment left_since (λ at file. Stands file []) disks (map (λ s. s.log.disk) olds) → length olds ≡ length news
+      → ((at : ℕ) (s : Seat N (JournalView D)) → slice_get news at ≡ Some s → (old : JournalView D) → slice_get (map (λ s. s.log) olds) at ≡ Some old
+      → LeavesKept (journal_facts tells content moment left_since fault_count place) (start routers) old s.log (node at) w)
+      → LeaveSuch moment left_since (λ at file. IsOfTheWay (start routers) w (node at) file) disks (map (λ s. s.log.disk) news)
+  each_place node [] [] [] first len kept = tt
+  each_place node [] [] (s ∷ news) first len kept = absurd (omega (arith, len))
+  each_place node [] (o ∷ olds) news first len kept = absurd first
+  each_place node (disk ∷ disks) [] news first len kept = absurd first
+  each_place node (disk ∷ disks) (o ∷ olds) [] first len kept = absurd (omega (arith, len))
+  each_place node (disk ∷ disks) (o ∷ olds) (s ∷ news) first len kept = (
+    at_place (node zero) disk o.log s.log first.0 (kept zero s refl o.log refl),
+    each_place (λ at. node (suc at)) disks olds news first.1 (omega (arith, len)) (λ at. kept (suc at)),
+  )
+
+  -- and so of all disks
+  pub seats_leave : (disks : List D) (olds news : List (Seat N (JournalView D)))
+      → LeaveSuch moment left_since (λ at file. Stands file []) disks (map (λ s. s.log.disk) olds) → length olds ≡ length news
+      → LeaveKept (seat_since state (journal_facts tells content moment left_since fault_count place) (since_then olds (start routers))) news w
+      → LeaveSuch moment left_since (λ at file. IsOfTheWay (start routers) w at file) disks (map (λ s. s.log.disk) news)
+  seats_leave disks olds news first len leave =
+      each_place (λ at. at) disks olds news first len (λ at s got old began. (leave at s got told).0 old began)
+
+-- BYTES THAT ARE ACKNOWLEDGED
+
+-- no byte was written
+pub none_owed : {D : Type 0} (tells_bytes tells : Bool) (place : D → List ℕ) (moment : D → ℕ) (left_since : D → ℕ → Outcomes) (command : Command) (first : World)
+    (notes : List Note) (held_before : List ℕ) (disks : List D) (last : World)
+    → AreDurableBefore tells_bytes tells place moment left_since command first notes held_before disks last []
+none_owed tells_bytes tells place moment left_since command first notes held_before disks last bytes files offset below = absurd (omega (arith, below))
+
+module _ {N D : Type 0} (tells_bytes tells : Bool) (content : D → List ℕ) (moment : D → ℕ) (left_since : D → ℕ → Outcomes) (fault_count : D → ℕ)
+    (place : D → List ℕ) (command : Command) (first : World) (notes : List Note) (held_before : List ℕ) (seats : List (Seat N (JournalView D))) (last : World)
+    (put : List ℕ) where
+  -- what is acknowledged by logs is so by their disks
+  pub disks_owed : AreAcknowledgedBy (journal_facts tells content moment left_since fault_count place) tells_bytes (output_of command first) first notes
+      held_before seats last put
+      → AreDurableBefore tells_bytes tells place moment left_since command first notes held_before (map (λ s. s.log.disk) seats) last put
+  disks_owed owed bytes files offset below =
+      let a = owed bytes files offset below in
+      record {
+        given = a.given;
+        out = a.out;
+        from = a.from;
+        to = a.to;
+        outputs = a.outputs;
+        has = a.has;
+        each = λ at disk got.
+            let s = got_mapped (λ (z : Seat N (JournalView D)). z.log.disk) seats at disk got in
+            let n = a.each at s.0 s.1 in
+            subst (λ (d : D). IsNotedBefore Stands place moment left_since notes (length held_before + offset) a.given last at d) s.2
+            (record { which = n.which; note = n.note; taken = n.taken; is_there = n.is_there; before = n.before; later = n.later; left = n.left });
+      }

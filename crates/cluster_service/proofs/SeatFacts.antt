@@ -1,0 +1,186 @@
+-- Nodes with their journals: at the start, and after a connection.
+use Rattle.std.specs.Prelude.{◌≡◌, ◌≢◌, ℕ, zero, suc, ◌+◌, Bool, IsTrue, List, [], ◌∷◌, length, map}
+use Rattle.std.proofs.Common.{refl, sym, ap, subst, ◌∙◌, arith}
+use Rattle.std.specs.List.{AllByRecursion}
+use Rattle.outside.specs.Devices.{SourceCall, SinkCall, NoneFell, OneRose}
+use Rattle.outside.proofs.Relations.{none_fell_self}
+use Rattle.outside.specs.Disks.{Outcomes}
+use Rattle.journal_frames.specs.Views.{JournalView, journal_facts}
+use Rattle.node_model.specs.States.{NodeState, catalogue_state, shard_state, router_state, new_catalogue, new_shard, new_router}
+use Rattle.node_model.specs.World.{Held, World, routers_from, start}
+use Rattle.driver_steps.specs.Seats.{AreHeld, AreKept, IsHeld, seat_view}
+use Rattle.driver_steps.specs.declared.seat.Seat.{Seat}
+use Rattle.pipe_driver.specs.Endings.{most_taken}
+use Rattle.pipe_driver.proofs.Endings.{piped_with}
+use Rattle.pipe_driver.specs.Rounds.{first_router}
+use Rattle.pipe_driver.specs.Counts.{HaveRisenWhere, RoseWhere}
+use Rattle.pipe_driver.proofs.Counts.{rose_as}
+use Rattle.sim_driver.proofs.Endings.{simulated_as}
+use Rattle.pipe_driver.specs.declared.status.Status as connections
+use Rattle.pipe_driver.specs.declared.status.Status.TheVariants as ended
+use Rattle.cluster_service.specs.Counts.{OneRoseWhere}
+use Rattle.cluster_service.specs.Drivers.{IsDriven}
+use Rattle.cluster_service.specs.declared.arguments.Command.{Command}
+use Rattle.cluster_service.specs.declared.arguments.Command.TheVariants.{Pipe, Sim}
+use Rattle.journal_starts.specs.Journals.{AreJournals}
+use Rattle.cluster_top.specs.Nodes.{AreNew}
+use Rattle.cluster_service.specs.OpenJournals.{AreAllOpen, AreFresh, HaveNoRecord, IsFresh, disks_of}
+use Rattle.cluster_service.specs.Seats.{seats_of}
+use Rattle.cluster_service.specs.Statuses.{of_connection}
+use Rattle.cluster_service.specs.declared.status.Status.{Status}
+use Rattle.cluster_service.specs.declared.status.Status.TheVariants as statuses
+use Rattle.cluster_service.proofs.Counts.{one_rose_as}
+
+module _ {N D : Type 0} (state : N → NodeState) (tells : Bool) (content : D → List ℕ) (moment : D → ℕ) (left_since : D → ℕ → Outcomes) (fault_count : D → ℕ)
+    (place : D → List ℕ) where
+  -- a new node with a journal without records
+  is_held : (node : N) (journal : JournalView D) (new : NodeState) → state node ≡ new → IsFresh tells content journal
+      → IsHeld (seat_view state (journal_facts tells content moment left_since fault_count place) (record { node = node; log = journal }))
+      (record { state = new; kept = [] })
+  is_held node journal new same fresh = record { same = sym same; written = fresh.none; keeps = record { readable = tt; found = λ told. fresh.file } }
+
+  held_routers : (first routers : ℕ) (nodes : List N) (journals : List (JournalView D)) → map state nodes ≡ map (λ h. h.state) (routers_from first routers)
+      → AreFresh tells content journals → length journals ≡ routers
+      → AreHeld (seat_view state (journal_facts tells content moment left_since fault_count place)) (seats_of nodes journals) (routers_from first routers)
+  held_routers first zero [] journals new fresh count = tt
+  held_routers first zero (node ∷ nodes) journals new fresh count = absurd (cc new)
+  held_routers first (suc routers) [] journals new fresh count = absurd (cc new)
+  held_routers first (suc routers) (node ∷ nodes) [] new fresh count = absurd (omega (arith, count))
+  held_routers first (suc routers) (node ∷ nodes) (journal ∷ journals) new fresh count = (
+    is_held node journal (router_state (new_router first)) (cc new) fresh.0,
+    held_routers (first + 1) routers nodes journals (cc new) fresh.1 (omega (arith, count)),
+  )
+
+  -- new nodes with journals without records are those of the start
+  pub held_at_start : (routers : ℕ) (nodes : List N) (journals : List (JournalView D)) → AreNew state routers nodes → AreFresh tells content journals
+      → length journals ≡ 2 + routers
+      → AreHeld (seat_view state (journal_facts tells content moment left_since fault_count place)) (seats_of nodes journals) (start routers).nodes
+  held_at_start routers [] journals new fresh count = absurd (cc new)
+  held_at_start routers (catalogue ∷ []) journals new fresh count = absurd (cc new)
+  held_at_start routers (catalogue ∷ shard ∷ nodes) [] new fresh count = absurd (omega (arith, count))
+  held_at_start routers (catalogue ∷ shard ∷ nodes) (a ∷ []) new fresh count = absurd (omega (arith, count))
+  held_at_start routers (catalogue ∷ shard ∷ nodes) (a ∷ b ∷ journals) new fresh count = (
+    is_held catalogue a (catalogue_state (new_catalogue 0)) (cc new) fresh.0,
+    (
+      is_held shard b (shard_state (new_shard 1)) (cc new) fresh.1.0,
+      held_routers 2 routers nodes journals (cc new) fresh.1.1 (omega (arith, count)),
+    ),
+  )
+
+  -- where the logs keep what the journals keep, so do the files
+  pub kept_in_files : (seats : List (Seat N (JournalView D))) (nodes : List Held) → AreKept (seat_view state (journal_facts tells content moment left_since fault_count place)) seats nodes
+      → IsTrue tells → AreJournals (map content (map (λ s. s.log.disk) seats)) nodes
+  kept_in_files [] [] kept told = tt
+  kept_in_files (s ∷ seats) (h ∷ nodes) kept told = (record { stands = kept.0.found told told; readable = kept.0.readable }, kept_in_files seats nodes kept.1 told)
+  kept_in_files [] (h ∷ nodes) kept told = absurd kept
+  kept_in_files (s ∷ seats) [] kept told = absurd kept
+
+-- journals without records have files without records, as many
+pub fresh_files : {D : Type 0} (tells : Bool) (content : D → List ℕ) (journals : List (JournalView D)) → AreFresh tells content journals → IsTrue tells
+    → HaveNoRecord (map content (disks_of journals))
+fresh_files tells content [] fresh told = tt
+fresh_files tells content (j ∷ journals) fresh told = (fresh.0.file told, fresh_files tells content journals fresh.1 told)
+
+pub files_len : {D : Type 0} (content : D → List ℕ) (journals : List (JournalView D)) → length (map content (disks_of journals)) ≡ length journals
+files_len content [] = refl
+files_len content (j ∷ journals) = ap suc (files_len content journals)
+
+-- of the disks of the seats, before
+pub told_before : {N D X : Type 0} (f : D → X) (nodes : List N) (journals : List (JournalView D)) (seats : List (Seat N (JournalView D)))
+    → seats ≡ seats_of nodes journals → length nodes ≡ length journals → map (λ s. f s.log.disk) seats ≡ map f (disks_of journals)
+told_before {N = N} {D = D} {X = X} f nodes journals seats is count = ap (λ (ss : List (Seat N (JournalView D))). map (λ s. f s.log.disk) ss) is ∙ each nodes journals count
+  where
+    each : (ns : List N) (js : List (JournalView D)) → length ns ≡ length js → map {B = X} (λ s. f s.log.disk) (seats_of ns js) ≡ map f (disks_of js)
+    each [] [] count = refl
+    each [] (j ∷ js) count = absurd (omega (arith, count))
+    each (n ∷ ns) [] count = absurd (omega (arith, count))
+    each (n ∷ ns) (j ∷ js) count = ap (λ (xs : List X). f j.disk ∷ xs) (each ns js (omega (arith, count)))
+
+pub seat_disks : {N D : Type 0} (nodes : List N) (journals : List (JournalView D)) → length nodes ≡ length journals
+    → map {B = D} (λ s. s.log.disk) (seats_of nodes journals) ≡ disks_of journals
+seat_disks [] [] count = refl
+seat_disks [] (j ∷ journals) count = absurd (omega (arith, count))
+seat_disks (n ∷ nodes) [] count = absurd (omega (arith, count))
+seat_disks {D = D} (n ∷ nodes) (j ∷ journals) count = ap (λ (ds : List D). j.disk ∷ ds) (seat_disks nodes journals (omega (arith, count)))
+
+-- where the journals are open, so are those of the seats
+pub seats_open : {N D : Type 0} (nodes : List N) (journals : List (JournalView D)) → AreAllOpen journals
+    → AllByRecursion (λ s. IsTrue s.log.is_open) (seats_of nodes journals)
+seats_open [] journals are = tt
+seats_open (n ∷ nodes) [] are = tt
+seats_open (n ∷ nodes) (j ∷ journals) are = (are.0, seats_open nodes journals are.1)
+
+-- and after it
+pub told_after : {N D X : Type 0} (f : D → X) (disks : List D) (seats : List (Seat N (JournalView D))) → disks ≡ map (λ s. s.log.disk) seats → map (λ s. f s.log.disk) seats ≡ map f disks
+told_after {N = N} {D = D} {X = X} f disks seats is = each seats ∙ ap (λ (ds : List D). map f ds) (sym is)
+  where
+    each : (ss : List (Seat N (JournalView D))) → map {B = X} (λ s. f s.log.disk) ss ≡ map f (map (λ s. s.log.disk) ss)
+    each [] = refl
+    each (s ∷ ss) = ap (λ (xs : List X). f s.log.disk ∷ xs) (each ss)
+
+pub moved : {X : Type 0} (R : X → X → Type 0) (a b c d : X) → a ≡ c → b ≡ d → R a b → R c d
+moved {X = X} R a b c d first second is = subst (λ (y : X). R c y) second (subst (λ (x : X). R x b) first is)
+
+-- the same run, of which another thing is said
+pub driven_as : (command : Command) (first : World) (source : SourceCall) (sink : SinkCall) (gives : ℕ → Type 0) (kept then : List Held → Type 0)
+    (leaves leaves_then : World → Type 0) (owed owed_then : World → List ℕ → Type 0) (status : connections.Status) (rest : ℕ)
+    → ((nodes : List Held) → kept nodes → then nodes) → ((w : World) → leaves w → leaves_then w)
+    → ((w : World) (put : List ℕ) → owed w put → owed_then w put) → IsDriven command first source sink gives kept leaves owed status rest
+    → IsDriven command first source sink gives then leaves_then owed_then status rest
+driven_as Pipe first source sink gives kept then leaves leaves_then owed owed_then status rest f g pays driven =
+    piped_with source sink gives first_router kept then leaves leaves_then owed owed_then first most_taken status rest driven f g (λ w put leave owes. pays w put owes)
+driven_as (Sim routers) first source sink gives kept then leaves leaves_then owed owed_then status rest f g pays driven =
+    (simulated_as source sink kept then leaves leaves_then owed owed_then first most_taken status f g (λ w put leave owes. pays w put owes) driven.0, driven.1)
+
+-- a connection ends with no status of another kind
+pub of_no_other : (ending : connections.Status) → (of_connection ending ≢ statuses.BadArguments) × (of_connection ending ≢ statuses.DamagedJournal)
+of_no_other ended.InputEnded = (λ e. cc, λ e. cc)
+of_no_other ended.ReadFailed = (λ e. cc, λ e. cc)
+of_no_other ended.WriteFailed = (λ e. cc, λ e. cc)
+of_no_other ended.DiskFailed = (λ e. cc, λ e. cc)
+of_no_other ended.OutOfMemory = (λ e. cc, λ e. cc)
+of_no_other ended.BadInput = (λ e. cc, λ e. cc)
+of_no_other ended.InputTooLong = (λ e. cc, λ e. cc)
+
+abbrev connection_of : Status → connections.Status
+connection_of statuses.ReadFailed = ended.ReadFailed
+connection_of statuses.WriteFailed = ended.WriteFailed
+connection_of statuses.DiskFailed = ended.DiskFailed
+connection_of statuses.OutOfMemory = ended.OutOfMemory
+connection_of statuses.BadInput = ended.BadInput
+connection_of statuses.InputTooLong = ended.InputTooLong
+connection_of status = ended.InputEnded
+
+back : (ending : connections.Status) → connection_of (of_connection ending) ≡ ending
+back ended.InputEnded = refl
+back ended.ReadFailed = refl
+back ended.WriteFailed = refl
+back ended.DiskFailed = refl
+back ended.OutOfMemory = refl
+back ended.BadInput = refl
+back ended.InputTooLong = refl
+
+pub same_ending : (ending known : connections.Status) (status : Status) → status ≡ of_connection ending → status ≡ of_connection known → ending ≡ known
+same_ending ending known status is same = sym (back ending) ∙ ap connection_of (sym is ∙ same) ∙ back known
+
+pub has_ending : (ending known : connections.Status) (status : Status) → status ≡ of_connection ending → ending ≡ known → status ≡ of_connection known
+has_ending ending known status is same = is ∙ ap of_connection same
+
+pub rose_of : (known ending : connections.Status) (status : Status) → status ≡ of_connection ending → (a b : ℕ) → RoseWhere (ending ≡ known) a b → RoseWhere (status ≡ of_connection known) a b
+rose_of known ending status is a b where_it = rose_as (ending ≡ known) (status ≡ of_connection known) a b (has_ending ending known status is) (same_ending ending known status is) where_it
+
+pub one_rose_of : (known ending : connections.Status) (status : Status) → status ≡ of_connection ending → (a b : List ℕ) → HaveRisenWhere (ending ≡ known) a b
+    → OneRoseWhere (status ≡ of_connection known) a b
+one_rose_of known ending status is a b where_it =
+    one_rose_as (ending ≡ known) (status ≡ of_connection known) a b (has_ending ending known status is) (same_ending ending known status is)
+    ((λ e. (where_it.0 e).one), where_it.1)
+
+-- no count fell
+pub later_of : (ending : connections.Status) (a b : List ℕ) → HaveRisenWhere (ending ≡ ended.DiskFailed) a b → NoneFell a b
+later_of ended.DiskFailed a b where_it = (where_it.0 refl).none_fell
+later_of ended.InputEnded a b where_it = subst (λ (ns : List ℕ). NoneFell a ns) (sym (where_it.1 (λ e. cc))) (none_fell_self a)
+later_of ended.ReadFailed a b where_it = subst (λ (ns : List ℕ). NoneFell a ns) (sym (where_it.1 (λ e. cc))) (none_fell_self a)
+later_of ended.WriteFailed a b where_it = subst (λ (ns : List ℕ). NoneFell a ns) (sym (where_it.1 (λ e. cc))) (none_fell_self a)
+later_of ended.OutOfMemory a b where_it = subst (λ (ns : List ℕ). NoneFell a ns) (sym (where_it.1 (λ e. cc))) (none_fell_self a)
+later_of ended.BadInput a b where_it = subst (λ (ns : List ℕ). NoneFell a ns) (sym (where_it.1 (λ e. cc))) (none_fell_self a)
+later_of ended.InputTooLong a b where_it = subst (λ (ns : List ℕ). NoneFell a ns) (sym (where_it.1 (λ e. cc))) (none_fell_self a)

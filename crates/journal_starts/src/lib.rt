@@ -1,0 +1,4 @@
+//! Calls that begin on the files of earlier ones.
+#![tactic(auto)]
+
+pub mod laws;
