@@ -19,7 +19,7 @@ pub enum Status {
     WriteFailed,
     /// A call of a disk failed.
     DiskFailed,
-    /// A journal was not empty at the start.
+    /// A journal is damaged, or a record in it is none or may not follow.
     DamagedJournal,
     /// Out of memory, or a node was at its last step.
     OutOfMemory,

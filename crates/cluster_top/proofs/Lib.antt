@@ -1,16 +1,1 @@
-pub mod Answered
 pub mod Asked
-pub mod Asking
-pub mod Counts
-pub mod Crashes
-pub mod Lefts
-pub mod NewNodes
-pub mod NotBegun
-pub mod Numbers
-pub mod OneReading
-pub mod OpenJournals
-pub mod OpenedUpTo
-pub mod Openings
-pub mod SeatFacts
-pub mod Statuses
-pub mod Unserved

@@ -3,21 +3,21 @@
 ghost use Rattle.std.specs.Prelude.{◌≡◌, ◌≢◌, ◌⊎◌, ◌↔◌, ◌^◌, [], map, IfSome, IsSome, IsNone, IsTrue, vec_len};
 ghost use Rattle.std.specs.List.{AllByRecursion};
 ghost use Rattle.outside.specs.Devices.{NoneFell, SinkIsUntouched, SourceIsUntouched, sink_call, source_call};
-ghost use Rattle.node_model.specs.World.{start};
+ghost use Rattle.node_model.specs.World.{World};
 ghost use Rattle.pipe_driver.specs.Counts.{RoseWhere};
+ghost use Rattle.cluster_service.specs.Arguments.{command_of, node_count_of, routers_of};
 ghost use Rattle.cluster_service.specs.Counts.{OneRoseWhere};
 ghost use Rattle.cluster_service.specs.Crashes.{AreDurableBefore, LeaveTheWay};
-ghost use Rattle.cluster_top.specs.Disks.{AreNoWorse, IsEmptyAll, SomeFile};
 ghost use Rattle.cluster_service.specs.Headline.{HeadlineOf};
-ghost use Rattle.cluster_service.specs.OpenJournals.{IsDurable, IsNotBegun};
+ghost use Rattle.cluster_service.specs.OpenJournals.{IsDurable};
+ghost use Rattle.cluster_service.specs.Openings.{IsNotBegun, disk_facts};
 ghost use Rattle.cluster_service.specs.Statuses.{OfConnection, OfStatus};
-ghost use Rattle.cluster_service.specs.Arguments.{command_of, node_count_of, routers_of};
+ghost use Rattle.journal_starts.specs.Records.{AreRefused};
+ghost use Rattle.journal_starts.specs.Starts.{BeginsOnFiles};
 
-use crate::arguments::read_command;
-use crate::nodes::new_nodes;
 use crate::service::run_nodes;
-use crate::status::Status;
 use bson_values::Text;
+use cluster_service::{Status, read_command};
 use outside::clock::Clock;
 use outside::disk::Disk;
 use outside::exchange::Spoken;
@@ -39,9 +39,9 @@ pub struct Ended<D: Drop, L: Drop> {
 }
 
 /// Runs the cluster as the arguments say: with `pipe` one connection from `input` to `out` is served to its end, with `sim` the script in `input`
-/// is played to its end, by one router or by as many as `--routers` says. What the requests change is stored on the disks, one for each node, whose
-/// files must be empty at the start. The acceptor and the gate are not used. `Status` has the statuses; with 2 and 6 nothing was taken or put, and with 10
-/// 2^40 bytes were taken.
+/// is played to its end, by one router or by as many as `--routers` says. What the requests change is stored on the disks, one for each node. Their files are
+/// empty, or the journals that earlier calls left, with as many routers: then the nodes go on where these stopped. The acceptor and the gate are not used.
+/// `Status` has the statuses; with 2 and 6 nothing was taken or put, and with 10 2^40 bytes were taken.
 pub fn run<R, S, K, A, D, C, G>(
     rt: &R,
     alloc: Global,
@@ -64,18 +64,18 @@ where
     A::Link: Send,
     requires { IfSome (node_count_of words.now) (λ count. vec_len disks ≡ count) }
 
-    // The arguments are refused exactly where they start no nodes. Then, and where a file was not empty, nothing is taken or put.
+    // The arguments are refused exactly where they start no nodes. Then, and where a file is damaged or a record in it may not follow, nothing is taken or put.
     ensures words { (result.status ≡ 2) ↔ IsNone (node_count_of words.now) }
-    ensures refused { result.status ≡ 2 → result.disks ≡ disks }
+    ensures arguments { result.status ≡ 2 → result.disks ≡ disks }
     ensures untouched { (result.status ≡ 2) ⊎ (result.status ≡ 6) → (result.rest ≡ 0)
         × SourceIsUntouched (source_call S.tells S.left S.fault_count input.old input.new)
         × SinkIsUntouched (sink_call K.tells K.held K.fault_count out.old out.new) }
-    ensures six { result.status ≡ 6 → IsTrue D.tells → SomeFile (map D.content disks.items) }
-    ensures not_empty { IsSome (node_count_of words.now) → IsTrue D.tells → SomeFile (map D.content disks.items) → (result.rest ≡ 0)
-        × SourceIsUntouched (source_call S.tells S.left S.fault_count input.old input.new)
-        × SinkIsUntouched (sink_call K.tells K.held K.fault_count out.old out.new)
-        × (map D.content result.disks.items ≡ map D.content disks.items) × AreNoWorse D.may_leave disks.items result.disks.items
-        × ((result.status ≡ 6) ⊎ (result.status ≡ 5)) }
+    ensures six { result.status ≡ 6 → IsTrue D.tells → AreRefused (map D.content disks.items) }
+    ensures refused { IsSome (node_count_of words.now) → IsTrue D.tells → AreRefused (map D.content disks.items) →
+        ((result.status ≡ 6) ⊎ ((result.status ≡ 5) ⊎ (result.status ≡ 7)))
+        × IsNotBegun (disk_facts D.tells D.content D.may_leave D.moment D.left_since D.place D.fault_count)
+        (source_call S.tells S.left S.fault_count input.old input.new)
+        (sink_call K.tells K.held K.fault_count out.old out.new) result.rest disks.items result.disks.items }
 
     // Each disk comes back in its place. The fault of a device has its own status; with each other status its count is as before.
     ensures places { map D.place result.disks.items ≡ map D.place disks.items }
@@ -84,25 +84,26 @@ where
     ensures disk_fault { OneRoseWhere (result.status ≡ 5) (map D.fault_count disks.items) (map D.fault_count result.disks.items) }
     ensures none_fell { NoneFell (map D.fault_count disks.items) (map D.fault_count result.disks.items) }
 
-    // The headline: a run of the nodes, by the schedule or as a script says, took these bytes and put these replies, its journals are what the
-    // disks store, and they form one legal history, in which each reply is a right one. The file of each disk after a crash at any moment of the call is one
-    // that was possible before, or what the disk's node wrote in a world on the way of that run.
-    ensures headline { IfSome (command_of words.now) (λ command. IsEmptyAll D.tells (map D.content disks.items) → result.status ≢ 6 →
-        OfStatus result.status (λ status. OfConnection status (λ ending. HeadlineOf command (start (routers_of command))
+    // The headline, in the world that the call begins in: the files are empty, or the journals that earlier calls left. A run of the nodes from there on, by
+    // the schedule or as a script says, took these bytes and put these replies, its journals are what the disks store, and they form one legal history with
+    // those of all calls before, in which each reply is a right one. The file of each disk after a crash at any moment of the call is one that was possible
+    // before, or what the disk's node wrote in a world on the way of that run.
+    ensures headline { IfSome (command_of words.now) (λ command. (first : World) → IsTrue D.tells → BeginsOnFiles (routers_of command) (map D.content disks.items) first →
+        OfStatus result.status (λ status. OfConnection status (λ ending. HeadlineOf command first
         (source_call S.tells S.left S.fault_count input.old input.new)
         (sink_call K.tells K.held K.fault_count out.old out.new)
         D.tells (map D.content result.disks.items)
-        (LeaveTheWay (start (routers_of command)) D.tells D.moment D.left_since disks.items result.disks.items)
-        (AreDurableBefore K.tells D.tells D.place D.moment D.left_since command (start (routers_of command)) (K.noted out.new) (K.held out.old) result.disks.items)
+        (LeaveTheWay first D.tells D.moment D.left_since disks.items result.disks.items)
+        (AreDurableBefore K.tells D.tells D.place D.moment D.left_since command first (K.noted out.new) (K.held out.old) result.disks.items)
         (C.gives clock.now) ending result.rest))) }
 
-    // But where a disk failed, each file is a journal, byte for byte, with nothing after its closed gate, and a crash results in just that; or memory
-    // ended before all journals were open, and then nothing was taken or put, and no file has a record.
-    ensures durable { IsSome (node_count_of words.now) → IsTrue D.tells → IsEmptyAll D.tells (map D.content disks.items) →
-        result.status ≢ 5 → AllByRecursion (IsDurable D.content D.may_leave) result.disks.items
-        ⊎ ((result.status ≡ 7) × IsNotBegun
+    // But where a disk failed, each file is a journal, byte for byte, with nothing after its closed gate, and a crash results in just that; or the nodes were
+    // not started, and then nothing was taken or put, and each file has the records that it had.
+    ensures durable { IsSome (node_count_of words.now) → IsTrue D.tells → result.status ≢ 5 → AllByRecursion (IsDurable D.content D.may_leave) result.disks.items
+        ⊎ (((result.status ≡ 6) ⊎ (result.status ≡ 7))
+        × IsNotBegun (disk_facts D.tells D.content D.may_leave D.moment D.left_since D.place D.fault_count)
         (source_call S.tells S.left S.fault_count input.old input.new)
-        (sink_call K.tells K.held K.fault_count out.old out.new) (map D.content result.disks.items)) }
+        (sink_call K.tells K.held K.fault_count out.old out.new) result.rest disks.items result.disks.items) }
 
     // The acceptor comes back as it was, and no link was accepted.
     ensures acceptor { _acceptor.new ≡ _acceptor.old }
@@ -119,16 +120,7 @@ where
             };
         }
     };
-    let ending = run_nodes(
-        rt,
-        alloc,
-        command,
-        input,
-        out,
-        new_nodes(alloc, command.routers()),
-        disks,
-        clock,
-    );
+    let ending = run_nodes(rt, alloc, command, input, out, disks, clock);
     Ended {
         status: ending.status.number(),
         rest: ending.rest,

@@ -4,7 +4,8 @@ ghost use Rattle.std.specs.Prelude.{◌≡◌, IfErr, IfOk};
 ghost use Rattle.config_node.specs.State as catalogue;
 ghost use Rattle.router_node.specs.RouterStates as router;
 ghost use Rattle.shard_node.specs.State as shard;
-ghost use Rattle.journal_replay.specs.Replayed.{IsFault, IsOpened};
+ghost use Rattle.journal_replay.specs.Replayed.{IsFault};
+ghost use Rattle.journal_starts.specs.Records.{IsOpened};
 ghost use Rattle.node_replay.specs.Durable.{durable_catalogue, durable_router, durable_shard, empty_catalogue, empty_router, empty_shard};
 
 use catalogue_replay::CataloguePart;

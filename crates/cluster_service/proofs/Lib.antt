@@ -1,0 +1,12 @@
+pub mod Answered
+pub mod Counts
+pub mod Crashes
+pub mod Lefts
+pub mod NotBegun
+pub mod Numbers
+pub mod OpenJournals
+pub mod OpenedUpTo
+pub mod Openings
+pub mod SeatFacts
+pub mod Statuses
+pub mod Unserved

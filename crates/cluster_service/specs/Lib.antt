@@ -1,0 +1,10 @@
+pub mod Arguments
+pub mod Counts
+pub mod Crashes
+pub mod Drivers
+pub mod Headline
+pub mod OpenJournals
+pub mod Openings
+pub mod Seats
+pub mod Statuses
+pub mod Stops

@@ -1,0 +1,16 @@
+//! One connection or a script is served by nodes of any kind, each with its journal on a disk.
+#![tactic(auto)]
+
+mod arguments;
+mod disks;
+mod drive;
+mod journals;
+mod seats;
+mod serve;
+mod status;
+
+pub use arguments::{Command, node_count, read_command};
+pub use disks::{AllUnopened, Opened, open_all};
+pub use journals::close_all;
+pub use serve::{RunEnd, serve, unserved};
+pub use status::Status;
