@@ -44,7 +44,7 @@ router_opens r kept new = by_replay (replayed (Some (durable_router (empty_route
       where
         of_router : (d : DurableState) → (r : DurableRouter) × (d ≡ durable_router r) → opened (latest_time (records_of kept)) d ≡ new
             → (q : Router) × (new ≡ router_state q)
-        of_router _ (durable, refl) is = (_, sym is)
+        of_router d (durable, same) is = (_, sym is ∙ ap (λ e. opened (latest_time (records_of kept)) e) same)
 
 -- where the node at a place is started, each router is one afterwards
 router_stays : (nodes : List Held) (place at : ℕ) (old : Held) (new : NodeState) (kept stored : List Kept) → slice_get nodes place ≡ Some old
@@ -54,7 +54,8 @@ router_stays nodes place at old new kept stored here opens (r, was, got) = by_pl
     by_place : (at ≡ place) ⊎ (at ≢ place) → IsRouter (slice_set nodes place (record { state = new; kept = stored })) at
     by_place (inl same) =
         let both : Some old ≡ Some (record { state = router_state r; kept = was }) = sym here ∙ ap (λ k. slice_get nodes k) (sym same) ∙ got in
-        let state : old.state ≡ router_state r = cc both in
+        let one : old ≡ record { state = router_state r; kept = was } = cc both in
+        let state : old.state ≡ router_state r = ap (λ (x : Held). x.state) one in
         let q = router_opens r kept new (subst (λ s. opened_on s kept ≡ Some new) state opens) in
         (q.0, stored,
         subst (λ k. slice_get (slice_set nodes place (record { state = new; kept = stored })) k ≡ Some (record { state = router_state q.0; kept = stored })) (sym same)

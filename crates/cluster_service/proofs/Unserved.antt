@@ -127,20 +127,21 @@ module _ (source : SourceCall) (sink : SinkCall) (tells : Bool) (files_after : L
       acknowledged = debts;
     }
 
-    none_driven : (command : Command) (ending : connections.Status) → (ending ≡ ended.DiskFailed) ⊎ (ending ≡ ended.OutOfMemory)
-        → IsDriven command first source sink gives (λ nodes. IsTrue tells → AreJournals files_after nodes) leaves owed ending rest
-    none_driven Pipe _ (inl refl) = none_piped ended.DiskFailed (disk_failed (none_served first gives))
-    none_driven Pipe _ (inr refl) = none_piped ended.OutOfMemory (no_memory (none_served first gives))
-    none_driven (Sim routers) _ (inl refl) = (none_simulated ended.DiskFailed (script_disk_failed (none_played first)), none)
-    none_driven (Sim routers) _ (inr refl) = (none_simulated ended.OutOfMemory (script_no_memory (none_played first)), none)
+    disk_driven : (command : Command)
+        → IsDriven command first source sink gives (λ nodes. IsTrue tells → AreJournals files_after nodes) leaves owed ended.DiskFailed rest
+    disk_driven Pipe = none_piped ended.DiskFailed (disk_failed (none_served first gives))
+    disk_driven (Sim routers) = (none_simulated ended.DiskFailed (script_disk_failed (none_played first)), none)
+
+    memory_driven : (command : Command)
+        → IsDriven command first source sink gives (λ nodes. IsTrue tells → AreJournals files_after nodes) leaves owed ended.OutOfMemory rest
+    memory_driven Pipe = none_piped ended.OutOfMemory (no_memory (none_served first gives))
+    memory_driven (Sim routers) = (none_simulated ended.OutOfMemory (script_no_memory (none_played first)), none)
 
     -- a disk failed, or memory ran out, before anything was served
     pub unopened : (command : Command) → MayPlay first → (status : Status) → (status ≡ statuses.DiskFailed) ⊎ (status ≡ statuses.OutOfMemory)
         → OfConnection status (λ ending. HeadlineOf command first source sink tells files_after leaves owed gives ending rest)
-    unopened command may status (inl failed) =
-        (ended.DiskFailed, failed, headline_of command first may.begins ended.DiskFailed (none_driven command ended.DiskFailed (inl refl)))
-    unopened command may status (inr memory) =
-        (ended.OutOfMemory, memory, headline_of command first may.begins ended.OutOfMemory (none_driven command ended.OutOfMemory (inr refl)))
+    unopened command may status (inl failed) = (ended.DiskFailed, failed, headline_of command first may.begins ended.DiskFailed (disk_driven command))
+    unopened command may status (inr memory) = (ended.OutOfMemory, memory, headline_of command first may.begins ended.OutOfMemory (memory_driven command))
 
 -- why journals are not opened whose files are not damaged
 pub opening_ends : (status : Status) → StopsOpening status → status ≢ statuses.DamagedJournal → (status ≡ statuses.DiskFailed) ⊎ (status ≡ statuses.OutOfMemory)
