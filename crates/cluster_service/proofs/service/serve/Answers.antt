@@ -18,7 +18,7 @@ use Rattle.cluster_service.proofs.Counts.{all_still}
 use Rattle.cluster_service.proofs.Crashes.{IsOfWorld, disks_owed, first_leaves, none_owed, seats_leave}
 use Rattle.cluster_service.proofs.SeatFacts.{driven_as, has_ending, held_from, kept_in_files, later_of, moved, of_no_other, one_rose_of, open_files}
 use Rattle.cluster_service.proofs.SeatFacts.{rose_of, seat_disks, seats_open, told_after, told_before}
-use Rattle.cluster_service.proofs.Unserved.{headline_of, unopened}
+use Rattle.cluster_service.proofs.NotServed.{headline_of, unopened}
 use Rattle.cluster_service.proofs.service.serve.Goals as goal
 
 pub returns-then-is_err-clause-headline : goal.returns-then-is_err-clause-headline
