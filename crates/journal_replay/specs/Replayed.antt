@@ -3,7 +3,7 @@ use Rattle.std.specs.Prelude.{◌≡◌, ℕ, List, map, take, max, Bool, true, 
 use Rattle.std.specs.List.{AllByRecursion}
 use Rattle.record_model.specs.RecordFormat.{IsSound, spelled}
 use Rattle.record_model.specs.Records.{Record}
-use Rattle.record_reader.specs.SoundRecords.{IsHeld}
+use Rattle.shard_records.specs.Readable.{IsHeld}
 use Rattle.node_replay.specs.Durable.{DurableState}
 use Rattle.node_replay.specs.Replays.{follow, replayed, latest_time, time_in}
 use Rattle.journal_replay.specs.declared.fault.OpenFault.{OpenFault}

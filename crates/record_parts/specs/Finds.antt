@@ -1,12 +1,7 @@
--- What reading a part of a record answers, and which parts are read.
-use Rattle.std.specs.Prelude.{◌≡◌, true, Option, Some, None, Result, Ok, Err}
-use Rattle.std.specs.List.{AllByRecursion}
-use Rattle.std.specs.Str.{IsUtf8}
+-- What reading a part of a record answers.
+use Rattle.std.specs.Prelude.{◌≡◌, Option, Some, None, Result, Ok, Err}
 use Rattle.bson_values.specs.declared.fault.BsonFault.{BsonFault}
 use Rattle.bson_values.specs.declared.fault.BsonFault.TheVariants as bson
-use Rattle.value_model.specs.Keys.{IsRange, Range, min_bound}
-use Rattle.chunk_model.specs.Tables.{Chunk, Table}
-use Rattle.chunk_table.specs.Whole.{IsWritableBound, IsWritableChunk, follow_from}
 use Rattle.record_parts.specs.declared.fault.RecordFault.{RecordFault}
 use Rattle.record_parts.specs.declared.fault.RecordFault.TheVariants.{NoRecord, Memory}
 
@@ -21,18 +16,3 @@ Finds view (Err Memory) there = Unit {0}
 abbrev pub fault_view : BsonFault → RecordFault
 fault_view bson.Memory = Memory
 fault_view fault = NoRecord
-
--- a chunk that can be written, of a range that is not empty
-pub record IsHeldChunk (c : Chunk) : Type 0 where
-  pub writable : IsWritableChunk c
-  pub range : IsRange c.range
-
--- the chunks follow one another from below all keys to above them, each with an owner
-pub record IsHeldTable (t : Table) : Type 0 where
-  pub name : IsUtf8 t.namespace
-  pub chunks : AllByRecursion IsHeldChunk t.chunks
-  pub follow : follow_from min_bound t.chunks ≡ true
-
--- a range that is not empty, and that can be written
-abbrev pub IsHeldRange : Range → Type 0
-IsHeldRange r = IsWritableBound r.min × (IsWritableBound r.max × IsRange r)
