@@ -49,27 +49,16 @@ module _ {D : Type 0} (moment : D → ℕ) (left_since : D → ℕ → Outcomes)
 
   module _ (may_leave : D → Outcomes) (counts_now : (disk : D) (t : ℕ) (c : List ℕ) → t ≤ moment disk → may_leave disk c → left_since disk t c)
       (old new : D) where
-    -- nothing was written: no other file
-    pub asked_leaves : Elapses (moment old) (moment new) (left_since old) (left_since new) (may_leave new) → Within (may_leave old) (may_leave new)
-        → LeavesAlso moment left_since old new (λ file. ⊥)
-    asked_leaves time within = record { later = time.later; each = λ t file le left. earlier t file le (time.nothing_else t file le left) }
-      where
-        earlier : (t : ℕ) (file : List ℕ) → t ≤ moment old → left_since old t file ⊎ may_leave new file → left_since old t file ⊎ ⊥
-        earlier t file le (inl left) = inl left
-        earlier t file le (inr now) = inl (counts_now old t file le (within file now))
-
-    -- an empty file was opened as a journal
-    pub opening_leaves : (content : List ℕ) → content ≡ []
-        → LeavesOnly moment left_since old new (λ file. may_leave old file ⊎ HaveSameRecords content file)
-        → LeavesAlso moment left_since old new (λ file. Stands file [])
-    opening_leaves content empty only = record { later = only.later; each = λ t file le left. earlier t file le (only.before t file le left) }
+    -- the file was opened as a journal
+    pub opening_leaves : (content : List ℕ) → LeavesOnly moment left_since old new (λ file. may_leave old file ⊎ HaveSameRecords content file)
+        → LeavesAlso moment left_since old new (λ file. HaveSameRecords content file)
+    opening_leaves content only = record { later = only.later; each = λ t file le left. earlier t file le (only.before t file le left) }
       where
         earlier : (t : ℕ) (file : List ℕ) → t ≤ moment old → left_since old t file ⊎ (may_leave old file ⊎ HaveSameRecords content file)
-            → left_since old t file ⊎ Stands file []
+            → left_since old t file ⊎ HaveSameRecords content file
         earlier t file le (inl left) = inl left
         earlier t file le (inr (inl before)) = inl (counts_now old t file le before)
-        earlier t file le (inr (inr (records, here, there))) =
-            inr (subst (λ (l : List (List ℕ)). Stands file l) (one_list content records [] here (nothing content empty)) there)
+        earlier t file le (inr (inr same)) = inr same
 
 -- DISKS IN ORDER
 
