@@ -7,9 +7,8 @@ use Rattle.outside.specs.Notes.{Note}
 use Rattle.journal_frames.specs.Files.{HaveSameRecords, Stands}
 use Rattle.journal_frames.specs.Views.{JournalView, journal_facts}
 use Rattle.journal_frames.proofs.Unique.{one_list}
-use Rattle.node_model.specs.Journal.{Kept}
 use Rattle.node_model.specs.States.{NodeState}
-use Rattle.node_model.specs.World.{World, journal_at, routers_from, start}
+use Rattle.node_model.specs.World.{World, journal_at}
 use Rattle.node_traits.specs.Calls.{LeavesAlso}
 use Rattle.node_traits.specs.Effects.{spellings}
 use Rattle.driver_steps.specs.Crashes.{LeadsTo, LeavesKept}
@@ -75,84 +74,55 @@ module _ {D : Type 0} (moment : D → ℕ) (left_since : D → ℕ → Outcomes)
     all_weaker (λ at. P (suc at)) (λ at. Q (suc at)) befores afters (λ at. is (suc at)) leave.1,
   )
 
-  -- they were left alone
-  pub all_alone : (P : ℕ → Outcomes) (disks : List D) → LeaveSuch moment left_since P disks disks
-  all_alone P [] = tt
-  all_alone P (disk ∷ disks) = (left_alone moment left_since disk (P zero), all_alone (λ at. P (suc at)) disks)
-
-  -- nothing was written before
-  pub all_then : (P : ℕ → Outcomes) (befores disks afters : List D) → LeaveSuch moment left_since (λ at file. ⊥) befores disks
-      → LeaveSuch moment left_since P disks afters → LeaveSuch moment left_since P befores afters
-  all_then P [] [] [] first second = tt
-  all_then P [] [] (after ∷ afters) first second = absurd second
-  all_then P [] (disk ∷ disks) afters first second = absurd first
-  all_then P (before ∷ befores) [] afters first second = absurd first
-  all_then P (before ∷ befores) (disk ∷ disks) [] first second = absurd second
-  all_then P (before ∷ befores) (disk ∷ disks) (after ∷ afters) first second = (
-    leaves_then moment left_since before disk after (λ file. ⊥) (P zero) (P zero) first.0 second.0 (λ file never. absurd never) (λ file is. is),
-    all_then (λ at. P (suc at)) befores disks afters first.1 second.1,
-  )
-
 -- THE NODES
 
-none_of_routers : (first routers at : ℕ) → journal_at (routers_from first routers) at ≡ []
-none_of_routers first zero at = refl
-none_of_routers first (suc routers) zero = refl
-none_of_routers first (suc routers) (suc at) = none_of_routers (first + 1) routers at
+-- an opening of the file finds just what the node at a place stores in the world
+abbrev pub IsOfWorld : World → ℕ → Outcomes
+IsOfWorld first at file = Stands file (spellings (journal_at first.nodes at))
 
-none_at_start : (routers at : ℕ) → journal_at (start routers).nodes at ≡ []
-none_at_start routers zero = refl
-none_at_start routers (suc zero) = refl
-none_at_start routers (suc (suc at)) = none_of_routers 2 routers at
+-- the first world is on the way
+pub of_the_first : (first w : World) (at : ℕ) (file : List ℕ) → LeadsTo first w → IsOfWorld first at file → IsOfTheWay first w at file
+of_the_first first w at file on stands = record { world = first; before = leads_nowhere first; behind = on; has = stands }
 
--- no record is what each node stores at the start
-pub of_the_start : (routers : ℕ) (w : World) (at : ℕ) (file : List ℕ) → LeadsTo (start routers) w → Stands file [] → IsOfTheWay (start routers) w at file
-of_the_start routers w at file on stands = record {
-  world = start routers;
-  before = leads_nowhere (start routers);
-  behind = on;
-  has = subst (λ (l : List Kept). Stands file (spellings l)) (sym (none_at_start routers at)) stands;
-}
-
-pub never_of : (routers at : ℕ) (file : List ℕ) → ⊥ → IsOfTheWay (start routers) (start routers) at file
-never_of routers at file never = absurd never
-
-pub none_on_the_way : {D : Type 0} (routers : ℕ) (tells : Bool) (moment : D → ℕ) (left_since : D → ℕ → Outcomes) (disks : List D)
-    → LeaveTheWay (start routers) tells moment left_since disks disks (start routers)
-none_on_the_way routers tells moment left_since disks told = all_alone moment left_since (λ at file. IsOfTheWay (start routers) (start routers) at file) disks
+-- where no event happened
+pub first_leaves : {D : Type 0} (moment : D → ℕ) (left_since : D → ℕ → Outcomes) (first : World) (befores afters : List D)
+    → LeaveSuch moment left_since (IsOfWorld first) befores afters → LeaveSuch moment left_since (λ at file. IsOfTheWay first first at file) befores afters
+first_leaves moment left_since first befores afters leave =
+    all_weaker moment left_since (IsOfWorld first) (λ at file. IsOfTheWay first first at file) befores afters
+    (λ at file stands. of_the_first first first at file (leads_nowhere first) stands) leave
 
 module _ {N D : Type 0} (state : N → NodeState) (tells : Bool) (content : D → List ℕ) (moment : D → ℕ) (left_since : D → ℕ → Outcomes) (fault_count : D → ℕ)
-    (place : D → List ℕ) (routers : ℕ) (w : World) (told : IsTrue tells) where
+    (place : D → List ℕ) (first w : World) (told : IsTrue tells) where
   -- what is said of a log is said of its disk
-  at_place : (at : ℕ) (disk : D) (old new : JournalView D) → LeavesAlso moment left_since disk old.disk (λ file. Stands file [])
-      → LeavesKept (journal_facts tells content moment left_since fault_count place) (start routers) old new at w
-      → LeavesAlso moment left_since disk new.disk (λ file. IsOfTheWay (start routers) w at file)
-  at_place at disk old new first k =
-      leaves_then moment left_since disk old.disk new.disk (λ file. Stands file []) (λ file. IsOfTheWay (start routers) w at file) (λ file. IsOfTheWay (start routers) w at file) first
-      (record { later = k.left.later; each = k.left.each }) (λ file stands. of_the_start routers w at file k.came stands) (λ file is. is)
+  at_place : (at : ℕ) (disk : D) (old new : JournalView D) → LeavesAlso moment left_since disk old.disk (IsOfWorld first at)
+      → LeavesKept (journal_facts tells content moment left_since fault_count place) first old new at w
+      → LeavesAlso moment left_since disk new.disk (λ file. IsOfTheWay first w at file)
+  at_place at disk old new early k =
+      leaves_then moment left_since disk old.disk new.disk (IsOfWorld first at) (λ file. IsOfTheWay first w at file) (λ file. IsOfTheWay first w at file) early
+      (record { later = k.left.later; each = k.left.each }) (λ file stands. of_the_first first w at file k.came stands) (λ file is. is)
 
   each_place : (node : ℕ → ℕ) (disks : List D) (olds news : List (Seat N (JournalView D)))
-      → LeaveSuch moment left_since (λ at file. Stands file []) disks (map (λ s. s.log.disk) olds) → length olds ≡ length news
+      → LeaveSuch moment left_since (λ at. IsOfWorld first (node at)) disks (map (λ s. s.log.disk) olds) → length olds ≡ length news
       → ((at : ℕ) (s : Seat N (JournalView D)) → slice_get news at ≡ Some s → (old : JournalView D) → slice_get (map (λ s. s.log) olds) at ≡ Some old
-      → LeavesKept (journal_facts tells content moment left_since fault_count place) (start routers) old s.log (node at) w)
-      → LeaveSuch moment left_since (λ at file. IsOfTheWay (start routers) w (node at) file) disks (map (λ s. s.log.disk) news)
-  each_place node [] [] [] first len kept = tt
-  each_place node [] [] (s ∷ news) first len kept = absurd (omega (arith, len))
-  each_place node [] (o ∷ olds) news first len kept = absurd first
-  each_place node (disk ∷ disks) [] news first len kept = absurd first
-  each_place node (disk ∷ disks) (o ∷ olds) [] first len kept = absurd (omega (arith, len))
-  each_place node (disk ∷ disks) (o ∷ olds) (s ∷ news) first len kept = (
-    at_place (node zero) disk o.log s.log first.0 (kept zero s refl o.log refl),
-    each_place (λ at. node (suc at)) disks olds news first.1 (omega (arith, len)) (λ at. kept (suc at)),
+      → LeavesKept (journal_facts tells content moment left_since fault_count place) first old s.log (node at) w)
+      → LeaveSuch moment left_since (λ at file. IsOfTheWay first w (node at) file) disks (map (λ s. s.log.disk) news)
+  each_place node [] [] [] early len kept = tt
+  each_place node [] [] (s ∷ news) early len kept = absurd (omega (arith, len))
+  each_place node [] (o ∷ olds) news early len kept = absurd early
+  each_place node (disk ∷ disks) [] news early len kept = absurd early
+  each_place node (disk ∷ disks) (o ∷ olds) [] early len kept = absurd (omega (arith, len))
+  each_place node (disk ∷ disks) (o ∷ olds) (s ∷ news) early len kept = (
+    at_place (node zero) disk o.log s.log early.0 (kept zero s refl o.log refl),
+    each_place (λ at. node (suc at)) disks olds news early.1 (omega (arith, len)) (λ at. kept (suc at)),
   )
 
   -- and so of all disks
   pub seats_leave : (disks : List D) (olds news : List (Seat N (JournalView D)))
-      → LeaveSuch moment left_since (λ at file. Stands file []) disks (map (λ s. s.log.disk) olds) → length olds ≡ length news
-      → LeaveKept (seat_since state (journal_facts tells content moment left_since fault_count place) (since_then olds (start routers))) news w
-      → LeaveSuch moment left_since (λ at file. IsOfTheWay (start routers) w at file) disks (map (λ s. s.log.disk) news)
-  seats_leave disks olds news first len leave =
-      each_place (λ at. at) disks olds news first len (λ at s got old began. (leave at s got told).0 old began)
+      → LeaveSuch moment left_since (IsOfWorld first) disks (map (λ s. s.log.disk) olds) → length olds ≡ length news
+      → LeaveKept (seat_since state (journal_facts tells content moment left_since fault_count place) (since_then olds first)) news w
+      → LeaveSuch moment left_since (λ at file. IsOfTheWay first w at file) disks (map (λ s. s.log.disk) news)
+  seats_leave disks olds news early len leave =
+      each_place (λ at. at) disks olds news early len (λ at s got old began. (leave at s got told).0 old began)
 
 -- BYTES THAT ARE ACKNOWLEDGED
 

@@ -1,6 +1,7 @@
 pub mod Answered
 pub mod Counts
 pub mod Crashes
+pub mod Firsts
 pub mod Lefts
 pub mod NotBegun
 pub mod Numbers

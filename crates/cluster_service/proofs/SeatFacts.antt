@@ -1,4 +1,4 @@
--- Nodes with their journals: at the start, and after a connection.
+-- Nodes with their journals: in the first world, and after a connection.
 use Rattle.std.specs.Prelude.{◌≡◌, ◌≢◌, ℕ, zero, suc, ◌+◌, Bool, IsTrue, List, [], ◌∷◌, length, map}
 use Rattle.std.proofs.Common.{refl, sym, ap, subst, ◌∙◌, arith}
 use Rattle.std.specs.List.{AllByRecursion}
@@ -6,8 +6,8 @@ use Rattle.outside.specs.Devices.{SourceCall, SinkCall, NoneFell, OneRose}
 use Rattle.outside.proofs.Relations.{none_fell_self}
 use Rattle.outside.specs.Disks.{Outcomes}
 use Rattle.journal_frames.specs.Views.{JournalView, journal_facts}
-use Rattle.node_model.specs.States.{NodeState, catalogue_state, shard_state, router_state, new_catalogue, new_shard, new_router}
-use Rattle.node_model.specs.World.{Held, World, routers_from, start}
+use Rattle.node_model.specs.States.{NodeState}
+use Rattle.node_model.specs.World.{Held, World}
 use Rattle.driver_steps.specs.Seats.{AreHeld, AreKept, IsHeld, seat_view}
 use Rattle.driver_steps.specs.declared.seat.Seat.{Seat}
 use Rattle.pipe_driver.specs.Endings.{most_taken}
@@ -23,8 +23,7 @@ use Rattle.cluster_service.specs.Drivers.{IsDriven}
 use Rattle.cluster_service.specs.declared.arguments.Command.{Command}
 use Rattle.cluster_service.specs.declared.arguments.Command.TheVariants.{Pipe, Sim}
 use Rattle.journal_starts.specs.Journals.{AreJournals}
-use Rattle.cluster_top.specs.Nodes.{AreNew}
-use Rattle.cluster_service.specs.OpenJournals.{AreAllOpen, AreFresh, HaveNoRecord, IsFresh, disks_of}
+use Rattle.cluster_service.specs.OpenJournals.{AreAllOpen, AreOpenWith, disks_of}
 use Rattle.cluster_service.specs.Seats.{seats_of}
 use Rattle.cluster_service.specs.Statuses.{of_connection}
 use Rattle.cluster_service.specs.declared.status.Status.{Status}
@@ -33,38 +32,23 @@ use Rattle.cluster_service.proofs.Counts.{one_rose_as}
 
 module _ {N D : Type 0} (state : N → NodeState) (tells : Bool) (content : D → List ℕ) (moment : D → ℕ) (left_since : D → ℕ → Outcomes) (fault_count : D → ℕ)
     (place : D → List ℕ) where
-  -- a new node with a journal without records
-  is_held : (node : N) (journal : JournalView D) (new : NodeState) → state node ≡ new → IsFresh tells content journal
-      → IsHeld (seat_view state (journal_facts tells content moment left_since fault_count place) (record { node = node; log = journal }))
-      (record { state = new; kept = [] })
-  is_held node journal new same fresh = record { same = sym same; written = fresh.none; keeps = record { readable = tt; found = λ told. fresh.file } }
-
-  held_routers : (first routers : ℕ) (nodes : List N) (journals : List (JournalView D)) → map state nodes ≡ map (λ h. h.state) (routers_from first routers)
-      → AreFresh tells content journals → length journals ≡ routers
-      → AreHeld (seat_view state (journal_facts tells content moment left_since fault_count place)) (seats_of nodes journals) (routers_from first routers)
-  held_routers first zero [] journals new fresh count = tt
-  held_routers first zero (node ∷ nodes) journals new fresh count = absurd (cc new)
-  held_routers first (suc routers) [] journals new fresh count = absurd (cc new)
-  held_routers first (suc routers) (node ∷ nodes) [] new fresh count = absurd (omega (arith, count))
-  held_routers first (suc routers) (node ∷ nodes) (journal ∷ journals) new fresh count = (
-    is_held node journal (router_state (new_router first)) (cc new) fresh.0,
-    held_routers (first + 1) routers nodes journals (cc new) fresh.1 (omega (arith, count)),
-  )
-
-  -- new nodes with journals without records are those of the start
-  pub held_at_start : (routers : ℕ) (nodes : List N) (journals : List (JournalView D)) → AreNew state routers nodes → AreFresh tells content journals
-      → length journals ≡ 2 + routers
-      → AreHeld (seat_view state (journal_facts tells content moment left_since fault_count place)) (seats_of nodes journals) (start routers).nodes
-  held_at_start routers [] journals new fresh count = absurd (cc new)
-  held_at_start routers (catalogue ∷ []) journals new fresh count = absurd (cc new)
-  held_at_start routers (catalogue ∷ shard ∷ nodes) [] new fresh count = absurd (omega (arith, count))
-  held_at_start routers (catalogue ∷ shard ∷ nodes) (a ∷ []) new fresh count = absurd (omega (arith, count))
-  held_at_start routers (catalogue ∷ shard ∷ nodes) (a ∷ b ∷ journals) new fresh count = (
-    is_held catalogue a (catalogue_state (new_catalogue 0)) (cc new) fresh.0,
-    (
-      is_held shard b (shard_state (new_shard 1)) (cc new) fresh.1.0,
-      held_routers 2 routers nodes journals (cc new) fresh.1.1 (omega (arith, count)),
-    ),
+  -- nodes in the states of a world, with journals that store what these do, are those of the world
+  pub held_from : (nodes : List N) (journals : List (JournalView D)) (held : List Held) → map state nodes ≡ map (λ h. h.state) held
+      → AreOpenWith tells content journals held
+      → AreHeld (seat_view state (journal_facts tells content moment left_since fault_count place)) (seats_of nodes journals) held
+  held_from [] [] [] same are = tt
+  held_from [] [] (h ∷ held) same are = absurd are
+  held_from [] (journal ∷ journals) [] same are = absurd are
+  held_from [] (journal ∷ journals) (h ∷ held) same are = absurd (cc same)
+  held_from (node ∷ nodes) journals [] same are = absurd (cc same)
+  held_from (node ∷ nodes) [] (h ∷ held) same are = absurd are
+  held_from (node ∷ nodes) (journal ∷ journals) (h ∷ held) same are = (
+    record {
+      same = cc same;
+      written = are.0.0.listed;
+      keeps = record { readable = are.0.1; found = λ told. are.0.0.stands };
+    },
+    held_from nodes journals held (cc same) are.1,
   )
 
   -- where the logs keep what the journals keep, so do the files
@@ -75,15 +59,14 @@ module _ {N D : Type 0} (state : N → NodeState) (tells : Bool) (content : D �
   kept_in_files [] (h ∷ nodes) kept told = absurd kept
   kept_in_files (s ∷ seats) [] kept told = absurd kept
 
--- journals without records have files without records, as many
-pub fresh_files : {D : Type 0} (tells : Bool) (content : D → List ℕ) (journals : List (JournalView D)) → AreFresh tells content journals → IsTrue tells
-    → HaveNoRecord (map content (disks_of journals))
-fresh_files tells content [] fresh told = tt
-fresh_files tells content (j ∷ journals) fresh told = (fresh.0.file told, fresh_files tells content journals fresh.1 told)
-
-pub files_len : {D : Type 0} (content : D → List ℕ) (journals : List (JournalView D)) → length (map content (disks_of journals)) ≡ length journals
-files_len content [] = refl
-files_len content (j ∷ journals) = ap suc (files_len content journals)
+-- the files of journals that store what the nodes do
+pub open_files : {D : Type 0} (tells : Bool) (content : D → List ℕ) (journals : List (JournalView D)) (nodes : List Held) → AreOpenWith tells content journals nodes
+    → IsTrue tells → AreJournals (map content (disks_of journals)) nodes
+open_files tells content [] [] are told = tt
+open_files tells content [] (h ∷ nodes) are told = absurd are
+open_files tells content (j ∷ journals) [] are told = absurd are
+open_files tells content (j ∷ journals) (h ∷ nodes) are told =
+    (record { stands = are.0.0.stands told; readable = are.0.1 }, open_files tells content journals nodes are.1 told)
 
 -- of the disks of the seats, before
 pub told_before : {N D X : Type 0} (f : D → X) (nodes : List N) (journals : List (JournalView D)) (seats : List (Seat N (JournalView D)))

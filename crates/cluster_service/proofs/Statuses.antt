@@ -30,15 +30,22 @@ is_status known status number is same = same_status status known (sym is ∙ sam
 pub has_number : (known status : Status) (number : ℕ) → number ≡ number_of status → status ≡ known → number ≡ number_of known
 has_number known status number is same = is ∙ ap number_of same
 
-pub six_or_five : (status : Status) (number : ℕ) → number ≡ number_of status → (status ≡ DamagedJournal) ⊎ (status ≡ DiskFailed) → (number ≡ 6) ⊎ (number ≡ 5)
-six_or_five status number is (inl damaged) = inl (has_number DamagedJournal status number is damaged)
-six_or_five status number is (inr failed) = inr (has_number DiskFailed status number is failed)
+-- one of two statuses
+pub one_of_two : (a b status : Status) (number : ℕ) → number ≡ number_of status → (status ≡ a) ⊎ (status ≡ b) → (number ≡ number_of a) ⊎ (number ≡ number_of b)
+one_of_two a b status number is (inl first) = inl (has_number a status number is first)
+one_of_two a b status number is (inr second) = inr (has_number b status number is second)
+
+pub refused_number : (status : Status) (number : ℕ) → number ≡ number_of status
+    → (status ≡ DamagedJournal) ⊎ ((status ≡ DiskFailed) ⊎ (status ≡ OutOfMemory)) → (number ≡ 6) ⊎ ((number ≡ 5) ⊎ (number ≡ 7))
+refused_number status number is (inl damaged) = inl (has_number DamagedJournal status number is damaged)
+refused_number status number is (inr other) = inr (one_of_two DiskFailed OutOfMemory status number is other)
 
 pub refused_or_damaged : (status : Status) (number : ℕ) → number ≡ number_of status → status ≢ BadArguments → (number ≡ 2) ⊎ (number ≡ 6) → status ≡ DamagedJournal
 refused_or_damaged status number is other (inl two) = absurd (other (is_status BadArguments status number is two))
 refused_or_damaged status number is other (inr six) = is_status DamagedJournal status number is six
 
-pub seven_or_durable : (status : Status) (number : ℕ) → number ≡ number_of status → (durable begun : Type 0) → durable ⊎ ((status ≡ OutOfMemory) × begun)
-    → durable ⊎ ((number ≡ 7) × begun)
-seven_or_durable status number is durable begun (inl all) = inl all
-seven_or_durable status number is durable begun (inr (memory, none)) = inr (has_number OutOfMemory status number is memory, none)
+-- all is durable, or nothing was begun
+pub durable_number : (status : Status) (number : ℕ) → number ≡ number_of status → (durable begun : Type 0)
+    → durable ⊎ (((status ≡ DamagedJournal) ⊎ (status ≡ OutOfMemory)) × begun) → durable ⊎ (((number ≡ 6) ⊎ (number ≡ 7)) × begun)
+durable_number status number is durable begun (inl all) = inl all
+durable_number status number is durable begun (inr (why, none)) = inr (one_of_two DamagedJournal OutOfMemory status number is why, none)

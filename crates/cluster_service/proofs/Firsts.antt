@@ -1,0 +1,139 @@
+-- The world that a call begins in has a catalogue, a shard and as many routers as the calls before it had.
+use Rattle.std.specs.Prelude.{◌≡◌, ◌≢◌, ◌⊎◌, ℕ, zero, suc, ◌+◌, ◌<◌, List, [], ◌∷◌, ◌++◌, length, Option, Some, None}
+use Rattle.std.proofs.Common.{refl, sym, ap, subst, inl, inr, ◌∙◌, arith}
+use Rattle.std.specs.List.{slice_get, slice_set}
+use Rattle.std.specs.Option.{option_map}
+use Rattle.record_model.specs.Records.{Record}
+use Rattle.node_model.specs.Journal.{Kept}
+use Rattle.node_model.specs.Letters.{Input}
+use Rattle.node_model.specs.States.{NodeState, Router, router_state}
+use Rattle.node_model.specs.World.{Held, World, IsRouter, Moves, Event, Happens, comes, delivers, passes, begins as was_opened, routers_from, start}
+use Rattle.node_laws.proofs.StepsKeep.{get_set}
+use Rattle.node_replay.specs.Durable.{DurableState, DurableRouter, durable_router, empty_of, empty_router}
+use Rattle.node_replay.specs.Follow.{router_follow}
+use Rattle.node_replay.specs.Openings.{opened, opened_on}
+use Rattle.node_replay.specs.Replays.{replayed, records_of, latest_time}
+use Rattle.node_replay.specs.Restarts.{EventOrStop, Occurs, occurs, restarts, stops, RunWithStops, stays, proceeds}
+use Rattle.restart_laws.specs.Calls.{BeginsOn, Calls, this_call, next_call}
+use Rattle.node_progress.specs.Firsts.{first_again}
+use Rattle.node_progress.proofs.Bags.{get_other, length_set, same_place}
+use Rattle.pipe_driver.specs.Rounds.{first_router}
+use Rattle.pipe_driver.proofs.Routers.{happens_stays}
+use Rattle.sim_driver.specs.Moves.{MayPlay}
+use Rattle.sim_driver.proofs.Plays.{start_may_play}
+use Rattle.journal_starts.specs.Starts.{BeginsOnFiles, begins_new, begins_again}
+
+-- A ROUTER IS STARTED AS ONE
+
+router_replays : (records : List Record) (d : DurableRouter) (e : DurableState) → replayed (Some (durable_router d)) records ≡ Some e
+    → (r : DurableRouter) × (e ≡ durable_router r)
+router_replays [] d e is = (d, cc is)
+router_replays (r ∷ records) d e is = by_next (router_follow d r) is
+  where
+    by_next : (next : Option DurableRouter) → replayed (option_map durable_router next) records ≡ Some e → (r : DurableRouter) × (e ≡ durable_router r)
+    by_next None is = absurd (cc is)
+    by_next (Some d) is = router_replays records d e is
+
+router_opens : (r : Router) (kept : List Kept) (new : NodeState) → opened_on (router_state r) kept ≡ Some new → (q : Router) × (new ≡ router_state q)
+router_opens r kept new = by_replay (replayed (Some (durable_router (empty_router r.me))) (records_of kept)) refl
+  where
+    by_replay : (d : Option DurableState) → replayed (Some (durable_router (empty_router r.me))) (records_of kept) ≡ d
+        → option_map (opened (latest_time (records_of kept))) d ≡ Some new → (q : Router) × (new ≡ router_state q)
+    by_replay None same is = absurd (cc is)
+    by_replay (Some d) same is = of_router d (router_replays (records_of kept) (empty_router r.me) d same) (cc is)
+      where
+        of_router : (d : DurableState) → (r : DurableRouter) × (d ≡ durable_router r) → opened (latest_time (records_of kept)) d ≡ new
+            → (q : Router) × (new ≡ router_state q)
+        of_router d (durable, same) is = (_, sym is ∙ ap (λ e. opened (latest_time (records_of kept)) e) same)
+
+-- where the node at a place is started, each router is one afterwards
+router_stays : (nodes : List Held) (place at : ℕ) (old : Held) (new : NodeState) (kept stored : List Kept) → slice_get nodes place ≡ Some old
+    → opened_on old.state kept ≡ Some new → IsRouter nodes at → IsRouter (slice_set nodes place (record { state = new; kept = stored })) at
+router_stays nodes place at old new kept stored here opens (r, was, got) = by_place (same_place at place)
+  where
+    by_place : (at ≡ place) ⊎ (at ≢ place) → IsRouter (slice_set nodes place (record { state = new; kept = stored })) at
+    by_place (inl same) =
+        let both : Some old ≡ Some (record { state = router_state r; kept = was }) = sym here ∙ ap (λ k. slice_get nodes k) (sym same) ∙ got in
+        let one : old ≡ record { state = router_state r; kept = was } = cc both in
+        let state : old.state ≡ router_state r = ap (λ (x : Held). x.state) one in
+        let q = router_opens r kept new (subst (λ s. opened_on s kept ≡ Some new) state opens) in
+        (q.0, stored,
+        subst (λ k. slice_get (slice_set nodes place (record { state = new; kept = stored })) k ≡ Some (record { state = router_state q.0; kept = stored })) (sym same)
+        (get_set nodes place old (record { state = new; kept = stored }) here ∙ ap (λ s. Some (record { state = s; kept = stored })) q.1))
+    by_place (inr other) = (r, was, get_other nodes place at (record { state = new; kept = stored }) other ∙ got)
+
+-- ALL NODES
+
+-- the nodes are a catalogue, a shard and so many routers
+record HasNodes (routers : ℕ) (nodes : List Held) : Type 0 where
+  count : length nodes ≡ first_router + routers
+  each : (router : ℕ) → router < routers → IsRouter nodes (first_router + router)
+
+module _ (routers : ℕ) where
+  move_count : (w v : World) (at : ℕ) (i : Input) → Moves w at i v → length v.nodes ≡ length w.nodes
+  move_count w v at i m = ap (λ (x : World). length x.nodes) m.then ∙ length_set w.nodes at (record { state = m.new; kept = m.old.kept ++ m.f.written })
+
+  happens_count : (w v : World) (e : Event) → Happens w e v → length v.nodes ≡ length w.nodes
+  happens_count _ _ _ (comes w v at link number request router m) = move_count w v at _ m
+  happens_count _ _ _ (delivers w v at which letter got to m) = move_count w v at _ m
+  happens_count _ _ _ (passes w v at moment m) = move_count w v at _ m
+  happens_count _ _ _ (was_opened w v at m) = move_count w v at _ m
+
+  started_has : (w : World) (at : ℕ) (old : Held) (new : NodeState) (kept stored : List Kept) → slice_get w.nodes at ≡ Some old
+      → opened_on old.state kept ≡ Some new → HasNodes routers w.nodes → HasNodes routers (slice_set w.nodes at (record { state = new; kept = stored }))
+  started_has w at old new kept stored here opens has = record {
+    count = length_set w.nodes at (record { state = new; kept = stored }) ∙ has.count;
+    each = λ router below. router_stays w.nodes at (first_router + router) old new kept stored here opens (has.each router below);
+  }
+
+  occurs_has : (w v : World) (e : EventOrStop) → Occurs w e v → HasNodes routers w.nodes → HasNodes routers v.nodes
+  occurs_has _ _ _ (occurs w v e h) has = record {
+    count = happens_count w v e h ∙ has.count;
+    each = λ router below. happens_stays w v e (first_router + router) h (has.each router below);
+  }
+  occurs_has _ _ _ (restarts w v at m) has =
+      subst (λ (x : World). HasNodes routers x.nodes) (sym m.then) (started_has w at m.old m.new m.old.kept (m.old.kept ++ []) m.here m.opens has)
+  occurs_has _ _ _ (stops w v at e i gives m) has =
+      subst (λ (x : World). HasNodes routers x.nodes) (sym m.then)
+      (started_has w at m.old m.new (m.old.kept ++ m.f.written) (m.old.kept ++ m.f.written) m.here m.opens has)
+
+  run_has : (u w : World) (events : List EventOrStop) → RunWithStops u events w → HasNodes routers u.nodes → HasNodes routers w.nodes
+  run_has _ _ _ (stays w) has = has
+  run_has _ _ _ (proceeds u v w e events h more) has = run_has v w events more (occurs_has u v e h has)
+
+  begins_has : (u first : World) → BeginsOn u first → HasNodes routers u.nodes → HasNodes routers first.nodes
+  begins_has u first b has = subst (λ (x : World). HasNodes routers x.nodes) (sym b.then) (run_has u b.started _ b.starts has)
+
+  calls_have : (u w : World) → Calls u w → HasNodes routers u.nodes → HasNodes routers w.nodes
+  calls_have u _ (this_call w events run) has = run_has u w events run has
+  calls_have u _ (next_call v first w events calls b run) has = run_has first w events run (begins_has v first b (calls_have u v calls has))
+
+-- THE FIRST WORLD
+
+from_length : (first count : ℕ) → length (routers_from first count) ≡ count
+from_length first zero = refl
+from_length first (suc count) = omega (arith, from_length (first + 1) count)
+
+start_has : (routers : ℕ) → HasNodes routers (start routers).nodes
+start_has routers = record {
+  count = omega (arith, from_length 2 routers);
+  each = λ router below. (start_may_play routers).routers router (omega (arith, below, from_length 2 routers));
+}
+
+first_has : (routers : ℕ) (files : List (List ℕ)) (first : World) → BeginsOnFiles routers files first → HasNodes routers first.nodes
+first_has routers files _ (begins_new are) = start_has routers
+first_has routers files _ (begins_again u first reached are b) = begins_has routers u first b (calls_have routers (start routers) u reached (start_has routers))
+
+-- how many nodes it has
+pub first_count : (routers : ℕ) (files : List (List ℕ)) (first : World) → BeginsOnFiles routers files first → length first.nodes ≡ 2 + routers
+first_count routers files first begun = (first_has routers files first begun).count
+
+-- a call may be played from it on
+pub first_may_play : (routers : ℕ) (files : List (List ℕ)) (first : World) → BeginsOnFiles routers files first → MayPlay first
+first_may_play routers files _ (begins_new are) = start_may_play routers
+first_may_play routers files _ (begins_again u first reached are b) =
+    let has = first_has routers files first (begins_again u first reached are b) in
+    record {
+      begins = first_again routers u first reached b;
+      routers = λ router below. has.each router (omega (arith, below, has.count));
+    }
