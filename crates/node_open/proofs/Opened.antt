@@ -1,11 +1,11 @@
--- Nodes that were opened, and the next one; the first of which a record is refused.
-use Rattle.std.proofs.Common.{◌≡◌, ◌≢◌, ◌⊎◌, inl, inr, ℕ, zero, suc, ◌+◌, ◌<◌, List, [], ◌∷◌, ◌++◌, length, get_or, refl, subst, arith}
+-- Nodes that are opened one after another, each on the records of its journal.
+use Rattle.std.proofs.Common.{◌≡◌, ◌≢◌, ◌∙◌, inl, inr, ℕ, zero, suc, ◌+◌, List, [], ◌∷◌, ◌++◌, length, refl, sym, subst, append_assoc, append-nil, length-append, arith}
 use Rattle.journal_replay.specs.Replayed.{IsFault, IsRefused}
 use Rattle.journal_replay.specs.declared.fault.OpenFault.{OpenFault}
 use Rattle.journal_replay.specs.declared.fault.OpenFault.TheVariants.{Refused, Memory}
 use Rattle.journal_starts.specs.Records.{AreOpened, IsOpened, SomeRefused, part_at}
 use Rattle.node_model.specs.States.{NodeState}
-use Rattle.node_replay.specs.Durable.{DurableState, durable_router, empty_router}
+use Rattle.node_replay.specs.Durable.{durable_router, empty_router}
 use Rattle.node_open.specs.Faults.{IfRefused}
 
 pub part_of_router : (n : ℕ) → n ≢ 0 → n ≢ 1 → part_at n ≡ durable_router (empty_router n)
@@ -13,32 +13,73 @@ part_of_router zero a b = absurd (a refl)
 part_of_router (suc zero) a b = absurd (b refl)
 part_of_router (suc (suc n)) a b = refl
 
--- the nodes that were opened, with the one after them
-pub opened_next : (first : ℕ) (found : List (List (List ℕ))) (states : List NodeState) (records : List (List ℕ)) (state : NodeState)
-    → AreOpened first found states → IsOpened (part_at (first + length found)) records state
-    → AreOpened first (found ++ records ∷ []) (states ++ state ∷ [])
+-- those that were opened, with the node after them
+opened_next : (first : ℕ) (gone : List (List (List ℕ))) (states : List NodeState) (records : List (List ℕ)) (state : NodeState)
+    → AreOpened first gone states → IsOpened (part_at (first + length gone)) records state
+    → AreOpened first (gone ++ records ∷ []) (states ++ state ∷ [])
 opened_next first [] [] records state before next =
     let e : first + 0 ≡ first = omega arith in
     (subst (λ n. IsOpened (part_at n) records state) e next, tt)
 opened_next first [] (s ∷ states) records state before next = absurd before
-opened_next first (r ∷ found) [] records state before next = absurd before
-opened_next first (r ∷ found) (s ∷ states) records state before next =
-    let e : first + suc (length found) ≡ first + 1 + length found = omega arith in
-    (before.0, opened_next (first + 1) found states records state before.1 (subst (λ n. IsOpened (part_at n) records state) e next))
+opened_next first (r ∷ gone) [] records state before next = absurd before
+opened_next first (r ∷ gone) (s ∷ states) records state before next =
+    let e : first + suc (length gone) ≡ first + 1 + length gone = omega arith in
+    (before.0, opened_next (first + 1) gone states records state before.1 (subst (λ n. IsOpened (part_at n) records state) e next))
 
--- where a record of the node at a place is refused, some record is
-pub refused_at : (first k : ℕ) (found : List (List (List ℕ))) (records d : List (List ℕ)) (index : ℕ) → k < length found → records ≡ get_or found k d
-    → IsRefused (part_at (first + k)) records index → SomeRefused first found
-refused_at first k [] records d index below e refused = absurd (omega arith)
-refused_at first zero (r ∷ found) records d index below e refused =
-    let n : first + 0 ≡ first = omega arith in
-    inl (index, subst (λ bytes. IsRefused (part_at first) bytes index) e (subst (λ m. IsRefused (part_at m) records index) n refused))
-refused_at first (suc k) (r ∷ found) records d index below e refused =
-    let n : first + suc k ≡ first + 1 + k = omega arith in
-    inr (refused_at (first + 1) k found records d index (omega arith) e (subst (λ m. IsRefused (part_at m) records index) n refused))
+-- a record that is refused behind some nodes is one of all
+refused_behind : (first : ℕ) (gone left : List (List (List ℕ))) → SomeRefused (first + length gone) left → SomeRefused first (gone ++ left)
+refused_behind first [] left some =
+    let e : first + 0 ≡ first = omega arith in
+    subst (λ n. SomeRefused n left) e some
+refused_behind first (r ∷ gone) left some =
+    let e : first + suc (length gone) ≡ first + 1 + length gone = omega arith in
+    inr (refused_behind (first + 1) gone left (subst (λ n. SomeRefused n left) e some))
 
--- a fault of the node at a place is one of all nodes
-pub fault_of_all : (k : ℕ) (found : List (List (List ℕ))) (records d : List (List ℕ)) (fault : OpenFault) → k < length found → records ≡ get_or found k d
-    → IsFault (part_at k) records fault → IfRefused fault (SomeRefused 0 found)
-fault_of_all k found records d (Refused index) below e refused = refused_at 0 k found records d index below e refused
-fault_of_all k found records d Memory below e refused = tt
+-- the nodes before what is left are opened; `me` is the number of the next one
+pub record OpenedUpTo (all left : List (List (List ℕ))) (me : ℕ) (states : List NodeState) : Type 0 where
+  pub gone : List (List (List ℕ))
+  pub whole : all ≡ gone ++ left
+  pub count : me ≡ length gone
+  pub opened : AreOpened 0 gone states
+
+pub up_to_start : (all : List (List (List ℕ))) → OpenedUpTo all all 0 []
+up_to_start all = record { gone = []; whole = refl; count = refl; opened = tt }
+
+pub up_to_next : (all left : List (List (List ℕ))) (me : ℕ) (states : List NodeState) (records : List (List ℕ)) (state : NodeState)
+    → OpenedUpTo all (records ∷ left) me states → IsOpened (part_at me) records state → OpenedUpTo all left (me + 1) (states ++ state ∷ [])
+up_to_next all left me states records state u is =
+    let e : me ≡ 0 + length u.gone = u.count in
+    record {
+      gone = u.gone ++ records ∷ [];
+      whole = u.whole ∙ sym (append_assoc u.gone (records ∷ []) left);
+      count = omega (arith, u.count, length-append u.gone (records ∷ []));
+      opened = opened_next 0 u.gone states records state u.opened (subst (λ n. IsOpened (part_at n) records state) e is);
+    }
+
+pub up_to_end : (all left : List (List (List ℕ))) (me : ℕ) (states : List NodeState) → OpenedUpTo all left me states → left ≡ [] → AreOpened 0 all states
+up_to_end all left me states u none =
+    let e : u.gone ≡ all = sym (append-nil u.gone) ∙ sym (subst (λ l. all ≡ u.gone ++ l) none u.whole) in
+    subst (λ l. AreOpened 0 l states) e u.opened
+
+-- a record of the next node that is refused is one of all
+up_to_refused : (all left : List (List (List ℕ))) (me : ℕ) (states : List NodeState) (records : List (List ℕ)) (index : ℕ)
+    → OpenedUpTo all (records ∷ left) me states → IsRefused (part_at me) records index → SomeRefused 0 all
+up_to_refused all left me states records index u refused =
+    let e : me ≡ 0 + length u.gone = u.count in
+    let here : SomeRefused (0 + length u.gone) (records ∷ left) = inl (index, subst (λ n. IsRefused (part_at n) records index) e refused) in
+    subst (λ l. SomeRefused 0 l) (sym u.whole) (refused_behind 0 u.gone (records ∷ left) here)
+
+-- a fault of the next node is one of all
+pub up_to_fault : (all left : List (List (List ℕ))) (me : ℕ) (states : List NodeState) (records : List (List ℕ)) (fault : OpenFault)
+    → OpenedUpTo all (records ∷ left) me states → IsFault (part_at me) records fault → IfRefused fault (SomeRefused 0 all)
+up_to_fault all left me states records (Refused index) u refused = up_to_refused all left me states records index u refused
+up_to_fault all left me states records Memory u refused = tt
+
+-- out of memory says nothing of records
+pub no_record : (refused : Type 0) (fault : OpenFault) → fault ≡ Memory → IfRefused fault refused
+no_record refused (Refused index) e = absurd (cc)
+no_record refused Memory e = tt
+
+pub none_left : (left : List (List (List ℕ))) → length left ≡ 0 → left ≡ []
+none_left [] e = refl
+none_left (r ∷ left) e = absurd (omega arith)
