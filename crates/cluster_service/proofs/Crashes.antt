@@ -1,12 +1,11 @@
--- The files of disks after a crash: their lengths read, opened as journals, and written by nodes.
+-- The files of disks after a crash: opened as journals, and written by nodes.
 use Rattle.std.specs.Prelude.{◌≡◌, ◌⊎◌, ℕ, zero, suc, ◌+◌, ◌≤◌, Some, Bool, IsTrue, List, [], ◌∷◌, length, map}
 use Rattle.std.proofs.Common.{refl, sym, subst, inl, inr, arith}
 use Rattle.std.specs.List.{slice_get}
-use Rattle.outside.specs.Disks.{Elapses, LeavesOnly, Outcomes, Within}
+use Rattle.outside.specs.Disks.{LeavesOnly, Outcomes}
 use Rattle.outside.specs.Notes.{Note}
 use Rattle.journal_frames.specs.Files.{HaveSameRecords, Stands}
 use Rattle.journal_frames.specs.Views.{JournalView, journal_facts}
-use Rattle.journal_frames.proofs.Unique.{one_list}
 use Rattle.node_model.specs.States.{NodeState}
 use Rattle.node_model.specs.World.{World, journal_at}
 use Rattle.node_traits.specs.Calls.{LeavesAlso}
@@ -20,7 +19,6 @@ use Rattle.pipe_driver.proofs.Covers.{got_mapped}
 use Rattle.cluster_service.specs.Crashes.{AreDurableBefore, IsOfTheWay, LeaveSuch, LeaveTheWay}
 use Rattle.cluster_service.specs.Drivers.{output_of}
 use Rattle.cluster_service.specs.declared.arguments.Command.{Command}
-use Rattle.cluster_service.proofs.OpenJournals.{nothing}
 
 -- ONE DISK
 

@@ -81,18 +81,7 @@ pairs_on R h [] (b ∷ ys) are = absurd are
 pairs_on R h (a ∷ xs) [] are = absurd are
 pairs_on R h (a ∷ xs) (b ∷ ys) are = (are.0, pairs_on R h xs ys are.1)
 
--- THE RECORDS OF FILES
-
--- the records that openings of files find are determined
-pub one_found : (files : List (List ℕ)) (found others : List (List (List ℕ))) → HaveRecords files found → HaveRecords files others → found ≡ others
-one_found [] [] [] have also = refl
-one_found [] [] (o ∷ others) have also = absurd also
-one_found [] (r ∷ found) others have also = absurd have
-one_found (file ∷ files) [] others have also = absurd have
-one_found (file ∷ files) (r ∷ found) [] have also = absurd also
-one_found (file ∷ files) (r ∷ found) (o ∷ others) have also =
-    ap (λ (l : List (List ℕ)). l ∷ found) (one_list file r o have.0 also.0)
-    ∙ ap (λ (ls : List (List (List ℕ))). o ∷ ls) (one_found files found others have.1 also.1)
+-- DAMAGE
 
 -- one of these files is damaged
 pub record SomeDamaged (files : List (List ℕ)) : Type 0 where
@@ -102,25 +91,18 @@ pub record SomeDamaged (files : List (List ℕ)) : Type 0 where
   pub here : slice_get files at ≡ Some file
   pub damaged : IsDamaged file offset
 
--- none is in which records are found
-pub none_damaged : (files : List (List ℕ)) (found : List (List (List ℕ))) → HaveRecords files found → ¬ SomeDamaged files
-none_damaged files found have some = not_at files found have some.at some.file some.here some.offset some.damaged
+-- no journal of a node is
+pub none_damaged : (files : List (List ℕ)) (nodes : List Held) → AreJournals files nodes → ¬ SomeDamaged files
+none_damaged files nodes are some = not_at files nodes are some.at some.file some.here some.offset some.damaged
   where
-    not_at : (files : List (List ℕ)) (found : List (List (List ℕ))) → HaveRecords files found → (at : ℕ) (file : List ℕ) → slice_get files at ≡ Some file
+    not_at : (files : List (List ℕ)) (nodes : List Held) → AreJournals files nodes → (at : ℕ) (file : List ℕ) → slice_get files at ≡ Some file
         → (offset : ℕ) → ¬ IsDamaged file offset
-    not_at [] found have at file got offset damaged = absurd (cc got)
-    not_at (x ∷ files) [] have at file got offset damaged = absurd have
-    not_at (x ∷ files) (r ∷ found) have zero file got offset damaged =
+    not_at [] nodes are at file got offset damaged = absurd (cc got)
+    not_at (x ∷ files) [] are at file got offset damaged = absurd are
+    not_at (x ∷ files) (h ∷ nodes) are zero file got offset damaged =
         let same : x ≡ file = cc got in
-        not_both file r offset (subst (λ (f : List ℕ). Stands f r) same have.0) damaged
-    not_at (x ∷ files) (r ∷ found) have (suc at) file got offset damaged = not_at files found have.1 at file got offset damaged
-
--- the records of the files of nodes are what these store
-pub have_kept : (files : List (List ℕ)) (nodes : List Held) → AreJournals files nodes → HaveRecords files (map (λ h. spellings h.kept) nodes)
-have_kept [] [] are = tt
-have_kept [] (h ∷ nodes) are = absurd are
-have_kept (file ∷ files) [] are = absurd are
-have_kept (file ∷ files) (h ∷ nodes) are = (are.0.stands, have_kept files nodes are.1)
+        not_both x (spellings h.kept) offset are.0.stands (subst (λ (f : List ℕ). IsDamaged f offset) (sym same) damaged)
+    not_at (x ∷ files) (h ∷ nodes) are (suc at) file got offset damaged = not_at files nodes are.1 at file got offset damaged
 
 -- DISKS AS THEY WERE
 
@@ -177,20 +159,20 @@ module _ {D : Type 0} (facts : DiskFacts D) (disks : List D) (journals : List (J
 
   pub opened_as_were : InThrees (IsOpenedOn facts) disks journals found → AreAsTheyWere facts disks (disks_of journals)
   opened_as_were are =
-      pairs_on (IsAsItWas facts) (λ journal. journal.disk) disks journals
+      pairs_on (IsAsItWas facts) (λ (journal : JournalView D). journal.disk) disks journals
       (threes_pairs (IsOpenedOn facts) (λ disk journal. IsAsItWas facts disk journal.disk) (λ disk journal records is. is.was) disks journals found are)
 
   pub opened_calm : InThrees (IsOpenedOn facts) disks journals found → map facts.fault_count (disks_of journals) ≡ map facts.fault_count disks
   opened_calm are =
       pairs_same facts.fault_count facts.fault_count disks (disks_of journals)
-      (pairs_on (λ a b. facts.fault_count b ≡ facts.fault_count a) (λ journal. journal.disk) disks journals
+      (pairs_on (λ a b. facts.fault_count b ≡ facts.fault_count a) (λ (journal : JournalView D). journal.disk) disks journals
       (threes_pairs (IsOpenedOn facts) (λ disk journal. facts.fault_count journal.disk ≡ facts.fault_count disk) (λ disk journal records is. is.calm)
       disks journals found are))
 
   pub opened_places : InThrees (IsOpenedOn facts) disks journals found → map facts.place (disks_of journals) ≡ map facts.place disks
   opened_places are =
       pairs_same facts.place facts.place disks (disks_of journals)
-      (pairs_on (λ a b. facts.place b ≡ facts.place a) (λ journal. journal.disk) disks journals
+      (pairs_on (λ a b. facts.place b ≡ facts.place a) (λ (journal : JournalView D). journal.disk) disks journals
       (threes_pairs (IsOpenedOn facts) (λ disk journal. facts.place journal.disk ≡ facts.place disk) (λ disk journal records is. is.place)
       disks journals found are))
 
@@ -371,5 +353,4 @@ module _ {D : Type 0} (facts : DiskFacts D) where
   pub unopened_undamaged : (status : Status) (before after : List D) (nodes : List Held) → AreUnopened facts status before after → IsTrue facts.tells
       → AreJournals (map facts.content before) nodes → status ≢ statuses.DamagedJournal
   unopened_undamaged status before after nodes are told journals is =
-      none_damaged (map facts.content before) (map (λ h. spellings h.kept) nodes) (have_kept (map facts.content before) nodes journals)
-      (unopened_damaged status before after are is told)
+      none_damaged (map facts.content before) nodes journals (unopened_damaged status before after are is told)
