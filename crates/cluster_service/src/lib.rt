@@ -6,11 +6,11 @@ mod disks;
 mod drive;
 mod journals;
 mod seats;
-mod serve;
+mod service;
 mod status;
 
 pub use arguments::{Command, node_count, read_command};
 pub use disks::{AllUnopened, Opened, open_all};
 pub use journals::close_all;
-pub use serve::{RunEnd, serve, unserved};
+pub use service::{RunEnd, serve, unserved};
 pub use status::Status;

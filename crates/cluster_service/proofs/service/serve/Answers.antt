@@ -18,7 +18,7 @@ use Rattle.cluster_service.proofs.Counts.{all_still}
 use Rattle.cluster_service.proofs.Crashes.{IsOfWorld, disks_owed, first_leaves, none_owed, seats_leave}
 use Rattle.cluster_service.proofs.SeatFacts.{driven_as, has_ending, held_from, kept_in_files, later_of, moved, of_no_other, one_rose_of, open_files, rose_of, seat_disks, seats_open, told_after, told_before}
 use Rattle.cluster_service.proofs.Unserved.{headline_of, unopened}
-use Rattle.cluster_service.proofs.serve.serve.Goals as goal
+use Rattle.cluster_service.proofs.service.serve.Goals as goal
 
 pub returns-then-is_err-clause-headline : goal.returns-then-is_err-clause-headline
 returns-then-is_err-clause-headline g c = λ asked first may same are disks early.
@@ -72,34 +72,42 @@ returns-clause-headline g c = λ asked first may same are disks early.
     let sink = (sink_call g.K.Sink.tells g.K.Sink.held g.K.Sink.fault_count c.args.out.now c.drive-ending.new.out) in
     let facts = journal_facts g.D.Disk.tells g.D.Disk.content g.D.Disk.moment g.D.Disk.left_since g.D.Disk.fault_count g.D.Disk.place in
     let view = seat_view g.N.Node.state facts in
-    let start_with : AreHeld view c.put_in.new.seats.items first.nodes =
+    let seats = c.put_in.new.seats.items in
+    let after = c.drive-ending.new.seats.items in
+    let back = c.take_disks.new.back.items in
+    let files : List g.row.D.Denot → List Held → Type 0 = λ ds nodes. AreJournals (map g.D.Disk.content ds) nodes in
+    let way : List g.row.D.Denot → World → Type 0 = λ ds w. LeaveTheWay first g.D.Disk.tells g.D.Disk.moment g.D.Disk.left_since disks ds w in
+    let owed : List g.row.D.Denot → World → List ℕ → Type 0 = λ ds w put.
+    AreDurableBefore g.K.Sink.tells g.D.Disk.tells g.D.Disk.place g.D.Disk.moment g.D.Disk.left_since c.args.command first
+    (g.K.Sink.noted c.drive-ending.new.out) (g.K.Sink.held c.args.out.now) ds w put in
+    let begun : AreHeld view seats first.nodes =
     subst (λ seats. AreHeld view seats first.nodes) (sym c.put_in.ensures.items)
     (held_from g.N.Node.state g.D.Disk.tells g.D.Disk.content g.D.Disk.moment g.D.Disk.left_since g.D.Disk.fault_count g.D.Disk.place c.args.nodes.items
     c.args.journals.items first.nodes same are) in
-    let kept : (nodes : List Held) → AreKept view c.drive-ending.new.seats.items nodes → IsTrue g.D.Disk.tells → AreJournals (map g.D.Disk.content c.take_disks.new.back.items) nodes =
-    λ nodes keeps told. subst (λ (ds : List g.row.D.Denot). AreJournals (map g.D.Disk.content ds) nodes) (sym c.take_disks.ensures.disks)
-    (kept_in_files g.N.Node.state g.D.Disk.tells g.D.Disk.content g.D.Disk.moment g.D.Disk.left_since g.D.Disk.fault_count g.D.Disk.place c.drive-ending.new.seats.items nodes keeps told) in
-    let leaves : (w : World) → LeaveKept (seat_since g.N.Node.state facts (since_then c.put_in.new.seats.items first)) c.drive-ending.new.seats.items w
-    → LeaveTheWay first g.D.Disk.tells g.D.Disk.moment g.D.Disk.left_since disks c.take_disks.new.back.items w =
-    λ w leave told. subst (λ (ds : List g.row.D.Denot). LeaveSuch g.D.Disk.moment g.D.Disk.left_since (λ at file. IsOfTheWay first w at file) disks ds) (sym c.take_disks.ensures.disks)
-    (seats_leave g.N.Node.state g.D.Disk.tells g.D.Disk.content g.D.Disk.moment g.D.Disk.left_since g.D.Disk.fault_count g.D.Disk.place first w told disks c.put_in.new.seats.items c.drive-ending.new.seats.items
+    let kept : (nodes : List Held) → AreKept view after nodes → IsTrue g.D.Disk.tells → files back nodes = λ nodes keeps told.
+    subst (λ ds. files ds nodes) (sym c.take_disks.ensures.disks)
+    (kept_in_files g.N.Node.state g.D.Disk.tells g.D.Disk.content g.D.Disk.moment g.D.Disk.left_since g.D.Disk.fault_count g.D.Disk.place after nodes keeps told) in
+    let leaves : (w : World) → LeaveKept (seat_since g.N.Node.state facts (since_then seats first)) after w → way back w = λ w leave told.
+    subst (λ ds. LeaveSuch g.D.Disk.moment g.D.Disk.left_since (λ at file. IsOfTheWay first w at file) disks ds) (sym c.take_disks.ensures.disks)
+    (seats_leave g.N.Node.state g.D.Disk.tells g.D.Disk.content g.D.Disk.moment g.D.Disk.left_since g.D.Disk.fault_count g.D.Disk.place first w told disks
+    seats after
     (subst (λ seats. LeaveSuch g.D.Disk.moment g.D.Disk.left_since (IsOfWorld first) disks (map (λ s. s.log.disk) seats)) (sym c.put_in.ensures.items)
     (subst (λ (ds : List g.row.D.Denot). LeaveSuch g.D.Disk.moment g.D.Disk.left_since (IsOfWorld first) disks ds)
-    (sym (seat_disks c.args.nodes.items c.args.journals.items (omega (arith, c.requires.nodes, c.requires.journals, c.args.nodes.ok, c.args.journals.ok)))) (early told)))
+    (sym (seat_disks c.args.nodes.items c.args.journals.items
+    (omega (arith, c.requires.nodes, c.requires.journals, c.args.nodes.ok, c.args.journals.ok)))) (early told)))
     (omega (arith, c.put_in.new.seats.ok, c.drive-ending.new.seats.ok, c.drive-ending.ensures.len)) leave) in
-    let pays : (w : World) (put : List ℕ) → AreAcknowledgedBy facts g.K.Sink.tells (output_of c.args.command first) first (g.K.Sink.noted c.drive-ending.new.out) (g.K.Sink.held c.args.out.now) c.drive-ending.new.seats.items w put
-    → AreDurableBefore g.K.Sink.tells g.D.Disk.tells g.D.Disk.place g.D.Disk.moment g.D.Disk.left_since c.args.command first (g.K.Sink.noted c.drive-ending.new.out) (g.K.Sink.held c.args.out.now) c.take_disks.new.back.items w put =
-    λ w put owed. subst (λ (ds : List g.row.D.Denot). AreDurableBefore g.K.Sink.tells g.D.Disk.tells g.D.Disk.place g.D.Disk.moment g.D.Disk.left_since c.args.command first (g.K.Sink.noted c.drive-ending.new.out) (g.K.Sink.held c.args.out.now) ds w put) (sym c.take_disks.ensures.disks)
-    (disks_owed g.K.Sink.tells g.D.Disk.tells g.D.Disk.content g.D.Disk.moment g.D.Disk.left_since g.D.Disk.fault_count g.D.Disk.place c.args.command first (g.K.Sink.noted c.drive-ending.new.out) (g.K.Sink.held c.args.out.now) c.drive-ending.new.seats.items w put owed) in (
+    let pays : (w : World) (put : List ℕ)
+    → AreAcknowledgedBy facts g.K.Sink.tells (output_of c.args.command first) first (g.K.Sink.noted c.drive-ending.new.out) (g.K.Sink.held c.args.out.now) after w put
+    → owed back w put = λ w put owes.
+    subst (λ ds. owed ds w put) (sym c.take_disks.ensures.disks)
+    (disks_owed g.K.Sink.tells g.D.Disk.tells g.D.Disk.content g.D.Disk.moment g.D.Disk.left_since g.D.Disk.fault_count g.D.Disk.place c.args.command first
+    (g.K.Sink.noted c.drive-ending.new.out) (g.K.Sink.held c.args.out.now) after w put owes) in (
       c.drive-ending.result.status,
       c.of.ensures,
-      headline_of source sink g.D.Disk.tells (map g.D.Disk.content c.take_disks.new.back.items) (LeaveTheWay first g.D.Disk.tells g.D.Disk.moment g.D.Disk.left_since disks c.take_disks.new.back.items)
-          (AreDurableBefore g.K.Sink.tells g.D.Disk.tells g.D.Disk.place g.D.Disk.moment g.D.Disk.left_since c.args.command first (g.K.Sink.noted c.drive-ending.new.out) (g.K.Sink.held c.args.out.now) c.take_disks.new.back.items) (g.C.Clock.gives c.args.clock.now) c.drive-ending.result.rest
-          c.args.command first may.begins c.drive-ending.result.status
-          (driven_as c.args.command first source sink (g.C.Clock.gives c.args.clock.now) (AreKept view c.drive-ending.new.seats.items) _ _ (LeaveTheWay first g.D.Disk.tells g.D.Disk.moment g.D.Disk.left_since disks c.take_disks.new.back.items) _
-          (AreDurableBefore g.K.Sink.tells g.D.Disk.tells g.D.Disk.place g.D.Disk.moment g.D.Disk.left_since c.args.command first (g.K.Sink.noted c.drive-ending.new.out) (g.K.Sink.held c.args.out.now) c.take_disks.new.back.items)
-          c.drive-ending.result.status c.drive-ending.result.rest kept leaves pays
-          (c.drive-ending.ensures.driven asked first may start_with)),
+      headline_of source sink g.D.Disk.tells (map g.D.Disk.content back) (way back) (owed back) (g.C.Clock.gives c.args.clock.now)
+          c.drive-ending.result.rest c.args.command first may.begins c.drive-ending.result.status
+          (driven_as c.args.command first source sink (g.C.Clock.gives c.args.clock.now) (AreKept view after) _ _ (way back) _ (owed back)
+          c.drive-ending.result.status c.drive-ending.result.rest kept leaves pays (c.drive-ending.ensures.driven asked first may begun)),
     )
 
 pub returns-clause-durable : goal.returns-clause-durable
