@@ -5,8 +5,17 @@ use Rattle.journal_replay.specs.declared.fault.OpenFault.{OpenFault}
 use Rattle.journal_replay.specs.declared.fault.OpenFault.TheVariants.{Refused, Memory}
 use Rattle.journal_starts.specs.Records.{AreOpened, IsOpened, SomeRefused, part_at}
 use Rattle.node_model.specs.States.{NodeState}
-use Rattle.node_replay.specs.Durable.{durable_router, empty_router}
+use Rattle.node_replay.specs.Durable.{durable_catalogue, durable_shard, durable_router, empty_catalogue, empty_shard, empty_router}
 use Rattle.node_open.specs.Faults.{IfRefused}
+
+pub part_of_catalogue : (n : ℕ) → n ≡ 0 → part_at n ≡ durable_catalogue (empty_catalogue n)
+part_of_catalogue zero e = refl
+part_of_catalogue (suc n) e = absurd (omega arith)
+
+pub part_of_shard : (n : ℕ) → n ≡ 1 → part_at n ≡ durable_shard (empty_shard n)
+part_of_shard zero e = absurd (omega arith)
+part_of_shard (suc zero) e = refl
+part_of_shard (suc (suc n)) e = absurd (omega arith)
 
 pub part_of_router : (n : ℕ) → n ≢ 0 → n ≢ 1 → part_at n ≡ durable_router (empty_router n)
 part_of_router zero a b = absurd (a refl)
@@ -48,7 +57,7 @@ up_to_start all = record { gone = []; whole = refl; count = refl; opened = tt }
 pub up_to_next : (all left : List (List (List ℕ))) (me : ℕ) (states : List NodeState) (records : List (List ℕ)) (state : NodeState)
     → OpenedUpTo all (records ∷ left) me states → IsOpened (part_at me) records state → OpenedUpTo all left (me + 1) (states ++ state ∷ [])
 up_to_next all left me states records state u is =
-    let e : me ≡ 0 + length u.gone = u.count in
+    let e : me ≡ 0 + length u.gone = omega (arith, u.count) in
     record {
       gone = u.gone ++ records ∷ [];
       whole = u.whole ∙ sym (append_assoc u.gone (records ∷ []) left);
@@ -65,7 +74,7 @@ up_to_end all left me states u none =
 up_to_refused : (all left : List (List (List ℕ))) (me : ℕ) (states : List NodeState) (records : List (List ℕ)) (index : ℕ)
     → OpenedUpTo all (records ∷ left) me states → IsRefused (part_at me) records index → SomeRefused 0 all
 up_to_refused all left me states records index u refused =
-    let e : me ≡ 0 + length u.gone = u.count in
+    let e : me ≡ 0 + length u.gone = omega (arith, u.count) in
     let here : SomeRefused (0 + length u.gone) (records ∷ left) = inl (index, subst (λ n. IsRefused (part_at n) records index) e refused) in
     subst (λ l. SomeRefused 0 l) (sym u.whole) (refused_behind 0 u.gone (records ∷ left) here)
 
