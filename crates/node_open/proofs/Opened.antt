@@ -1,26 +1,11 @@
 -- Nodes that are opened one after another, each on the records of its journal.
-use Rattle.std.proofs.Common.{◌≡◌, ◌≢◌, ◌∙◌, inl, inr, ℕ, zero, suc, ◌+◌, List, [], ◌∷◌, ◌++◌, length, refl, sym, subst, append_assoc, append-nil, length-append, arith}
+use Rattle.std.proofs.Common.{◌≡◌, ◌∙◌, inl, inr, ℕ, suc, ◌+◌, List, [], ◌∷◌, ◌++◌, length, refl, sym, subst, append_assoc, append-nil, length-append, arith}
 use Rattle.journal_replay.specs.Replayed.{IsFault, IsRefused}
 use Rattle.journal_replay.specs.declared.fault.OpenFault.{OpenFault}
 use Rattle.journal_replay.specs.declared.fault.OpenFault.TheVariants.{Refused, Memory}
 use Rattle.journal_starts.specs.Records.{AreOpened, IsOpened, SomeRefused, part_at}
 use Rattle.node_model.specs.States.{NodeState}
-use Rattle.node_replay.specs.Durable.{durable_catalogue, durable_shard, durable_router, empty_catalogue, empty_shard, empty_router}
 use Rattle.node_open.specs.Faults.{IfRefused}
-
-pub part_of_catalogue : (n : ℕ) → n ≡ 0 → part_at n ≡ durable_catalogue (empty_catalogue n)
-part_of_catalogue zero e = refl
-part_of_catalogue (suc n) e = absurd (omega arith)
-
-pub part_of_shard : (n : ℕ) → n ≡ 1 → part_at n ≡ durable_shard (empty_shard n)
-part_of_shard zero e = absurd (omega arith)
-part_of_shard (suc zero) e = refl
-part_of_shard (suc (suc n)) e = absurd (omega arith)
-
-pub part_of_router : (n : ℕ) → n ≢ 0 → n ≢ 1 → part_at n ≡ durable_router (empty_router n)
-part_of_router zero a b = absurd (a refl)
-part_of_router (suc zero) a b = absurd (b refl)
-part_of_router (suc (suc n)) a b = refl
 
 -- those that were opened, with the node after them
 opened_next : (first : ℕ) (gone : List (List (List ℕ))) (states : List NodeState) (records : List (List ℕ)) (state : NodeState)
@@ -83,11 +68,6 @@ pub up_to_fault : (all left : List (List (List ℕ))) (me : ℕ) (states : List 
     → OpenedUpTo all (records ∷ left) me states → IsFault (part_at me) records fault → IfRefused fault (SomeRefused 0 all)
 up_to_fault all left me states records (Refused index) u refused = up_to_refused all left me states records index u refused
 up_to_fault all left me states records Memory u refused = tt
-
--- out of memory says nothing of records
-pub no_record : (refused : Type 0) (fault : OpenFault) → fault ≡ Memory → IfRefused fault refused
-no_record refused (Refused index) e = absurd (cc)
-no_record refused Memory e = tt
 
 pub none_left : (left : List (List (List ℕ))) → length left ≡ 0 → left ≡ []
 none_left [] e = refl
