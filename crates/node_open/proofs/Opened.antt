@@ -1,17 +1,11 @@
 -- Nodes that are opened one after another, each on the records of its journal.
-use Rattle.std.proofs.Common.{◌≡◌, ◌≢◌, ◌∙◌, inl, inr, ℕ, zero, suc, ◌+◌, List, [], ◌∷◌, ◌++◌, length, refl, sym, subst, append_assoc, append-nil, length-append, arith}
+use Rattle.std.proofs.Common.{◌≡◌, ◌∙◌, inl, inr, ℕ, suc, ◌+◌, List, [], ◌∷◌, ◌++◌, length, refl, sym, subst, append_assoc, append-nil, length-append, arith}
 use Rattle.journal_replay.specs.Replayed.{IsFault, IsRefused}
 use Rattle.journal_replay.specs.declared.fault.OpenFault.{OpenFault}
 use Rattle.journal_replay.specs.declared.fault.OpenFault.TheVariants.{Refused, Memory}
 use Rattle.journal_starts.specs.Records.{AreOpened, IsOpened, SomeRefused, part_at}
 use Rattle.node_model.specs.States.{NodeState}
-use Rattle.node_replay.specs.Durable.{durable_router, empty_router}
 use Rattle.node_open.specs.Faults.{IfRefused}
-
-pub part_of_router : (n : ℕ) → n ≢ 0 → n ≢ 1 → part_at n ≡ durable_router (empty_router n)
-part_of_router zero a b = absurd (a refl)
-part_of_router (suc zero) a b = absurd (b refl)
-part_of_router (suc (suc n)) a b = refl
 
 -- those that were opened, with the node after them
 opened_next : (first : ℕ) (gone : List (List (List ℕ))) (states : List NodeState) (records : List (List ℕ)) (state : NodeState)
@@ -48,7 +42,7 @@ up_to_start all = record { gone = []; whole = refl; count = refl; opened = tt }
 pub up_to_next : (all left : List (List (List ℕ))) (me : ℕ) (states : List NodeState) (records : List (List ℕ)) (state : NodeState)
     → OpenedUpTo all (records ∷ left) me states → IsOpened (part_at me) records state → OpenedUpTo all left (me + 1) (states ++ state ∷ [])
 up_to_next all left me states records state u is =
-    let e : me ≡ 0 + length u.gone = u.count in
+    let e : me ≡ 0 + length u.gone = omega (arith, u.count) in
     record {
       gone = u.gone ++ records ∷ [];
       whole = u.whole ∙ sym (append_assoc u.gone (records ∷ []) left);
@@ -65,7 +59,7 @@ up_to_end all left me states u none =
 up_to_refused : (all left : List (List (List ℕ))) (me : ℕ) (states : List NodeState) (records : List (List ℕ)) (index : ℕ)
     → OpenedUpTo all (records ∷ left) me states → IsRefused (part_at me) records index → SomeRefused 0 all
 up_to_refused all left me states records index u refused =
-    let e : me ≡ 0 + length u.gone = u.count in
+    let e : me ≡ 0 + length u.gone = omega (arith, u.count) in
     let here : SomeRefused (0 + length u.gone) (records ∷ left) = inl (index, subst (λ n. IsRefused (part_at n) records index) e refused) in
     subst (λ l. SomeRefused 0 l) (sym u.whole) (refused_behind 0 u.gone (records ∷ left) here)
 
@@ -74,11 +68,6 @@ pub up_to_fault : (all left : List (List (List ℕ))) (me : ℕ) (states : List 
     → OpenedUpTo all (records ∷ left) me states → IsFault (part_at me) records fault → IfRefused fault (SomeRefused 0 all)
 up_to_fault all left me states records (Refused index) u refused = up_to_refused all left me states records index u refused
 up_to_fault all left me states records Memory u refused = tt
-
--- out of memory says nothing of records
-pub no_record : (refused : Type 0) (fault : OpenFault) → fault ≡ Memory → IfRefused fault refused
-no_record refused (Refused index) e = absurd (cc)
-no_record refused Memory e = tt
 
 pub none_left : (left : List (List (List ℕ))) → length left ≡ 0 → left ≡ []
 none_left [] e = refl

@@ -4,23 +4,17 @@ use Rattle.std.specs.Prelude.{◌*◌}
 use Rattle.chunk_model.specs.Changes.{Change}
 use Rattle.chunk_model.specs.Tables.{Table}
 use Rattle.history_model.specs.History.{Entry}
-use Rattle.journal_replay.specs.Replayed.{IsReplayed, IsFault}
-use Rattle.journal_replay.specs.declared.fault.OpenFault.{OpenFault}
+use Rattle.journal_replay.specs.Replayed.{IsReplayed}
 use Rattle.journal_starts.specs.Records.{IsOpened}
 use Rattle.node_model.specs.States.{NodeState, catalogue_state, shard_state, router_state}
 use Rattle.node_replay.specs.Durable.{DurableState, DurableCatalogue, DurableShard, DurableRouter, durable_catalogue, durable_shard, durable_router}
 use Rattle.node_replay.specs.Openings.{opened}
 
--- the same of the part that is begun with, and of the records, as they are stated
+-- the same of the part that is begun with, and of the records
 replayed_of : (start empty d : DurableState) (bytes records : List (List ℕ)) (time : ℕ) → start ≡ empty → bytes ≡ records → IsReplayed start bytes d time
     → IsReplayed empty records d time
 replayed_of start empty d bytes records time begins are replayed =
     subst (λ bs. IsReplayed empty bs d time) are (subst (λ s. IsReplayed s bytes d time) begins replayed)
-
-pub fault_of : (start empty : DurableState) (bytes records : List (List ℕ)) (fault : OpenFault) → start ≡ empty → bytes ≡ records → IsFault start bytes fault
-    → IsFault empty records fault
-fault_of start empty bytes records fault begins are is =
-    subst (λ bs. IsFault empty bs fault) are (subst (λ s. IsFault s bytes fault) begins is)
 
 pub catalogue_opened : (start empty part : DurableCatalogue) (bytes records : List (List ℕ)) (me time : ℕ) (changes : List Change) (state : NodeState)
     → start ≡ empty → bytes ≡ records → IsReplayed (durable_catalogue start) bytes (durable_catalogue part) part.top

@@ -20,11 +20,11 @@ fn open_node(alloc: Global, me: u32, records: RecordList) -> Result<AnyNode, Ope
     ensures opened { IfOk result (λ node. IsOpened (part_at me) records (state_of node)) }
     ensures fault { IfErr result (λ fault. IsFault (part_at me) records fault) }
 {
-    Ok(match me {
-        0 => AnyNode::Catalogue(open_catalogue(alloc, NodeId(me), records)?),
-        1 => AnyNode::Shard(open_shard(alloc, NodeId(me), records)?),
-        _ => AnyNode::Router(open_router(alloc, NodeId(me), records)?),
-    })
+    match me {
+        0 => Ok(AnyNode::Catalogue(open_catalogue(alloc, NodeId(me), records)?)),
+        1 => Ok(AnyNode::Shard(open_shard(alloc, NodeId(me), records)?)),
+        _ => Ok(AnyNode::Router(open_router(alloc, NodeId(me), records)?)),
+    }
 }
 
 // Returns an empty list with room for this many nodes, or `Memory` if memory runs out.

@@ -1,5 +1,6 @@
 use Rattle.std.proofs.Common.{◌≡◌, ◌∷◌, ◌∙◌, [], ℕ, List, length, map, ap, sym, arith}
 use Rattle.std.proofs.lemmas.List.{map_push}
+use Rattle.std.proofs.lemmas.Result.{err_from_is_err_and}
 use Rattle.std.specs.Vec.Iter.{into_iter_items}
 use Rattle.any_node.specs.Kinds.{state_of}
 use Rattle.any_node.specs.declared.AnyNode.{AnyNode}
@@ -48,8 +49,10 @@ loop-records-preserved c =
 pub returns-in_err-open_node-clause-fault : goal.returns-in_err-open_node-clause-fault
 returns-in_err-open_node-clause-fault c =
     let first : into_iter_items c.loop-records.records-iterator ≡ c.in-Some.records ∷ (into_iter_items c.next.new.self) = c.in-Some.ensures.steps.0 in
-    up_to_fault c.args.found.items (into_iter_items c.next.new.self) c.loop-records.me (map state_of c.loop-records.nodes.items) c.in-Some.records _
-    (rw first at c.loop-records.invariant.so_far) c.in_err-open_node.ensures.fault
+    let p = err_from_is_err_and c.from_residual-in_err-open_node.result c.from_residual-in_err-open_node.ensures.1 in
+    rw (p.1, p.2)
+    (up_to_fault c.args.found.items (into_iter_items c.next.new.self) c.loop-records.me (map state_of c.loop-records.nodes.items) c.in-Some.records _
+    (rw first at c.loop-records.invariant.so_far) c.in_err-open_node.ensures.fault)
 
 pub returns-clause-opened : goal.returns-clause-opened
 returns-clause-opened c =
