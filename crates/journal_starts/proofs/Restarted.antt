@@ -85,7 +85,7 @@ started_from _ _ _ before (h ∷ olds) at (suc n) (proceeds u v w e events o lat
     let new : Held = now u v before olds h at place nodes m in
     let next : at + 1 ≡ length (before ++ new ∷ []) = omega (arith, place, length-append before (new ∷ [])) in
     one_more u v before olds h at place nodes m w.nodes
-        (started_from v w events (before ++ new ∷ []) olds (at + 1) n later others (omega (arith, long)) next (nodes_then u v before olds h at place nodes m))
+    (started_from v w events (before ++ new ∷ []) olds (at + 1) n later others (omega (arith, long)) next (nodes_then u v before olds h at place nodes m))
 
 -- a call begins with each node started
 pub begins_started : (u first : World) → BeginsOn u first → AreStarted u.nodes first.nodes
