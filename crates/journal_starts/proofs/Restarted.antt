@@ -39,13 +39,13 @@ restart_at _ _ _ at (occurs w v e h) is = absurd (cc)
 restart_at _ _ _ at (restarts w v place m) is = let one : place ≡ at = cc in subst (λ n. Restarts w n v) one m
 restart_at _ _ _ at (stops w v place e i gives m) is = absurd (cc)
 
--- some nodes stay, and the others, behind them, are started
+-- some nodes stay, and the others, after them, are started
 record Started (before olds nodes : List Held) : Type 0 where
   pub news : List Held
   pub are : nodes ≡ before ++ news
   pub started : AreStarted olds news
 
--- one node is started, and then those behind it
+-- one node is started, and then those after it
 module _ (u v : World) (before olds : List Held) (h : Held) (at : ℕ) (place : at ≡ length before) (nodes : u.nodes ≡ before ++ h ∷ olds)
     (m : Restarts u at v) where
   old_is : m.old ≡ h
