@@ -1,14 +1,13 @@
 -- Records that were replayed, and the next one.
 use Rattle.std.proofs.Common.{◌≡◌, ◌+◌, ◌<◌, ◌≤◌, ℕ, zero, suc, List, [], ◌∷◌, ◌++◌, refl, ap, ◌∙◌, sym, subst, arith, map, take, length, get_or, Bool, true, false}
 use Rattle.std.specs.Prelude.{max, Option, Some, None, slice_get}
-use Rattle.std.specs.List.{AllByRecursion}
 use Rattle.history_model.proofs.Lists.{all_append}
 use Rattle.record_model.specs.RecordFormat.{spelled}
 use Rattle.record_model.specs.Records.{Record}
 use Rattle.shard_records.specs.Readable.{IsReadable}
 use Rattle.node_replay.specs.Durable.{DurableState}
 use Rattle.node_replay.specs.Replays.{follow, replayed, latest_time, time_in}
-use Rattle.journal_replay.specs.Replayed.{RefusesNext, IsRead, IsReplayed, IsRefused, IsTaken, WasFollowed}
+use Rattle.journal_replay.specs.Replayed.{IsRead, IsReplayed, IsRefused, IsTaken}
 
 replayed_one : (o : Option DurableState) → replayed o [] ≡ o
 replayed_one None = refl

@@ -1,5 +1,5 @@
 -- What the bytes of a journal's records replay to, and where they are refused (docs/JOURNAL.md, "Records").
-use Rattle.std.specs.Prelude.{◌≡◌, ℕ, List, map, take, max, Bool, true, false, Option, Some, None, slice_get}
+use Rattle.std.specs.Prelude.{◌≡◌, ℕ, List, map, take, max, Bool, true, false, Some, None, slice_get}
 use Rattle.std.specs.List.{AllByRecursion}
 use Rattle.record_model.specs.RecordFormat.{IsSound, spelled}
 use Rattle.record_model.specs.Records.{Record}

@@ -1,12 +1,11 @@
 -- Each node of the world that a call begins in is what its journal opens, and the files are the journals.
-use Rattle.std.proofs.Common.{◌≡◌, ℕ, zero, suc, ◌+◌, List, [], ◌∷◌, refl, sym, ap, subst, ◌∙◌, arith}
-use Rattle.std.specs.Prelude.{Option, Some, None}
+use Rattle.std.proofs.Common.{◌≡◌, ℕ, zero, suc, ◌+◌, List, [], ◌∷◌, refl, sym, subst, arith}
+use Rattle.std.specs.Prelude.{Option, Some}
 use Rattle.std.specs.Option.{option_map}
 use Rattle.node_model.specs.Journal.{Kept}
 use Rattle.node_model.specs.States.{NodeState, router_state, new_router}
 use Rattle.node_model.specs.World.{Held, World, routers_from, start}
 use Rattle.node_laws.proofs.Places.{EachAt}
-use Rattle.node_replay.specs.Durable.{DurableState}
 use Rattle.node_replay.specs.Openings.{opened}
 use Rattle.node_replay.specs.Replays.{latest_time, records_of, replayed}
 use Rattle.journal_starts.specs.Journals.{IsJournal, AreJournals}
@@ -37,7 +36,7 @@ start_begun routers = (refl, (refl, routers_begun 0 2 routers refl))
 node_begun : (n : ℕ) (old new : Held) → IsStarted old new → IsOfPlace n old → IsBegun n new
 node_begun n old new s place =
     subst (λ k. opened_at n k ≡ Some new.state) (sym s.kept)
-        (subst (λ d. option_map (opened (latest_time (records_of old.kept))) (replayed (Some d) (records_of old.kept)) ≡ Some new.state) place s.opens)
+    (subst (λ d. option_map (opened (latest_time (records_of old.kept))) (replayed (Some d) (records_of old.kept)) ≡ Some new.state) place s.opens)
 
 nodes_begun : (n : ℕ) (olds news : List Held) → AreStarted olds news → EachAt IsOfPlace n olds → EachAt IsBegun n news
 nodes_begun n [] [] started places = tt

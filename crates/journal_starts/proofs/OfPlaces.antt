@@ -55,7 +55,7 @@ move_of_places w v at i all places m =
     let follows : StepFollows (greatest_kept m.old.kept) m.old.state i m.f m.new =
     step_follows (greatest_kept m.old.kept) m.old.state m.new i m.f old.1 m.step in
     subst (λ (x : World). AreOfPlaces x) (sym m.then)
-        (of_places_set w.nodes at m.old (record { state = m.new; kept = m.old.kept ++ m.f.written }) places m.here follows.own)
+    (of_places_set w.nodes at m.old (record { state = m.new; kept = m.old.kept ++ m.f.written }) places m.here follows.own)
 
 event_of_places : (w v : World) (e : Event) → WorldReplays w → AreOfPlaces w → Happens w e v → AreOfPlaces v
 event_of_places _ _ _ all places (comes w v at link number request is m) = move_of_places w v at (client_input link number request) all places m
@@ -67,7 +67,7 @@ restart_of_places : (w v : World) (at : ℕ) → WorldReplays w → AreOfPlaces 
 restart_of_places w v at all places m =
     let old : NodeReplays m.old = all_got NodeReplays w.nodes at m.old all.nodes m.here in
     subst (λ (x : World). AreOfPlaces x) (sym m.then)
-        (of_places_set w.nodes at m.old (record { state = m.new; kept = m.old.kept ++ [] }) places m.here (started_own m.old m.new old.0 m.opens))
+    (of_places_set w.nodes at m.old (record { state = m.new; kept = m.old.kept ++ [] }) places m.here (started_own m.old m.new old.0 m.opens))
 
 stop_of_places : (w v : World) (at : ℕ) (i : Input) → WorldReplays w → AreOfPlaces w → ComesInTime i → Stops w at i v → AreOfPlaces v
 stop_of_places w v at i all places input m =
@@ -79,7 +79,7 @@ stop_of_places w v at i all places input m =
     ap (λ e. option_map (opened (latest_time (records_of kept))) (replayed (Some e) (records_of kept))) follows.own ∙ m.opens in
     let now : NodeReplays (record { state = m.reached; kept = kept }) = step_replays m.old m.reached i m.f old input follows in
     subst (λ (x : World). AreOfPlaces x) (sym m.then) (of_places_set w.nodes at m.old (record { state = m.new; kept = kept }) places m.here
-        (started_own (record { state = m.reached; kept = kept }) m.new now.0 opens ∙ follows.own))
+    (started_own (record { state = m.reached; kept = kept }) m.new now.0 opens ∙ follows.own))
 
 occurs_of_places : (w v : World) (e : EventOrStop) → WorldReplays w → AreOfPlaces w → Occurs w e v → AreOfPlaces v
 occurs_of_places _ _ _ all places (occurs w v e h) = event_of_places w v e all places h

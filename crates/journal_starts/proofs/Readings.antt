@@ -95,11 +95,11 @@ never_refused d e left (a ∷ early) (r ∷ records) zero next p q same leads he
 never_refused d e left [] (r ∷ records) (suc index) next p q same leads here refuses whole = absurd (cc)
 never_refused d e left (a ∷ early) (r ∷ records) (suc index) next p q same leads here refuses whole =
     let one : a ≡ r = one_record a r p.0.0 q.0.0
-        (same_first (spelled 1 a) (spelled 1 r) (map (spelled 1) early) (take index (map (spelled 1) records)) same) in
+    (same_first (spelled 1 a) (spelled 1 r) (map (spelled 1) early) (take index (map (spelled 1) records)) same) in
     let others : map (spelled 1) early ≡ take index (map (spelled 1) records) =
     same_others (spelled 1 a) (spelled 1 r) (map (spelled 1) early) (take index (map (spelled 1) records)) same in
     by_next (follow d r) (subst (λ (x : Record). replayed (follow d x) early ≡ Some left) one leads) whole
-        (λ x l w. never_refused x e left early records index next p.1 q.1 others l here refuses w)
+    (λ x l w. never_refused x e left early records index next p.1 q.1 others l here refuses w)
   where
     by_next : (o : Option DurableState) → replayed o early ≡ Some left → replayed o records ≡ Some e
         → ((x : DurableState) → replayed (Some x) early ≡ Some left → replayed (Some x) records ≡ Some e → ⊥) → ⊥
@@ -109,8 +109,8 @@ never_refused d e left (a ∷ early) (r ∷ records) (suc index) next p q same l
 not_refused : (empty d : DurableState) (time : ℕ) (bytes : List (List ℕ)) (index : ℕ) → IsReplayed empty bytes d time → IsRefused empty bytes index → ⊥
 not_refused empty d time bytes index whole r =
     never_refused empty d r.d r.before.records whole.records index r.next r.before.readable whole.readable
-        (r.before.encoded ∙ ap (λ (l : List (List ℕ)). take index l) (sym whole.encoded)) r.before.leads
-        (ap (λ (l : List (List ℕ)). slice_get l index) whole.encoded ∙ r.here) r.refused whole.leads
+    (r.before.encoded ∙ ap (λ (l : List (List ℕ)). take index l) (sym whole.encoded)) r.before.leads
+    (ap (λ (l : List (List ℕ)). slice_get l index) whole.encoded ∙ r.here) r.refused whole.leads
 
 none_refused : (first : ℕ) (found : List (List (List ℕ))) (states : List NodeState) → AreOpened first found states → SomeRefused first found → ⊥
 none_refused first [] states opens some = some

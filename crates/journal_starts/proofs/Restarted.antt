@@ -39,13 +39,13 @@ restart_at _ _ _ at (occurs w v e h) is = absurd (cc)
 restart_at _ _ _ at (restarts w v place m) is = let one : place ≡ at = cc in subst (λ n. Restarts w n v) one m
 restart_at _ _ _ at (stops w v place e i gives m) is = absurd (cc)
 
--- some nodes stay, and the others, behind them, are started
+-- some nodes stay, and the others, after them, are started
 record Started (before olds nodes : List Held) : Type 0 where
   pub news : List Held
   pub are : nodes ≡ before ++ news
   pub started : AreStarted olds news
 
--- one node is started, and then those behind it
+-- one node is started, and then those after it
 module _ (u v : World) (before olds : List Held) (h : Held) (at : ℕ) (place : at ≡ length before) (nodes : u.nodes ≡ before ++ h ∷ olds)
     (m : Restarts u at v) where
   old_is : m.old ≡ h
@@ -85,7 +85,7 @@ started_from _ _ _ before (h ∷ olds) at (suc n) (proceeds u v w e events o lat
     let new : Held = now u v before olds h at place nodes m in
     let next : at + 1 ≡ length (before ++ new ∷ []) = omega (arith, place, length-append before (new ∷ [])) in
     one_more u v before olds h at place nodes m w.nodes
-        (started_from v w events (before ++ new ∷ []) olds (at + 1) n later others (omega (arith, long)) next (nodes_then u v before olds h at place nodes m))
+    (started_from v w events (before ++ new ∷ []) olds (at + 1) n later others (omega (arith, long)) next (nodes_then u v before olds h at place nodes m))
 
 -- a call begins with each node started
 pub begins_started : (u first : World) → BeginsOn u first → AreStarted u.nodes first.nodes

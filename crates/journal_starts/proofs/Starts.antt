@@ -1,6 +1,6 @@
 -- Openings on the files of a world that a call may begin in.
 use Rattle.std.specs.Prelude.{◌≡◌, ℕ, ◌+◌, List, [], ◌∷◌, map, Option, Some, None}
-use Rattle.std.proofs.Common.{refl, sym, ap, subst, ◌∙◌}
+use Rattle.std.proofs.Common.{refl, sym, subst}
 use Rattle.std.specs.Option.{option_map}
 use Rattle.std.proofs.lemmas.Option.{same_Some}
 use Rattle.node_model.specs.Journal.{Kept, record_kept}
@@ -69,13 +69,13 @@ starts_are_opened routers files first found states b have opens =
     let stored : AreJournals files first.nodes = begins_stored routers files first b in
     let same : found ≡ encodings first.nodes = readings.one_found files found (encodings first.nodes) have (have_encodings files first.nodes stored) in
     readings.one_opened 0 (encodings first.nodes) states (states_of first.nodes) (subst (λ (l : List (List (List ℕ))). AreOpened 0 l states) same opens)
-        (nodes_opened 0 files first.nodes stored (begins_begun routers files first b))
+    (nodes_opened 0 files first.nodes stored (begins_begun routers files first b))
 
 pub starts_are_not_refused : (routers : ℕ) (files : List (List ℕ)) (first : World) → BeginsOnFiles routers files first → ¬ AreRefused files
 starts_are_not_refused routers files first b =
     let stored : AreJournals files first.nodes = begins_stored routers files first b in
     readings.opened_are_not_refused files (encodings first.nodes) (states_of first.nodes) (have_encodings files first.nodes stored)
-        (nodes_opened 0 files first.nodes stored (begins_begun routers files first b))
+    (nodes_opened 0 files first.nodes stored (begins_begun routers files first b))
 
 pub opened_are_not_refused : (files : List (List ℕ)) (found : List (List (List ℕ))) (states : List NodeState) → HaveRecords files found
     → AreOpened 0 found states → ¬ AreRefused files
