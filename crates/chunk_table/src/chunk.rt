@@ -1,11 +1,12 @@
 //! Chunks of keys, and who has them (MongoDB manual, "Data Partitioning with Chunks"; that a chunk keeps its owners of the past is
 //! own).
 
-ghost use Rattle.std.specs.Prelude.{◌≡◌, ◌<◌, ◌^◌, ◌∷◌, IfOk, length, map};
+ghost use Rattle.std.specs.Prelude.{◌≡◌, ◌<◌, ◌^◌, ◌∷◌, IfOk, length, map, true};
+ghost use Rattle.std.specs.List.{AllByRecursion};
 ghost use Rattle.std.specs.Option.{option_map};
 ghost use Rattle.chunk_model.specs.Tables.{chunk_of, chunks_on, greatest_version, is_owner, newest, owner_among};
 ghost use Rattle.chunk_table.specs.Meanings.{chunk_view, owned_view, version_view};
-ghost use Rattle.chunk_table.specs.Whole.{follow_from};
+ghost use Rattle.chunk_table.specs.Whole.{HasRange, follow_from};
 ghost use Rattle.std.specs.Ordering.{is_eq};
 ghost use Rattle.bson_values.specs.View.{datum_of};
 ghost use Rattle.value_compare.specs.Bounds.{bound_of};
@@ -210,7 +211,8 @@ fn is_at(bound: &Bound, other: &Bound) -> bool
 
 /// Returns whether the chunks follow one another from below all keys to above them, and each has an owner.
 pub(crate) fn follow(chunks: &[Chunk]) -> bool
-    ensures { result ≡ follow_from min_bound (map chunk_view chunks.now) }
+    ensures follow { result ≡ follow_from min_bound (map chunk_view chunks.now) }
+    ensures ranges { result ≡ true → AllByRecursion HasRange (map chunk_view chunks.now) }
 {
     let least = Bound::MinKey;
     let mut start = &least;

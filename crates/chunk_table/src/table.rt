@@ -7,7 +7,7 @@ ghost use Rattle.bson_model.specs.Tree.{Datum};
 ghost use Rattle.bson_values.specs.View.{datum_of};
 ghost use Rattle.chunk_model.specs.Tables.{collection_version, first_table, is_longer, owner_at, owner_now, shard_version};
 ghost use Rattle.chunk_table.specs.Meanings.{chunk_view, table_of_parts, version_view};
-ghost use Rattle.chunk_table.specs.Whole.{IsWritableChunk, follow_from};
+ghost use Rattle.chunk_table.specs.Whole.{HasRange, IsWritableChunk, follow_from};
 ghost use Rattle.value_model.specs.Keys.{is_key, min_bound};
 
 use crate::chunk::{
@@ -23,7 +23,7 @@ use value_compare::{Bound, Key, KeyRange};
 /// The first shard, which has all keys of a collection when it begins.
 const FIRST_SHARD: NodeId = NodeId(1);
 
-/// The chunks of a collection. Each key has an owner, and a journal can encode it.
+/// The chunks of a collection. They follow one another, each key has an owner, and a journal can encode it.
 #[derive(Drop)]
 pub struct Table {
     pub(crate) namespace: Namespace,
@@ -155,9 +155,11 @@ impl Table {
         self.oldest
     }
 
-    /// Returns the chunks. A journal can encode each, and their number.
+    /// Returns the chunks, which follow one another from below all keys to above them. A journal can encode each, and their number.
     pub fn chunks(&self) -> &[Chunk]
         ensures chunks { map chunk_view result.now ≡ self.now.chunks }
+        ensures ranges { AllByRecursion HasRange self.now.chunks }
+        ensures follow { follow_from min_bound self.now.chunks ≡ true }
         ensures count { length self.now.chunks < 2 ^ 32 }
         ensures writable { AllByRecursion IsWritableChunk self.now.chunks }
     {

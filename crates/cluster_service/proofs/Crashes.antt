@@ -1,12 +1,11 @@
--- The files of disks after a crash: their lengths read, opened as journals, and written by nodes.
+-- The files of disks after a crash: opened as journals, and written by nodes.
 use Rattle.std.specs.Prelude.{◌≡◌, ◌⊎◌, ℕ, zero, suc, ◌+◌, ◌≤◌, Some, Bool, IsTrue, List, [], ◌∷◌, length, map}
 use Rattle.std.proofs.Common.{refl, sym, subst, inl, inr, arith}
 use Rattle.std.specs.List.{slice_get}
-use Rattle.outside.specs.Disks.{Elapses, LeavesOnly, Outcomes, Within}
+use Rattle.outside.specs.Disks.{LeavesOnly, Outcomes}
 use Rattle.outside.specs.Notes.{Note}
 use Rattle.journal_frames.specs.Files.{HaveSameRecords, Stands}
 use Rattle.journal_frames.specs.Views.{JournalView, journal_facts}
-use Rattle.journal_frames.proofs.Unique.{one_list}
 use Rattle.node_model.specs.States.{NodeState}
 use Rattle.node_model.specs.World.{World, journal_at}
 use Rattle.node_traits.specs.Calls.{LeavesAlso}
@@ -20,7 +19,6 @@ use Rattle.pipe_driver.proofs.Covers.{got_mapped}
 use Rattle.cluster_service.specs.Crashes.{AreDurableBefore, IsOfTheWay, LeaveSuch, LeaveTheWay}
 use Rattle.cluster_service.specs.Drivers.{output_of}
 use Rattle.cluster_service.specs.declared.arguments.Command.{Command}
-use Rattle.cluster_service.proofs.OpenJournals.{nothing}
 
 -- ONE DISK
 
@@ -48,27 +46,16 @@ module _ {D : Type 0} (moment : D → ℕ) (left_since : D → ℕ → Outcomes)
 
   module _ (may_leave : D → Outcomes) (counts_now : (disk : D) (t : ℕ) (c : List ℕ) → t ≤ moment disk → may_leave disk c → left_since disk t c)
       (old new : D) where
-    -- nothing was written: no other file
-    pub asked_leaves : Elapses (moment old) (moment new) (left_since old) (left_since new) (may_leave new) → Within (may_leave old) (may_leave new)
-        → LeavesAlso moment left_since old new (λ file. ⊥)
-    asked_leaves time within = record { later = time.later; each = λ t file le left. earlier t file le (time.nothing_else t file le left) }
-      where
-        earlier : (t : ℕ) (file : List ℕ) → t ≤ moment old → left_since old t file ⊎ may_leave new file → left_since old t file ⊎ ⊥
-        earlier t file le (inl left) = inl left
-        earlier t file le (inr now) = inl (counts_now old t file le (within file now))
-
-    -- an empty file was opened as a journal
-    pub opening_leaves : (content : List ℕ) → content ≡ []
-        → LeavesOnly moment left_since old new (λ file. may_leave old file ⊎ HaveSameRecords content file)
-        → LeavesAlso moment left_since old new (λ file. Stands file [])
-    opening_leaves content empty only = record { later = only.later; each = λ t file le left. earlier t file le (only.before t file le left) }
+    -- the file was opened as a journal
+    pub opening_leaves : (content : List ℕ) → LeavesOnly moment left_since old new (λ file. may_leave old file ⊎ HaveSameRecords content file)
+        → LeavesAlso moment left_since old new (λ file. HaveSameRecords content file)
+    opening_leaves content only = record { later = only.later; each = λ t file le left. earlier t file le (only.before t file le left) }
       where
         earlier : (t : ℕ) (file : List ℕ) → t ≤ moment old → left_since old t file ⊎ (may_leave old file ⊎ HaveSameRecords content file)
-            → left_since old t file ⊎ Stands file []
+            → left_since old t file ⊎ HaveSameRecords content file
         earlier t file le (inl left) = inl left
         earlier t file le (inr (inl before)) = inl (counts_now old t file le before)
-        earlier t file le (inr (inr (records, here, there))) =
-            inr (subst (λ (l : List (List ℕ)). Stands file l) (one_list content records [] here (nothing content empty)) there)
+        earlier t file le (inr (inr same)) = inr same
 
 -- DISKS IN ORDER
 

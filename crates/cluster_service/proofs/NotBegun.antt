@@ -1,29 +1,37 @@
--- What is left where the journals were not opened.
-use Rattle.std.specs.Prelude.{◌≡◌, ◌≢◌, ◌⊎◌, IsTrue, List, map}
-use Rattle.std.proofs.Common.{inr, refl}
-use Rattle.std.specs.List.{AllByRecursion}
+-- What is left where the nodes were not started.
+use Rattle.std.specs.Prelude.{◌≡◌, ◌≢◌, ◌⊎◌, ℕ, List}
+use Rattle.std.proofs.Common.{inl, inr, refl}
 use Rattle.outside.specs.Devices.{SinkCall, SinkIsUntouched, SourceCall, SourceIsUntouched}
-use Rattle.cluster_top.specs.Disks.{IsEmptyAll}
-use Rattle.cluster_service.specs.OpenJournals.{IsDurable, IsNotBegun}
-use Rattle.cluster_service.specs.Openings.{AreUnopened, DiskFacts}
+use Rattle.cluster_service.specs.Openings.{AreAsTheyWere, AreUnopened, DiskFacts, IsNotBegun}
 use Rattle.cluster_service.specs.Stops.{StopsOpening, at_opening_fault, at_damage, at_opening_memory}
 use Rattle.cluster_service.specs.declared.status.Status.{Status}
 use Rattle.cluster_service.specs.declared.status.Status.TheVariants as statuses
-use Rattle.cluster_service.proofs.Openings.{unopened_damaged, unopened_none, unopened_stops}
+use Rattle.cluster_service.proofs.Openings.{unopened_as_were, unopened_stops}
 
--- memory ended
-memory_ended : (status : Status) → StopsOpening status → status ≢ statuses.DiskFailed → ¬ (status ≡ statuses.DamagedJournal) → status ≡ statuses.OutOfMemory
-memory_ended status at_opening_fault disk damaged = absurd (disk refl)
-memory_ended status at_damage disk damaged = absurd (damaged refl)
-memory_ended status at_opening_memory disk damaged = refl
+-- a journal was damaged, the disk failed, or memory ran out
+pub stopped_by : (status : Status) → StopsOpening status
+    → (status ≡ statuses.DamagedJournal) ⊎ ((status ≡ statuses.DiskFailed) ⊎ (status ≡ statuses.OutOfMemory))
+stopped_by _ at_opening_fault = inr (inl refl)
+stopped_by _ at_damage = inl refl
+stopped_by _ at_opening_memory = inr (inr refl)
 
-pub not_begun : {D : Type 0} (facts : DiskFacts D) (status : Status) (before after : List D) → AreUnopened facts status before after
-    → IsEmptyAll facts.tells (map facts.content before) → IsTrue facts.tells → status ≢ statuses.DiskFailed
-    → (source : SourceCall) (sink : SinkCall) → SourceIsUntouched source → SinkIsUntouched sink
-    → AllByRecursion (IsDurable facts.content facts.may_leave) after
-    ⊎ ((status ≡ statuses.OutOfMemory) × IsNotBegun source sink (map facts.content after))
-not_begun facts status before after are empty told failed source sink took put = inr (
-  memory_ended status (unopened_stops facts status before after are) failed
-      (λ is. unopened_damaged facts status before after are empty is told),
-  record { source_same = took; sink_same = put; no_record = unopened_none facts status before after are empty told },
-)
+-- and if the disk did not fail, one of the others
+pub stopped_calm : (status : Status) → StopsOpening status → status ≢ statuses.DiskFailed
+    → (status ≡ statuses.DamagedJournal) ⊎ (status ≡ statuses.OutOfMemory)
+stopped_calm _ at_opening_fault calm = absurd (calm refl)
+stopped_calm _ at_damage calm = inl refl
+stopped_calm _ at_opening_memory calm = inr refl
+
+module _ {D : Type 0} (facts : DiskFacts D) (before after : List D) (source : SourceCall) (sink : SinkCall) (rest : ℕ) (took : SourceIsUntouched source)
+    (put : SinkIsUntouched sink) (none : rest ≡ 0) where
+  -- the disks are as they were
+  pub begun_none : AreAsTheyWere facts before after → IsNotBegun facts source sink rest before after
+  begun_none are = record { source_same = took; sink_same = put; no_rest = none; files = are }
+
+  -- one was not opened
+  pub not_begun : (status : Status) → AreUnopened facts status before after → IsNotBegun facts source sink rest before after
+  not_begun status are = begun_none (unopened_as_were facts status before after are)
+
+  pub not_begun_calm : (status : Status) → AreUnopened facts status before after → status ≢ statuses.DiskFailed
+      → ((status ≡ statuses.DamagedJournal) ⊎ (status ≡ statuses.OutOfMemory)) × IsNotBegun facts source sink rest before after
+  not_begun_calm status are calm = (stopped_calm status (unopened_stops facts status before after are) calm, not_begun status are)

@@ -1,35 +1,82 @@
--- Journals that are opened on empty files, and what an opening that failed leaves.
-use Rattle.std.specs.Prelude.{IsTrue, Bool, Err}
-use Rattle.std.proofs.Common.{◌≡◌, ◌∙◌, inr, ℕ, List, [], refl, sym, subst}
-use Rattle.journal_frames.specs.Openings.{disk_left, IfDamaged}
+-- What the opening of a journal says of its disk, by its result.
+use Rattle.std.specs.Prelude.{IsTrue, Err}
+use Rattle.std.proofs.Common.{◌≡◌, ◌⊎◌, inr, ℕ, ◌≤◌, List, [], refl, subst}
+use Rattle.outside.specs.Causes.{Rose}
+use Rattle.outside.specs.Disks.{LeavesOnly}
+use Rattle.journal_frames.specs.Files.{HaveSameRecords, IsDamaged, Stands}
+use Rattle.journal_frames.specs.Openings.{IfDamaged, IfDiskFailed, UnlessDiskFailed, disk_left}
 use Rattle.journal_frames.specs.declared.journal.OpenFault.{OpenFault}
-use Rattle.journal_frames.specs.declared.journal.OpenFault.TheVariants.{Damaged}
-use Rattle.journal_frames.specs.Files.{IsDamaged, Stands}
-use Rattle.journal_frames.specs.Views.{JournalView}
-use Rattle.journal_frames.proofs.Unique.{one_list, not_both}
-use Rattle.cluster_top.specs.Disks.{IsEmpty}
-use Rattle.cluster_service.specs.OpenJournals.{IsFresh}
+use Rattle.journal_frames.specs.declared.journal.OpenFault.TheVariants as faults
+use Rattle.pipe_driver.proofs.Counts.{it_rose, still}
+use Rattle.cluster_service.specs.Openings.{DiskFacts, IsAsItWas, IsUnopened}
+use Rattle.cluster_service.specs.Stops.{at_opening_fault, at_damage, at_opening_memory}
+use Rattle.cluster_service.specs.declared.status.Status.TheVariants as statuses
+use Rattle.cluster_service.proofs.Crashes.{opening_leaves}
 
 -- an empty file has no records
 pub nothing : (file : List ℕ) → file ≡ [] → Stands file []
 nothing file empty = record { rest = file; fits = tt; split = refl; shut = inr empty }
 
--- a journal that was opened on an empty file has no records
-pub open_fresh : {D : Type 0} (tells : Bool) (content : D → List ℕ) (before : List ℕ) (journal : JournalView D) (found : List (List ℕ)) → IsTrue journal.is_open → IsEmpty tells before
-    → (IsTrue tells → Stands before found) → (IsTrue tells → journal.records ≡ found)
-    → ((records : List (List ℕ)) → IsTrue tells → Stands before records → Stands (content journal.disk) records) → IsFresh tells content journal
-open_fresh tells content before journal found ready empty stands listed same = record {
-  ready = ready;
-  none = λ told. listed told ∙ one_list before found [] (stands told) (nothing before (empty told));
-  file = λ told. same [] told (nothing before (empty told));
-}
+module _ {D : Type 0} (facts : DiskFacts D)
+    (counts_now : (disk : D) (t : ℕ) (c : List ℕ) → t ≤ facts.moment disk → facts.may_leave disk c → facts.left_since disk t c) (old new : D) where
+  -- whatever an opening returned, the disk is as it was
+  pub is_as_it_was : ((records : List (List ℕ)) → IsTrue facts.tells → Stands (facts.content old) records → Stands (facts.content new) records)
+      → ((offset : ℕ) → IsTrue facts.tells → IsDamaged (facts.content old) offset → facts.content new ≡ facts.content old)
+      → (IsTrue facts.tells → LeavesOnly facts.moment facts.left_since old new (λ file. facts.may_leave old file ⊎ HaveSameRecords (facts.content old) file))
+      → IsAsItWas facts old new
+  is_as_it_was same as_damaged any_moment = record {
+    same = λ told. record { records = λ records. same records told; damaged = λ offset. as_damaged offset told };
+    leaves = λ told.
+        opening_leaves facts.moment facts.left_since facts.may_leave counts_now old new (facts.content old) (any_moment told);
+  }
 
-pub never_damaged : (file : List ℕ) (place : ℕ) → file ≡ [] → ¬ IsDamaged file place
-never_damaged file place empty damaged = not_both file [] place (nothing file empty) damaged
+module _ {D : Type 0} (facts : DiskFacts D) (old : D) where
+  -- what an opening says with a fault
+  pub record IsFaulty (fault : OpenFault D) : Type 0 where
+    pub was : IsAsItWas facts old (disk_left (Err fault))
+    pub damaged : IfDamaged (Err fault) (λ offset. IsTrue facts.tells
+        → IsDamaged (facts.content old) offset × (facts.content (disk_left (Err fault)) ≡ facts.content old))
+    pub cause : IfDiskFailed (Err fault) (Rose (facts.fault_count old) (facts.fault_count (disk_left (Err fault))))
+    pub calm : UnlessDiskFailed (Err fault) (facts.fault_count (disk_left (Err fault)) ≡ facts.fault_count old)
+    pub later : facts.fault_count old ≤ facts.fault_count (disk_left (Err fault))
+    pub place : facts.place (disk_left (Err fault)) ≡ facts.place old
 
--- what an opening says of the disk that it hands back
-pub disk_of_fault : {D : Type 0} (P : D → Type 0) (f g : OpenFault D) → f ≡ g → P (disk_left (Err f)) → P (disk_left (Err g))
-disk_of_fault {D = D} P f g same p = subst (λ (h : OpenFault D). P (disk_left (Err h))) same p
+  faulty_as : (fault given : OpenFault D) → fault ≡ given → IsFaulty fault → IsFaulty given
+  faulty_as fault given is faulty = subst (λ (f : OpenFault D). IsFaulty f) is faulty
 
-pub place_of_damage : {D : Type 0} (P : ℕ → Type 0) (f : OpenFault D) (place : ℕ) (disk : D) → f ≡ Damaged place disk → IfDamaged (Err f) P → P place
-place_of_damage {D = D} P f place disk same p = subst (λ (h : OpenFault D). IfDamaged (Err h) P) same p
+  pub unopened_by_disk : (fault : OpenFault D) (disk : D) → fault ≡ faults.Disk disk → IsFaulty fault → IsUnopened facts statuses.DiskFailed old disk
+  unopened_by_disk fault disk is faulty =
+      let f = faulty_as fault (faults.Disk disk) is faulty in
+      record {
+        was = f.was;
+        damaged = λ same told. absurd (cc same);
+        stops = at_opening_fault;
+        fault = it_rose (statuses.DiskFailed ≡ statuses.DiskFailed) (facts.fault_count old) (facts.fault_count disk) refl f.cause;
+        later = f.later;
+        place = f.place;
+      }
+
+  pub unopened_by_damage : (fault : OpenFault D) (offset : ℕ) (disk : D) → fault ≡ faults.Damaged offset disk → IsFaulty fault
+      → IsUnopened facts statuses.DamagedJournal old disk
+  unopened_by_damage fault offset disk is faulty =
+      let f = faulty_as fault (faults.Damaged offset disk) is faulty in
+      record {
+        was = f.was;
+        damaged = λ same told. (offset, (f.damaged told).0);
+        stops = at_damage;
+        fault = still (statuses.DamagedJournal ≡ statuses.DiskFailed) (facts.fault_count old) (facts.fault_count disk) (λ same. cc) f.calm;
+        later = f.later;
+        place = f.place;
+      }
+
+  pub unopened_by_memory : (fault : OpenFault D) (disk : D) → fault ≡ faults.Memory disk → IsFaulty fault → IsUnopened facts statuses.OutOfMemory old disk
+  unopened_by_memory fault disk is faulty =
+      let f = faulty_as fault (faults.Memory disk) is faulty in
+      record {
+        was = f.was;
+        damaged = λ same told. absurd (cc same);
+        stops = at_opening_memory;
+        fault = still (statuses.OutOfMemory ≡ statuses.DiskFailed) (facts.fault_count old) (facts.fault_count disk) (λ same. cc) f.calm;
+        later = f.later;
+        place = f.place;
+      }

@@ -1,26 +1,29 @@
--- Disks one after another: their lengths read, and opened as journals.
-use Rattle.std.specs.Prelude.{◌≡◌, ◌⊎◌, ℕ, zero, suc, ◌+◌, ◌<◌, ◌≤◌, Bool, IsTrue, List, [], ◌∷◌, ◌++◌, length, map, Some}
+-- Disks that are opened as journals, one after another: what is said of them all.
+use Rattle.std.specs.Prelude.{◌≡◌, ◌≢◌, ℕ, zero, suc, ◌≤◌, IsTrue, List, [], ◌∷◌, ◌++◌, length, map, Some}
 use Rattle.std.proofs.Common.{refl, sym, ap, subst, ◌∙◌, inl, inr, arith}
-use Rattle.std.specs.List.{AllByRecursion, slice_get, slice_set}
-use Rattle.outside.specs.Causes.{Rose}
+use Rattle.std.specs.List.{slice_get}
 use Rattle.outside.specs.Devices.{NoneFell, OneRose}
-use Rattle.journal_frames.specs.Files.{Stands}
+use Rattle.journal_frames.specs.Files.{IsDamaged, Stands}
 use Rattle.journal_frames.specs.Views.{JournalView}
+use Rattle.journal_frames.proofs.Unique.{not_both, one_list}
+use Rattle.node_model.specs.Journal.{Kept}
+use Rattle.node_model.specs.World.{Held, journal_at}
 use Rattle.node_traits.specs.Calls.{LeavesAlso}
+use Rattle.node_traits.specs.Effects.{spellings}
 use Rattle.pipe_driver.specs.Counts.{RoseWhere}
+use Rattle.journal_starts.specs.Journals.{AreJournals, IsJournal}
+use Rattle.journal_starts.specs.Records.{AreRefused, HaveRecords, by_damage}
 use Rattle.cluster_service.specs.Counts.{OneRoseWhere}
 use Rattle.cluster_service.specs.Crashes.{LeaveSuch}
-use Rattle.cluster_top.specs.Disks.{AllEmpty, AreNoWorse, IsEmpty, IsEmptyAll, SomeFile}
-use Rattle.cluster_service.specs.OpenJournals.{AreAllOpen, AreFresh, HaveNoRecord, IsFresh, disks_of}
-use Rattle.cluster_service.specs.Openings.{AreUnopened, DiskFacts, HasStopped, InPairs, IsAsked, IsOpened, IsUnopened}
+use Rattle.cluster_service.specs.OpenJournals.{AreAllOpen, AreOpenWith, disks_of}
+use Rattle.cluster_service.specs.Openings.{AreAsTheyWere, AreUnopened, DiskFacts, InPairs, InThrees, IsAsItWas, IsOpenedOn, IsUnopened}
 use Rattle.cluster_service.specs.Stops.{StopsOpening, at_opening_memory}
 use Rattle.cluster_service.specs.declared.status.Status.{Status}
 use Rattle.cluster_service.specs.declared.status.Status.TheVariants as statuses
 use Rattle.cluster_service.proofs.Counts.{all_still}
 use Rattle.cluster_service.proofs.Crashes.{left_alone, leaves_then}
-use Rattle.cluster_service.proofs.OpenJournals.{nothing}
 
--- PAIRS
+-- PAIRS AND THREES
 
 pub pairs_len : {A B : Type 0} (R : A → B → Type 0) (xs : List A) (ys : List B) → InPairs R xs ys → length ys ≡ length xs
 pairs_len R [] [] are = refl
@@ -28,217 +31,221 @@ pairs_len R [] (b ∷ ys) are = absurd are
 pairs_len R (a ∷ xs) [] are = absurd are
 pairs_len R (a ∷ xs) (b ∷ ys) are = ap suc (pairs_len R xs ys are.1)
 
-pub pairs_more : {A B : Type 0} (R : A → B → Type 0) (xs : List A) (ys : List B) (a : A) (b : B) → InPairs R xs ys → R a b → InPairs R (xs ++ a ∷ []) (ys ++ b ∷ [])
-pairs_more R [] [] a b are is = (is, tt)
-pairs_more R [] (y ∷ ys) a b are is = absurd are
-pairs_more R (x ∷ xs) [] a b are is = absurd are
-pairs_more R (x ∷ xs) (y ∷ ys) a b are is = (are.0, pairs_more R xs ys a b are.1 is)
+module _ {A B C : Type 0} (R : A → B → C → Type 0) where
+  pub threes_more : (xs : List A) (ys : List B) (zs : List C) (a : A) (b : B) (c : C) → InThrees R xs ys zs → R a b c
+      → InThrees R (xs ++ a ∷ []) (ys ++ b ∷ []) (zs ++ c ∷ [])
+  threes_more [] [] [] a b c are is = (is, tt)
+  threes_more [] [] (z ∷ zs) a b c are is = absurd are
+  threes_more [] (y ∷ ys) zs a b c are is = absurd are
+  threes_more (x ∷ xs) [] zs a b c are is = absurd are
+  threes_more (x ∷ xs) (y ∷ ys) [] a b c are is = absurd are
+  threes_more (x ∷ xs) (y ∷ ys) (z ∷ zs) a b c are is = (are.0, threes_more xs ys zs a b c are.1 is)
 
--- the other of a pair
-pub record Other {A B : Type 0} (R : A → B → Type 0) (ys : List B) (at : ℕ) (a : A) : Type 0 where
-  pub b : B
-  pub here : slice_get ys at ≡ Some b
-  pub are : R a b
+  -- what each three say of the first two
+  pub threes_pairs : (S : A → B → Type 0) → ((a : A) (b : B) (c : C) → R a b c → S a b) → (xs : List A) (ys : List B) (zs : List C)
+      → InThrees R xs ys zs → InPairs S xs ys
+  threes_pairs S say [] [] [] are = tt
+  threes_pairs S say [] [] (z ∷ zs) are = absurd are
+  threes_pairs S say [] (y ∷ ys) zs are = absurd are
+  threes_pairs S say (x ∷ xs) [] zs are = absurd are
+  threes_pairs S say (x ∷ xs) (y ∷ ys) [] are = absurd are
+  threes_pairs S say (x ∷ xs) (y ∷ ys) (z ∷ zs) are = (say x y z are.0, threes_pairs S say xs ys zs are.1)
 
-pub other_at : {A B : Type 0} (R : A → B → Type 0) (xs : List A) (ys : List B) (at : ℕ) (a : A) → InPairs R xs ys → slice_get xs at ≡ Some a → Other R ys at a
-other_at R [] ys at a are got = absurd (cc got)
-other_at R (x ∷ xs) [] at a are got = absurd are
-other_at R (x ∷ xs) (y ∷ ys) zero a are got =
-    let same : x ≡ a = cc got in
-    record { b = y; here = refl; are = subst (λ z. R z y) same are.0 }
-other_at R (x ∷ xs) (y ∷ ys) (suc at) a are got =
-    let there = other_at R xs ys at a are.1 got in
-    record { b = there.b; here = there.here; are = there.are }
+  -- and of the first and the last
+  pub threes_ends : (S : A → C → Type 0) → ((a : A) (b : B) (c : C) → R a b c → S a c) → (xs : List A) (ys : List B) (zs : List C)
+      → InThrees R xs ys zs → InPairs S xs zs
+  threes_ends S say [] [] [] are = tt
+  threes_ends S say [] [] (z ∷ zs) are = absurd are
+  threes_ends S say [] (y ∷ ys) zs are = absurd are
+  threes_ends S say (x ∷ xs) [] zs are = absurd are
+  threes_ends S say (x ∷ xs) (y ∷ ys) [] are = absurd are
+  threes_ends S say (x ∷ xs) (y ∷ ys) (z ∷ zs) are = (say x y z are.0, threes_ends S say xs ys zs are.1)
 
--- THEIR LENGTHS READ
+  pub threes_len : (xs : List A) (ys : List B) (zs : List C) → InThrees R xs ys zs → length ys ≡ length xs
+  threes_len xs ys zs are = pairs_len (λ a b. Unit {0}) xs ys (threes_pairs (λ a b. Unit {0}) (λ a b c is. tt) xs ys zs are)
+
+  pub threes_last_len : (xs : List A) (ys : List B) (zs : List C) → InThrees R xs ys zs → length zs ≡ length xs
+  threes_last_len xs ys zs are = pairs_len (λ a c. Unit {0}) xs zs (threes_ends (λ a c. Unit {0}) (λ a b c is. tt) xs ys zs are)
+
+-- one number of each pair that stays is one list
+pub pairs_same : {A B X : Type 0} (f : A → X) (h : B → X) (xs : List A) (ys : List B) → InPairs (λ a b. h b ≡ f a) xs ys → map h ys ≡ map f xs
+pairs_same f h [] [] are = refl
+pairs_same f h [] (b ∷ ys) are = absurd are
+pairs_same f h (a ∷ xs) [] are = absurd are
+pairs_same {X = X} f h (a ∷ xs) (b ∷ ys) are =
+    ap (λ (x : X). x ∷ map h ys) are.0 ∙ ap (λ (l : List X). f a ∷ l) (pairs_same f h xs ys are.1)
+
+pub pairs_on : {A B C : Type 0} (R : A → C → Type 0) (h : B → C) (xs : List A) (ys : List B) → InPairs (λ a b. R a (h b)) xs ys → InPairs R xs (map h ys)
+pairs_on R h [] [] are = tt
+pairs_on R h [] (b ∷ ys) are = absurd are
+pairs_on R h (a ∷ xs) [] are = absurd are
+pairs_on R h (a ∷ xs) (b ∷ ys) are = (are.0, pairs_on R h xs ys are.1)
+
+-- DAMAGE
+
+-- one of these files is damaged
+pub record SomeDamaged (files : List (List ℕ)) : Type 0 where
+  pub at : ℕ
+  pub offset : ℕ
+  pub file : List ℕ
+  pub here : slice_get files at ≡ Some file
+  pub damaged : IsDamaged file offset
+
+-- no journal of a node is
+pub none_damaged : (files : List (List ℕ)) (nodes : List Held) → AreJournals files nodes → ¬ SomeDamaged files
+none_damaged files nodes are some = not_at files nodes are some.at some.file some.here some.offset some.damaged
+  where
+    not_at : (files : List (List ℕ)) (nodes : List Held) → AreJournals files nodes → (at : ℕ) (file : List ℕ) → slice_get files at ≡ Some file
+        → (offset : ℕ) → ¬ IsDamaged file offset
+    not_at [] nodes are at file got offset damaged = absurd (cc got)
+    not_at (x ∷ files) [] are at file got offset damaged = absurd are
+    not_at (x ∷ files) (h ∷ nodes) are zero file got offset damaged =
+        let same : x ≡ file = cc got in
+        not_both x (spellings h.kept) offset are.0.stands (subst (λ (f : List ℕ). IsDamaged f offset) (sym same) damaged)
+    not_at (x ∷ files) (h ∷ nodes) are (suc at) file got offset damaged = not_at files nodes are.1 at file got offset damaged
+
+-- DISKS AS THEY WERE
 
 module _ {D : Type 0} (facts : DiskFacts D) where
-  asked_alone : (disk : D) → IsAsked facts disk disk
-  asked_alone disk = record {
-    same = λ told. refl;
-    crash = λ told c is. is;
-    leaves = λ told. left_alone facts.moment facts.left_since disk (λ file. ⊥);
-    later = omega arith;
-    place = refl;
+  -- a disk that was left alone
+  pub is_alone : (disk : D) → IsAsItWas facts disk disk
+  is_alone disk = record {
+    same = λ told. record { records = λ records is. is; damaged = λ offset is. refl };
+    leaves = λ told. left_alone facts.moment facts.left_since disk _;
   }
 
-  asked_again : (a b c : D) → IsAsked facts a b → IsAsked facts b c → IsAsked facts a c
-  asked_again a b c p q = record {
-    same = λ told. q.same told ∙ p.same told;
-    crash = λ told file is. p.crash told file (q.crash told file is);
-    leaves = λ told. leaves_then facts.moment facts.left_since a b c (λ file. ⊥) (λ file. ⊥) (λ file. ⊥) (p.leaves told) (q.leaves told)
-        (λ file never. never) (λ file never. never);
-    later = omega (arith, p.later, q.later);
-    place = q.place ∙ p.place;
-  }
+  pub are_alone : (disks : List D) → AreAsTheyWere facts disks disks
+  are_alone [] = tt
+  are_alone (disk ∷ disks) = (is_alone disk, are_alone disks)
 
-  pub all_asked_alone : (disks : List D) → InPairs (IsAsked facts) disks disks
-  all_asked_alone [] = tt
-  all_asked_alone (disk ∷ disks) = (asked_alone disk, all_asked_alone disks)
+  -- the files store what nodes do, as before
+  pub still_journals : (before after : List D) (nodes : List Held) → IsTrue facts.tells → AreAsTheyWere facts before after
+      → AreJournals (map facts.content before) nodes → AreJournals (map facts.content after) nodes
+  still_journals [] [] nodes told were are = are
+  still_journals [] (b ∷ after) nodes told were are = absurd were
+  still_journals (a ∷ before) [] nodes told were are = absurd were
+  still_journals (a ∷ before) (b ∷ after) [] told were are = absurd are
+  still_journals (a ∷ before) (b ∷ after) (h ∷ nodes) told were are = (
+    record { stands = (were.0.same told).records (spellings h.kept) are.0.stands; readable = are.0.readable },
+    still_journals before after nodes told were.1 are.1,
+  )
 
-  pub asked_then : (xs ys zs : List D) → InPairs (IsAsked facts) xs ys → InPairs (IsAsked facts) ys zs → InPairs (IsAsked facts) xs zs
-  asked_then [] [] zs p q = q
-  asked_then [] (b ∷ ys) zs p q = absurd p
-  asked_then (a ∷ xs) [] zs p q = absurd p
-  asked_then (a ∷ xs) (b ∷ ys) [] p q = absurd q
-  asked_then (a ∷ xs) (b ∷ ys) (c ∷ zs) p q = (asked_again a b c p.0 q.0, asked_then xs ys zs p.1 q.1)
+  -- a crash left such files
+  leaves_kept : (a b : D) (kept : List Kept) → IsTrue facts.tells → IsAsItWas facts a b → IsJournal (facts.content a) kept
+      → LeavesAlso facts.moment facts.left_since a b (λ file. Stands file (spellings kept))
+  leaves_kept a b kept told was is =
+      leaves_then facts.moment facts.left_since a a b (λ file. ⊥) _ _ (left_alone facts.moment facts.left_since a (λ file. ⊥)) (was.leaves told)
+      (λ file never. absurd never)
+      (λ file same. subst (λ (l : List (List ℕ)). Stands file l) (one_list (facts.content a) same.0 (spellings kept) same.1 is.stands) same.2)
 
-  pub asked_at : (disks : List D) (at : ℕ) (old new : D) → slice_get disks at ≡ Some old → IsAsked facts old new
-      → InPairs (IsAsked facts) disks (slice_set disks at new)
-  asked_at [] at old new got is = tt
-  asked_at (disk ∷ disks) zero old new got is =
-      let same : disk ≡ old = cc got in
-      (subst (λ (d : D). IsAsked facts d new) (sym same) is, all_asked_alone disks)
-  asked_at (disk ∷ disks) (suc at) old new got is = (asked_alone disk, asked_at disks at old new got is)
-
-  pub asked_same : (befores afters : List D) → IsTrue facts.tells → InPairs (IsAsked facts) befores afters
-      → map facts.content afters ≡ map facts.content befores
-  asked_same [] [] told are = refl
-  asked_same [] (b ∷ ys) told are = absurd are
-  asked_same (a ∷ xs) [] told are = absurd are
-  asked_same (a ∷ xs) (b ∷ ys) told are =
-      ap (λ (file : List ℕ). file ∷ map facts.content ys) (are.0.same told)
-      ∙ ap (λ (files : List (List ℕ)). facts.content a ∷ files) (asked_same xs ys told are.1)
-
-  pub asked_crash : (befores afters : List D) → IsTrue facts.tells → InPairs (IsAsked facts) befores afters
-      → AreNoWorse facts.may_leave befores afters
-  asked_crash [] [] told are = tt
-  asked_crash [] (b ∷ ys) told are = absurd are
-  asked_crash (a ∷ xs) [] told are = absurd are
-  asked_crash (a ∷ xs) (b ∷ ys) told are = (are.0.crash told, asked_crash xs ys told are.1)
-
-  pub asked_leaves : (befores afters : List D) → IsTrue facts.tells → InPairs (IsAsked facts) befores afters
-      → LeaveSuch facts.moment facts.left_since (λ at file. ⊥) befores afters
-  asked_leaves [] [] told are = tt
-  asked_leaves [] (b ∷ ys) told are = absurd are
-  asked_leaves (a ∷ xs) [] told are = absurd are
-  asked_leaves (a ∷ xs) (b ∷ ys) told are = (are.0.leaves told, asked_leaves xs ys told are.1)
-
-  pub asked_places : (befores afters : List D) → InPairs (IsAsked facts) befores afters → map facts.place afters ≡ map facts.place befores
-  asked_places [] [] are = refl
-  asked_places [] (b ∷ ys) are = absurd are
-  asked_places (a ∷ xs) [] are = absurd are
-  asked_places (a ∷ xs) (b ∷ ys) are =
-      ap (λ (place : List ℕ). place ∷ map facts.place ys) are.0.place
-      ∙ ap (λ (places : List (List ℕ)). facts.place a ∷ places) (asked_places xs ys are.1)
-
-  pub asked_later : (befores afters : List D) → InPairs (IsAsked facts) befores afters
-      → NoneFell (map facts.fault_count befores) (map facts.fault_count afters)
-  asked_later [] [] are = tt
-  asked_later [] (b ∷ ys) are = absurd are
-  asked_later (a ∷ xs) [] are = absurd are
-  asked_later (a ∷ xs) (b ∷ ys) are = (are.0.later, asked_later xs ys are.1)
-
--- ONE PLACE
-
-pub one_rose_at : {D : Type 0} (f : D → ℕ) (disks : List D) (at : ℕ) (old new : D) → slice_get disks at ≡ Some old → Rose (f old) (f new)
-    → OneRose (map f disks) (map f (slice_set disks at new))
-one_rose_at f [] at old new got rose = absurd (cc got)
-one_rose_at f (disk ∷ disks) zero old new got rose =
-    let same : disk ≡ old = cc got in
-    inl (subst (λ d. Rose (f d) (f new)) (sym same) rose)
-one_rose_at f (disk ∷ disks) (suc at) old new got rose = inr (one_rose_at f disks at old new got rose)
-
-pub same_at : {D : Type 0} (f : D → ℕ) (disks : List D) (at : ℕ) (old new : D) → slice_get disks at ≡ Some old → f new ≡ f old
-    → map f (slice_set disks at new) ≡ map f disks
-same_at f [] at old new got same = refl
-same_at f (disk ∷ disks) zero old new got same =
-    let is : disk ≡ old = cc got in
-    ap (λ (n : ℕ). n ∷ map f disks) (same ∙ ap f (sym is))
-same_at f (disk ∷ disks) (suc at) old new got same = ap (λ (ns : List ℕ). f disk ∷ ns) (same_at f disks at old new got same)
-
-pub some_at : {D : Type 0} (content : D → List ℕ) (disks : List D) (at : ℕ) (disk : D) → slice_get disks at ≡ Some disk → ¬ (content disk ≡ [])
-    → SomeFile (map content disks)
-some_at content [] at disk got bytes = absurd (cc got)
-some_at content (x ∷ disks) zero disk got bytes =
-    let same : x ≡ disk = cc got in
-    inl (λ empty. bytes (subst (λ d. content d ≡ []) same empty))
-some_at content (x ∷ disks) (suc at) disk got bytes = inr (some_at content disks at disk got bytes)
-
-pub all_empty_by : {D : Type 0} (content : D → List ℕ) (disks : List D) → ((at : ℕ) (disk : D) → slice_get disks at ≡ Some disk → content disk ≡ [])
-    → AllEmpty (map content disks)
-all_empty_by content [] each = tt
-all_empty_by content (disk ∷ disks) each = (each zero disk refl, all_empty_by content disks (λ at. each (suc at)))
+  pub leave_kept : (before after : List D) (nodes : List Held) → IsTrue facts.tells → AreAsTheyWere facts before after
+      → AreJournals (map facts.content before) nodes
+      → LeaveSuch facts.moment facts.left_since (λ at file. Stands file (spellings (journal_at nodes at))) before after
+  leave_kept [] [] nodes told were are = tt
+  leave_kept [] (b ∷ after) nodes told were are = absurd were
+  leave_kept (a ∷ before) [] nodes told were are = absurd were
+  leave_kept (a ∷ before) (b ∷ after) [] told were are = absurd are
+  leave_kept (a ∷ before) (b ∷ after) (h ∷ nodes) told were are =
+      (leaves_kept a b h.kept told were.0 are.0, leave_kept before after nodes told were.1 are.1)
 
 -- OPENED
 
+module _ {D : Type 0} (facts : DiskFacts D) (disks : List D) (journals : List (JournalView D)) (found : List (List (List ℕ))) where
+  pub opened_len : InThrees (IsOpenedOn facts) disks journals found → length journals ≡ length disks
+  opened_len are = threes_len (IsOpenedOn facts) disks journals found are
+
+  pub found_len : InThrees (IsOpenedOn facts) disks journals found → length found ≡ length disks
+  found_len are = threes_last_len (IsOpenedOn facts) disks journals found are
+
+  pub opened_as_were : InThrees (IsOpenedOn facts) disks journals found → AreAsTheyWere facts disks (disks_of journals)
+  opened_as_were are =
+      pairs_on (IsAsItWas facts) (λ (journal : JournalView D). journal.disk) disks journals
+      (threes_pairs (IsOpenedOn facts) (λ disk journal. IsAsItWas facts disk journal.disk) (λ disk journal records is. is.was) disks journals found are)
+
+  pub opened_calm : InThrees (IsOpenedOn facts) disks journals found → map facts.fault_count (disks_of journals) ≡ map facts.fault_count disks
+  opened_calm are =
+      pairs_same facts.fault_count facts.fault_count disks (disks_of journals)
+      (pairs_on (λ a b. facts.fault_count b ≡ facts.fault_count a) (λ (journal : JournalView D). journal.disk) disks journals
+      (threes_pairs (IsOpenedOn facts) (λ disk journal. facts.fault_count journal.disk ≡ facts.fault_count disk) (λ disk journal records is. is.calm)
+      disks journals found are))
+
+  pub opened_places : InThrees (IsOpenedOn facts) disks journals found → map facts.place (disks_of journals) ≡ map facts.place disks
+  opened_places are =
+      pairs_same facts.place facts.place disks (disks_of journals)
+      (pairs_on (λ a b. facts.place b ≡ facts.place a) (λ (journal : JournalView D). journal.disk) disks journals
+      (threes_pairs (IsOpenedOn facts) (λ disk journal. facts.place journal.disk ≡ facts.place disk) (λ disk journal records is. is.place)
+      disks journals found are))
+
 module _ {D : Type 0} (facts : DiskFacts D) where
-  pub opened_fresh : (disks : List D) (journals : List (JournalView D)) → InPairs (IsOpened facts) disks journals
-      → IsEmptyAll facts.tells (map facts.content disks) → AreFresh facts.tells facts.content journals
-  opened_fresh [] [] are empty = tt
-  opened_fresh [] (j ∷ journals) are empty = absurd are
-  opened_fresh (disk ∷ disks) [] are empty = absurd are
-  opened_fresh (disk ∷ disks) (j ∷ journals) are empty =
-      (are.0.fresh (λ told. (empty told).0), opened_fresh disks journals are.1 (λ told. (empty told).1))
+  pub opened_open : (disks : List D) (journals : List (JournalView D)) (found : List (List (List ℕ))) → InThrees (IsOpenedOn facts) disks journals found
+      → AreAllOpen journals
+  opened_open [] [] found are = tt
+  opened_open [] (j ∷ journals) found are = absurd are
+  opened_open (disk ∷ disks) [] found are = absurd are
+  opened_open (disk ∷ disks) (j ∷ journals) [] are = absurd are
+  opened_open (disk ∷ disks) (j ∷ journals) (r ∷ found) are = (are.0.has.ready, opened_open disks journals found are.1)
 
-  pub opened_open : (disks : List D) (journals : List (JournalView D)) → InPairs (IsOpened facts) disks journals → AreAllOpen journals
-  opened_open [] [] are = tt
-  opened_open [] (j ∷ journals) are = absurd are
-  opened_open (disk ∷ disks) [] are = absurd are
-  opened_open (disk ∷ disks) (j ∷ journals) are = (are.0.ready, opened_open disks journals are.1)
+  -- the records found are those of the files
+  pub opened_records : (disks : List D) (journals : List (JournalView D)) (found : List (List (List ℕ))) → IsTrue facts.tells
+      → InThrees (IsOpenedOn facts) disks journals found → HaveRecords (map facts.content disks) found
+  opened_records [] [] [] told are = tt
+  opened_records [] [] (r ∷ found) told are = absurd are
+  opened_records [] (j ∷ journals) found told are = absurd are
+  opened_records (disk ∷ disks) [] found told are = absurd are
+  opened_records (disk ∷ disks) (j ∷ journals) [] told are = absurd are
+  opened_records (disk ∷ disks) (j ∷ journals) (r ∷ found) told are = (are.0.had told, opened_records disks journals found told are.1)
 
-  pub opened_leave : (disks : List D) (journals : List (JournalView D)) → InPairs (IsOpened facts) disks journals
-      → IsEmptyAll facts.tells (map facts.content disks) → IsTrue facts.tells
-      → LeaveSuch facts.moment facts.left_since (λ at file. Stands file []) disks (disks_of journals)
-  opened_leave [] [] are empty told = tt
-  opened_leave [] (j ∷ journals) are empty told = absurd are
-  opened_leave (disk ∷ disks) [] are empty told = absurd are
-  opened_leave (disk ∷ disks) (j ∷ journals) are empty told =
-      (are.0.leaves (λ told. (empty told).0) told, opened_leave disks journals are.1 (λ told. (empty told).1) told)
+  -- the journals store what the files of nodes did
+  pub opened_with : (disks : List D) (journals : List (JournalView D)) (found : List (List (List ℕ))) (nodes : List Held)
+      → InThrees (IsOpenedOn facts) disks journals found → AreJournals (map facts.content disks) nodes
+      → AreOpenWith facts.tells facts.content journals nodes
+  opened_with [] [] [] [] are is = tt
+  opened_with [] [] [] (h ∷ nodes) are is = absurd is
+  opened_with [] [] (r ∷ found) nodes are is = absurd are
+  opened_with [] (j ∷ journals) found nodes are is = absurd are
+  opened_with (disk ∷ disks) [] found nodes are is = absurd are
+  opened_with (disk ∷ disks) (j ∷ journals) [] nodes are is = absurd are
+  opened_with (disk ∷ disks) (j ∷ journals) (r ∷ found) [] are is = absurd is
+  opened_with (disk ∷ disks) (j ∷ journals) (r ∷ found) (h ∷ nodes) are is = (
+    (
+      record {
+        ready = are.0.has.ready;
+        listed = λ told. are.0.has.listed told ∙ one_list (facts.content disk) r (spellings h.kept) (are.0.had told) is.0.stands;
+        stands = λ told. (are.0.was.same told).records (spellings h.kept) is.0.stands;
+      },
+      is.0.readable,
+    ),
+    opened_with disks journals found nodes are.1 is.1,
+  )
 
-  pub opened_calm : (disks : List D) (journals : List (JournalView D)) → InPairs (IsOpened facts) disks journals
-      → map facts.fault_count (disks_of journals) ≡ map facts.fault_count disks
-  opened_calm [] [] are = refl
-  opened_calm [] (j ∷ journals) are = absurd are
-  opened_calm (disk ∷ disks) [] are = absurd are
-  opened_calm (disk ∷ disks) (j ∷ journals) are =
-      ap (λ (n : ℕ). n ∷ map facts.fault_count (disks_of journals)) are.0.calm
-      ∙ ap (λ (ns : List ℕ). facts.fault_count disk ∷ ns) (opened_calm disks journals are.1)
-
-  pub opened_places : (disks : List D) (journals : List (JournalView D)) → InPairs (IsOpened facts) disks journals
-      → map facts.place (disks_of journals) ≡ map facts.place disks
-  opened_places [] [] are = refl
-  opened_places [] (j ∷ journals) are = absurd are
-  opened_places (disk ∷ disks) [] are = absurd are
-  opened_places (disk ∷ disks) (j ∷ journals) are =
-      ap (λ (place : List ℕ). place ∷ map facts.place (disks_of journals)) are.0.place
-      ∙ ap (λ (places : List (List ℕ)). facts.place disk ∷ places) (opened_places disks journals are.1)
+  -- a crash in the meantime left these, too
+  pub opened_leave : (disks : List D) (journals : List (JournalView D)) (found : List (List (List ℕ))) (nodes : List Held) → IsTrue facts.tells
+      → InThrees (IsOpenedOn facts) disks journals found → AreJournals (map facts.content disks) nodes
+      → LeaveSuch facts.moment facts.left_since (λ at file. Stands file (spellings (journal_at nodes at))) disks (disks_of journals)
+  opened_leave disks journals found nodes told are is =
+      leave_kept facts disks (disks_of journals) nodes told (opened_as_were facts disks journals found are) is
 
   -- HANDED BACK
 
   pub record IsBack (before after : D) : Type 0 where
-    pub none : IsEmpty facts.tells (facts.content before) → IsTrue facts.tells → Stands (facts.content after) []
-    pub leaves : IsEmpty facts.tells (facts.content before) → IsTrue facts.tells
-        → LeavesAlso facts.moment facts.left_since before after (λ file. Stands file [])
+    pub was : IsAsItWas facts before after
     pub later : facts.fault_count before ≤ facts.fault_count after
     pub place : facts.place after ≡ facts.place before
 
   back_alone : (disks : List D) → InPairs IsBack disks disks
   back_alone [] = tt
-  back_alone (disk ∷ disks) = (
-    record {
-      none = λ empty told. nothing (facts.content disk) (empty told);
-      leaves = λ empty told. left_alone facts.moment facts.left_since disk (λ file. Stands file []);
-      later = omega arith;
-      place = refl;
-    },
-    back_alone disks,
-  )
+  back_alone (disk ∷ disks) = (record { was = is_alone facts disk; later = omega arith; place = refl }, back_alone disks)
 
-  back_stopped : (done others : List D) (journals : List (JournalView D)) (disk back : D) (status : Status) → InPairs (IsOpened facts) done journals
-      → IsUnopened facts status disk back → InPairs IsBack (done ++ disk ∷ others) (disks_of journals ++ back ∷ others)
-  back_stopped [] others [] disk back status are u =
-      (record { none = u.none; leaves = u.leaves; later = u.later; place = u.place }, back_alone others)
-  back_stopped [] others (j ∷ journals) disk back status are u = absurd are
-  back_stopped (d ∷ done) others [] disk back status are u = absurd are
-  back_stopped (d ∷ done) others (j ∷ journals) disk back status are u = (
-    record {
-      none = λ empty told. (are.0.fresh empty).file told;
-      leaves = are.0.leaves;
-      later = omega (arith, are.0.calm);
-      place = are.0.place;
-    },
-    back_stopped done others journals disk back status are.1 u,
+  back_stopped : (done others : List D) (journals : List (JournalView D)) (found : List (List (List ℕ))) (disk back : D) (status : Status)
+      → InThrees (IsOpenedOn facts) done journals found → IsUnopened facts status disk back
+      → InPairs IsBack (done ++ disk ∷ others) (disks_of journals ++ back ∷ others)
+  back_stopped [] others [] found disk back status are u = (record { was = u.was; later = u.later; place = u.place }, back_alone others)
+  back_stopped [] others (j ∷ journals) found disk back status are u = absurd are
+  back_stopped (d ∷ done) others [] found disk back status are u = absurd are
+  back_stopped (d ∷ done) others (j ∷ journals) [] disk back status are u = absurd are
+  back_stopped (d ∷ done) others (j ∷ journals) (r ∷ found) disk back status are u = (
+    record { was = are.0.was; later = omega (arith, are.0.calm); place = are.0.place },
+    back_stopped done others journals found disk back status are.1 u,
   )
 
   pub back_pairs : (status : Status) (before after : List D) → AreUnopened facts status before after → InPairs IsBack before after
@@ -246,21 +253,13 @@ module _ {D : Type 0} (facts : DiskFacts D) where
   back_pairs status before after (inr s) =
       subst (λ (ds : List D). InPairs IsBack ds after) (sym s.were)
       (subst (λ (ds : List D). InPairs IsBack (s.done ++ s.disk ∷ s.others) ds) (sym s.are)
-      (back_stopped s.done s.others s.journals s.disk s.back status s.opened s.unopened))
+      (back_stopped s.done s.others s.journals s.found s.disk s.back status s.opened s.unopened))
 
-  back_none : (before after : List D) → InPairs IsBack before after → IsEmptyAll facts.tells (map facts.content before) → IsTrue facts.tells
-      → HaveNoRecord (map facts.content after)
-  back_none [] [] are empty told = tt
-  back_none [] (b ∷ ys) are empty told = absurd are
-  back_none (a ∷ xs) [] are empty told = absurd are
-  back_none (a ∷ xs) (b ∷ ys) are empty told = (are.0.none (λ told. (empty told).0) told, back_none xs ys are.1 (λ told. (empty told).1) told)
-
-  back_leave : (before after : List D) → InPairs IsBack before after → IsEmptyAll facts.tells (map facts.content before) → IsTrue facts.tells
-      → LeaveSuch facts.moment facts.left_since (λ at file. Stands file []) before after
-  back_leave [] [] are empty told = tt
-  back_leave [] (b ∷ ys) are empty told = absurd are
-  back_leave (a ∷ xs) [] are empty told = absurd are
-  back_leave (a ∷ xs) (b ∷ ys) are empty told = (are.0.leaves (λ told. (empty told).0) told, back_leave xs ys are.1 (λ told. (empty told).1) told)
+  back_were : (before after : List D) → InPairs IsBack before after → AreAsTheyWere facts before after
+  back_were [] [] are = tt
+  back_were [] (b ∷ ys) are = absurd are
+  back_were (a ∷ xs) [] are = absurd are
+  back_were (a ∷ xs) (b ∷ ys) are = (are.0.was, back_were xs ys are.1)
 
   back_later : (before after : List D) → InPairs IsBack before after → NoneFell (map facts.fault_count before) (map facts.fault_count after)
   back_later [] [] are = tt
@@ -276,32 +275,32 @@ module _ {D : Type 0} (facts : DiskFacts D) where
       ap (λ (place : List ℕ). place ∷ map facts.place ys) are.0.place
       ∙ ap (λ (places : List (List ℕ)). facts.place a ∷ places) (back_places xs ys are.1)
 
-  rose_stopped : (failed : Type 0) (done others : List D) (journals : List (JournalView D)) (disk back : D) → InPairs (IsOpened facts) done journals
-      → RoseWhere failed (facts.fault_count disk) (facts.fault_count back)
+  rose_stopped : (failed : Type 0) (done others : List D) (journals : List (JournalView D)) (found : List (List (List ℕ))) (disk back : D)
+      → InThrees (IsOpenedOn facts) done journals found → RoseWhere failed (facts.fault_count disk) (facts.fault_count back)
       → OneRoseWhere failed (map facts.fault_count (done ++ disk ∷ others)) (map facts.fault_count (disks_of journals ++ back ∷ others))
-  rose_stopped failed [] others [] disk back are rose =
+  rose_stopped failed [] others [] found disk back are rose =
       ((λ is. inl (rose.0 is)), (λ never. ap (λ (n : ℕ). n ∷ map facts.fault_count others) (rose.1 never)))
-  rose_stopped failed [] others (j ∷ journals) disk back are rose = absurd are
-  rose_stopped failed (d ∷ done) others [] disk back are rose = absurd are
-  rose_stopped failed (d ∷ done) others (j ∷ journals) disk back are rose =
-      let rest = rose_stopped failed done others journals disk back are.1 rose in (
+  rose_stopped failed [] others (j ∷ journals) found disk back are rose = absurd are
+  rose_stopped failed (d ∷ done) others [] found disk back are rose = absurd are
+  rose_stopped failed (d ∷ done) others (j ∷ journals) [] disk back are rose = absurd are
+  rose_stopped failed (d ∷ done) others (j ∷ journals) (r ∷ found) disk back are rose =
+      let rest = rose_stopped failed done others journals found disk back are.1 rose in (
         (λ is. inr (rest.0 is)),
         (λ never. ap (λ (n : ℕ). n ∷ map facts.fault_count (disks_of journals ++ back ∷ others)) are.0.calm
             ∙ ap (λ (ns : List ℕ). facts.fault_count d ∷ ns) (rest.1 never)),
       )
 
-  empty_there : (done others : List D) (disk : D) → IsEmptyAll facts.tells (map facts.content (done ++ disk ∷ others)) → IsEmpty facts.tells (facts.content disk)
-  empty_there [] others disk empty = λ told. (empty told).0
-  empty_there (d ∷ done) others disk empty = empty_there done others disk (λ told. (empty told).1)
+  damaged_there : (done others : List D) (disk : D) (offset : ℕ) → IsDamaged (facts.content disk) offset
+      → SomeDamaged (map facts.content (done ++ disk ∷ others))
+  damaged_there [] others disk offset damaged = record { at = zero; offset = offset; file = facts.content disk; here = refl; damaged = damaged }
+  damaged_there (d ∷ done) others disk offset damaged =
+      let there = damaged_there done others disk offset damaged in
+      record { at = suc there.at; offset = there.offset; file = there.file; here = there.here; damaged = there.damaged }
 
   -- what is said of disks that are back
   module _ (status : Status) (before after : List D) (are : AreUnopened facts status before after) where
-    pub unopened_none : IsEmptyAll facts.tells (map facts.content before) → IsTrue facts.tells → HaveNoRecord (map facts.content after)
-    unopened_none = back_none before after (back_pairs status before after are)
-
-    pub unopened_leave : IsEmptyAll facts.tells (map facts.content before) → IsTrue facts.tells
-        → LeaveSuch facts.moment facts.left_since (λ at file. Stands file []) before after
-    unopened_leave = back_leave before after (back_pairs status before after are)
+    pub unopened_as_were : AreAsTheyWere facts before after
+    unopened_as_were = back_were before after (back_pairs status before after are)
 
     pub unopened_later : NoneFell (map facts.fault_count before) (map facts.fault_count after)
     unopened_later = back_later before after (back_pairs status before after are)
@@ -309,8 +308,16 @@ module _ {D : Type 0} (facts : DiskFacts D) where
     pub unopened_places : map facts.place after ≡ map facts.place before
     unopened_places = back_places before after (back_pairs status before after are)
 
-  pub unopened_len : (status : Status) (before after : List D) → AreUnopened facts status before after → length after ≡ length before
-  unopened_len status before after are = pairs_len IsBack before after (back_pairs status before after are)
+    pub unopened_len : length after ≡ length before
+    unopened_len = pairs_len IsBack before after (back_pairs status before after are)
+
+    pub unopened_journals : (nodes : List Held) → IsTrue facts.tells → AreJournals (map facts.content before) nodes
+        → AreJournals (map facts.content after) nodes
+    unopened_journals nodes told is = still_journals facts before after nodes told unopened_as_were is
+
+    pub unopened_leave : (nodes : List Held) → IsTrue facts.tells → AreJournals (map facts.content before) nodes
+        → LeaveSuch facts.moment facts.left_since (λ at file. Stands file (spellings (journal_at nodes at))) before after
+    unopened_leave nodes told is = leave_kept facts before after nodes told unopened_as_were is
 
   pub unopened_stops : (status : Status) (before after : List D) → AreUnopened facts status before after → StopsOpening status
   unopened_stops status before after (inl (memory, same)) = subst (λ (s : Status). StopsOpening s) (sym memory) at_opening_memory
@@ -325,11 +332,25 @@ module _ {D : Type 0} (facts : DiskFacts D) where
       subst (λ (ds : List D). OneRoseWhere (status ≡ statuses.DiskFailed) (map facts.fault_count ds) (map facts.fault_count after)) (sym s.were)
       (subst (λ (ds : List D). OneRoseWhere (status ≡ statuses.DiskFailed) (map facts.fault_count (s.done ++ s.disk ∷ s.others))
       (map facts.fault_count ds)) (sym s.are)
-      (rose_stopped (status ≡ statuses.DiskFailed) s.done s.others s.journals s.disk s.back s.opened s.unopened.fault))
+      (rose_stopped (status ≡ statuses.DiskFailed) s.done s.others s.journals s.found s.disk s.back s.opened s.unopened.fault))
 
-  pub unopened_damaged : (status : Status) (before after : List D) → AreUnopened facts status before after
-      → IsEmptyAll facts.tells (map facts.content before) → status ≡ statuses.DamagedJournal → ¬ IsTrue facts.tells
-  unopened_damaged status before after (inl (memory, same)) empty is =
-      λ told. let clash : statuses.OutOfMemory ≡ statuses.DamagedJournal = sym memory ∙ is in cc
-  unopened_damaged status before after (inr s) empty is =
-      s.unopened.damaged (empty_there s.done s.others s.disk (subst (λ (ds : List D). IsEmptyAll facts.tells (map facts.content ds)) s.were empty)) is
+  -- one of the files was damaged
+  pub unopened_damaged : (status : Status) (before after : List D) → AreUnopened facts status before after → status ≡ statuses.DamagedJournal
+      → IsTrue facts.tells → SomeDamaged (map facts.content before)
+  unopened_damaged status before after (inl (memory, same)) is told =
+      let clash : statuses.OutOfMemory ≡ statuses.DamagedJournal = sym memory ∙ is in absurd cc
+  unopened_damaged status before after (inr s) is told =
+      let damaged = s.unopened.damaged is told in
+      subst (λ (ds : List D). SomeDamaged (map facts.content ds)) (sym s.were) (damaged_there s.done s.others s.disk damaged.0 damaged.1)
+
+  pub unopened_refused : (status : Status) (before after : List D) → AreUnopened facts status before after → status ≡ statuses.DamagedJournal
+      → IsTrue facts.tells → AreRefused (map facts.content before)
+  unopened_refused status before after are is told =
+      let d = unopened_damaged status before after are is told in
+      by_damage d.at d.offset d.file d.here d.damaged
+
+  -- which none is where they are the journals of nodes
+  pub unopened_undamaged : (status : Status) (before after : List D) (nodes : List Held) → AreUnopened facts status before after → IsTrue facts.tells
+      → AreJournals (map facts.content before) nodes → status ≢ statuses.DamagedJournal
+  unopened_undamaged status before after nodes are told journals is =
+      none_damaged (map facts.content before) nodes journals (unopened_damaged status before after are is told)

@@ -131,6 +131,7 @@ impl<D: Disk> Journal<D> {
         ensures damaged { IfDamaged result (λ offset. IsTrue D.tells →
             IsDamaged (D.content disk) offset × (D.content (disk_left result) ≡ D.content disk)) }
         ensures only { (offset : ℕ) → IsTrue D.tells → IsDamaged (D.content disk) offset → IsErr result }
+        ensures as_damaged { (offset : ℕ) → IsTrue D.tells → IsDamaged (D.content disk) offset → D.content (disk_left result) ≡ D.content disk }
         ensures cause { IfDiskFailed result (Rose (D.fault_count disk) (D.fault_count (disk_left result))) }
         ensures calm { UnlessDiskFailed result (D.fault_count (disk_left result) ≡ D.fault_count disk) }
         ensures later { D.fault_count disk ≤ D.fault_count (disk_left result) }

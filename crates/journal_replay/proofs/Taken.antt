@@ -1,14 +1,13 @@
 -- Records that were replayed, and the next one.
 use Rattle.std.proofs.Common.{◌≡◌, ◌+◌, ◌<◌, ◌≤◌, ℕ, zero, suc, List, [], ◌∷◌, ◌++◌, refl, ap, ◌∙◌, sym, subst, arith, map, take, length, get_or, Bool, true, false}
 use Rattle.std.specs.Prelude.{max, Option, Some, None, slice_get}
-use Rattle.std.specs.List.{AllByRecursion}
 use Rattle.history_model.proofs.Lists.{all_append}
-use Rattle.record_model.specs.RecordFormat.{IsSound, spelled}
+use Rattle.record_model.specs.RecordFormat.{spelled}
 use Rattle.record_model.specs.Records.{Record}
-use Rattle.record_reader.specs.SoundRecords.{IsHeld}
+use Rattle.shard_records.specs.Readable.{IsReadable}
 use Rattle.node_replay.specs.Durable.{DurableState}
 use Rattle.node_replay.specs.Replays.{follow, replayed, latest_time, time_in}
-use Rattle.journal_replay.specs.Replayed.{RefusesNext, IsRead, IsReplayed, IsRefused, IsTaken, WasFollowed}
+use Rattle.journal_replay.specs.Replayed.{IsRead, IsReplayed, IsRefused, IsTaken}
 
 replayed_one : (o : Option DurableState) → replayed o [] ≡ o
 replayed_one None = refl
@@ -51,13 +50,13 @@ take_all (x ∷ xs) zero le = absurd (omega (arith, le))
 take_all (x ∷ xs) (suc i) le = ap (λ l. x ∷ l) (take_all xs i (omega (arith, le)))
 
 pub none_yet : (empty : DurableState) (bytes : List (List ℕ)) (time : ℕ) → time ≡ 0 → IsReplayed empty (take 0 bytes) empty time
-none_yet empty bytes time early = record { records = []; sound = tt; encoded = refl; leads = refl; latest = early }
+none_yet empty bytes time early = record { records = []; readable = tt; encoded = refl; leads = refl; latest = early }
 
 one_more : (empty : DurableState) (bytes : List (List ℕ)) (b : List ℕ) (d e : DurableState) (time later : ℕ) → IsReplayed empty bytes d time
     → IsRead d time b e later → IsReplayed empty (bytes ++ b ∷ []) e later
 one_more empty bytes b d e time later so_far read = record {
   records = so_far.records ++ read.next ∷ [];
-  sound = all_append IsSound so_far.records (read.next ∷ []) so_far.sound (read.sound, tt);
+  readable = all_append IsReadable so_far.records (read.next ∷ []) so_far.readable ((read.sound, read.held), tt);
   encoded = map_push (spelled 1) so_far.records read.next ∙ (ap (λ l. l ++ spelled 1 read.next ∷ []) so_far.encoded ∙ ap (λ x. bytes ++ x ∷ []) read.encoded);
   leads = replayed_push (Some empty) so_far.records read.next d e so_far.leads read.leads;
   latest = read.latest ∙ (ap (λ t. max t (time_in read.next)) so_far.latest ∙ sym (latest_push so_far.records read.next));

@@ -1,9 +1,9 @@
 -- What the bytes of a journal's records replay to, and where they are refused (docs/JOURNAL.md, "Records").
-use Rattle.std.specs.Prelude.{◌≡◌, ℕ, List, map, take, max, Bool, true, false, Option, Some, None, slice_get}
+use Rattle.std.specs.Prelude.{◌≡◌, ℕ, List, map, take, max, Bool, true, false, Some, None, slice_get}
 use Rattle.std.specs.List.{AllByRecursion}
 use Rattle.record_model.specs.RecordFormat.{IsSound, spelled}
 use Rattle.record_model.specs.Records.{Record}
-use Rattle.record_reader.specs.SoundRecords.{IsHeld}
+use Rattle.shard_records.specs.Readable.{IsHeld, IsReadable}
 use Rattle.node_replay.specs.Durable.{DurableState}
 use Rattle.node_replay.specs.Replays.{follow, replayed, latest_time, time_in}
 use Rattle.journal_replay.specs.declared.fault.OpenFault.{OpenFault}
@@ -22,6 +22,7 @@ RefusesNext d bytes = (r : Record) → IsSound r → IsHeld r → spelled 1 r �
 pub record IsRead (d : DurableState) (time : ℕ) (bytes : List ℕ) (e : DurableState) (later : ℕ) : Type 0 where
   pub next : Record
   pub sound : IsSound next
+  pub held : IsHeld next
   pub encoded : spelled 1 next ≡ bytes
   pub leads : follow d next ≡ Some e
   pub latest : later ≡ max time (time_in next)
@@ -31,11 +32,11 @@ abbrev pub IsTaken : DurableState → (time : ℕ) → List ℕ → DurableState
 IsTaken d time bytes e later true = IsRead d time bytes e later
 IsTaken d time bytes e later false = RefusesNext d bytes
 
--- The bytes encode records, one each, which lead from an empty journal to this durable part; this is the greatest time in them. Sound
--- records have one encoding each, so the bytes have one such list at most.
+-- The bytes encode records, one each, which lead from an empty journal to this durable part; this is the greatest time in them. Each is
+-- read again as itself: so the bytes have one such list at most.
 pub record IsReplayed (empty : DurableState) (bytes : List (List ℕ)) (d : DurableState) (time : ℕ) : Type 0 where
   pub records : List Record
-  pub sound : AllByRecursion IsSound records
+  pub readable : AllByRecursion IsReadable records
   pub encoded : map (spelled 1) records ≡ bytes
   pub leads : replayed (Some empty) records ≡ Some d
   pub latest : time ≡ latest_time records

@@ -3,7 +3,7 @@
 ghost use Rattle.std.specs.Prelude.{◌≡◌, ℕ, IfErr, IfOk};
 ghost use Rattle.node_replay.specs.Durable.{DurableState};
 ghost use Rattle.record_model.specs.RecordFormat.{IsSound};
-ghost use Rattle.record_reader.specs.SoundRecords.{IsHeld};
+ghost use Rattle.shard_records.specs.Readable.{IsHeld};
 ghost use Rattle.shard_records.specs.Meanings.{record_view};
 ghost use Rattle.journal_replay.specs.Replayed.{IsFault, IsReplayed, IsTaken, WasFollowed};
 

@@ -6,29 +6,23 @@ use Rattle.std.specs.List.{AllByRecursion}
 use Rattle.chunk_model.specs.Changes.{Change, create_change, split_change, commit_change}
 use Rattle.chunk_model.specs.Placement.{owner}
 use Rattle.history_model.specs.History.{Operation, Entry, LegalAfter, key_written, document_left}
-use Rattle.journal_frames.specs.Files.{Stands}
 use Rattle.journal_frames.proofs.Unique as unique
 use Rattle.node_model.specs.Journal.{Kept, kept_table, kept_entry, kept_change, kept_ceiling, kept_none, kept_life, kept_block, record_kept, entries_kept, changes_onto, changes_kept}
 use Rattle.node_model.specs.OneHistory.{IsPlaced}
 use Rattle.node_model.specs.World.{Held, journal_at, history_of}
-use Rattle.node_traits.specs.Effects.{AreReadable, spellings}
+use Rattle.node_laws.proofs.Lists.{all_mapped}
+use Rattle.node_replay.specs.Replays.{records_of}
 use Rattle.record_model.specs.RecordContents.{IsKnown, KeepEntries}
 use Rattle.record_model.specs.Records.{EntryWords, Record, create_record, split_record, commit_record, entry_record, record_of}
 use Rattle.record_model.proofs.Entries.{known_effect, one_list, own_entries}
-use Rattle.record_model.proofs.OneRecord.{one_record}
+use Rattle.shard_records.specs.Readable.{IsReadable}
 use Rattle.journal_starts.specs.Journals.{IsJournal, AreJournals, IsHistory}
-
-same_records : (a b : List Kept) → AreReadable a → AreReadable b → spellings a ≡ spellings b → map record_kept a ≡ map record_kept b
-same_records [] [] sa sb e = refl
-same_records [] (k ∷ b) sa sb e = cc
-same_records (k ∷ a) [] sa sb e = cc
-same_records (k ∷ a) (l ∷ b) sa sb e =
-    let others : spellings a ≡ spellings b = cc in
-    let one : record_kept k ≡ record_kept l = one_record (record_kept k) (record_kept l) sa.0.0 sb.0.0 cc in
-    ap (λ (r : Record). r ∷ map record_kept a) one ∙ ap (λ (rs : List Record). record_kept l ∷ rs) (same_records a b sa.1 sb.1 others)
+use Rattle.journal_starts.proofs.Readings.{same_records, spelled_kept}
 
 one_journal : (file : List ℕ) (a b : List Kept) → IsJournal file a → IsJournal file b → map record_kept a ≡ map record_kept b
-one_journal file a b p q = same_records a b p.readable q.readable (unique.one_list file _ _ p.stands q.stands)
+one_journal file a b p q =
+    same_records (records_of a) (records_of b) (all_mapped IsReadable record_kept a p.readable) (all_mapped IsReadable record_kept b q.readable)
+    (spelled_kept a ∙ unique.one_list file _ _ p.stands q.stands ∙ sym (spelled_kept b))
 
 -- the journals at one place keep the same records
 one_at : (files : List (List ℕ)) (nodes others : List Held) (at : ℕ) → AreJournals files nodes → AreJournals files others

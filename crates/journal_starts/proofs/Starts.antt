@@ -1,7 +1,82 @@
 -- Openings on the files of a world that a call may begin in.
-use Rattle.std.specs.Prelude.{◌≡◌, ℕ, List, map}
+use Rattle.std.specs.Prelude.{◌≡◌, ℕ, ◌+◌, List, [], ◌∷◌, map, Option, Some, None}
+use Rattle.std.proofs.Common.{refl, sym, subst}
+use Rattle.std.specs.Option.{option_map}
+use Rattle.std.proofs.lemmas.Option.{same_Some}
+use Rattle.node_model.specs.Journal.{Kept, record_kept}
 use Rattle.node_model.specs.States.{NodeState}
-use Rattle.node_model.specs.World.{World}
+use Rattle.node_model.specs.World.{Held, World}
+use Rattle.node_laws.proofs.Lists.{all_mapped}
+use Rattle.node_laws.proofs.Places.{EachAt}
+use Rattle.node_replay.specs.Durable.{DurableState}
+use Rattle.node_replay.specs.Openings.{opened}
+use Rattle.node_replay.specs.Replays.{latest_time, records_of, replayed}
+use Rattle.node_traits.specs.Effects.{AreReadable, spellings}
+use Rattle.shard_records.specs.Readable.{IsReadable}
 use Rattle.journal_starts.specs.Journals.{AreJournals}
-use Rattle.journal_starts.specs.Records.{AreOpened, AreRefused, HaveRecords}
-use Rattle.journal_starts.specs.Starts.{BeginsOnFiles, begins_new, begins_again}
+use Rattle.journal_starts.specs.Records.{AreOpened, AreRefused, HaveRecords, IsOpened, part_at}
+use Rattle.journal_starts.specs.Starts.{BeginsOnFiles}
+use Rattle.journal_starts.proofs.Begun.{IsBegun, begins_begun, begins_stored}
+use Rattle.journal_starts.proofs.Readings as readings
+
+abbrev encodings : List Held → List (List (List ℕ))
+encodings nodes = map (λ h. spellings h.kept) nodes
+
+abbrev states_of : List Held → List NodeState
+states_of nodes = map (λ h. h.state) nodes
+
+-- the state after the opening is that of records that replay
+node_opened : (n : ℕ) (kept : List Kept) (state : NodeState) (o : Option DurableState) → AreReadable kept → replayed (Some (part_at n)) (records_of kept) ≡ o
+    → option_map (opened (latest_time (records_of kept))) o ≡ Some state → IsOpened (part_at n) (spellings kept) state
+node_opened n kept state None readable leads is = absurd (cc)
+node_opened n kept state (Some d) readable leads is = record {
+  d = d;
+  time = latest_time (records_of kept);
+  replayed = record {
+    records = records_of kept;
+    readable = all_mapped IsReadable record_kept kept readable;
+    encoded = readings.spelled_kept kept;
+    leads = leads;
+    latest = refl;
+  };
+  is = sym (same_Some _ _ is);
+}
+
+nodes_opened : (n : ℕ) (files : List (List ℕ)) (nodes : List Held) → AreJournals files nodes → EachAt IsBegun n nodes
+    → AreOpened n (encodings nodes) (states_of nodes)
+nodes_opened n [] [] stored begun = tt
+nodes_opened n [] (h ∷ nodes) stored begun = absurd stored
+nodes_opened n (file ∷ files) [] stored begun = tt
+nodes_opened n (file ∷ files) (h ∷ nodes) stored begun = (
+  node_opened n h.kept h.state (replayed (Some (part_at n)) (records_of h.kept)) stored.0.readable refl begun.0,
+  nodes_opened (n + 1) files nodes stored.1 begun.1,
+)
+
+have_encodings : (files : List (List ℕ)) (nodes : List Held) → AreJournals files nodes → HaveRecords files (encodings nodes)
+have_encodings [] [] stored = tt
+have_encodings [] (h ∷ nodes) stored = absurd stored
+have_encodings (file ∷ files) [] stored = absurd stored
+have_encodings (file ∷ files) (h ∷ nodes) stored = (stored.0.stands, have_encodings files nodes stored.1)
+
+-- LAWS
+
+pub starts_are_stored : (routers : ℕ) (files : List (List ℕ)) (first : World) → BeginsOnFiles routers files first → AreJournals files first.nodes
+starts_are_stored = begins_stored
+
+pub starts_are_opened : (routers : ℕ) (files : List (List ℕ)) (first : World) (found : List (List (List ℕ))) (states : List NodeState)
+    → BeginsOnFiles routers files first → HaveRecords files found → AreOpened 0 found states → states ≡ map (λ h. h.state) first.nodes
+starts_are_opened routers files first found states b have opens =
+    let stored : AreJournals files first.nodes = begins_stored routers files first b in
+    let same : found ≡ encodings first.nodes = readings.one_found files found (encodings first.nodes) have (have_encodings files first.nodes stored) in
+    readings.one_opened 0 (encodings first.nodes) states (states_of first.nodes) (subst (λ (l : List (List (List ℕ))). AreOpened 0 l states) same opens)
+    (nodes_opened 0 files first.nodes stored (begins_begun routers files first b))
+
+pub starts_are_not_refused : (routers : ℕ) (files : List (List ℕ)) (first : World) → BeginsOnFiles routers files first → ¬ AreRefused files
+starts_are_not_refused routers files first b =
+    let stored : AreJournals files first.nodes = begins_stored routers files first b in
+    readings.opened_are_not_refused files (encodings first.nodes) (states_of first.nodes) (have_encodings files first.nodes stored)
+    (nodes_opened 0 files first.nodes stored (begins_begun routers files first b))
+
+pub opened_are_not_refused : (files : List (List ℕ)) (found : List (List (List ℕ))) (states : List NodeState) → HaveRecords files found
+    → AreOpened 0 found states → ¬ AreRefused files
+opened_are_not_refused = readings.opened_are_not_refused

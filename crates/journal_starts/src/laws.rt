@@ -28,13 +28,11 @@ pub fn starts_are_opened()
 {}
 
 /// No opening on such files is refused.
-#[tactic(auto, using(crate::proofs::Starts::starts_are_not_refused))]
 pub fn starts_are_not_refused()
     ensures { (routers : ℕ) (files : List (List ℕ)) (first : World) → BeginsOnFiles routers files first → ¬ AreRefused files }
 {}
 
 /// Where nodes are opened on the records of the files, no opening is refused.
-#[tactic(auto, using(crate::proofs::Starts::opened_are_not_refused))]
 pub fn opened_are_not_refused()
     ensures { (files : List (List ℕ)) (found : List (List (List ℕ))) (states : List NodeState) → HaveRecords files found → AreOpened 0 found states → ¬ AreRefused files }
 {}

@@ -1,6 +1,6 @@
 //! The nodes of the cluster, opened on the records of their journals.
 
-ghost use Rattle.std.specs.Prelude.{◌≡◌, ◌≤◌, IfErr, IfOk, map, vec_len};
+ghost use Rattle.std.specs.Prelude.{◌≡◌, ◌≤◌, [], IfErr, IfOk, map, vec_capacity, vec_len};
 ghost use Rattle.any_node.specs.Kinds.{state_of};
 ghost use Rattle.journal_replay.specs.declared.fault.OpenFault.{OpenFault};
 ghost use Rattle.journal_starts.specs.Records.{AreOpened, IsOpened, SomeRefused, part_at};
@@ -9,6 +9,7 @@ ghost use Rattle.journal_replay.specs.Replayed.{IsFault};
 
 use crate::open::{open_catalogue, open_router, open_shard};
 use any_node::AnyNode;
+use bson_values::Memory;
 use cluster_base::NodeId;
 use journal_replay::OpenFault;
 use outside::log::RecordList;
@@ -19,11 +20,19 @@ fn open_node(alloc: Global, me: u32, records: RecordList) -> Result<AnyNode, Ope
     ensures opened { IfOk result (λ node. IsOpened (part_at me) records (state_of node)) }
     ensures fault { IfErr result (λ fault. IsFault (part_at me) records fault) }
 {
-    Ok(match me {
-        0 => AnyNode::Catalogue(open_catalogue(alloc, NodeId(me), records)?),
-        1 => AnyNode::Shard(open_shard(alloc, NodeId(me), records)?),
-        _ => AnyNode::Router(open_router(alloc, NodeId(me), records)?),
-    })
+    match me {
+        0 => Ok(AnyNode::Catalogue(open_catalogue(alloc, NodeId(me), records)?)),
+        1 => Ok(AnyNode::Shard(open_shard(alloc, NodeId(me), records)?)),
+        _ => Ok(AnyNode::Router(open_router(alloc, NodeId(me), records)?)),
+    }
+}
+
+// Returns an empty list with room for this many nodes, or `Memory` if memory runs out.
+fn room_for(alloc: Global, count: usize) -> Result<Vec<AnyNode>, Memory>
+    ensures none { IfOk result (λ nodes. nodes.items ≡ []) }
+    ensures room { IfOk result (λ nodes. count ≤ vec_capacity nodes) }
+{
+    Ok(Vec::with_capacity(alloc, count)?)
 }
 
 /// Returns the nodes, in order of their numbers, each opened on the records that were found in its journal.
@@ -37,7 +46,7 @@ pub fn open_nodes(alloc: Global, found: Vec<RecordList>) -> Result<Vec<AnyNode>,
     ensures len { IfOk result (λ nodes. vec_len nodes ≡ vec_len found) }
     ensures fault { IfErr result (λ fault. IfRefused fault (SomeRefused 0 found.items)) }
 {
-    let mut nodes = Vec::with_capacity(alloc, found.len())?;
+    let mut nodes = room_for(alloc, found.len())?;
     let mut me = 0;
     for records in found {
         nodes.push_reserved(open_node(alloc, me, records)?);

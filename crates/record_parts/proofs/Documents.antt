@@ -19,7 +19,7 @@ use Rattle.value_model.specs.Keys.{is_key, key_of, KeyFault, absent_key, wrong_k
 use Rattle.record_model.specs.RecordFormat.{key_document}
 use Rattle.shard_records.specs.Sizes.{FitsRecord}
 use Rattle.record_parts.specs.declared.fault.RecordFault.{RecordFault}
-use Rattle.record_parts.specs.SoundParts.{Finds, fault_view}
+use Rattle.record_parts.specs.Finds.{Finds, fault_view}
 use Rattle.record_parts.specs.Readers.{whole_in}
 
 -- what was found is the document that is there

@@ -5,7 +5,7 @@ use Rattle.std.specs.Str.{IsUtf8}
 use Rattle.value_model.specs.Keys.{IsRange, min_bound}
 use Rattle.chunk_model.specs.Tables.{Chunk, Table}
 use Rattle.chunk_table.specs.Whole.{IsWritableBound, IsWritableChunk, follow_from}
-use Rattle.record_parts.specs.SoundParts.{IsHeldChunk, IsHeldTable}
+use Rattle.shard_records.specs.Readable.{IsHeldChunk, IsHeldTable}
 
 pub chunks_writable : (chunks : List Chunk) → AllByRecursion IsHeldChunk chunks → AllByRecursion IsWritableChunk chunks
 chunks_writable [] held = tt

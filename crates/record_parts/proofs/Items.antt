@@ -4,7 +4,7 @@ use Rattle.std.proofs.lemmas.List.{append-nil}
 use Rattle.std.specs.Prelude.{Option, Some, None, Err}
 use Rattle.std.specs.List.{AllByRecursion, flat_map}
 use Rattle.record_model.specs.RecordFormat.{four, spelled_list}
-use Rattle.record_parts.specs.SoundParts.{Finds}
+use Rattle.record_parts.specs.Finds.{Finds}
 use Rattle.record_parts.specs.declared.fault.RecordFault.{RecordFault}
 use Rattle.record_parts.specs.declared.fault.RecordFault.TheVariants.{NoRecord, Memory}
 use Rattle.record_parts.specs.Readers.{◌>>=◌, Found, four_at, items_at, list_at}

@@ -11,7 +11,7 @@ use Rattle.chunk_model.specs.Tables.{Owned, Chunk, Table}
 use Rattle.chunk_table.specs.Whole.{IsWritableBound, IsWritableChunk, follow_from}
 use Rattle.record_model.specs.RecordFormat.{four, eight, spelled_string, spelled_list, spelled_bound, spelled_version, spelled_owned, spelled_chunk, spelled_table, IsSoundBound, IsSoundVersion, IsSoundOwned, IsSoundChunk, IsSoundTable}
 use Rattle.record_model.specs.MoveFormat.{spelled_range, IsSoundRange}
-use Rattle.record_parts.specs.SoundParts.{IsHeldChunk, IsHeldRange, IsHeldTable}
+use Rattle.shard_records.specs.Readable.{IsHeldChunk, IsHeldRange, IsHeldTable}
 use Rattle.record_parts.specs.Readers.{◌>>=◌, Found, byte_at, eight_at, four_at, key_bound_at, bound_at, range_in, range_at, version_at, owned_at, list_at, chunk_at, namespace_at, table_in, table_at}
 use Rattle.record_parts.proofs.Again.{stepped, first, four_again, eight_again, namespace_again, key_again}
 use Rattle.record_parts.proofs.Items.{list_again}

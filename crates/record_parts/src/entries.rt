@@ -2,7 +2,7 @@
 
 ghost use Rattle.std.specs.Prelude.{IfOk};
 ghost use Rattle.statement_views.specs.Views.{number_view, operation_view, outcome_view, session_view};
-ghost use Rattle.record_parts.specs.SoundParts.{Finds};
+ghost use Rattle.record_parts.specs.Finds.{Finds};
 ghost use Rattle.record_parts.specs.Readers.{client_at, delete_at, insert_at, operation_at, option_key_at, outcome_at, router_at, session_at, some_key_at, statement_at, update_at};
 ghost use Rattle.shard_records.specs.Sizes.{IsWritableKey, IsWritableOperation};
 

@@ -8,7 +8,7 @@ ghost use Rattle.bson_model.specs.Limits.{IsWritable};
 ghost use Rattle.bson_values.specs.Readers.{whole_at};
 ghost use Rattle.value_model.specs.Keys.{valid_key};
 ghost use Rattle.record_model.specs.RecordFormat.{key_document};
-ghost use Rattle.record_parts.specs.SoundParts.{Finds, fault_view};
+ghost use Rattle.record_parts.specs.Finds.{Finds, fault_view};
 ghost use Rattle.record_parts.specs.Readers.{byte_at, bytes_at, document_at, eight_at, four_at, key_at, key_in, name_in, namespace_at, whole_in};
 ghost use Rattle.shard_records.specs.Sizes.{FitsRecord};
 ghost use Rattle.bson_model.specs.Grammar.{IsWithinDepth};

@@ -8,7 +8,7 @@ use Rattle.record_model.specs.Moves.{MovedDocument, ReceivedBatch, ReceiveDone}
 use Rattle.record_model.specs.Records.{Record, entry_record, move_start_record, receive_start_record, batch_record, receive_done_record, deletion_record, split_record, commit_record, resolve_record}
 use Rattle.record_model.specs.RecordFormat.{key_document}
 use Rattle.shard_records.specs.Sizes.{IsWritableRecord, IsWritableOption, IsWritableMoved, IsWritableStatement, IsWritableSession, IsWritableReceived, IsWritableDone}
-use Rattle.record_reader.specs.SoundRecords.{IsHeld}
+use Rattle.shard_records.specs.Readable.{IsHeld}
 
 pub held_writable : (r : Record) → IsHeld r → IsWritableRecord r
 held_writable (entry_record e) h = h.1

@@ -18,7 +18,7 @@ use Rattle.record_model.specs.Records.{EntryWords, entry_record, move_start_reco
 use Rattle.record_model.specs.RecordFormat.{four, eight, spelled_string, key_document, spelled_session, spelled_number, spelled_operation, spelled_outcome, spelled_entry, spelled_creation, spelled_list, spelled_bound, spelled_version, spelled_table, IsSoundEntry, IsSoundCreation}
 use Rattle.record_model.specs.MoveFormat.{spelled_request, spelled_range, spelled_key_value, spelled_flag, spelled_document, spelled_moved, spelled_statement, spelled_transaction, spelled_session_record, spelled_move_start, spelled_section, spelled_move_end, spelled_receive_start, spelled_received, spelled_receive_done, spelled_deletion, spelled_split, spelled_commit, spelled_resolve, spelled_purge, IsSoundRequest, IsSoundOption, IsSoundMoved, IsSoundStatement, IsSoundSessionRecord, IsSoundMoveStart, IsSoundSection, IsSoundMoveEnd, IsSoundReceiveStart, IsSoundReceived, IsSoundReceiveDone, IsSoundDeletion, IsSoundSplit, IsSoundCommit, IsSoundResolve, IsSoundPurge}
 use Rattle.shard_records.specs.Sizes.{IsWritableRecord, IsWritableOption, IsWritableMoved, IsWritableStatement, IsWritableSession, IsWritableReceived, IsWritableDone}
-use Rattle.record_parts.specs.SoundParts.{IsHeldRange, IsHeldTable}
+use Rattle.shard_records.specs.Readable.{IsHeldRange, IsHeldTable}
 use Rattle.record_parts.specs.Readers.{◌>>=◌, Found, byte_at, four_at, eight_at, namespace_at, document_at, key_at, session_at, statement_at, operation_at, outcome_at, bound_at, range_at, version_at, list_at, table_at}
 use Rattle.record_reader.specs.RecordReaders.{request_at, flag_at, stored_at, some_document_at, option_document_at, moved_at, statement_record_at, session_record_at, move_start_at, section_at, move_end_at, receive_start_at, received_at, sessions_in, receive_done_at, deletion_at, split_at, commit_at, resolve_at, purge_at, entry_at, creation_at}
 use Rattle.record_parts.proofs.Again.{stepped, first, last, four_again, eight_again, namespace_again, document_again, key_again, session_again, statement_again, operation_again, outcome_again}

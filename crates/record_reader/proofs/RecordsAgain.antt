@@ -10,9 +10,10 @@ use Rattle.record_model.specs.RecordFormat.{eight, spelled_table, kind_byte, spe
 use Rattle.record_model.specs.MoveFormat.{spelled_request, spelled_move_end, IsSoundRequest, IsSoundMoveEnd}
 use Rattle.record_parts.specs.declared.fault.RecordFault.{RecordFault}
 use Rattle.record_parts.specs.declared.fault.RecordFault.TheVariants.{NoRecord, Memory}
-use Rattle.record_parts.specs.SoundParts.{Finds, IsHeldTable}
+use Rattle.shard_records.specs.Readable.{IsHeld, IsHeldTable}
+use Rattle.record_parts.specs.Finds.{Finds}
 use Rattle.record_parts.specs.Readers.{◌>>=◌, byte_at, eight_at, table_at}
-use Rattle.record_reader.specs.SoundRecords.{IsDecided, IsHeld}
+use Rattle.record_reader.specs.Decided.{IsDecided}
 use Rattle.record_reader.specs.RecordReaders.{request_at, table_record_at, number_at, released_at, given_end_at, receive_end_at, shard_fields_at, move_fields_at, catalogue_fields_at, router_fields_at, fields_at, record_at}
 use Rattle.record_parts.proofs.Again.{stepped, last, eight_again}
 use Rattle.record_parts.proofs.TablesAgain.{table_again}

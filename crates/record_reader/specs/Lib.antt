@@ -1,2 +1,2 @@
 pub mod RecordReaders
-pub mod SoundRecords
+pub mod Decided

@@ -9,8 +9,8 @@ ghost use Rattle.shard_records.specs.Meanings.{record_view};
 ghost use Rattle.shard_records.specs.Sizes.{IsStored, IsWritableMoved, IsWritableOption};
 ghost use Rattle.record_parts.specs.Readers.{items_at, list_at};
 ghost use Rattle.record_reader.specs.RecordReaders.{moved_at, option_document_at, received_at, some_document_at, stored_at};
-ghost use Rattle.record_parts.specs.SoundParts.{Finds};
-ghost use Rattle.record_reader.specs.SoundRecords.{IsHeld};
+ghost use Rattle.record_parts.specs.Finds.{Finds};
+ghost use Rattle.shard_records.specs.Readable.{IsHeld};
 
 use crate::moves::read_request;
 use bson_values::{Document, MOST_BYTES_KEPT};

@@ -3,8 +3,8 @@
 ghost use Rattle.std.specs.Prelude.{IfOk};
 ghost use Rattle.shard_records.specs.Meanings.{record_view};
 ghost use Rattle.record_reader.specs.RecordReaders.{commit_at, creation_at, purge_at, resolve_at, split_at};
-ghost use Rattle.record_parts.specs.SoundParts.{Finds};
-ghost use Rattle.record_reader.specs.SoundRecords.{IsHeld};
+ghost use Rattle.record_parts.specs.Finds.{Finds};
+ghost use Rattle.shard_records.specs.Readable.{IsHeld};
 
 use crate::moves::read_request;
 use cluster_base::{NodeId, Time};

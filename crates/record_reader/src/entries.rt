@@ -2,9 +2,9 @@
 
 ghost use Rattle.std.specs.Prelude.{IfOk};
 ghost use Rattle.shard_records.specs.Meanings.{record_view};
-ghost use Rattle.record_parts.specs.SoundParts.{Finds};
+ghost use Rattle.record_parts.specs.Finds.{Finds};
 ghost use Rattle.record_reader.specs.RecordReaders.{entry_at};
-ghost use Rattle.record_reader.specs.SoundRecords.{IsHeld};
+ghost use Rattle.shard_records.specs.Readable.{IsHeld};
 
 use cluster_base::Time;
 use record_parts::{

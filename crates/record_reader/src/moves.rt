@@ -4,8 +4,8 @@ ghost use Rattle.std.specs.Prelude.{IfOk};
 ghost use Rattle.shard_records.specs.Meanings.{record_view};
 ghost use Rattle.shard_records.specs.MoveViews.{move_end_view, request_view};
 ghost use Rattle.record_reader.specs.RecordReaders.{deletion_at, flag_at, given_end_at, move_end_at, move_start_at, receive_end_at, receive_start_at, released_at, request_at, section_at};
-ghost use Rattle.record_parts.specs.SoundParts.{Finds, IsHeldTable};
-ghost use Rattle.record_reader.specs.SoundRecords.{IsHeld};
+ghost use Rattle.shard_records.specs.Readable.{IsHeld, IsHeldTable};
+ghost use Rattle.record_parts.specs.Finds.{Finds};
 
 use cluster_base::{NodeId, RequestId, Time};
 use record_parts::{

@@ -4,8 +4,9 @@ ghost use Rattle.std.specs.Prelude.{◌≡◌, ◌↔◌, Some, IfOk, IsTrue};
 ghost use Rattle.record_model.specs.Records as records;
 ghost use Rattle.record_model.specs.RecordFormat.{IsSound, spelled};
 ghost use Rattle.shard_records.specs.Meanings.{record_view};
-ghost use Rattle.record_parts.specs.SoundParts.{Finds};
-ghost use Rattle.record_reader.specs.SoundRecords.{IsDecided, IsHeld};
+ghost use Rattle.record_parts.specs.Finds.{Finds};
+ghost use Rattle.record_reader.specs.Decided.{IsDecided};
+ghost use Rattle.shard_records.specs.Readable.{IsHeld};
 ghost use Rattle.record_model.specs.Records.{block_record, catalogue_ceiling_record, ceiling_record, floor_record, life_record};
 ghost use Rattle.record_reader.specs.RecordReaders.{catalogue_fields_at, fields_at, move_fields_at, number_at, record_at, router_fields_at, shard_fields_at, table_record_at};
 

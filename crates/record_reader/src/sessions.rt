@@ -9,8 +9,8 @@ ghost use Rattle.shard_records.specs.Meanings.{record_view};
 ghost use Rattle.shard_records.specs.Sizes.{IsWritableSession, IsWritableStatement};
 ghost use Rattle.record_parts.specs.Readers.{items_at, list_at};
 ghost use Rattle.record_reader.specs.RecordReaders.{receive_done_at, session_record_at, sessions_in, statement_record_at};
-ghost use Rattle.record_parts.specs.SoundParts.{Finds};
-ghost use Rattle.record_reader.specs.SoundRecords.{IsHeld};
+ghost use Rattle.record_parts.specs.Finds.{Finds};
+ghost use Rattle.shard_records.specs.Readable.{IsHeld};
 
 use crate::moves::read_request;
 use cluster_base::{Session, Time};

@@ -3,10 +3,12 @@
 //! What is written comes after the bytes that were there. After an `Err` a part may be there too.
 
 ghost use Rattle.std.specs.Prelude.{◌≡◌, ◌++◌, length, take, OnOk};
+ghost use Rattle.std.specs.Str.{IsUtf8};
 ghost use Rattle.bson_model.specs.Limits.{IsWritable};
 ghost use Rattle.record_model.specs.RecordFormat.{key_document};
 ghost use Rattle.record_model.specs.MoveFormat.{IsSoundCommit, IsSoundPurge, IsSoundResolve, IsSoundSplit, spelled_commit, spelled_purge, spelled_resolve, spelled_split};
 ghost use Rattle.shard_records.specs.MoveViews.{commit_view, purge_view, resolve_view, split_view};
+ghost use Rattle.shard_records.specs.Readable.{IsHeldRange};
 ghost use Rattle.shard_records.specs.Sizes.{IsWritableRange};
 
 use crate::changes::{CommitChange, PurgeChange, ResolveChange, SplitChange};
@@ -19,6 +21,7 @@ pub(crate) fn put_split(kept: &SplitChange, out: &mut Vec<u8>) -> Result<(), Mem
     requires { IsWritable (key_document kept.now.middle) }
     ensures ok { OnOk result (out.new.items ≡ out.old.items ++ spelled_split (split_view kept.now)) }
     ensures sound { OnOk result (IsSoundSplit (split_view kept.now)) }
+    ensures text { IsUtf8 kept.now.namespace }
     ensures kept { take (length out.old.items) out.new.items ≡ out.old.items }
 {
     put_namespace(&kept.namespace, out)?;
@@ -31,6 +34,7 @@ pub(crate) fn put_commit(kept: &CommitChange, out: &mut Vec<u8>) -> Result<(), M
     requires { IsWritableRange kept.now.range }
     ensures ok { OnOk result (out.new.items ≡ out.old.items ++ spelled_commit (commit_view kept.now)) }
     ensures sound { OnOk result (IsSoundCommit (commit_view kept.now)) }
+    ensures held { OnOk result (IsUtf8 kept.now.namespace × IsHeldRange kept.now.range) }
     ensures kept { take (length out.old.items) out.new.items ≡ out.old.items }
 {
     put_request(&kept.id, out)?;

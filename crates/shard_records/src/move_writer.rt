@@ -10,6 +10,7 @@ ghost use Rattle.record_model.specs.RecordFormat.{spelled_list};
 ghost use Rattle.record_model.specs.MoveFormat.{IsSoundDeletion, IsSoundMoveEnd, IsSoundMoveStart, IsSoundMoved, IsSoundOption, IsSoundRange, IsSoundReceiveDone, IsSoundReceiveStart, IsSoundReceived, IsSoundRequest, IsSoundSection, spelled_deletion, spelled_document, spelled_flag, spelled_move_end, spelled_move_start, spelled_moved, spelled_range, spelled_receive_done, spelled_receive_start, spelled_received, spelled_request, spelled_section};
 ghost use Rattle.shard_records.specs.Batches.{moved_view};
 ghost use Rattle.shard_records.specs.MoveViews.{deletion_view, move_end_view, move_start_view, receive_done_view, receive_start_view, received_view, request_view, section_view};
+ghost use Rattle.shard_records.specs.Readable.{IsHeldRange};
 ghost use Rattle.shard_records.specs.Sizes.{IsWritableDone, IsWritableMoved, IsWritableOption, IsWritableRange, IsWritableReceived};
 
 use crate::batch::MovedDocument;
@@ -30,6 +31,7 @@ pub(crate) fn put_range(range: &KeyRange, out: &mut Vec<u8>) -> Result<(), Memor
     requires { IsWritableRange range.now }
     ensures ok { OnOk result (out.new.items ≡ out.old.items ++ spelled_range range.now) }
     ensures sound { OnOk result (IsSoundRange range.now) }
+    ensures held { IsHeldRange range.now }
     ensures kept { take (length out.old.items) out.new.items ≡ out.old.items }
 {
     put_bound(range.min(), out)?;

@@ -3,8 +3,9 @@
 ghost use Rattle.std.specs.Prelude.{◌≡◌, ◌++◌, length, take, OnErr, OnOk};
 ghost use Rattle.bson_model.specs.Limits.{IsWritable};
 ghost use Rattle.record_model.specs.Records.{block_record, catalogue_ceiling_record, ceiling_record, commit_record, create_record, life_record, split_record};
-ghost use Rattle.record_model.specs.RecordFormat.{IsSound, key_document, spelled};
+ghost use Rattle.record_model.specs.RecordFormat.{key_document, spelled};
 ghost use Rattle.shard_records.specs.MoveViews.{commit_view, split_view};
+ghost use Rattle.shard_records.specs.Readable.{IsReadable};
 ghost use Rattle.shard_records.specs.Sizes.{IsWritableRange};
 
 use crate::change_writer::{put_commit, put_split};
@@ -21,7 +22,7 @@ fn put_creation_record(
     out: &mut Vec<u8>,
 ) -> Result<(), Memory>
     ensures ok { OnOk result (out.new.items ≡ out.old.items ++ spelled 1 (create_record (record { namespace = namespace.now; epoch = epoch; at = at.0 }))) }
-    ensures sound { OnOk result (IsSound (create_record (record { namespace = namespace.now; epoch = epoch; at = at.0 }))) }
+    ensures readable { OnOk result (IsReadable (create_record (record { namespace = namespace.now; epoch = epoch; at = at.0 }))) }
     ensures kept { take (length out.old.items) out.new.items ≡ out.old.items }
 {
     put_head(0x20, out)?;
@@ -39,7 +40,7 @@ pub fn write_creation(
     out: &mut Vec<u8>,
 ) -> Result<(), Memory>
     ensures ok { OnOk result (out.new.items ≡ out.old.items ++ spelled 1 (create_record (record { namespace = namespace.now; epoch = epoch; at = at.0 }))) }
-    ensures sound { OnOk result (IsSound (create_record (record { namespace = namespace.now; epoch = epoch; at = at.0 }))) }
+    ensures readable { OnOk result (IsReadable (create_record (record { namespace = namespace.now; epoch = epoch; at = at.0 }))) }
     ensures err { OnErr result (out.new.items ≡ out.old.items) }
 {
     let len = out.len();
@@ -51,7 +52,7 @@ pub fn write_creation(
 fn put_split_record(split: &SplitChange, out: &mut Vec<u8>) -> Result<(), Memory>
     requires { IsWritable (key_document split.now.middle) }
     ensures ok { OnOk result (out.new.items ≡ out.old.items ++ spelled 1 (split_record (split_view split.now))) }
-    ensures sound { OnOk result (IsSound (split_record (split_view split.now))) }
+    ensures readable { OnOk result (IsReadable (split_record (split_view split.now))) }
     ensures kept { take (length out.old.items) out.new.items ≡ out.old.items }
 {
     put_head(0x21, out)?;
@@ -65,7 +66,7 @@ fn put_split_record(split: &SplitChange, out: &mut Vec<u8>) -> Result<(), Memory
 pub fn write_split(split: &SplitChange, out: &mut Vec<u8>) -> Result<(), Memory>
     requires { IsWritable (key_document split.now.middle) }
     ensures ok { OnOk result (out.new.items ≡ out.old.items ++ spelled 1 (split_record (split_view split.now))) }
-    ensures sound { OnOk result (IsSound (split_record (split_view split.now))) }
+    ensures readable { OnOk result (IsReadable (split_record (split_view split.now))) }
     ensures err { OnErr result (out.new.items ≡ out.old.items) }
 {
     let len = out.len();
@@ -77,7 +78,7 @@ pub fn write_split(split: &SplitChange, out: &mut Vec<u8>) -> Result<(), Memory>
 fn put_commit_record(commit: &CommitChange, out: &mut Vec<u8>) -> Result<(), Memory>
     requires { IsWritableRange commit.now.range }
     ensures ok { OnOk result (out.new.items ≡ out.old.items ++ spelled 1 (commit_record (commit_view commit.now))) }
-    ensures sound { OnOk result (IsSound (commit_record (commit_view commit.now))) }
+    ensures readable { OnOk result (IsReadable (commit_record (commit_view commit.now))) }
     ensures kept { take (length out.old.items) out.new.items ≡ out.old.items }
 {
     put_head(0x22, out)?;
@@ -91,7 +92,7 @@ fn put_commit_record(commit: &CommitChange, out: &mut Vec<u8>) -> Result<(), Mem
 pub fn write_commit(commit: &CommitChange, out: &mut Vec<u8>) -> Result<(), Memory>
     requires { IsWritableRange commit.now.range }
     ensures ok { OnOk result (out.new.items ≡ out.old.items ++ spelled 1 (commit_record (commit_view commit.now))) }
-    ensures sound { OnOk result (IsSound (commit_record (commit_view commit.now))) }
+    ensures readable { OnOk result (IsReadable (commit_record (commit_view commit.now))) }
     ensures err { OnErr result (out.new.items ≡ out.old.items) }
 {
     let len = out.len();
@@ -102,7 +103,7 @@ pub fn write_commit(commit: &CommitChange, out: &mut Vec<u8>) -> Result<(), Memo
 /// Writes the record of a life.
 fn put_life_record(life: u64, out: &mut Vec<u8>) -> Result<(), Memory>
     ensures ok { OnOk result (out.new.items ≡ out.old.items ++ spelled 1 (life_record life)) }
-    ensures sound { OnOk result (IsSound (life_record life)) }
+    ensures readable { OnOk result (IsReadable (life_record life)) }
     ensures kept { take (length out.old.items) out.new.items ≡ out.old.items }
 {
     put_head(0x30, out)?;
@@ -115,7 +116,7 @@ fn put_life_record(life: u64, out: &mut Vec<u8>) -> Result<(), Memory>
 /// `Memory` if memory runs out, and then the bytes are as they were.
 pub fn write_life(life: u64, out: &mut Vec<u8>) -> Result<(), Memory>
     ensures ok { OnOk result (out.new.items ≡ out.old.items ++ spelled 1 (life_record life)) }
-    ensures sound { OnOk result (IsSound (life_record life)) }
+    ensures readable { OnOk result (IsReadable (life_record life)) }
     ensures err { OnErr result (out.new.items ≡ out.old.items) }
 {
     let len = out.len();
@@ -126,7 +127,7 @@ pub fn write_life(life: u64, out: &mut Vec<u8>) -> Result<(), Memory>
 /// Writes the record of a block of cursor numbers.
 fn put_block_record(block: u64, out: &mut Vec<u8>) -> Result<(), Memory>
     ensures ok { OnOk result (out.new.items ≡ out.old.items ++ spelled 1 (block_record block)) }
-    ensures sound { OnOk result (IsSound (block_record block)) }
+    ensures readable { OnOk result (IsReadable (block_record block)) }
     ensures kept { take (length out.old.items) out.new.items ≡ out.old.items }
 {
     put_head(0x31, out)?;
@@ -139,7 +140,7 @@ fn put_block_record(block: u64, out: &mut Vec<u8>) -> Result<(), Memory>
 /// `Memory` if memory runs out, and then the bytes are as they were.
 pub fn write_block(block: u64, out: &mut Vec<u8>) -> Result<(), Memory>
     ensures ok { OnOk result (out.new.items ≡ out.old.items ++ spelled 1 (block_record block)) }
-    ensures sound { OnOk result (IsSound (block_record block)) }
+    ensures readable { OnOk result (IsReadable (block_record block)) }
     ensures err { OnErr result (out.new.items ≡ out.old.items) }
 {
     let len = out.len();
@@ -150,7 +151,7 @@ pub fn write_block(block: u64, out: &mut Vec<u8>) -> Result<(), Memory>
 /// Writes the record of a ceiling of a shard.
 fn put_ceiling_record(time: Time, out: &mut Vec<u8>) -> Result<(), Memory>
     ensures ok { OnOk result (out.new.items ≡ out.old.items ++ spelled 1 (ceiling_record time.0)) }
-    ensures sound { OnOk result (IsSound (ceiling_record time.0)) }
+    ensures readable { OnOk result (IsReadable (ceiling_record time.0)) }
     ensures kept { take (length out.old.items) out.new.items ≡ out.old.items }
 {
     put_head(0x03, out)?;
@@ -163,7 +164,7 @@ fn put_ceiling_record(time: Time, out: &mut Vec<u8>) -> Result<(), Memory>
 /// `Memory` if memory runs out, and then the bytes are as they were.
 pub fn write_ceiling(time: Time, out: &mut Vec<u8>) -> Result<(), Memory>
     ensures ok { OnOk result (out.new.items ≡ out.old.items ++ spelled 1 (ceiling_record time.0)) }
-    ensures sound { OnOk result (IsSound (ceiling_record time.0)) }
+    ensures readable { OnOk result (IsReadable (ceiling_record time.0)) }
     ensures err { OnErr result (out.new.items ≡ out.old.items) }
 {
     let len = out.len();
@@ -174,7 +175,7 @@ pub fn write_ceiling(time: Time, out: &mut Vec<u8>) -> Result<(), Memory>
 /// Writes the record of a ceiling of the catalogue.
 fn put_catalogue_ceiling_record(time: Time, out: &mut Vec<u8>) -> Result<(), Memory>
     ensures ok { OnOk result (out.new.items ≡ out.old.items ++ spelled 1 (catalogue_ceiling_record time.0)) }
-    ensures sound { OnOk result (IsSound (catalogue_ceiling_record time.0)) }
+    ensures readable { OnOk result (IsReadable (catalogue_ceiling_record time.0)) }
     ensures kept { take (length out.old.items) out.new.items ≡ out.old.items }
 {
     put_head(0x25, out)?;
@@ -187,7 +188,7 @@ fn put_catalogue_ceiling_record(time: Time, out: &mut Vec<u8>) -> Result<(), Mem
 /// `Memory` if memory runs out, and then the bytes are as they were.
 pub fn write_catalogue_ceiling(time: Time, out: &mut Vec<u8>) -> Result<(), Memory>
     ensures ok { OnOk result (out.new.items ≡ out.old.items ++ spelled 1 (catalogue_ceiling_record time.0)) }
-    ensures sound { OnOk result (IsSound (catalogue_ceiling_record time.0)) }
+    ensures readable { OnOk result (IsReadable (catalogue_ceiling_record time.0)) }
     ensures err { OnErr result (out.new.items ≡ out.old.items) }
 {
     let len = out.len();

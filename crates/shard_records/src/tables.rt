@@ -7,7 +7,8 @@ ghost use Rattle.std.specs.List.{AllByRecursion, flat_map};
 ghost use Rattle.chunk_table.specs.Meanings.{chunk_view, owned_view, version_view};
 ghost use Rattle.chunk_table.specs.Whole.{IsWritableBound, IsWritableChunk};
 ghost use Rattle.record_model.specs.Records.{table_record};
-ghost use Rattle.record_model.specs.RecordFormat.{IsSound, IsSoundBound, IsSoundChunk, IsSoundOwned, IsSoundTable, IsSoundVersion, spelled, spelled_table, spelled_bound, spelled_chunk, spelled_list, spelled_owned, spelled_version};
+ghost use Rattle.record_model.specs.RecordFormat.{IsSoundBound, IsSoundChunk, IsSoundOwned, IsSoundTable, IsSoundVersion, spelled, spelled_table, spelled_bound, spelled_chunk, spelled_list, spelled_owned, spelled_version};
+ghost use Rattle.shard_records.specs.Readable.{IsHeldTable, IsReadable};
 ghost use Rattle.value_compare.specs.Bounds.{bound_of};
 
 use crate::writer::{cut_after_err, put, put_head, put_namespace, put_some_key, put_u32, put_u64};
@@ -21,7 +22,7 @@ use value_compare::Bound;
 /// `Memory` if memory runs out, and then the bytes are as they were.
 pub fn write_table(table: &Table, out: &mut Vec<u8>) -> Result<(), Memory>
     ensures ok { OnOk result (out.new.items ≡ out.old.items ++ spelled 1 (table_record table.now)) }
-    ensures sound { OnOk result (IsSound (table_record table.now)) }
+    ensures readable { OnOk result (IsReadable (table_record table.now)) }
     ensures err { OnErr result (out.new.items ≡ out.old.items) }
 {
     let len = out.len();
@@ -132,6 +133,7 @@ fn put_chunks(chunks: &[Chunk], out: &mut Vec<u8>) -> Result<(), Memory>
 pub(crate) fn put_table(table: &Table, out: &mut Vec<u8>) -> Result<(), Memory>
     ensures ok { OnOk result (out.new.items ≡ out.old.items ++ spelled_table table.now) }
     ensures sound { OnOk result (IsSoundTable table.now) }
+    ensures held { OnOk result (IsHeldTable table.now) }
     ensures kept { take (length out.old.items) out.new.items ≡ out.old.items }
 {
     put_namespace(table.namespace(), out)?;
@@ -144,7 +146,7 @@ pub(crate) fn put_table(table: &Table, out: &mut Vec<u8>) -> Result<(), Memory>
 /// Writes the record of a table.
 fn put_table_record(table: &Table, out: &mut Vec<u8>) -> Result<(), Memory>
     ensures ok { OnOk result (out.new.items ≡ out.old.items ++ spelled 1 (table_record table.now)) }
-    ensures sound { OnOk result (IsSound (table_record table.now)) }
+    ensures readable { OnOk result (IsReadable (table_record table.now)) }
     ensures kept { take (length out.old.items) out.new.items ≡ out.old.items }
 {
     put_head(0x01, out)?;

@@ -4,12 +4,14 @@
 
 ghost use Rattle.std.specs.Prelude.{◌≡◌, ◌<◌, ◌^◌, ◌++◌, ◌∷◌, [], length, take, FitsSigned, OnErr, OnOk};
 ghost use Rattle.std.specs.Int.{cast_unsigned, w64};
+ghost use Rattle.std.specs.Str.{IsUtf8};
 ghost use Rattle.base_model.specs.Names.{IsNamespace};
 ghost use Rattle.bson_model.specs.Spelling.{written};
 ghost use Rattle.record_model.specs.RecordFormat.{IsSoundOperation, IsSound, IsSoundKey, IsSoundNumber, IsSoundOutcome, IsSoundSession, IsSoundDocument, IsSoundKeyValue, IsSoundCreation, IsSoundEntry, eight, four, key_document, kind_byte, spelled, spelled_fields, spelled_creation, spelled_entry, spelled_key, spelled_number, spelled_outcome, spelled_session, spelled_string, spelled_operation};
 ghost use Rattle.record_model.specs.Records.{entry_record};
 ghost use Rattle.statement_views.specs.Views.{number_view, session_view};
 ghost use Rattle.shard_records.specs.Meanings.{entry_view, outcome_view, record_view, operation_lent};
+ghost use Rattle.shard_records.specs.Readable.{IsHeld, IsReadable};
 ghost use Rattle.shard_records.specs.Sizes.{FitsRecord, IsWritableOperation, IsWritableKey, IsWritableRecord};
 ghost use Rattle.bson_model.specs.Limits.{IsWritable};
 
@@ -61,7 +63,8 @@ pub fn write_entry(
     requires words { IsWritableOperation (operation_lent words.now) }
     requires upserted { IsWritableKey (outcome_view reply.now).upserted }
     ensures ok { OnOk result (out.new.items ≡ out.old.items ++ spelled 1 (entry_record (entry_view time namespace.now statement.now (operation_lent words.now) reply.now))) }
-    ensures sound { OnOk result (IsSound (entry_record (entry_view time namespace.now statement.now (operation_lent words.now) reply.now))) }
+    // Its bytes encode no other record, and a reader of records can hold it.
+    ensures readable { OnOk result (IsReadable (entry_record (entry_view time namespace.now statement.now (operation_lent words.now) reply.now))) }
     ensures err { OnErr result (out.new.items ≡ out.old.items) }
 {
     let len = out.len();
@@ -119,6 +122,7 @@ pub(crate) fn put_namespace(namespace: &Namespace, out: &mut Vec<u8>) -> Result<
     ensures ok { OnOk result (out.new.items ≡ out.old.items ++ spelled_string namespace.now) }
     ensures kept { take (length out.old.items) out.new.items ≡ out.old.items }
     ensures namespace { IsNamespace namespace.now }
+    ensures text { IsUtf8 namespace.now }
 {
     let text = namespace.as_str();
     put_u32(text.len() as u32, out)?;
@@ -263,6 +267,7 @@ fn put_entry(
     requires upserted { IsWritableKey (outcome_view reply.now).upserted }
     ensures ok { OnOk result (out.new.items ≡ out.old.items ++ spelled_entry (entry_view time namespace.now statement.now (operation_lent words.now) reply.now)) }
     ensures sound { OnOk result (IsSoundEntry (entry_view time namespace.now statement.now (operation_lent words.now) reply.now)) }
+    ensures held { OnOk result (IsHeld (entry_record (entry_view time namespace.now statement.now (operation_lent words.now) reply.now))) }
     ensures kept { take (length out.old.items) out.new.items ≡ out.old.items }
 {
     put_u64(time.0, out)?;
@@ -284,7 +289,7 @@ fn put_entry_record(
     requires words { IsWritableOperation (operation_lent words.now) }
     requires upserted { IsWritableKey (outcome_view reply.now).upserted }
     ensures ok { OnOk result (out.new.items ≡ out.old.items ++ spelled 1 (entry_record (entry_view time namespace.now statement.now (operation_lent words.now) reply.now))) }
-    ensures sound { OnOk result (IsSound (entry_record (entry_view time namespace.now statement.now (operation_lent words.now) reply.now))) }
+    ensures readable { OnOk result (IsReadable (entry_record (entry_view time namespace.now statement.now (operation_lent words.now) reply.now))) }
     ensures kept { take (length out.old.items) out.new.items ≡ out.old.items }
 {
     put_head(0x02, out)?;
@@ -308,6 +313,7 @@ pub(crate) fn put_creation(
 ) -> Result<(), Memory>
     ensures ok { OnOk result (out.new.items ≡ out.old.items ++ spelled_creation (record { namespace = namespace.now; epoch = epoch; at = at.0 })) }
     ensures sound { OnOk result (IsSoundCreation (record { namespace = namespace.now; epoch = epoch; at = at.0 })) }
+    ensures text { IsUtf8 namespace.now }
     ensures kept { take (length out.old.items) out.new.items ≡ out.old.items }
 {
     put_namespace(namespace, out)?;

@@ -1,12 +1,8 @@
-use Rattle.std.proofs.Common.{List, map, refl, sym, subst, append-nil, rules}
-use Rattle.std.specs.Prelude.{IfOk}
+use Rattle.std.proofs.Common.{map, refl, sym, append-nil}
 use Rattle.outside.proofs.Relations.{none_fell_self}
-use Rattle.any_node.specs.Kinds.{state_of}
-use Rattle.cluster_top.specs.Nodes.{AreNew}
 use Rattle.cluster_service.specs.declared.status.Status.TheVariants as statuses
-use Rattle.cluster_service.proofs.Asked.{asked_as_read}
 use Rattle.cluster_service.proofs.Counts.{one_rose_numbered, rose_numbered}
-use Rattle.cluster_service.proofs.Statuses.{has_number, is_status, refused_or_damaged, seven_or_durable, six_or_five}
+use Rattle.cluster_service.proofs.Statuses.{durable_number, has_number, is_status, refused_number, refused_or_damaged}
 use Rattle.cluster_top.proofs.top.run.Goals as goal
 
 pub returns-in-None-clause-untouched : goal.returns-in-None-clause-untouched
@@ -18,8 +14,8 @@ returns-in-None-clause-none_fell g c = none_fell_self (map g.D.Disk.fault_count 
 pub returns-in-None-clause-words : goal.returns-in-None-clause-words
 returns-in-None-clause-words g c = rw (sym c.read_command.ensures.command, c.in-None.is) (λ two. refl, λ none. c.number.ensures)
 
-pub returns-in-None-clause-not_empty : goal.returns-in-None-clause-not_empty
-returns-in-None-clause-not_empty g c = rw (sym c.read_command.ensures.command, c.in-None.is) (λ some. absurd (cc some))
+pub returns-in-None-clause-refused : goal.returns-in-None-clause-refused
+returns-in-None-clause-refused g c = rw (sym c.read_command.ensures.command, c.in-None.is) (λ some. absurd (cc some))
 
 pub returns-in-None-clause-headline : goal.returns-in-None-clause-headline
 returns-in-None-clause-headline g c = rw (sym c.read_command.ensures.command, c.in-None.is) tt
@@ -37,8 +33,8 @@ returns-clause-words g c =
       λ none. absurd (cc none),
     )
 
-pub returns-clause-refused : goal.returns-clause-refused
-returns-clause-refused g c = λ two. absurd (c.run_nodes-ending.ensures.status (is_status statuses.BadArguments c.run_nodes-ending.result.status c.number-2.result c.number-2.ensures two))
+pub returns-clause-arguments : goal.returns-clause-arguments
+returns-clause-arguments g c = λ two. absurd (c.run_nodes-ending.ensures.status (is_status statuses.BadArguments c.run_nodes-ending.result.status c.number-2.result c.number-2.ensures two))
 
 pub returns-clause-untouched : goal.returns-clause-untouched
 returns-clause-untouched g c = λ refused.
@@ -48,10 +44,10 @@ returns-clause-untouched g c = λ refused.
 pub returns-clause-six : goal.returns-clause-six
 returns-clause-six g c = λ is. (c.run_nodes-ending.ensures.damaged (is_status statuses.DamagedJournal c.run_nodes-ending.result.status c.number-2.result c.number-2.ensures is)).3
 
-pub returns-clause-not_empty : goal.returns-clause-not_empty
-returns-clause-not_empty g c = λ some told bytes.
-    let done = c.run_nodes-ending.ensures.not_empty told bytes in
-    (done.0, done.1, done.2, done.3, done.4, six_or_five c.run_nodes-ending.result.status c.number-2.result c.number-2.ensures done.5)
+pub returns-clause-refused : goal.returns-clause-refused
+returns-clause-refused g c = λ some told refused.
+    let done = c.run_nodes-ending.ensures.refused told refused in
+    (refused_number c.run_nodes-ending.result.status c.number-2.result c.number-2.ensures done.0, done.1)
 
 pub returns-clause-read_fault : goal.returns-clause-read_fault
 returns-clause-read_fault g c = rose_numbered statuses.ReadFailed c.run_nodes-ending.result.status c.number-2.result c.number-2.ensures _ _ c.run_nodes-ending.ensures.read_fault
@@ -65,15 +61,13 @@ returns-clause-disk_fault g c = one_rose_numbered statuses.DiskFailed c.run_node
 pub returns-clause-headline : goal.returns-clause-headline
 returns-clause-headline g c =
     rw (sym c.read_command.ensures.command, c.in-Some.is)
-    (λ empty other. (
+    (λ first told begun. (
       c.run_nodes-ending.result.status,
       c.number-2.ensures,
-      c.run_nodes-ending.ensures.headline asked_as_read
-          (subst (λ n. IfOk c.new_nodes.result (λ nodes. AreNew state_of n nodes.items)) c.routers.ensures c.new_nodes.ensures.new) empty
-          (λ is. other (has_number statuses.DamagedJournal c.run_nodes-ending.result.status c.number-2.result c.number-2.ensures is)),
+      c.run_nodes-ending.ensures.headline first told begun,
     ))
 
 pub returns-clause-durable : goal.returns-clause-durable
-returns-clause-durable g c = λ some told empty failed.
-    seven_or_durable c.run_nodes-ending.result.status c.number-2.result c.number-2.ensures _ _
-    (c.run_nodes-ending.ensures.durable told empty (λ is. failed (has_number statuses.DiskFailed c.run_nodes-ending.result.status c.number-2.result c.number-2.ensures is)))
+returns-clause-durable g c = λ some told failed.
+    durable_number c.run_nodes-ending.result.status c.number-2.result c.number-2.ensures _ _
+    (c.run_nodes-ending.ensures.durable told (λ is. failed (has_number statuses.DiskFailed c.run_nodes-ending.result.status c.number-2.result c.number-2.ensures is)))

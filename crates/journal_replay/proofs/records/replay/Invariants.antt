@@ -1,4 +1,4 @@
-use Rattle.std.proofs.Common.{◌≡◌, ◌-◌, ◌≤◌, length, take}
+use Rattle.std.proofs.Common.{◌-◌, ◌≤◌, length, take}
 use Rattle.journal_replay.specs.Replayed.{IsReplayed}
 use Rattle.journal_replay.proofs.records.replay.Given as goal
 

@@ -2,7 +2,7 @@ use Rattle.std.proofs.Common.{◌≡◌, ◌++◌, ◌∷◌, [], ◌∙◌, map
 use Rattle.std.proofs.lemmas.Result.{err_from_is_err_and}
 use Rattle.std.proofs.lemmas.List.{map_push}
 use Rattle.chunk_table.specs.Meanings.{chunk_view}
-use Rattle.record_parts.specs.SoundParts.{IsHeldChunk}
+use Rattle.shard_records.specs.Readable.{IsHeldChunk}
 use Rattle.record_parts.specs.Readers.{chunk_at, items_at}
 use Rattle.record_parts.proofs.Items.{counted, ends, failed, fails, goes_on}
 use Rattle.record_parts.proofs.chunks.read_each_chunk.Goals as goal

@@ -1,6 +1,6 @@
 use Rattle.std.proofs.Common.{map}
 use Rattle.std.specs.List.{AllByRecursion}
-use Rattle.record_parts.specs.SoundParts.{IsHeldChunk}
+use Rattle.shard_records.specs.Readable.{IsHeldChunk}
 use Rattle.chunk_table.specs.Meanings.{chunk_view}
 use Rattle.record_parts.specs.Readers.{chunk_at}
 use Rattle.record_parts.proofs.Items.{ReadSoFar}

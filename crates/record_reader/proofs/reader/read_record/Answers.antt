@@ -2,7 +2,7 @@ use Rattle.std.proofs.Common.{◌≡◌}
 use Rattle.std.proofs.lemmas.Result.{err_from_is_err_and}
 use Rattle.record_model.specs.RecordFormat.{spelled, IsSound}
 use Rattle.shard_records.specs.Meanings.{record_view}
-use Rattle.record_reader.specs.SoundRecords.{IsHeld}
+use Rattle.shard_records.specs.Readable.{IsHeld}
 use Rattle.record_reader.proofs.RecordsAgain.{found_err, decided_only, decided_holds, told_any, told_same, told_sound}
 use Rattle.record_reader.proofs.reader.read_record.Goals as goal
 

@@ -21,3 +21,6 @@ returns-clause-ok c =
     (then c.put_u32.new.out.items (four m.to.0) (eight m.at.0) c.in_ok-put_u32-2.ensures.ok
     (last))))))
     c.put_u64.ensures.ok
+
+pub returns-clause-held : goal.returns-clause-held
+returns-clause-held c = on_ok_weaker c.put_u64.result (λ last. (c.put_namespace.ensures.text, c.put_range.ensures.held)) c.put_u64.ensures.ok

@@ -1,7 +1,9 @@
-use Rattle.std.proofs.Common.{ap, ◌∙◌, ◌++◌, List, ℕ}
+use Rattle.std.proofs.Common.{ap, ◌∙◌, ◌++◌, List, ℕ, subst}
 use Rattle.std.proofs.lemmas.Result.{on_ok_weaker}
 use Rattle.record_model.specs.RecordFormat.{eight, spelled_chunk, spelled_list, spelled_string}
 use Rattle.shard_records.proofs.Puts.{then}
+use Rattle.std.specs.Str.{IsUtf8}
+use Rattle.shard_records.proofs.Held.{table_held}
 use Rattle.shard_records.proofs.tables.put_table.Goals as goal
 
 pub returns-clause-ok : goal.returns-clause-ok
@@ -22,4 +24,11 @@ returns-clause-ok c =
     (then behind_epoch (eight table.changes) times (c.in_ok-put_u64-2.ensures.ok ∙ ap (λ n. behind_epoch ++ eight n) c.changes.ensures)
     (then behind_changes (eight table.oldest) chunks (c.in_ok-put_u64-3.ensures.ok ∙ ap (λ n. behind_changes ++ eight n) c.oldest.ensures)
     (last ∙ ap (λ l. behind_oldest ++ spelled_list spelled_chunk l) c.chunks.ensures.chunks)))))
+    c.put_chunks.ensures.ok
+
+pub returns-clause-held : goal.returns-clause-held
+returns-clause-held c =
+    let name = subst (λ (s : List ℕ). IsUtf8 s) c.namespace.ensures c.put_namespace.ensures.text in
+    on_ok_weaker c.put_chunks.result
+    (λ last. table_held c.args.table.now name c.chunks.ensures.ranges c.chunks.ensures.follow c.chunks.ensures.writable)
     c.put_chunks.ensures.ok

@@ -19,3 +19,7 @@ returns-clause-ok c =
     (then c.put_namespace.new.out.items number (words ++ outcome) c.in_ok-put_statement.ensures.ok
     (then c.put_statement.new.out.items words outcome c.in_ok-put_operation.ensures.ok last))))
     c.put_reply.ensures.ok
+
+pub returns-clause-held : goal.returns-clause-held
+returns-clause-held c =
+    on_ok_weaker c.put_reply.result (λ last. (c.put_namespace.ensures.text, (c.requires.words, c.requires.upserted))) c.put_reply.ensures.ok

@@ -34,6 +34,18 @@ returns-in-Ok-settle-clause-only g c offset tells damaged =
     let stands = subst (λ f. Stands f c.in-Ok-scan.found.0) is c.in-Ok-scan.ensures.found.0 in
     absurd (not_both (g.D.Disk.content c.args.disk) c.in-Ok-scan.found.0 offset stands damaged)
 
+pub returns-in-Ok-settle-clause-as_damaged : goal.returns-in-Ok-settle-clause-as_damaged
+returns-in-Ok-settle-clause-as_damaged g c offset tells damaged =
+    let is = c.deref.ensures.value ∙ c.in-Ok.ensures.file tells in
+    let stands = subst (λ f. Stands f c.in-Ok-scan.found.0) is c.in-Ok-scan.ensures.found.0 in
+    absurd (not_both (g.D.Disk.content c.args.disk) c.in-Ok-scan.found.0 offset stands damaged)
+
+pub returns-clause-as_damaged : goal.returns-clause-as_damaged
+returns-clause-as_damaged g c offset tells damaged =
+    let is = c.deref.ensures.value ∙ c.in-Ok.ensures.file tells in
+    let stands = subst (λ f. Stands f c.in-Ok-scan.found.0) is c.in-Ok-scan.ensures.found.0 in
+    absurd (not_both (g.D.Disk.content c.args.disk) c.in-Ok-scan.found.0 offset stands damaged)
+
 pub returns-in-Ok-settle-clause-same : goal.returns-in-Ok-settle-clause-same
 returns-in-Ok-settle-clause-same g c records tells before =
     let is : IsTrue g.D.Disk.tells → c.deref.result.now ≡ g.D.Disk.content c.args.disk = λ t. c.deref.ensures.value ∙ c.in-Ok.ensures.file t in

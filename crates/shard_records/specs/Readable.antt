@@ -1,15 +1,30 @@
--- Which records are read.
-use Rattle.std.specs.Prelude.{◌≡◌, Bool, true, false, Result, Ok, Err}
+-- Which records are read again as themselves.
+use Rattle.std.specs.Prelude.{◌≡◌, true}
+use Rattle.std.specs.List.{AllByRecursion}
 use Rattle.std.specs.Str.{IsUtf8}
 use Rattle.bson_model.specs.Limits.{IsWritable}
-use Rattle.bson_values.specs.declared.text.Memory.{Memory}
+use Rattle.value_model.specs.Keys.{IsRange, Range, min_bound}
+use Rattle.chunk_model.specs.Tables.{Chunk, Table}
+use Rattle.chunk_table.specs.Whole.{IsWritableBound, IsWritableChunk, follow_from}
 use Rattle.history_model.specs.Sessions.{are_in_order}
-use Rattle.record_model.specs.RecordFormat.{key_document}
+use Rattle.record_model.specs.RecordFormat.{IsSound, key_document}
 use Rattle.record_model.specs.Records.{Record, table_record, entry_record, move_start_record, move_end_record, receive_start_record, batch_record, receive_done_record, receive_end_record, deletion_record, create_record, split_record, commit_record, resolve_record, purge_record}
 use Rattle.shard_records.specs.Sizes.{IsWritableDone, IsWritableReceived, IsWritableRecord}
-use Rattle.record_parts.specs.declared.fault.RecordFault.{RecordFault}
-use Rattle.record_parts.specs.declared.fault.RecordFault.TheVariants as fault
-use Rattle.record_parts.specs.SoundParts.{IsHeldRange, IsHeldTable}
+
+-- a chunk that can be written, of a range that is not empty
+pub record IsHeldChunk (c : Chunk) : Type 0 where
+  pub writable : IsWritableChunk c
+  pub range : IsRange c.range
+
+-- the chunks follow one another from below all keys to above them, each with an owner
+pub record IsHeldTable (t : Table) : Type 0 where
+  pub name : IsUtf8 t.namespace
+  pub chunks : AllByRecursion IsHeldChunk t.chunks
+  pub follow : follow_from min_bound t.chunks ≡ true
+
+-- a range that is not empty, and that can be written
+abbrev pub IsHeldRange : Range → Type 0
+IsHeldRange r = IsWritableBound r.min × (IsWritableBound r.max × IsRange r)
 
 -- A record that the program can hold: names are text, documents can be written, ranges are not empty, a table gives every key an owner,
 -- and sessions are in order, each once.
@@ -30,8 +45,6 @@ IsHeld (resolve_record r) = IsUtf8 r.namespace × IsHeldRange r.range
 IsHeld (purge_record p) = IsUtf8 p.namespace
 IsHeld other = Unit {0}
 
--- the result is what was read where it is the same, and there is none where it is another
-abbrev pub IsDecided : {T : Type 0} → T → Result Bool Memory → Result T RecordFault → Type 0
-IsDecided kept (Ok true) result = result ≡ Ok kept
-IsDecided kept (Ok false) result = result ≡ Err fault.NoRecord
-IsDecided kept (Err e) result = result ≡ Err fault.Memory
+-- a record that is read again as itself: its bytes encode no other record, and the program can hold it
+abbrev pub IsReadable : Record → Type 0
+IsReadable r = IsSound r × IsHeld r
