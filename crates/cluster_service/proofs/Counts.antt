@@ -25,8 +25,14 @@ pub all_still : (failed : Type 0) (a b : List ℕ) → ¬ failed → b ≡ a →
 all_still failed a b never same = (λ is. absurd (never is), λ any. same)
 
 -- a status by its number
-pub rose_numbered : (known status : Status) (number : ℕ) → number ≡ number_of status → (a b : ℕ) → RoseWhere (status ≡ known) a b → RoseWhere (number ≡ number_of known) a b
-rose_numbered known status number is a b where_it = rose_as (status ≡ known) (number ≡ number_of known) a b (has_number known status number is) (is_status known status number is) where_it
+pub rose_numbered : (known status : Status) (number : ℕ) → number ≡ number_of status → (a b : ℕ)
+    → RoseWhere (status ≡ known) a b → RoseWhere (number ≡ number_of known) a b
+rose_numbered known status number is a b where_it =
+    rose_as (status ≡ known) (number ≡ number_of known) a b (has_number known status number is)
+    (is_status known status number is) where_it
 
-pub one_rose_numbered : (known status : Status) (number : ℕ) → number ≡ number_of status → (a b : List ℕ) → OneRoseWhere (status ≡ known) a b → OneRoseWhere (number ≡ number_of known) a b
-one_rose_numbered known status number is a b where_it = one_rose_as (status ≡ known) (number ≡ number_of known) a b (has_number known status number is) (is_status known status number is) where_it
+pub one_rose_numbered : (known status : Status) (number : ℕ) → number ≡ number_of status → (a b : List ℕ)
+    → OneRoseWhere (status ≡ known) a b → OneRoseWhere (number ≡ number_of known) a b
+one_rose_numbered known status number is a b where_it =
+    one_rose_as (status ≡ known) (number ≡ number_of known) a b (has_number known status number is)
+    (is_status known status number is) where_it

@@ -51,16 +51,19 @@ router_stays : (nodes : List Held) (place at : ℕ) (old : Held) (new : NodeStat
     → opened_on old.state kept ≡ Some new → IsRouter nodes at → IsRouter (slice_set nodes place (record { state = new; kept = stored })) at
 router_stays nodes place at old new kept stored here opens (r, was, got) = by_place (same_place at place)
   where
+    started : NodeState → Held
+    started s = record { state = s; kept = stored }
+
     by_place : (at ≡ place) ⊎ (at ≢ place) → IsRouter (slice_set nodes place (record { state = new; kept = stored })) at
     by_place (inl same) =
         let both : Some old ≡ Some (record { state = router_state r; kept = was }) = sym here ∙ ap (λ k. slice_get nodes k) (sym same) ∙ got in
         let one : old ≡ record { state = router_state r; kept = was } = cc both in
         let state : old.state ≡ router_state r = ap (λ (x : Held). x.state) one in
-        let q = router_opens r kept new (subst (λ s. opened_on s kept ≡ Some new) state opens) in
-        (q.0, stored,
-        subst (λ k. slice_get (slice_set nodes place (record { state = new; kept = stored })) k ≡ Some (record { state = router_state q.0; kept = stored })) (sym same)
-        (get_set nodes place old (record { state = new; kept = stored }) here ∙ ap (λ s. Some (record { state = s; kept = stored })) q.1))
-    by_place (inr other) = (r, was, get_other nodes place at (record { state = new; kept = stored }) other ∙ got)
+        let q = router_opens r kept new (subst (λ (s : NodeState). opened_on s kept ≡ Some new) state opens) in
+        let set : slice_get (slice_set nodes place (started new)) place ≡ Some (started (router_state q.0)) =
+        get_set nodes place old (started new) here ∙ ap (λ (s : NodeState). Some (started s)) q.1 in
+        (q.0, stored, subst (λ (k : ℕ). slice_get (slice_set nodes place (started new)) k ≡ Some (started (router_state q.0))) (sym same) set)
+    by_place (inr other) = (r, was, get_other nodes place at (started new) other ∙ got)
 
 -- ALL NODES
 
@@ -69,16 +72,16 @@ record HasNodes (routers : ℕ) (nodes : List Held) : Type 0 where
   count : length nodes ≡ first_router + routers
   each : (router : ℕ) → router < routers → IsRouter nodes (first_router + router)
 
+move_count : (w v : World) (at : ℕ) (i : Input) → Moves w at i v → length v.nodes ≡ length w.nodes
+move_count w v at i m = ap (λ (x : World). length x.nodes) m.then ∙ length_set w.nodes at (record { state = m.new; kept = m.old.kept ++ m.f.written })
+
+happens_count : (w v : World) (e : Event) → Happens w e v → length v.nodes ≡ length w.nodes
+happens_count _ _ _ (comes w v at link number request router m) = move_count w v at _ m
+happens_count _ _ _ (delivers w v at which letter got to m) = move_count w v at _ m
+happens_count _ _ _ (passes w v at moment m) = move_count w v at _ m
+happens_count _ _ _ (was_opened w v at m) = move_count w v at _ m
+
 module _ (routers : ℕ) where
-  move_count : (w v : World) (at : ℕ) (i : Input) → Moves w at i v → length v.nodes ≡ length w.nodes
-  move_count w v at i m = ap (λ (x : World). length x.nodes) m.then ∙ length_set w.nodes at (record { state = m.new; kept = m.old.kept ++ m.f.written })
-
-  happens_count : (w v : World) (e : Event) → Happens w e v → length v.nodes ≡ length w.nodes
-  happens_count _ _ _ (comes w v at link number request router m) = move_count w v at _ m
-  happens_count _ _ _ (delivers w v at which letter got to m) = move_count w v at _ m
-  happens_count _ _ _ (passes w v at moment m) = move_count w v at _ m
-  happens_count _ _ _ (was_opened w v at m) = move_count w v at _ m
-
   started_has : (w : World) (at : ℕ) (old : Held) (new : NodeState) (kept stored : List Kept) → slice_get w.nodes at ≡ Some old
       → opened_on old.state kept ≡ Some new → HasNodes routers w.nodes → HasNodes routers (slice_set w.nodes at (record { state = new; kept = stored }))
   started_has w at old new kept stored here opens has = record {
@@ -114,10 +117,13 @@ from_length : (first count : ℕ) → length (routers_from first count) ≡ coun
 from_length first zero = refl
 from_length first (suc count) = omega (arith, from_length (first + 1) count)
 
+start_count : (routers : ℕ) → length (start routers).nodes ≡ first_router + routers
+start_count routers = omega (arith, from_length 2 routers)
+
 start_has : (routers : ℕ) → HasNodes routers (start routers).nodes
 start_has routers = record {
-  count = omega (arith, from_length 2 routers);
-  each = λ router below. (start_may_play routers).routers router (omega (arith, below, from_length 2 routers));
+  count = start_count routers;
+  each = λ router below. (start_may_play routers).routers router (omega (arith, below, start_count routers));
 }
 
 first_has : (routers : ℕ) (files : List (List ℕ)) (first : World) → BeginsOnFiles routers files first → HasNodes routers first.nodes

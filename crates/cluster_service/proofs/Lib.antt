@@ -4,10 +4,10 @@ pub mod Crashes
 pub mod Firsts
 pub mod Lefts
 pub mod NotBegun
+pub mod NotServed
 pub mod Numbers
 pub mod OpenJournals
 pub mod OpenedUpTo
 pub mod Openings
 pub mod SeatFacts
 pub mod Statuses
-pub mod Unserved

@@ -52,16 +52,18 @@ module _ {N D : Type 0} (state : N → NodeState) (tells : Bool) (content : D �
   )
 
   -- where the logs keep what the journals keep, so do the files
-  pub kept_in_files : (seats : List (Seat N (JournalView D))) (nodes : List Held) → AreKept (seat_view state (journal_facts tells content moment left_since fault_count place)) seats nodes
+  pub kept_in_files : (seats : List (Seat N (JournalView D))) (nodes : List Held)
+      → AreKept (seat_view state (journal_facts tells content moment left_since fault_count place)) seats nodes
       → IsTrue tells → AreJournals (map content (map (λ s. s.log.disk) seats)) nodes
   kept_in_files [] [] kept told = tt
-  kept_in_files (s ∷ seats) (h ∷ nodes) kept told = (record { stands = kept.0.found told told; readable = kept.0.readable }, kept_in_files seats nodes kept.1 told)
+  kept_in_files (s ∷ seats) (h ∷ nodes) kept told =
+      (record { stands = kept.0.found told told; readable = kept.0.readable }, kept_in_files seats nodes kept.1 told)
   kept_in_files [] (h ∷ nodes) kept told = absurd kept
   kept_in_files (s ∷ seats) [] kept told = absurd kept
 
 -- the files of journals that store what the nodes do
-pub open_files : {D : Type 0} (tells : Bool) (content : D → List ℕ) (journals : List (JournalView D)) (nodes : List Held) → AreOpenWith tells content journals nodes
-    → IsTrue tells → AreJournals (map content (disks_of journals)) nodes
+pub open_files : {D : Type 0} (tells : Bool) (content : D → List ℕ) (journals : List (JournalView D)) (nodes : List Held)
+    → AreOpenWith tells content journals nodes → IsTrue tells → AreJournals (map content (disks_of journals)) nodes
 open_files tells content [] [] are told = tt
 open_files tells content [] (h ∷ nodes) are told = absurd are
 open_files tells content (j ∷ journals) [] are told = absurd are
@@ -71,7 +73,8 @@ open_files tells content (j ∷ journals) (h ∷ nodes) are told =
 -- of the disks of the seats, before
 pub told_before : {N D X : Type 0} (f : D → X) (nodes : List N) (journals : List (JournalView D)) (seats : List (Seat N (JournalView D)))
     → seats ≡ seats_of nodes journals → length nodes ≡ length journals → map (λ s. f s.log.disk) seats ≡ map f (disks_of journals)
-told_before {N = N} {D = D} {X = X} f nodes journals seats is count = ap (λ (ss : List (Seat N (JournalView D))). map (λ s. f s.log.disk) ss) is ∙ each nodes journals count
+told_before {N = N} {D = D} {X = X} f nodes journals seats is count =
+    ap (λ (ss : List (Seat N (JournalView D))). map (λ s. f s.log.disk) ss) is ∙ each nodes journals count
   where
     each : (ns : List N) (js : List (JournalView D)) → length ns ≡ length js → map {B = X} (λ s. f s.log.disk) (seats_of ns js) ≡ map f (disks_of js)
     each [] [] count = refl
@@ -94,7 +97,8 @@ seats_open (n ∷ nodes) [] are = tt
 seats_open (n ∷ nodes) (j ∷ journals) are = (are.0, seats_open nodes journals are.1)
 
 -- and after it
-pub told_after : {N D X : Type 0} (f : D → X) (disks : List D) (seats : List (Seat N (JournalView D))) → disks ≡ map (λ s. s.log.disk) seats → map (λ s. f s.log.disk) seats ≡ map f disks
+pub told_after : {N D X : Type 0} (f : D → X) (disks : List D) (seats : List (Seat N (JournalView D)))
+    → disks ≡ map (λ s. s.log.disk) seats → map (λ s. f s.log.disk) seats ≡ map f disks
 told_after {N = N} {D = D} {X = X} f disks seats is = each seats ∙ ap (λ (ds : List D). map f ds) (sym is)
   where
     each : (ss : List (Seat N (JournalView D))) → map {B = X} (λ s. f s.log.disk) ss ≡ map f (map (λ s. s.log.disk) ss)
@@ -111,7 +115,8 @@ pub driven_as : (command : Command) (first : World) (source : SourceCall) (sink 
     → ((w : World) (put : List ℕ) → owed w put → owed_then w put) → IsDriven command first source sink gives kept leaves owed status rest
     → IsDriven command first source sink gives then leaves_then owed_then status rest
 driven_as Pipe first source sink gives kept then leaves leaves_then owed owed_then status rest f g pays driven =
-    piped_with source sink gives first_router kept then leaves leaves_then owed owed_then first most_taken status rest driven f g (λ w put leave owes. pays w put owes)
+    piped_with source sink gives first_router kept then leaves leaves_then owed owed_then first most_taken status rest driven f g
+    (λ w put leave owes. pays w put owes)
 driven_as (Sim routers) first source sink gives kept then leaves leaves_then owed owed_then status rest f g pays driven =
     (simulated_as source sink kept then leaves leaves_then owed owed_then first most_taken status f g (λ w put leave owes. pays w put owes) driven.0, driven.1)
 
@@ -149,8 +154,10 @@ same_ending ending known status is same = sym (back ending) ∙ ap connection_of
 pub has_ending : (ending known : connections.Status) (status : Status) → status ≡ of_connection ending → ending ≡ known → status ≡ of_connection known
 has_ending ending known status is same = is ∙ ap of_connection same
 
-pub rose_of : (known ending : connections.Status) (status : Status) → status ≡ of_connection ending → (a b : ℕ) → RoseWhere (ending ≡ known) a b → RoseWhere (status ≡ of_connection known) a b
-rose_of known ending status is a b where_it = rose_as (ending ≡ known) (status ≡ of_connection known) a b (has_ending ending known status is) (same_ending ending known status is) where_it
+pub rose_of : (known ending : connections.Status) (status : Status) → status ≡ of_connection ending → (a b : ℕ)
+    → RoseWhere (ending ≡ known) a b → RoseWhere (status ≡ of_connection known) a b
+rose_of known ending status is a b where_it =
+    rose_as (ending ≡ known) (status ≡ of_connection known) a b (has_ending ending known status is) (same_ending ending known status is) where_it
 
 pub one_rose_of : (known ending : connections.Status) (status : Status) → status ≡ of_connection ending → (a b : List ℕ) → HaveRisenWhere (ending ≡ known) a b
     → OneRoseWhere (status ≡ of_connection known) a b

@@ -3,7 +3,8 @@ use Rattle.std.specs.Prelude.{◌≡◌, ◌≢◌, ◌⊎◌, ℕ, Option, Some
 use Rattle.std.proofs.Common.{refl, ap, sym, inl, inr, ◌∙◌}
 use Rattle.cluster_service.specs.Statuses.{number_of, with_number}
 use Rattle.cluster_service.specs.declared.status.Status.{Status}
-use Rattle.cluster_service.specs.declared.status.Status.TheVariants.{InputEnded, BadArguments, ReadFailed, WriteFailed, DiskFailed, DamagedJournal, OutOfMemory, AcceptFailed, BadInput, InputTooLong}
+use Rattle.cluster_service.specs.declared.status.Status.TheVariants.{InputEnded, BadArguments, ReadFailed, WriteFailed, DiskFailed, DamagedJournal}
+use Rattle.cluster_service.specs.declared.status.Status.TheVariants.{OutOfMemory, AcceptFailed, BadInput, InputTooLong}
 
 pub number_is_its : (status : Status) → with_number (number_of status) ≡ Some status
 number_is_its InputEnded = refl
@@ -40,7 +41,8 @@ pub refused_number : (status : Status) (number : ℕ) → number ≡ number_of s
 refused_number status number is (inl damaged) = inl (has_number DamagedJournal status number is damaged)
 refused_number status number is (inr other) = inr (one_of_two DiskFailed OutOfMemory status number is other)
 
-pub refused_or_damaged : (status : Status) (number : ℕ) → number ≡ number_of status → status ≢ BadArguments → (number ≡ 2) ⊎ (number ≡ 6) → status ≡ DamagedJournal
+pub refused_or_damaged : (status : Status) (number : ℕ) → number ≡ number_of status → status ≢ BadArguments → (number ≡ 2) ⊎ (number ≡ 6)
+    → status ≡ DamagedJournal
 refused_or_damaged status number is other (inl two) = absurd (other (is_status BadArguments status number is two))
 refused_or_damaged status number is other (inr six) = is_status DamagedJournal status number is six
 

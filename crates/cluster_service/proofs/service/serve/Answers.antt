@@ -16,8 +16,9 @@ use Rattle.cluster_service.specs.declared.status.Status.TheVariants as statuses
 use Rattle.pipe_driver.specs.declared.status.Status.TheVariants as ended
 use Rattle.cluster_service.proofs.Counts.{all_still}
 use Rattle.cluster_service.proofs.Crashes.{IsOfWorld, disks_owed, first_leaves, none_owed, seats_leave}
-use Rattle.cluster_service.proofs.SeatFacts.{driven_as, has_ending, held_from, kept_in_files, later_of, moved, of_no_other, one_rose_of, open_files, rose_of, seat_disks, seats_open, told_after, told_before}
-use Rattle.cluster_service.proofs.Unserved.{headline_of, unopened}
+use Rattle.cluster_service.proofs.SeatFacts.{driven_as, has_ending, held_from, kept_in_files, later_of, moved, of_no_other, one_rose_of, open_files}
+use Rattle.cluster_service.proofs.SeatFacts.{rose_of, seat_disks, seats_open, told_after, told_before}
+use Rattle.cluster_service.proofs.NotServed.{headline_of, unopened}
 use Rattle.cluster_service.proofs.service.serve.Goals as goal
 
 pub returns-then-is_err-clause-headline : goal.returns-then-is_err-clause-headline
@@ -41,10 +42,12 @@ pub returns-then-is_err-clause-durable : goal.returns-then-is_err-clause-durable
 returns-then-is_err-clause-durable g c = λ told failed. rw c.unserved.ensures.disks (c.close_all.ensures.durable told c.requires.«open»)
 
 pub returns-then-is_err-clause-read_fault : goal.returns-then-is_err-clause-read_fault
-returns-then-is_err-clause-read_fault g c = still _ _ _ (λ is. let clash : statuses.OutOfMemory ≡ statuses.ReadFailed = sym c.unserved.ensures.status ∙ is in cc) refl
+returns-then-is_err-clause-read_fault g c =
+    still _ _ _ (λ is. let clash : statuses.OutOfMemory ≡ statuses.ReadFailed = sym c.unserved.ensures.status ∙ is in cc) refl
 
 pub returns-then-is_err-clause-write_fault : goal.returns-then-is_err-clause-write_fault
-returns-then-is_err-clause-write_fault g c = still _ _ _ (λ is. let clash : statuses.OutOfMemory ≡ statuses.WriteFailed = sym c.unserved.ensures.status ∙ is in cc) refl
+returns-then-is_err-clause-write_fault g c =
+    still _ _ _ (λ is. let clash : statuses.OutOfMemory ≡ statuses.WriteFailed = sym c.unserved.ensures.status ∙ is in cc) refl
 
 pub returns-then-is_err-clause-disk_fault : goal.returns-then-is_err-clause-disk_fault
 returns-then-is_err-clause-disk_fault g c =
@@ -85,10 +88,11 @@ returns-clause-headline g c = λ asked first may same are disks early.
     (held_from g.N.Node.state g.D.Disk.tells g.D.Disk.content g.D.Disk.moment g.D.Disk.left_since g.D.Disk.fault_count g.D.Disk.place c.args.nodes.items
     c.args.journals.items first.nodes same are) in
     let kept : (nodes : List Held) → AreKept view after nodes → IsTrue g.D.Disk.tells → files back nodes = λ nodes keeps told.
-    subst (λ ds. files ds nodes) (sym c.take_disks.ensures.disks)
-    (kept_in_files g.N.Node.state g.D.Disk.tells g.D.Disk.content g.D.Disk.moment g.D.Disk.left_since g.D.Disk.fault_count g.D.Disk.place after nodes keeps told) in
+    subst (λ (ds : List g.row.D.Denot). files ds nodes) (sym c.take_disks.ensures.disks)
+    (kept_in_files g.N.Node.state g.D.Disk.tells g.D.Disk.content g.D.Disk.moment g.D.Disk.left_since g.D.Disk.fault_count g.D.Disk.place
+    after nodes keeps told) in
     let leaves : (w : World) → LeaveKept (seat_since g.N.Node.state facts (since_then seats first)) after w → way back w = λ w leave told.
-    subst (λ ds. LeaveSuch g.D.Disk.moment g.D.Disk.left_since (λ at file. IsOfTheWay first w at file) disks ds) (sym c.take_disks.ensures.disks)
+    subst (λ (ds : List g.row.D.Denot). LeaveSuch g.D.Disk.moment g.D.Disk.left_since (λ at file. IsOfTheWay first w at file) disks ds) (sym c.take_disks.ensures.disks)
     (seats_leave g.N.Node.state g.D.Disk.tells g.D.Disk.content g.D.Disk.moment g.D.Disk.left_since g.D.Disk.fault_count g.D.Disk.place first w told disks
     seats after
     (subst (λ seats. LeaveSuch g.D.Disk.moment g.D.Disk.left_since (IsOfWorld first) disks (map (λ s. s.log.disk) seats)) (sym c.put_in.ensures.items)
@@ -97,9 +101,10 @@ returns-clause-headline g c = λ asked first may same are disks early.
     (omega (arith, c.requires.nodes, c.requires.journals, c.args.nodes.ok, c.args.journals.ok)))) (early told)))
     (omega (arith, c.put_in.new.seats.ok, c.drive-ending.new.seats.ok, c.drive-ending.ensures.len)) leave) in
     let pays : (w : World) (put : List ℕ)
-    → AreAcknowledgedBy facts g.K.Sink.tells (output_of c.args.command first) first (g.K.Sink.noted c.drive-ending.new.out) (g.K.Sink.held c.args.out.now) after w put
+    → AreAcknowledgedBy facts g.K.Sink.tells (output_of c.args.command first) first (g.K.Sink.noted c.drive-ending.new.out)
+    (g.K.Sink.held c.args.out.now) after w put
     → owed back w put = λ w put owes.
-    subst (λ ds. owed ds w put) (sym c.take_disks.ensures.disks)
+    subst (λ (ds : List g.row.D.Denot). owed ds w put) (sym c.take_disks.ensures.disks)
     (disks_owed g.K.Sink.tells g.D.Disk.tells g.D.Disk.content g.D.Disk.moment g.D.Disk.left_since g.D.Disk.fault_count g.D.Disk.place c.args.command first
     (g.K.Sink.noted c.drive-ending.new.out) (g.K.Sink.held c.args.out.now) after w put owes) in (
       c.drive-ending.result.status,

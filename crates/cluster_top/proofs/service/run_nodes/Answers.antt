@@ -11,7 +11,7 @@ use Rattle.cluster_service.proofs.Crashes.{first_leaves, none_owed}
 use Rattle.cluster_service.proofs.Firsts.{first_may_play}
 use Rattle.cluster_service.proofs.NotBegun.{not_begun, not_begun_calm, stopped_by}
 use Rattle.cluster_service.proofs.Openings.{found_len, opened_calm, opened_len, opened_open, opened_places, unopened_fault, unopened_journals, unopened_later, unopened_leave, unopened_places, unopened_refused, unopened_stops, unopened_undamaged}
-use Rattle.cluster_service.proofs.Unserved.{opening_ends, opening_not_refused, unopened}
+use Rattle.cluster_service.proofs.NotServed.{opening_ends, opening_not_refused, unopened}
 use Rattle.cluster_top.proofs.service.run_nodes.Goals as goal
 
 -- THE JOURNALS ARE OPEN

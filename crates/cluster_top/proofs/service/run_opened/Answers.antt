@@ -14,7 +14,7 @@ use Rattle.cluster_service.proofs.Crashes.{first_leaves, none_owed}
 use Rattle.cluster_service.proofs.Firsts.{first_may_play}
 use Rattle.cluster_service.proofs.NotBegun.{begun_none}
 use Rattle.cluster_service.proofs.Openings.{opened_as_were, opened_leave, opened_records, opened_with, still_journals}
-use Rattle.cluster_service.proofs.Unserved.{unopened}
+use Rattle.cluster_service.proofs.NotServed.{unopened}
 use Rattle.cluster_top.proofs.Asked.{asked_as_read}
 use Rattle.cluster_top.proofs.Refused.{memory_of, not_other}
 use Rattle.cluster_top.proofs.service.run_opened.Goals as goal

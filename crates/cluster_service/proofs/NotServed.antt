@@ -15,7 +15,8 @@ use Rattle.pipe_driver.specs.declared.status.Status.TheVariants as ended
 use Rattle.pipe_driver.proofs.Histories.{piped_changes, piped_history}
 use Rattle.pipe_driver.proofs.Since.{since_none}
 use Rattle.sim_driver.specs.Moves.{MayPlay}
-use Rattle.sim_driver.specs.Simulations.{Cause as ScriptCause, CameTo, IsSimulated, came_opening as began, disk_failed as script_disk_failed, no_memory as script_no_memory}
+use Rattle.sim_driver.specs.Simulations.{Cause as ScriptCause, CameTo, IsSimulated, came_opening as began}
+use Rattle.sim_driver.specs.Simulations.{disk_failed as script_disk_failed, no_memory as script_no_memory}
 use Rattle.sim_driver.proofs.Histories.{simulated_changes, simulated_history}
 use Rattle.cluster_service.specs.Drivers.{IsDriven}
 use Rattle.cluster_service.specs.Headline.{Headline, HeadlineOf, ScriptHeadline}
@@ -50,8 +51,10 @@ module _ (source : SourceCall) (sink : SinkCall) (tells : Bool) (files_after : L
   headline_from first begins ending piped = record {
     piped = piped;
     history = (
-      piped_changes source sink gives first_router (λ nodes. IsTrue tells → AreJournals files_after nodes) leaves owed first most_taken ending rest begins piped,
-      piped_history source sink gives first_router (λ nodes. IsTrue tells → AreJournals files_after nodes) leaves owed first most_taken ending rest begins piped,
+      piped_changes source sink gives first_router (λ nodes. IsTrue tells → AreJournals files_after nodes) leaves owed first most_taken ending rest begins
+          piped,
+      piped_history source sink gives first_router (λ nodes. IsTrue tells → AreJournals files_after nodes) leaves owed first most_taken ending rest begins
+          piped,
     );
     answered = λ ended. (all_served most_taken _ piped.taken piped.fault _ _ _ ending piped.cause ended).answered;
   }
@@ -150,7 +153,8 @@ opening_ends status at_damage other = absurd (other refl)
 opening_ends status at_opening_memory other = inr refl
 
 -- and that is no end of another kind
-pub opening_not_refused : (status : Status) → StopsOpening status → (status ≢ statuses.BadArguments) × (status ≢ statuses.ReadFailed) × (status ≢ statuses.WriteFailed)
+pub opening_not_refused : (status : Status) → StopsOpening status
+    → (status ≢ statuses.BadArguments) × (status ≢ statuses.ReadFailed) × (status ≢ statuses.WriteFailed)
 opening_not_refused status at_opening_fault = (λ e. cc, λ e. cc, λ e. cc)
 opening_not_refused status at_damage = (λ e. cc, λ e. cc, λ e. cc)
 opening_not_refused status at_opening_memory = (λ e. cc, λ e. cc, λ e. cc)
