@@ -28,11 +28,12 @@ use Rattle.journal_starts.specs.Starts.{BeginsOnFiles, begins_new, begins_again}
 router_replays : (records : List Record) (d : DurableRouter) (e : DurableState) → replayed (Some (durable_router d)) records ≡ Some e
     → (r : DurableRouter) × (e ≡ durable_router r)
 router_replays [] d e is = (d, cc is)
-router_replays (r ∷ records) d e is = by_next (router_follow d r) is
+router_replays (r ∷ records) d e is = by_next (router_follow d r) (λ next. router_replays records next e) is
   where
-    by_next : (next : Option DurableRouter) → replayed (option_map durable_router next) records ≡ Some e → (r : DurableRouter) × (e ≡ durable_router r)
-    by_next None is = absurd (cc is)
-    by_next (Some d) is = router_replays records d e is
+    by_next : (next : Option DurableRouter) → ((d : DurableRouter) → replayed (Some (durable_router d)) records ≡ Some e → (q : DurableRouter) × (e ≡ durable_router q))
+        → replayed (option_map durable_router next) records ≡ Some e → (q : DurableRouter) × (e ≡ durable_router q)
+    by_next None rest is = absurd (cc is)
+    by_next (Some d) rest is = rest d is
 
 router_opens : (r : Router) (kept : List Kept) (new : NodeState) → opened_on (router_state r) kept ≡ Some new → (q : Router) × (new ≡ router_state q)
 router_opens r kept new = by_replay (replayed (Some (durable_router (empty_router r.me))) (records_of kept)) refl
