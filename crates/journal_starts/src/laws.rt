@@ -34,5 +34,6 @@ pub fn starts_are_not_refused()
 
 /// Where nodes are opened on the records of the files, no opening is refused.
 pub fn opened_are_not_refused()
-    ensures { (files : List (List ℕ)) (found : List (List (List ℕ))) (states : List NodeState) → HaveRecords files found → AreOpened 0 found states → ¬ AreRefused files }
+    ensures { (files : List (List ℕ)) (found : List (List (List ℕ))) (states : List NodeState) → HaveRecords files found
+        → AreOpened 0 found states → ¬ AreRefused files }
 {}

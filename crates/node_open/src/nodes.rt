@@ -38,7 +38,7 @@ fn room_for(alloc: Global, count: usize) -> Result<Vec<AnyNode>, Memory>
 /// Returns the nodes, in order of their numbers, each opened on the records that were found in its journal.
 ///
 /// # Errors
-/// - `Refused` exactly where a record of a node is none or may not follow, unless memory runs out: the first such record of the first such node.
+/// - `Refused` exactly where a record of some node is none or may not follow, unless memory runs out.
 /// - `Memory` if memory runs out, and where a number would pass the end of its type.
 pub fn open_nodes(alloc: Global, found: Vec<RecordList>) -> Result<Vec<AnyNode>, OpenFault>
     requires { vec_len found ≤ 64 }
