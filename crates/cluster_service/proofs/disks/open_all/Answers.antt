@@ -1,5 +1,4 @@
-use Rattle.std.proofs.Common.{◌≡◌, ◌∙◌, List, [], length, ap, arith, inr}
-use Rattle.std.specs.Prelude.{Some, None}
+use Rattle.std.proofs.Common.{◌∙◌, List, [], length, ap, arith, inr}
 use Rattle.std.proofs.lemmas.List.{length-map}
 use Rattle.cluster_service.specs.Openings.{disk_facts}
 use Rattle.cluster_service.proofs.OpenedUpTo.{all_opened, has_stopped, up_to_len}

@@ -1,8 +1,7 @@
-use Rattle.std.proofs.Common.{◌≡◌, ◌∷◌, ◌∙◌, [], ℕ, List, length, refl, sym, ap, arith}
+use Rattle.std.proofs.Common.{◌≡◌, ◌∷◌, ◌∙◌, [], ℕ, List, length, ap, arith}
 use Rattle.std.specs.Vec.Iter.{into_iter_items}
 use Rattle.journal_frames.specs.Views.{JournalView}
 use Rattle.cluster_service.specs.Openings.{disk_facts}
-use Rattle.cluster_service.proofs.Lefts.{none_left}
 use Rattle.cluster_service.proofs.OpenedUpTo.{up_to_left, up_to_opened, up_to_start, up_to_stopped}
 use Rattle.cluster_service.proofs.disks.open_some.Goals as goal
 
