@@ -1,6 +1,6 @@
 -- Counts of faults of which one rises, or all are as before.
-use Rattle.std.specs.Prelude.{◌≡◌, ℕ, List, Ok, map}
-use Rattle.std.proofs.Common.{subst, refl}
+use Rattle.std.specs.Prelude.{◌≡◌, ℕ, List}
+use Rattle.std.proofs.Common.{subst}
 use Rattle.outside.specs.Devices.{OneRose}
 use Rattle.pipe_driver.specs.Counts.{RoseWhere}
 use Rattle.pipe_driver.proofs.Counts.{rose_as}

@@ -1,5 +1,4 @@
-use Rattle.std.proofs.Common.{◌≡◌, ◌∙◌, List, [], length, ap, arith, inr}
-use Rattle.std.specs.Prelude.{Some, None}
+use Rattle.std.proofs.Common.{◌∙◌, List, [], length, ap, arith, inr}
 use Rattle.std.proofs.lemmas.List.{length-map}
 use Rattle.cluster_service.specs.Openings.{disk_facts}
 use Rattle.cluster_service.proofs.OpenedUpTo.{all_opened, has_stopped, up_to_len}
@@ -20,8 +19,17 @@ put_behind-requires g c =
     c.args.disks.items [] c.open_some.result c.open_some.new.journals.items c.open_some.new.found.items c.open_some.new.unopened.items
     c.open_some.ensures in
     let closed = ap (λ (l : List g.row.D.Denot). length l) c.close_all.ensures.disks ∙ length-map c.open_some.new.journals.items (λ journal. journal.disk) in
-    omega (arith, all, closed, c.in-Ok.ensures.back.1, c.close_all.ensures.capacity, c.len.ensures,
-     c.args.disks.ok, c.close_all.new.back.ok, c.open_some.new.unopened.ok)
+    omega (
+      arith,
+      all,
+      closed,
+      c.in-Ok.ensures.back.1,
+      c.close_all.ensures.capacity,
+      c.len.ensures,
+      c.args.disks.ok,
+      c.close_all.new.back.ok,
+      c.open_some.new.unopened.ok,
+    )
 
 pub returns-in-None-clause-opened : goal.returns-in-None-clause-opened
 returns-in-None-clause-opened g c =

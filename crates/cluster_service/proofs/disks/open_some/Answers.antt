@@ -1,8 +1,7 @@
-use Rattle.std.proofs.Common.{◌≡◌, ◌∷◌, ◌∙◌, [], ℕ, List, length, refl, sym, ap, arith}
+use Rattle.std.proofs.Common.{◌≡◌, ◌∷◌, ◌∙◌, [], ℕ, List, length, ap, arith}
 use Rattle.std.specs.Vec.Iter.{into_iter_items}
 use Rattle.journal_frames.specs.Views.{JournalView}
 use Rattle.cluster_service.specs.Openings.{disk_facts}
-use Rattle.cluster_service.proofs.Lefts.{none_left}
 use Rattle.cluster_service.proofs.OpenedUpTo.{up_to_left, up_to_opened, up_to_start, up_to_stopped}
 use Rattle.cluster_service.proofs.disks.open_some.Goals as goal
 
@@ -16,10 +15,22 @@ loop-disk-init g c =
       so_far = rw (all, c.requires.journals, c.requires.found, c.requires.unopened) (up_to_start
           (disk_facts g.D.Disk.tells g.D.Disk.content g.D.Disk.may_leave g.D.Disk.moment g.D.Disk.left_since g.D.Disk.place g.D.Disk.fault_count)
           c.args.disks.items);
-      count = omega (arith, ap (λ (l : List g.row.D.Denot). length l) all, c.args.disks.ok, c.args.journals.now.ok, c.args.unopened.now.ok,
-          ap (λ (l : List (JournalView g.row.D.Denot)). length l) no_journal, ap (λ (l : List g.row.D.Denot). length l) no_disk);
-      found_count = omega (arith, c.args.journals.now.ok, c.args.found.now.ok,
-          ap (λ (l : List (JournalView g.row.D.Denot)). length l) no_journal, ap (λ (l : List (List (List ℕ))). length l) no_found);
+      count = omega (
+        arith,
+        ap (λ (l : List g.row.D.Denot). length l) all,
+        c.args.disks.ok,
+        c.args.journals.now.ok,
+        c.args.unopened.now.ok,
+        ap (λ (l : List (JournalView g.row.D.Denot)). length l) no_journal,
+        ap (λ (l : List g.row.D.Denot). length l) no_disk,
+      );
+      found_count = omega (
+        arith,
+        c.args.journals.now.ok,
+        c.args.found.now.ok,
+        ap (λ (l : List (JournalView g.row.D.Denot)). length l) no_journal,
+        ap (λ (l : List (List (List ℕ))). length l) no_found,
+      );
       room = c.requires.room;
       found_room = c.requires.found_room;
       unopened_room = c.requires.unopened_room;
