@@ -1,6 +1,6 @@
 -- Journals that are opened one after another.
-use Rattle.std.specs.Prelude.{◌≡◌, ℕ, suc, ◌+◌, List, [], ◌∷◌, ◌++◌, length, Option, Some, None}
-use Rattle.std.proofs.Common.{refl, sym, ap, subst, ◌∙◌, arith, inr, append_assoc, append-nil, length-append}
+use Rattle.std.specs.Prelude.{◌≡◌, ℕ, ◌+◌, List, [], ◌∷◌, ◌++◌, length, Option, Some, None}
+use Rattle.std.proofs.Common.{refl, sym, ap, subst, ◌∙◌, arith, append_assoc, append-nil, length-append}
 use Rattle.journal_frames.specs.Views.{JournalView}
 use Rattle.cluster_service.specs.OpenJournals.{disks_of}
 use Rattle.cluster_service.specs.Openings.{AreOpenedUpTo, DiskFacts, HasStopped, InThrees, IsOpenedOn, IsUnopened, opened_so_far, stopped_at}

@@ -2,7 +2,7 @@
 use Rattle.std.specs.Prelude.{◌≡◌, ◌≢◌, ℕ, zero, suc, ◌≤◌, IsTrue, List, [], ◌∷◌, ◌++◌, length, map, Some}
 use Rattle.std.proofs.Common.{refl, sym, ap, subst, ◌∙◌, inl, inr, arith}
 use Rattle.std.specs.List.{slice_get}
-use Rattle.outside.specs.Devices.{NoneFell, OneRose}
+use Rattle.outside.specs.Devices.{NoneFell}
 use Rattle.journal_frames.specs.Files.{IsDamaged, Stands}
 use Rattle.journal_frames.specs.Views.{JournalView}
 use Rattle.journal_frames.proofs.Unique.{not_both, one_list}

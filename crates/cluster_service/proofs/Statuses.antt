@@ -1,5 +1,5 @@
 -- Each status has a number of its own.
-use Rattle.std.specs.Prelude.{◌≡◌, ◌≢◌, ◌⊎◌, ℕ, Option, Some}
+use Rattle.std.specs.Prelude.{◌≡◌, ◌≢◌, ◌⊎◌, ℕ, Some}
 use Rattle.std.proofs.Common.{refl, ap, sym, inl, inr, ◌∙◌}
 use Rattle.cluster_service.specs.Statuses.{number_of, with_number}
 use Rattle.cluster_service.specs.declared.status.Status.{Status}

@@ -1,7 +1,7 @@
-use Rattle.std.proofs.Common.{◌≡◌, ◌∷◌, ◌∙◌, [], List, length, sym, ap, arith}
+use Rattle.std.proofs.Common.{◌≡◌, ◌∷◌, ◌∙◌, List, length, sym, ap, arith}
 use Rattle.std.specs.Vec.Iter.{into_iter_items}
 use Rattle.journal_frames.specs.Views.{JournalView}
-use Rattle.cluster_service.specs.OpenJournals.{AreAllOpen, IsDurable, disks_of}
+use Rattle.cluster_service.specs.OpenJournals.{IsDurable, disks_of}
 use Rattle.cluster_service.proofs.Lefts.{all_behind, no_more, none_left, one_less}
 use Rattle.cluster_service.proofs.journals.close_all.Goals as goal
 
