@@ -1,6 +1,6 @@
 -- The files of disks after a crash: opened as journals, and written by nodes.
 use Rattle.std.specs.Prelude.{◌≡◌, ◌⊎◌, ℕ, zero, suc, ◌+◌, ◌≤◌, Some, Bool, IsTrue, List, [], ◌∷◌, length, map}
-use Rattle.std.proofs.Common.{refl, sym, subst, inl, inr, arith}
+use Rattle.std.proofs.Common.{refl, subst, inl, inr, arith}
 use Rattle.std.specs.List.{slice_get}
 use Rattle.outside.specs.Disks.{LeavesOnly, Outcomes}
 use Rattle.outside.specs.Notes.{Note}
@@ -16,7 +16,7 @@ use Rattle.driver_steps.specs.declared.seat.Seat.{Seat}
 use Rattle.driver_steps.proofs.Crashes.{leads_nowhere}
 use Rattle.pipe_driver.specs.Acknowledgements.{AreAcknowledgedBy, IsNotedBefore}
 use Rattle.pipe_driver.proofs.Covers.{got_mapped}
-use Rattle.cluster_service.specs.Crashes.{AreDurableBefore, IsOfTheWay, LeaveSuch, LeaveTheWay}
+use Rattle.cluster_service.specs.Crashes.{AreDurableBefore, IsOfTheWay, LeaveSuch}
 use Rattle.cluster_service.specs.Drivers.{output_of}
 use Rattle.cluster_service.specs.declared.arguments.Command.{Command}
 

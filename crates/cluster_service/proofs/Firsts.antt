@@ -9,7 +9,7 @@ use Rattle.node_model.specs.Letters.{Input}
 use Rattle.node_model.specs.States.{NodeState, Router, router_state}
 use Rattle.node_model.specs.World.{Held, World, IsRouter, Moves, Event, Happens, comes, delivers, passes, begins as was_opened, routers_from, start}
 use Rattle.node_laws.proofs.StepsKeep.{get_set}
-use Rattle.node_replay.specs.Durable.{DurableState, DurableRouter, durable_router, empty_of, empty_router}
+use Rattle.node_replay.specs.Durable.{DurableState, DurableRouter, durable_router, empty_router}
 use Rattle.node_replay.specs.Follow.{router_follow}
 use Rattle.node_replay.specs.Openings.{opened, opened_on}
 use Rattle.node_replay.specs.Replays.{replayed, records_of, latest_time}
@@ -25,15 +25,23 @@ use Rattle.journal_starts.specs.Starts.{BeginsOnFiles, begins_new, begins_again}
 
 -- A ROUTER IS STARTED AS ONE
 
-router_replays : (records : List Record) (d : DurableRouter) (e : DurableState) → replayed (Some (durable_router d)) records ≡ Some e
-    → (r : DurableRouter) × (e ≡ durable_router r)
+-- the durable part is that of a router
+abbrev IsOfRouter : DurableState → Type 0
+IsOfRouter e = (r : DurableRouter) × (e ≡ durable_router r)
+
+router_replays : (records : List Record) (d : DurableRouter) (e : DurableState) → replayed (Some (durable_router d)) records ≡ Some e → IsOfRouter e
 router_replays [] d e is = (d, cc is)
-router_replays (r ∷ records) d e is = by_next (router_follow d r) (λ next. router_replays records next e) is
+router_replays (r ∷ records) d e is = by_next (λ n. router_replays records n e) (router_follow d r) is
   where
-    by_next : (next : Option DurableRouter) → ((d : DurableRouter) → replayed (Some (durable_router d)) records ≡ Some e → (q : DurableRouter) × (e ≡ durable_router q))
-        → replayed (option_map durable_router next) records ≡ Some e → (q : DurableRouter) × (e ≡ durable_router q)
-    by_next None rest is = absurd (cc is)
-    by_next (Some d) rest is = rest d is
+    by_next : ((n : DurableRouter) → replayed (Some (durable_router n)) records ≡ Some e → IsOfRouter e) → (next : Option DurableRouter)
+        → replayed (option_map durable_router next) records ≡ Some e → IsOfRouter e
+    by_next others None is = absurd (cc is)
+    by_next others (Some n) is = others n is
+
+-- the router that a state is of
+abbrev router_in : Router → NodeState → Router
+router_in other (router_state q) = q
+router_in other s = other
 
 router_opens : (r : Router) (kept : List Kept) (new : NodeState) → opened_on (router_state r) kept ≡ Some new → (q : Router) × (new ≡ router_state q)
 router_opens r kept new = by_replay (replayed (Some (durable_router (empty_router r.me))) (records_of kept)) refl
@@ -41,11 +49,11 @@ router_opens r kept new = by_replay (replayed (Some (durable_router (empty_route
     by_replay : (d : Option DurableState) → replayed (Some (durable_router (empty_router r.me))) (records_of kept) ≡ d
         → option_map (opened (latest_time (records_of kept))) d ≡ Some new → (q : Router) × (new ≡ router_state q)
     by_replay None same is = absurd (cc is)
-    by_replay (Some d) same is = of_router d (router_replays (records_of kept) (empty_router r.me) d same) (cc is)
-      where
-        of_router : (d : DurableState) → (r : DurableRouter) × (d ≡ durable_router r) → opened (latest_time (records_of kept)) d ≡ new
-            → (q : Router) × (new ≡ router_state q)
-        of_router d (durable, same) is = (_, sym is ∙ ap (λ e. opened (latest_time (records_of kept)) e) same)
+    by_replay (Some d) same is =
+        let durable = router_replays (records_of kept) (empty_router r.me) d same in
+        let one : opened (latest_time (records_of kept)) d ≡ new = cc is in
+        (router_in r (opened (latest_time (records_of kept)) (durable_router durable.0)),
+        sym one ∙ ap (λ (e : DurableState). opened (latest_time (records_of kept)) e) durable.1)
 
 -- where the node at a place is started, each router is one afterwards
 router_stays : (nodes : List Held) (place at : ℕ) (old : Held) (new : NodeState) (kept stored : List Kept) → slice_get nodes place ≡ Some old

@@ -1,14 +1,14 @@
 -- Nodes with their journals: in the first world, and after a connection.
-use Rattle.std.specs.Prelude.{◌≡◌, ◌≢◌, ℕ, zero, suc, ◌+◌, Bool, IsTrue, List, [], ◌∷◌, length, map}
+use Rattle.std.specs.Prelude.{◌≡◌, ◌≢◌, ℕ, Bool, IsTrue, List, [], ◌∷◌, length, map}
 use Rattle.std.proofs.Common.{refl, sym, ap, subst, ◌∙◌, arith}
 use Rattle.std.specs.List.{AllByRecursion}
-use Rattle.outside.specs.Devices.{SourceCall, SinkCall, NoneFell, OneRose}
+use Rattle.outside.specs.Devices.{SourceCall, SinkCall, NoneFell}
 use Rattle.outside.proofs.Relations.{none_fell_self}
 use Rattle.outside.specs.Disks.{Outcomes}
 use Rattle.journal_frames.specs.Views.{JournalView, journal_facts}
 use Rattle.node_model.specs.States.{NodeState}
 use Rattle.node_model.specs.World.{Held, World}
-use Rattle.driver_steps.specs.Seats.{AreHeld, AreKept, IsHeld, seat_view}
+use Rattle.driver_steps.specs.Seats.{AreHeld, AreKept, seat_view}
 use Rattle.driver_steps.specs.declared.seat.Seat.{Seat}
 use Rattle.pipe_driver.specs.Endings.{most_taken}
 use Rattle.pipe_driver.proofs.Endings.{piped_with}
