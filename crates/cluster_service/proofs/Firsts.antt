@@ -51,9 +51,10 @@ router_opens r kept new = by_replay (replayed (Some (durable_router (empty_route
     by_replay None same is = absurd (cc is)
     by_replay (Some d) same is =
         let durable = router_replays (records_of kept) (empty_router r.me) d same in
-        let one : opened (latest_time (records_of kept)) d ≡ new = cc is in
-        (router_in r (opened (latest_time (records_of kept)) (durable_router durable.0)),
-        sym one ∙ ap (λ (e : DurableState). opened (latest_time (records_of kept)) e) durable.1)
+        let one : opened (latest_time (records_of kept)) d ≡ new = cc is in (
+          router_in r (opened (latest_time (records_of kept)) (durable_router durable.0)),
+          sym one ∙ ap (λ (e : DurableState). opened (latest_time (records_of kept)) e) durable.1,
+        )
 
 -- where the node at a place is started, each router is one afterwards
 router_stays : (nodes : List Held) (place at : ℕ) (old : Held) (new : NodeState) (kept stored : List Kept) → slice_get nodes place ≡ Some old
