@@ -154,7 +154,7 @@ opening_ends status at_opening_memory other = inr refl
 
 -- and that is no end of another kind
 pub opening_not_refused : (status : Status) → StopsOpening status
-    → (status ≢ statuses.BadArguments) × (status ≢ statuses.ReadFailed) × (status ≢ statuses.WriteFailed)
-opening_not_refused status at_opening_fault = (λ e. cc, λ e. cc, λ e. cc)
-opening_not_refused status at_damage = (λ e. cc, λ e. cc, λ e. cc)
-opening_not_refused status at_opening_memory = (λ e. cc, λ e. cc, λ e. cc)
+    → (status ≢ statuses.BadArguments) × (status ≢ statuses.ReadFailed) × (status ≢ statuses.WriteFailed) × (status ≢ statuses.AcceptFailed)
+opening_not_refused status at_opening_fault = (λ e. cc, λ e. cc, λ e. cc, λ e. cc)
+opening_not_refused status at_damage = (λ e. cc, λ e. cc, λ e. cc, λ e. cc)
+opening_not_refused status at_opening_memory = (λ e. cc, λ e. cc, λ e. cc, λ e. cc)

@@ -121,14 +121,15 @@ driven_as (Sim routers) first source sink gives kept then leaves leaves_then owe
     (simulated_as source sink kept then leaves leaves_then owed owed_then first most_taken status f g (λ w put leave owes. pays w put owes) driven.0, driven.1)
 
 -- a connection ends with no status of another kind
-pub of_no_other : (ending : connections.Status) → (of_connection ending ≢ statuses.BadArguments) × (of_connection ending ≢ statuses.DamagedJournal)
-of_no_other ended.InputEnded = (λ e. cc, λ e. cc)
-of_no_other ended.ReadFailed = (λ e. cc, λ e. cc)
-of_no_other ended.WriteFailed = (λ e. cc, λ e. cc)
-of_no_other ended.DiskFailed = (λ e. cc, λ e. cc)
-of_no_other ended.OutOfMemory = (λ e. cc, λ e. cc)
-of_no_other ended.BadInput = (λ e. cc, λ e. cc)
-of_no_other ended.InputTooLong = (λ e. cc, λ e. cc)
+pub of_no_other : (ending : connections.Status)
+    → (of_connection ending ≢ statuses.BadArguments) × (of_connection ending ≢ statuses.DamagedJournal) × (of_connection ending ≢ statuses.AcceptFailed)
+of_no_other ended.InputEnded = (λ e. cc, λ e. cc, λ e. cc)
+of_no_other ended.ReadFailed = (λ e. cc, λ e. cc, λ e. cc)
+of_no_other ended.WriteFailed = (λ e. cc, λ e. cc, λ e. cc)
+of_no_other ended.DiskFailed = (λ e. cc, λ e. cc, λ e. cc)
+of_no_other ended.OutOfMemory = (λ e. cc, λ e. cc, λ e. cc)
+of_no_other ended.BadInput = (λ e. cc, λ e. cc, λ e. cc)
+of_no_other ended.InputTooLong = (λ e. cc, λ e. cc, λ e. cc)
 
 abbrev connection_of : Status → connections.Status
 connection_of statuses.ReadFailed = ended.ReadFailed

@@ -94,7 +94,7 @@ pub fn serve<
         (AreDurableBefore K.tells D.tells D.place D.moment D.left_since command first (K.noted out.new) (K.held out.old) result.disks.items)
         (C.gives clock.now) ending result.rest) }
     ensures durable { IsTrue D.tells → result.status ≢ statuses.DiskFailed → AllByRecursion (IsDurable D.content D.may_leave) result.disks.items }
-    ensures status { (result.status ≢ statuses.BadArguments) × (result.status ≢ statuses.DamagedJournal) }
+    ensures status { (result.status ≢ statuses.BadArguments) × (result.status ≢ statuses.DamagedJournal) × (result.status ≢ statuses.AcceptFailed) }
     ensures read_fault { RoseWhere (result.status ≡ statuses.ReadFailed) (S.fault_count input.old) (S.fault_count input.new) }
     ensures write_fault { RoseWhere (result.status ≡ statuses.WriteFailed) (K.fault_count out.old) (K.fault_count out.new) }
     ensures disk_fault { OneRoseWhere (result.status ≡ statuses.DiskFailed) (map D.fault_count (disks_of journals.items)) (map D.fault_count result.disks.items) }

@@ -17,7 +17,9 @@ ghost use Rattle.journal_starts.specs.Records.{AreRefused};
 ghost use Rattle.journal_starts.specs.Starts.{BeginsOnFiles};
 ghost use Rattle.node_open.specs.Faults.{IfRefused};
 
-use cluster_service::{AllUnopened, Command, Opened, RunEnd, Status, close_all, open_all, serve, unserved};
+use cluster_service::{
+    AllUnopened, Command, Opened, RunEnd, Status, close_all, open_all, serve, unserved,
+};
 use node_open::{OpenFault, open_nodes};
 use outside::clock::Clock;
 use outside::disk::Disk;
@@ -65,7 +67,7 @@ pub fn run_nodes<R: Threads + Sync, S: Source, D: Disk, K: Witness<D>, C: Clock>
         × IsNotBegun (disk_facts D.tells D.content D.may_leave D.moment D.left_since D.place D.fault_count)
         (source_call S.tells S.left S.fault_count input.old input.new)
         (sink_call K.tells K.held K.fault_count out.old out.new) result.rest disks.items result.disks.items) }
-    ensures status { result.status ≢ statuses.BadArguments }
+    ensures status { (result.status ≢ statuses.BadArguments) × (result.status ≢ statuses.AcceptFailed) }
     ensures damaged { result.status ≡ statuses.DamagedJournal → (result.rest ≡ 0)
         × SourceIsUntouched (source_call S.tells S.left S.fault_count input.old input.new)
         × SinkIsUntouched (sink_call K.tells K.held K.fault_count out.old out.new)
@@ -119,7 +121,7 @@ fn run_opened<R: Threads + Sync, S: Source, D: Disk, K: Witness<D>, C: Clock>(
         (AreDurableBefore K.tells D.tells D.place D.moment D.left_since command first (K.noted out.new) (K.held out.old) result.disks.items)
         (C.gives clock.now) ending result.rest) }
     ensures durable { IsTrue D.tells → result.status ≢ statuses.DiskFailed → AllByRecursion (IsDurable D.content D.may_leave) result.disks.items }
-    ensures status { result.status ≢ statuses.BadArguments }
+    ensures status { (result.status ≢ statuses.BadArguments) × (result.status ≢ statuses.AcceptFailed) }
     ensures damaged { result.status ≡ statuses.DamagedJournal → (result.rest ≡ 0)
         × SourceIsUntouched (source_call S.tells S.left S.fault_count input.old input.new)
         × SinkIsUntouched (sink_call K.tells K.held K.fault_count out.old out.new)

@@ -12,6 +12,7 @@ ghost use Rattle.cluster_service.specs.Headline.{HeadlineOf};
 ghost use Rattle.cluster_service.specs.OpenJournals.{IsDurable};
 ghost use Rattle.cluster_service.specs.Openings.{IsNotBegun, disk_facts};
 ghost use Rattle.cluster_service.specs.Statuses.{OfConnection, OfStatus};
+ghost use Rattle.cluster_service.specs.declared.status.Status.TheVariants as statuses;
 ghost use Rattle.journal_starts.specs.Records.{AreRefused};
 ghost use Rattle.journal_starts.specs.Starts.{BeginsOnFiles};
 
@@ -67,6 +68,7 @@ where
     // The arguments are refused exactly where they start no nodes. Then, and where a file is damaged or a record in it may not follow, nothing is taken or put.
     ensures words { (result.status ≡ 2) ↔ IsNone (node_count_of words.now) }
     ensures arguments { result.status ≡ 2 → result.disks ≡ disks }
+    ensures number { OfStatus result.status (λ status. status ≢ statuses.AcceptFailed) }
     ensures untouched { (result.status ≡ 2) ⊎ (result.status ≡ 6) → (result.rest ≡ 0)
         × SourceIsUntouched (source_call S.tells S.left S.fault_count input.old input.new)
         × SinkIsUntouched (sink_call K.tells K.held K.fault_count out.old out.new) }

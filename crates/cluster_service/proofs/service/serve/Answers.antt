@@ -36,7 +36,7 @@ returns-then-is_err-clause-headline g c = λ asked first may same are disks earl
     (g.K.Sink.held c.args.out.now) left first) c.args.command may statuses.OutOfMemory (inr refl))
 
 pub returns-then-is_err-clause-status : goal.returns-then-is_err-clause-status
-returns-then-is_err-clause-status g c = rw c.unserved.ensures.status (λ e. cc, λ e. cc)
+returns-then-is_err-clause-status g c = rw c.unserved.ensures.status (λ e. cc, λ e. cc, λ e. cc)
 
 pub returns-then-is_err-clause-durable : goal.returns-then-is_err-clause-durable
 returns-then-is_err-clause-durable g c = λ told failed. rw c.unserved.ensures.disks (c.close_all.ensures.durable told c.requires.«open»)

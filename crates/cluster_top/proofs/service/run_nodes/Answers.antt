@@ -86,7 +86,9 @@ returns-in-Err-clause-durable g c = λ told failed.
     c.in-Err.field-0.status c.in-Err.ensures.unopened (λ is. failed (c.unserved.ensures.status ∙ is))))
 
 pub returns-in-Err-clause-status : goal.returns-in-Err-clause-status
-returns-in-Err-clause-status g c = λ is. (opening_not_refused _ (unopened_stops (disk_facts g.D.Disk.tells g.D.Disk.content g.D.Disk.may_leave g.D.Disk.moment g.D.Disk.left_since g.D.Disk.place g.D.Disk.fault_count) c.in-Err.field-0.status c.args.disks.items c.in-Err.field-0.disks.items c.in-Err.ensures.unopened)).0 (sym c.unserved.ensures.status ∙ is)
+returns-in-Err-clause-status g c =
+    let none = opening_not_refused _ (unopened_stops (disk_facts g.D.Disk.tells g.D.Disk.content g.D.Disk.may_leave g.D.Disk.moment g.D.Disk.left_since g.D.Disk.place g.D.Disk.fault_count) c.in-Err.field-0.status c.args.disks.items c.in-Err.field-0.disks.items c.in-Err.ensures.unopened) in
+    (λ is. none.0 (sym c.unserved.ensures.status ∙ is), λ is. none.3 (sym c.unserved.ensures.status ∙ is))
 
 pub returns-in-Err-clause-damaged : goal.returns-in-Err-clause-damaged
 returns-in-Err-clause-damaged g c = λ is. (

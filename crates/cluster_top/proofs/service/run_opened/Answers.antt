@@ -38,7 +38,7 @@ returns-in-Ok-clause-headline g c = λ disks first told opened begun.
     (λ told. opened_leave facts disks c.args.opened.journals.items c.args.opened.found.items first.nodes told opened journals)
 
 pub returns-in-Ok-clause-status : goal.returns-in-Ok-clause-status
-returns-in-Ok-clause-status g c = c.serve.ensures.status.0
+returns-in-Ok-clause-status g c = (c.serve.ensures.status.0, c.serve.ensures.status.2)
 
 pub returns-in-Ok-clause-damaged : goal.returns-in-Ok-clause-damaged
 returns-in-Ok-clause-damaged g c = λ is. absurd (c.serve.ensures.status.1 is)
@@ -58,7 +58,7 @@ returns-in-Err-clause-headline g c = λ disks first told opened begun.
     let records = opened_records facts disks c.args.opened.journals.items c.args.opened.found.items told opened in
     let other : ¬ (c.status_of.result ≡ statuses.DamagedJournal) =
     λ is. starts_are_not_refused _ (map g.D.Disk.content disks) first begun
-        (by_record c.args.opened.found.items records (c.status_of.ensures.refused is (SomeRefused 0 c.args.opened.found.items) c.in-Err.ensures.fault)) in
+    (by_record c.args.opened.found.items records (c.status_of.ensures.refused is (SomeRefused 0 c.args.opened.found.items) c.in-Err.ensures.fault)) in
     rw (c.unserved.ensures.disks, c.close_all.ensures.disks, c.unserved.ensures.status)
     (unopened (source_call g.S.Source.tells g.S.Source.left g.S.Source.fault_count c.args.input.now c.args.input.now) (sink_call g.K.Sink.tells g.K.Sink.held g.K.Sink.fault_count c.args.out.now c.args.out.now)
     g.D.Disk.tells (map g.D.Disk.content (disks_of c.args.opened.journals.items))
@@ -75,7 +75,10 @@ pub returns-in-Err-clause-durable : goal.returns-in-Err-clause-durable
 returns-in-Err-clause-durable g c = λ told failed. rw c.unserved.ensures.disks (c.close_all.ensures.durable told c.requires.«open»)
 
 pub returns-in-Err-clause-status : goal.returns-in-Err-clause-status
-returns-in-Err-clause-status g c = not_other statuses.BadArguments (λ e. cc) (λ e. cc) c.status_of.result c.unserved.result.status c.unserved.ensures.status c.status_of.ensures.two
+returns-in-Err-clause-status g c = (
+  not_other statuses.BadArguments (λ e. cc) (λ e. cc) c.status_of.result c.unserved.result.status c.unserved.ensures.status c.status_of.ensures.two,
+  not_other statuses.AcceptFailed (λ e. cc) (λ e. cc) c.status_of.result c.unserved.result.status c.unserved.ensures.status c.status_of.ensures.two,
+)
 
 pub returns-in-Err-clause-damaged : goal.returns-in-Err-clause-damaged
 returns-in-Err-clause-damaged g c = λ is. (

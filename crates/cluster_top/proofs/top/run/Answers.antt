@@ -29,16 +29,22 @@ run_nodes-ending-requires-clause-disks g c κs within = rw (sym c.read_command.e
 pub returns-clause-words : goal.returns-clause-words
 returns-clause-words g c =
     rw (sym c.read_command.ensures.command, c.in-Some.is) (
-      λ two. absurd (c.run_nodes-ending.ensures.status (is_status statuses.BadArguments c.run_nodes-ending.result.status c.number-2.result c.number-2.ensures two)),
+      λ two. absurd (c.run_nodes-ending.ensures.status.0 (is_status statuses.BadArguments c.run_nodes-ending.result.status c.number-2.result c.number-2.ensures two)),
       λ none. absurd (cc none),
     )
 
 pub returns-clause-arguments : goal.returns-clause-arguments
-returns-clause-arguments g c = λ two. absurd (c.run_nodes-ending.ensures.status (is_status statuses.BadArguments c.run_nodes-ending.result.status c.number-2.result c.number-2.ensures two))
+returns-clause-arguments g c = λ two. absurd (c.run_nodes-ending.ensures.status.0 (is_status statuses.BadArguments c.run_nodes-ending.result.status c.number-2.result c.number-2.ensures two))
+
+pub returns-in-None-clause-number : goal.returns-in-None-clause-number
+returns-in-None-clause-number g c = (statuses.BadArguments, c.number.ensures, λ e. cc)
+
+pub returns-clause-number : goal.returns-clause-number
+returns-clause-number g c = (c.run_nodes-ending.result.status, c.number-2.ensures, c.run_nodes-ending.ensures.status.1)
 
 pub returns-clause-untouched : goal.returns-clause-untouched
 returns-clause-untouched g c = λ refused.
-    let damaged = c.run_nodes-ending.ensures.damaged (refused_or_damaged c.run_nodes-ending.result.status c.number-2.result c.number-2.ensures c.run_nodes-ending.ensures.status refused) in
+    let damaged = c.run_nodes-ending.ensures.damaged (refused_or_damaged c.run_nodes-ending.result.status c.number-2.result c.number-2.ensures c.run_nodes-ending.ensures.status.0 refused) in
     (damaged.0, damaged.1, damaged.2)
 
 pub returns-clause-six : goal.returns-clause-six
