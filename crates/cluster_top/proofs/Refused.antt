@@ -1,6 +1,9 @@
 -- The statuses of a run whose nodes were not opened.
-use Rattle.std.specs.Prelude.{◌≡◌, ◌≢◌, ◌⊎◌}
-use Rattle.std.proofs.Common.{sym, inl, inr, ◌∙◌}
+use Rattle.std.specs.Prelude.{◌≡◌, ◌≢◌, ◌⊎◌, ℕ}
+use Rattle.std.proofs.Common.{sym, subst, inl, inr, ◌∙◌}
+use Rattle.journal_replay.specs.declared.fault.OpenFault.{OpenFault}
+use Rattle.journal_replay.specs.declared.fault.OpenFault.TheVariants.{Refused}
+use Rattle.node_open.specs.Faults.{IfRefused}
 use Rattle.cluster_service.specs.declared.status.Status.{Status}
 use Rattle.cluster_service.specs.declared.status.Status.TheVariants as statuses
 
@@ -15,3 +18,7 @@ pub not_other : (known : Status) → statuses.DamagedJournal ≢ known → statu
     → (status ≡ statuses.DamagedJournal) ⊎ (status ≡ statuses.OutOfMemory) → told ≢ known
 not_other known one two status told same (inl damaged) = λ is. one (sym damaged ∙ (sym same ∙ is))
 not_other known one two status told same (inr memory) = λ is. two (sym memory ∙ (sym same ∙ is))
+
+-- where a record was refused, what is said of that holds
+pub refused_of : (fault : OpenFault) (holds : Type 0) → (index : ℕ) × (fault ≡ Refused index) → IfRefused fault holds → holds
+refused_of fault holds (index, same) is = subst (λ (f : OpenFault). IfRefused f holds) same is

@@ -1,6 +1,6 @@
 //! The commands `pipe` and `sim`: the nodes of the cluster, each with its journal on a disk.
 
-ghost use Rattle.std.specs.Prelude.{◌≡◌, ◌≢◌, ◌⊎◌, ◌<◌, ◌≤◌, [], List, map, IsTrue, vec_capacity, vec_len};
+ghost use Rattle.std.specs.Prelude.{◌≡◌, ◌≢◌, ◌⊎◌, ◌<◌, ◌≤◌, ℕ, [], List, map, IsTrue, vec_capacity, vec_len};
 ghost use Rattle.std.specs.List.{AllByRecursion};
 ghost use Rattle.outside.specs.Devices.{NoneFell, SinkIsUntouched, SourceIsUntouched, sink_call, source_call};
 ghost use Rattle.node_model.specs.World.{World};
@@ -15,7 +15,7 @@ ghost use Rattle.cluster_service.specs.Statuses.{OfConnection};
 ghost use Rattle.cluster_service.specs.declared.status.Status.TheVariants as statuses;
 ghost use Rattle.journal_starts.specs.Records.{AreRefused};
 ghost use Rattle.journal_starts.specs.Starts.{BeginsOnFiles};
-ghost use Rattle.node_open.specs.Faults.{IfRefused};
+ghost use Rattle.journal_replay.specs.declared.fault.OpenFault.TheVariants.{Refused};
 
 use cluster_service::{
     AllUnopened, Command, Opened, RunEnd, Status, close_all, open_all, serve, unserved,
@@ -31,7 +31,7 @@ use std::thread::Threads;
 
 /// Why no node was opened, as the status of a run.
 fn status_of(fault: OpenFault) -> Status
-    ensures refused { result ≡ statuses.DamagedJournal → (holds : Type 0) → IfRefused fault holds → holds }
+    ensures refused { result ≡ statuses.DamagedJournal → (index : ℕ) × (fault ≡ Refused index) }
     ensures two { (result ≡ statuses.DamagedJournal) ⊎ (result ≡ statuses.OutOfMemory) }
 {
     match fault {

@@ -16,7 +16,7 @@ use Rattle.cluster_service.proofs.NotBegun.{begun_none}
 use Rattle.cluster_service.proofs.Openings.{opened_as_were, opened_leave, opened_records, opened_with, still_journals}
 use Rattle.cluster_service.proofs.NotServed.{unopened}
 use Rattle.cluster_top.proofs.Asked.{asked_as_read}
-use Rattle.cluster_top.proofs.Refused.{memory_of, not_other}
+use Rattle.cluster_top.proofs.Refused.{memory_of, not_other, refused_of}
 use Rattle.cluster_top.proofs.service.run_opened.Goals as goal
 
 pub open_nodes-requires : goal.open_nodes-requires
@@ -58,7 +58,7 @@ returns-in-Err-clause-headline g c = λ disks first told opened begun.
     let records = opened_records facts disks c.args.opened.journals.items c.args.opened.found.items told opened in
     let other : ¬ (c.status_of.result ≡ statuses.DamagedJournal) =
     λ is. starts_are_not_refused _ (map g.D.Disk.content disks) first begun
-    (by_record c.args.opened.found.items records (c.status_of.ensures.refused is (SomeRefused 0 c.args.opened.found.items) c.in-Err.ensures.fault)) in
+    (by_record c.args.opened.found.items records (refused_of c.in-Err.fault (SomeRefused 0 c.args.opened.found.items) (c.status_of.ensures.refused is) c.in-Err.ensures.fault)) in
     rw (c.unserved.ensures.disks, c.close_all.ensures.disks, c.unserved.ensures.status)
     (unopened (source_call g.S.Source.tells g.S.Source.left g.S.Source.fault_count c.args.input.now c.args.input.now) (sink_call g.K.Sink.tells g.K.Sink.held g.K.Sink.fault_count c.args.out.now c.args.out.now)
     g.D.Disk.tells (map g.D.Disk.content (disks_of c.args.opened.journals.items))
@@ -88,7 +88,7 @@ returns-in-Err-clause-damaged g c = λ is. (
   λ disks told opened.
       by_record c.args.opened.found.items
       (opened_records (disk_facts g.D.Disk.tells g.D.Disk.content g.D.Disk.may_leave g.D.Disk.moment g.D.Disk.left_since g.D.Disk.place g.D.Disk.fault_count) disks c.args.opened.journals.items c.args.opened.found.items told opened)
-      (c.status_of.ensures.refused (sym c.unserved.ensures.status ∙ is) (SomeRefused 0 c.args.opened.found.items) c.in-Err.ensures.fault),
+      (refused_of c.in-Err.fault (SomeRefused 0 c.args.opened.found.items) (c.status_of.ensures.refused (sym c.unserved.ensures.status ∙ is)) c.in-Err.ensures.fault),
 )
 
 pub returns-in-Err-clause-refused : goal.returns-in-Err-clause-refused
