@@ -37,7 +37,9 @@ pub fn open_nodes(alloc: Global, found: Vec<RecordList>) -> Result<Vec<AnyNode>,
     ensures len { IfOk result (λ nodes. vec_len nodes ≡ vec_len found) }
     ensures fault { IfErr result (λ fault. IfRefused fault (SomeRefused 0 found.items)) }
 {
-    let mut nodes = Vec::with_capacity(alloc, found.len())?;
+    let Ok(mut nodes) = Vec::with_capacity(alloc, found.len()) else {
+        return Err(OpenFault::Memory);
+    };
     let mut me = 0;
     for records in found {
         nodes.push_reserved(open_node(alloc, me, records)?);
