@@ -201,8 +201,7 @@ def failed_append(call, is_stored):
         Connection((), cluster).ask(insert(ONE, "1L").bytes(1))
     row.cluster, row.is_new = cluster, False
     row.not_served("the disk fails", [f"fail 1 {call}"], 5, insert(ONE, "1L"))
-    row.lines = [line for line in row.lines if not line.startswith("untaken")]
-    row.keep(NODES)
+    row.lines = [line for line in row.lines if not line.startswith("untaken")] + found_again(row, NODES)
     row.call("again", insert(ONE, "1L", done(1, 2) if is_stored else done(1, 1, seconds=1001)), clock=[1001000])
     return row.rows()
 
