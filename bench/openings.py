@@ -1,0 +1,102 @@
+#!/usr/bin/env -S python3 -B
+"""Measures how long the built program takes to start on journals with twice as many entries: at most 2.5 times as long.
+
+The program is $CLUSTER, or the one that `cluster` builds, run with `pipe` in a temporary folder (in $SPEED_FOLDER, where that is given). It is sent inserts of
+1,000 documents until its files have half of the entries, and is started again; then until they have all, and again. A start is timed from the process's
+begin to the reply to a ping, which comes once all journals are read, and its greatest resident memory is told. Each figure is the best of some rounds. Ends
+with status 1 where the bound does not hold.
+
+    bench/openings.py [ENTRIES [ROUNDS]]      200,000 entries and 3 rounds without arguments
+"""
+import os
+import pathlib
+import struct
+import subprocess
+import sys
+import tempfile
+import time
+
+from inserts import built, document, element, entries, text
+
+MOST = 2.5
+EACH = 1000
+
+
+def message(request, body, sequence=b""):
+    rest = struct.pack("<iiiI", request, 0, 2013, 0) + b"\0" + body
+    rest += b"\1" + struct.pack("<i", len(sequence) + 4) + sequence if sequence else b""
+    return struct.pack("<i", len(rest) + 4) + rest
+
+
+def insert(request):
+    """An insert of 1,000 documents into d.c."""
+    body = document(element(0x02, "insert", text("c")), element(0x02, "$db", text("d")))
+    numbers = range(request * EACH, request * EACH + EACH)
+    documents = [document(element(0x10, "_id", struct.pack("<i", number)), element(0x02, "text", text("x" * 40))) for number in numbers]
+    return message(request, body, b"documents\0" + b"".join(documents))
+
+
+PING = message(0, document(element(0x10, "ping", struct.pack("<i", 1)), element(0x02, "$db", text("d"))))
+
+
+class Run:
+    def __init__(self, path, folder):
+        self.program = subprocess.Popen([path, "pipe"], cwd=folder, stdin=subprocess.PIPE, stdout=subprocess.PIPE)
+
+    def ask(self, bytes_):
+        self.program.stdin.write(bytes_)
+        self.program.stdin.flush()
+        head = self.program.stdout.read(4)
+        if len(head) < 4:
+            sys.exit(f"openings: the program ended with {self.program.wait()}")
+        self.program.stdout.read(struct.unpack("<i", head)[0] - 4)
+
+    def end(self):
+        """Closes the input. Gives the process's greatest resident memory, in megabytes."""
+        self.program.stdin.close()
+        _, status, usage = os.wait4(self.program.pid, 0)
+        self.program.returncode = status
+        if status:
+            sys.exit(f"openings: the program ended with {os.waitstatus_to_exitcode(status)}")
+        return usage.ru_maxrss / 1024
+
+
+def fill(path, folder, requests):
+    run = Run(path, folder)
+    for request in requests:
+        run.ask(insert(request))
+    run.end()
+
+
+def opening(path, folder, rounds):
+    """The shortest start, in seconds, and its memory."""
+    best, memory = None, 0
+    for _ in range(rounds):
+        began = time.monotonic()
+        run = Run(path, folder)
+        run.ask(PING)
+        took = time.monotonic() - began
+        memory = run.end()
+        best = took if best is None else min(best, took)
+    return best, memory
+
+
+def main():
+    entries_wanted = int(sys.argv[1]) if len(sys.argv) > 1 else 200_000
+    rounds = int(sys.argv[2]) if len(sys.argv) > 2 else 3
+    path = os.environ.get("CLUSTER") or built()
+    half = entries_wanted // EACH // 2
+    with tempfile.TemporaryDirectory(dir=os.environ.get("SPEED_FOLDER")) as folder:
+        fill(path, folder, range(half))
+        few, few_memory = opening(path, folder, rounds)
+        fill(path, folder, range(half, 2 * half))
+        many, many_memory = opening(path, folder, rounds)
+        held, size = len(entries(pathlib.Path(folder) / "node01.journal")), (pathlib.Path(folder) / "node01.journal").stat().st_size
+    if held != 2 * half * EACH:
+        sys.exit(f"openings: {held} entries are held")
+    print(f"openings: {half * EACH} entries {few:.2f} s, {few_memory:.0f} MB; {held} entries ({size} bytes) {many:.2f} s, {many_memory:.0f} MB; "
+          f"{many / few:.2f} of {MOST}")
+    sys.exit(0 if many <= MOST * few else 1)
+
+
+main()
