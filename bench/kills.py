@@ -5,7 +5,7 @@ The program is $CLUSTER, or the one that `cluster` builds, run in a temporary fo
 Each run first reads: the documents must be those that were acknowledged in all runs before, with at most the first ones of the request that was under way.
 The read names the time of the last acknowledged write, since what is fresh is so in one run. Then the last acknowledged request is sent again, which must
 be returned as it was, and the one under way, which must be done then. Both have a session and a transaction, as retried writes of drivers have. More
-ordered inserts of three documents follow, by document sequence, under keys of several kinds, and behind a number of replies, in the middle of a request or
+ordered inserts of three documents follow, by document sequence, under keys of several kinds, and after a number of replies, in the middle of a request or
 while one is served, the program is killed. At the end of a round the shard's journal must hold just these documents, in order and each once, the
 catalogue's the one collection, and the router's a life for each run.
 
@@ -24,23 +24,21 @@ import time
 sys.path.insert(0, str(pathlib.Path(__file__).resolve().parent / "rows"))
 
 from bson import fields_of, read_fields, written
-from inserts import EACH, built, document, element, entries, kept, numbers_of, records, text
+from inserts import EACH, Run, built, document, documents_of, element, entries, kept, message, records, text
 
 RUNS = 3
-SESSION = document(element(0x05, "id", struct.pack("<iB", 16, 4) + bytes(range(16))))
 
 
-def message(request, body, sequence=b""):
-    rest = struct.pack("<iiiI", request, 0, 2013, 0) + b"\0" + body
-    rest += b"\1" + struct.pack("<i", len(sequence) + 4) + sequence if sequence else b""
-    return struct.pack("<i", len(rest) + 4) + rest
+def session(request):
+    """One of two sessions, in turn, so that a request is not older than the next in its session."""
+    return document(element(0x05, "id", struct.pack("<iB", 16, 4) + bytes([request % 2] * 16)))
 
 
 def numbered(request):
     """The bytes of an insert of the request's documents into d.c, in a transaction of its number."""
-    number = [element(0x03, "lsid", SESSION), element(0x12, "txnNumber", struct.pack("<q", request))]
+    number = [element(0x03, "lsid", session(request)), element(0x12, "txnNumber", struct.pack("<q", request))]
     body = document(element(0x02, "insert", text("c")), element(0x08, "ordered", b"\1"), *number, element(0x02, "$db", text("d")))
-    return message(request, body, b"documents\0" + b"".join(kept(number) for number in numbers_of(request)))
+    return message(request, body, documents_of(request))
 
 
 def found_after(at):
@@ -49,35 +47,23 @@ def found_after(at):
     return message(0, written(fields_of(f'{{find: "c", batchSize: 1000000, readConcern: {{afterClusterTime: {after}}}, $db: "d"}}')))
 
 
-class Run:
-    """A run of the program in a folder."""
+class Killed(Run):
+    """A run that is killed."""
 
-    def __init__(self, path, folder):
-        self.program = subprocess.Popen([path, "pipe"], cwd=folder, stdin=subprocess.PIPE, stdout=subprocess.PIPE)
-
-    def send(self, bytes_):
-        self.program.stdin.write(bytes_)
-        self.program.stdin.flush()
-
-    def ask(self, bytes_):
+    def fields(self, bytes_):
         """The fields of the reply."""
-        self.send(bytes_)
-        head = self.program.stdout.read(4)
-        if len(head) < 4:
-            sys.exit(f"kills: a reply is missing; the program ended with {self.program.wait()}")
-        reply = head + self.program.stdout.read(struct.unpack("<i", head)[0] - 4)
-        return dict(read_fields(reply, 21)[0])
+        return dict(read_fields(self.ask(bytes_), 21)[0])
 
     def insert(self, request):
         """Sends an insert that must be acknowledged. Gives the time of the reply."""
-        reply = self.ask(numbered(request))
+        reply = self.fields(numbered(request))
         if reply.get("n") != (0x10, EACH) or "writeErrors" in reply:
             sys.exit(f"kills: request {request} got {reply}")
         return reply["operationTime"][1]
 
     def found(self, at):
         """The documents, each by its bytes."""
-        reply = self.ask(found_after(at))
+        reply = self.fields(found_after(at))
         if "cursor" not in reply:
             sys.exit(f"kills: a find after {at} got {reply}")
         cursor = dict(reply["cursor"][1])
@@ -108,14 +94,14 @@ def one_round(path, folder):
     """Runs of the program, each killed. Gives how many requests were acknowledged, and how many documents of the one under way each start found."""
     done, last, more = 0, None, []
     for number in range(RUNS):
-        run = Run(path, folder)
+        run = Killed(path, folder)
         if number:
             more.append(checked_start(run, done, last))
         for _ in range(random.randint(1, 60)):
             last, done = run.insert(done), done + 1
         run.send(numbered(done)[: random.choice([0, 20, 150, 10_000, 10_000])])
         run.kill()
-    run = Run(path, folder)
+    run = Killed(path, folder)
     more.append(checked_start(run, done, last))
     run.insert(done)
     run.kill()

@@ -11,21 +11,14 @@ with status 1 where the bound does not hold.
 import os
 import pathlib
 import struct
-import subprocess
 import sys
 import tempfile
 import time
 
-from inserts import built, document, element, entries, text
+from inserts import Run, built, document, element, entries, message, text
 
 MOST = 2.5
 EACH = 1000
-
-
-def message(request, body, sequence=b""):
-    rest = struct.pack("<iiiI", request, 0, 2013, 0) + b"\0" + body
-    rest += b"\1" + struct.pack("<i", len(sequence) + 4) + sequence if sequence else b""
-    return struct.pack("<i", len(rest) + 4) + rest
 
 
 def insert(request):
@@ -39,17 +32,8 @@ def insert(request):
 PING = message(0, document(element(0x10, "ping", struct.pack("<i", 1)), element(0x02, "$db", text("d"))))
 
 
-class Run:
-    def __init__(self, path, folder):
-        self.program = subprocess.Popen([path, "pipe"], cwd=folder, stdin=subprocess.PIPE, stdout=subprocess.PIPE)
-
-    def ask(self, bytes_):
-        self.program.stdin.write(bytes_)
-        self.program.stdin.flush()
-        head = self.program.stdout.read(4)
-        if len(head) < 4:
-            sys.exit(f"openings: the program ended with {self.program.wait()}")
-        self.program.stdout.read(struct.unpack("<i", head)[0] - 4)
+class Ended(Run):
+    """A run that is ended by the end of its input."""
 
     def end(self):
         """Closes the input. Gives the process's greatest resident memory, in megabytes."""
@@ -62,7 +46,7 @@ class Run:
 
 
 def fill(path, folder, requests):
-    run = Run(path, folder)
+    run = Ended(path, folder)
     for request in requests:
         run.ask(insert(request))
     run.end()
@@ -73,7 +57,7 @@ def opening(path, folder, rounds):
     best, memory = None, 0
     for _ in range(rounds):
         began = time.monotonic()
-        run = Run(path, folder)
+        run = Ended(path, folder)
         run.ask(PING)
         took = time.monotonic() - began
         memory = run.end()

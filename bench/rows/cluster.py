@@ -1,6 +1,6 @@
 """What connections to the cluster are answered, one after another, and what they leave in the journals of its three nodes.
 
-Each node has a time of its own: behind a start those of the catalogue and of the shard are the greatest in their journals, and the router's is 0.
+Each node has a time of its own: after a start those of the catalogue and of the shard are the greatest in their journals, and the router's is 0.
 """
 import struct
 

@@ -180,7 +180,7 @@ def ends():
     row.call("put 0 fails", numbered, plan=["fail put 0"], is_lost=True, end="4 0")
     row.call("again", numbered, find(AFTER % (1000, 2), first(ONE, 2)))
     lines = row.rows()
-    row = Calls("a read that fails behind an insert")
+    row = Calls("a read that fails after an insert")
     row.call("take 1 fails", numbered, plan=["fail take 1"], end="3 0")
     row.call("again", numbered)
     lines += row.rows()
@@ -231,7 +231,7 @@ REFUSED = [
     (CATALOGUE, "a record of kind 05 on the catalogue", "create move"),
     (ROUTER, "life 2 first", "life-2"), (ROUTER, "life 1 twice", "life-1 life-1"), (ROUTER, "block 1 first", "life-1 block-1"),
     (ROUTER, "a block before a life", "block-0"), (ROUTER, "a table on the router", "table"), (ROUTER, "a life that is cut short", "cut"),
-    (ROUTER, "a byte behind a life", "life-1 more"), (ROUTER, "another format", "format"), (ROUTER, "another kind", "kind"),
+    (ROUTER, "a byte after a life", "life-1 more"), (ROUTER, "another format", "format"), (ROUTER, "another kind", "kind"),
 ]
 
 
@@ -240,7 +240,7 @@ def refused_records():
     for node, words, names in REFUSED:
         plan = [f"file {node} {pieces(file_of(named(names)))}", f"same {node}"] + [f"keeps {other} 00" for other in NODES if other != node]
         lines += Calls(f"refused: {words}").not_served(words, plan, 6).rows()
-    row = Calls("refused behind a journal of this program, and again")
+    row = Calls("refused after a journal of this program, and again")
     row.call("an insert", Ask(inserted(ONE), done(1, 2)))
     changed_file = file_of(row.cluster.journals[ROUTER] + named("life-1"))
     row.not_served("life 1 once more", [f"file {ROUTER} {pieces(changed_file)}"] + [f"same {node}" for node in NODES], 6)
@@ -250,7 +250,7 @@ def refused_records():
 
 
 def damages():
-    """Ends of files that are no whole record behind an open gate, and each alone."""
+    """Ends of files that are no whole record after an open gate, and each alone."""
     whole = struct.pack("<Q", 10)
     return [("no length", b"\1\0"), ("a length of seven bytes", b"\1" + whole[:7]), ("a length and nothing", b"\1" + whole),
         ("a record that is cut short", b"\1" + whole + life_record()[:9]), ("a record without a gate", b"\1" + whole + life_record()),
@@ -264,7 +264,7 @@ def damaged():
             plan = [f"file {node} {pieces(bytes_)}", f"same {node}"] + [f"keeps {other} 00" for other in NODES if other < node]
             plan += [f"size {other} 0" for other in NODES if other > node]
             lines += Calls(f"damaged: {words}, on disk {node}").not_served(words, plan, 6).rows()
-        row = Calls(f"damaged behind what an insert stored, on disk {node}, and again")
+        row = Calls(f"damaged after what an insert stored, on disk {node}, and again")
         row.call("an insert", Ask(inserted(ONE), done(1, 2)))
         changed_file = file_of(row.cluster.journals[node])[:-1] + damages()[3][1]
         row.not_served("damaged", [f"file {node} {pieces(changed_file)}"] + [f"same {other}" for other in NODES], 6)
@@ -274,7 +274,7 @@ def damaged():
 
 
 def unread():
-    """Bytes that are no record and are not refused: behind a gate that is not open."""
+    """Bytes that are no record and are not refused: after a gate that is not open."""
     lines = []
     ask = Ask(inserted(ONE), done(1, 2))
     for node in NODES:
@@ -322,7 +322,7 @@ def found_again(row, nodes):
 
 
 def failing_beside():
-    """Which of a disk that fails and of a file that is refused decides: journals are opened in order, and records are read behind all openings."""
+    """Which of a disk that fails and of a file that is refused decides: journals are opened in order, and records are read after all openings."""
     lines, life_on_shard = [], pieces(file_of(named("table life-1")))
     damage = pieces(damages()[0][1])
     listed_ = [(0, f"file {SHARD} {life_on_shard}", 5), (1, f"file {SHARD} {life_on_shard}", 5), (2, f"file {SHARD} {life_on_shard}", 5),
