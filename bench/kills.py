@@ -67,10 +67,10 @@ class Killed(Run):
         if "cursor" not in reply:
             sys.exit(f"kills: a find after {at} got {reply}")
         cursor = dict(reply["cursor"][1])
-        return [written(fields) for _, (_, fields) in cursor["firstBatch"][1]]
+        return [written(fields) for _, fields in cursor["firstBatch"][1]]
 
     def kill(self):
-        time.sleep(random.uniform(0, 0.002))
+        time.sleep(random.uniform(0, random.choice([0.002, 0.03])))
         self.program.send_signal(signal.SIGKILL)
         self.program.wait()
 

@@ -2,9 +2,9 @@
 """Measures how long the built program takes to start on journals with twice as many entries: at most 2.5 times as long.
 
 The program is $CLUSTER, or the one that `cluster` builds, run with `pipe` in a temporary folder (in $SPEED_FOLDER, where that is given). It is sent inserts of
-1,000 documents until its files have half of the entries, and is started again; then until they have all, and again. A start is timed from the process's
-begin to the reply to a ping, which comes once all journals are read, and its greatest resident memory is told. Each figure is the best of some rounds. Ends
-with status 1 where the bound does not hold.
+1,000 documents until its files have half of the entries, and is started again; then until they have all, and again. A run that is asked for nothing but a ping
+is measured by its processor time, so that other work of the machine counts little; its time to the reply and its greatest resident memory are printed too.
+Each figure is the best of some rounds. Ends with status 1 where the bound does not hold.
 
     bench/openings.py [ENTRIES [ROUNDS]]      200,000 entries and 3 rounds without arguments
 """
@@ -36,13 +36,13 @@ class Ended(Run):
     """A run that is ended by the end of its input."""
 
     def end(self):
-        """Closes the input. Gives the process's greatest resident memory, in megabytes."""
+        """Closes the input. Gives what the process used."""
         self.program.stdin.close()
         _, status, usage = os.wait4(self.program.pid, 0)
         self.program.returncode = status
         if status:
             sys.exit(f"openings: the program ended with {os.waitstatus_to_exitcode(status)}")
-        return usage.ru_maxrss / 1024
+        return usage
 
 
 def fill(path, folder, requests):
@@ -53,16 +53,21 @@ def fill(path, folder, requests):
 
 
 def opening(path, folder, rounds):
-    """The shortest start, in seconds, and its memory."""
-    best, memory = None, 0
+    """Of the start that used the least: its processor time, its time to the reply, both in seconds, and its memory in megabytes."""
+    starts = []
     for _ in range(rounds):
         began = time.monotonic()
         run = Ended(path, folder)
         run.ask(PING)
         took = time.monotonic() - began
-        memory = run.end()
-        best = took if best is None else min(best, took)
-    return best, memory
+        usage = run.end()
+        starts.append((usage.ru_utime + usage.ru_stime, took, usage.ru_maxrss / 1024))
+    return min(starts)
+
+
+def told(entries_, start):
+    used, took, memory = start
+    return f"{entries_} entries {used:.2f} s of a processor, {took:.2f} s to the reply, {memory:.0f} MB"
 
 
 def main():
@@ -72,15 +77,14 @@ def main():
     half = entries_wanted // EACH // 2
     with tempfile.TemporaryDirectory(dir=os.environ.get("SPEED_FOLDER")) as folder:
         fill(path, folder, range(half))
-        few, few_memory = opening(path, folder, rounds)
+        few = opening(path, folder, rounds)
         fill(path, folder, range(half, 2 * half))
-        many, many_memory = opening(path, folder, rounds)
+        many = opening(path, folder, rounds)
         held, size = len(entries(pathlib.Path(folder) / "node01.journal")), (pathlib.Path(folder) / "node01.journal").stat().st_size
     if held != 2 * half * EACH:
         sys.exit(f"openings: {held} entries are held")
-    print(f"openings: {half * EACH} entries {few:.2f} s, {few_memory:.0f} MB; {held} entries ({size} bytes) {many:.2f} s, {many_memory:.0f} MB; "
-          f"{many / few:.2f} of {MOST}")
-    sys.exit(0 if many <= MOST * few else 1)
+    print(f"openings: {told(half * EACH, few)}; {told(held, many)}, in {size} bytes; {many[0] / few[0]:.2f} of {MOST}")
+    sys.exit(0 if many[0] <= MOST * few[0] else 1)
 
 
 main()
