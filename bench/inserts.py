@@ -58,14 +58,41 @@ def numbers_of(request):
     return range(request * EACH, request * EACH + EACH)
 
 
+def message(request, body, sequence=b""):
+    """The bytes of an OP_MSG message: its body, and a sequence of its name and documents."""
+    rest = struct.pack("<iiii", request, 0, 2013, 0) + b"\0" + body
+    rest += b"\1" + struct.pack("<i", len(sequence) + 4) + sequence if sequence else b""
+    return struct.pack("<i", len(rest) + 4) + rest
+
+
+def documents_of(request):
+    """The sequence of a request's documents."""
+    return b"documents\0" + b"".join(kept(number) for number in numbers_of(request))
+
+
 def insert(request):
     """The bytes of a request that inserts its documents into d.c."""
     body = document(element(0x02, "insert", text("c")), element(0x08, "ordered", b"\1"), element(0x02, "$db", text("d")))
-    documents = b"".join(kept(number) for number in numbers_of(request))
-    sequence = b"documents\0" + documents
-    rest = struct.pack("<iii", request, 0, 2013) + struct.pack("<i", 0)
-    rest += b"\0" + body + b"\1" + struct.pack("<i", len(sequence) + 4) + sequence
-    return struct.pack("<i", len(rest) + 4) + rest
+    return message(request, body, documents_of(request))
+
+
+class Run:
+    """A run of the program in a folder."""
+
+    def __init__(self, path, folder):
+        self.program = subprocess.Popen([path, "pipe"], cwd=folder, stdin=subprocess.PIPE, stdout=subprocess.PIPE)
+
+    def send(self, bytes_):
+        self.program.stdin.write(bytes_)
+        self.program.stdin.flush()
+
+    def ask(self, bytes_):
+        """The reply to a request, whole."""
+        self.send(bytes_)
+        head = self.program.stdout.read(4)
+        if len(head) < 4:
+            sys.exit(f"a reply is missing: the program ended with {self.program.wait()}")
+        return head + self.program.stdout.read(struct.unpack("<i", head)[0] - 4)
 
 
 def records(path):

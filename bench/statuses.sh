@@ -21,7 +21,7 @@ printf '\001\154\334\002\0\0\0\0\0\0\0\0\335\007\0\0' > "$work/long"
 failed=0
 mkdir "$work/first" && (cd "$work/first" && "$top/cluster" sim < /dev/null) && rm -r "$work/first" || { echo "statuses: the program is not built"; exit 1; }
 advice_5='cluster: is another run using this folder? then use a new one; else look at the disk: full, read-only or faulty'
-advice_6='cluster: use a new folder, or remove node*.journal with all that they hold: no run reads the journals of an earlier one yet'
+advice_6='cluster: a node*.journal is damaged, or of another node or run (docs/OPERATING.md): restore those of one backup, or use a new folder'
 
 # fresh: goes to a new working folder
 fresh() {
@@ -99,7 +99,16 @@ fresh; { sh -c '"$1" pipe < "$2" 2> "$3"; echo $? > "$4"' - "$program" "$work/re
 check "a pipe without a reader" 4 "cluster: write failed" "$(cat "$work/status")"
 fresh; "$program" pipe < "$work/long" > "$work/reply" 2> "$work/errors"; check "a length of 48,000,001" 9 "cluster: bad input" $?
 fresh; printf '\0' > node02.journal
-"$program" pipe < "$work/request" > "$work/reply" 2> "$work/errors"; check "a journal with a byte" 6 "cluster: damaged journal" $?
+"$program" pipe < "$work/request" > "$work/reply" 2> "$work/errors"; check "a journal without a record" 0 "" $?
+fresh; printf '\001\0' > node02.journal
+"$program" pipe < "$work/request" > "$work/reply" 2> "$work/errors"; check "a damaged journal" 6 "cluster: damaged journal" $?
+[ ! -s "$work/reply" ] && [ "$(xxd -p node02.journal)" = 0100 ] || { echo "wrong: a reply, or another damaged journal"; failed=1; }
+fresh; "$program" pipe < "$work/request" > "$work/reply" 2> "$work/errors"; check "a first start" 0 "" $?
+"$program" pipe < "$work/nothing" > "$work/reply" 2> "$work/errors"; check "a second start on its files" 0 "" $?
+tells "two lives of the router" node02.journal 01300100000000000000010a000000000000000130020000000000000000
+cp node01.journal "$work/kept"; printf '\001\012\0\0\0\0\0\0\0\001\060\011\0\0\0\0\0\0\0\0' > node02.journal
+"$program" pipe < "$work/request" > "$work/reply" 2> "$work/errors"; check "a life that may not follow" 6 "cluster: damaged journal" $?
+[ ! -s "$work/reply" ] && cmp -s node01.journal "$work/kept" || { echo "wrong: a reply, or another journal of the shard"; failed=1; }
 fresh; mkdir node01.journal
 "$program" pipe < "$work/request" > "$work/reply" 2> "$work/errors"; check "a journal that is a folder" 5 "cluster: disk failed" $?
 # Writes to the null device succeed and syncs of it fail: no clause sees whether a real file is synced.
@@ -109,7 +118,8 @@ for journal in node00.journal node01.journal node02.journal; do
     [ ! -s "$work/reply" ] || { echo "wrong: a reply whose journal was not synced"; failed=1; }
 done
 fresh; "$program" pipe < "$work/request" > "$work/reply" 2> "$work/errors"
-"$program" pipe < "$work/request" > "$work/reply" 2> "$work/errors"; check "a second start in one folder" 6 "cluster: damaged journal" $?
+"$program" pipe < "$work/request" > "$work/reply" 2> "$work/errors"; check "a second start in one folder" 0 "" $?
+tells "11000 for the key of the first start" "$work/reply" f82a0000
 for journal in node00.journal node01.journal node02.journal; do
     fresh; : > $journal
     flock $journal "$program" pipe < "$work/request" > "$work/reply" 2> "$work/errors"; check "a lock on $journal" 5 "cluster: disk failed" $?
@@ -129,8 +139,9 @@ fresh; "$top/cluster" pipe sim < "$work/nothing" > "$work/reply" 2> "$work/error
 leaves_none "usage"
 fresh; "$top/cluster" pipe < "$work/request" > "$work/reply" 2> "$work/errors"; check "one insert by cluster" 0 "" $?
 tells "the reply by cluster" "$work/reply" 106e0001000000
-"$top/cluster" pipe < "$work/request" > "$work/reply" 2> "$work/errors"
-check "advice after a second start" 6 "cluster: damaged journal
+"$top/cluster" pipe < "$work/request" > "$work/reply" 2> "$work/errors"; check "a second start by cluster" 0 "" $?
+printf '\001\0' > node00.journal; "$top/cluster" pipe < "$work/request" > "$work/reply" 2> "$work/errors"
+check "advice after a damaged journal" 6 "cluster: damaged journal
 $advice_6" $?
 fresh; mkdir node01.journal; "$top/cluster" pipe < "$work/request" > "$work/reply" 2> "$work/errors"
 check "advice after a journal that is a folder" 5 "cluster: disk failed

@@ -1,11 +1,12 @@
 #!/usr/bin/env -S python3 -B
 """Starts the built program twice in one folder at the same moment, and over journals that are one file.
 
-Each try has a folder of its own. Two starts of the program wait for one file, and begin when it is made; each is sent
-inserts of its own. One must serve all that it was sent, and the other end with status 5, its line and no reply; the shard's
-journal must then hold just the documents that were acknowledged, in order, and the catalogue's the one collection. Then one
-start over two journals that are one file, by a hard link and by a symbolic link, in each pair of places: it must end with
-status 5 and its line, and leave the file empty.
+The program is $CLUSTER, or the one that `cluster` builds. Each try has a folder of its own. Two starts of the program
+wait for one file, and begin when it is made; each is sent inserts of its own. One must serve all that it was sent, and
+the other end with status 5, its line and no reply; the shard's journal must then hold just the documents that were
+acknowledged, in order, and the catalogue's the one collection. Then one start over two journals that are one file, by a
+hard link and by a symbolic link, in each pair of places: it must end with status 5 and its line, and leave the file
+empty.
 
     bench/two_starts.py [TRIES]
 """
@@ -19,7 +20,7 @@ import time
 
 from inserts import EACH, built, entries as held_in, insert, is_acknowledged, kept, numbers_of, records
 
-PROGRAM = built()
+PROGRAM = os.environ.get("CLUSTER") or built()
 
 JOURNALS = ["node00.journal", "node01.journal", "node02.journal"]
 

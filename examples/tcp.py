@@ -4,7 +4,8 @@
     tcp.py [PORT [PROGRAM]]      without arguments port 27017 and ../cluster; the journals are files in the current folder
 
 Bytes that are no message would end the program, so each message is first checked as docs/WIRE.md says, and a connection that sends anything
-else is closed. Where the program ends, as when a disk fails or memory runs out, this ends with its status; a new start needs a new folder."""
+else is closed. Where the program ends, as when a disk fails or memory runs out, this ends with its status; a new start in this folder goes on
+from its files."""
 import contextlib, os, pathlib, socket, struct, subprocess, sys, threading
 
 PING = bytes.fromhex("330000000000000000000000dd07000000000000001e0000001070696e670001000000022464620006000000") + b"admin\0\0"

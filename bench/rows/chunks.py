@@ -128,8 +128,8 @@ def many():
 def failing():
     """A call of the catalogue's disk fails: each of those that store the creation, and each of those that store the split."""
     lines = []
-    for call in range(5, 13):
-        connection, is_created = Connection(), call >= 9
+    for call in range(4, 12):
+        connection, is_created = Connection(), call >= 8
         lines += [f"# call {call} of disk 0 fails, with a collection that is created and split", f"fail 0 {call}"]
         for number, ask in enumerate([shard(sharded(1)), split(10, changed(2))]):
             told = ask_lines("", connection, ask, number + 1)

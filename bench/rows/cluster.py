@@ -1,6 +1,6 @@
-"""What a connection to the cluster is answered, and what it leaves in the journals of its three nodes.
+"""What connections to the cluster are answered, one after another, and what they leave in the journals of its three nodes.
 
-One time serves for all nodes: in `pipe` they have the same behind each request.
+Each node has a time of its own: after a start those of the catalogue and of the shard are the greatest in their journals, and the router's is 0.
 """
 import struct
 
@@ -16,7 +16,7 @@ NAMES = {
     225: "TransactionTooOld", 292: "QueryExceededMemoryLimitNoDiskUseAllowed", 10334: "BSONObjectTooLarge", 11000: "DuplicateKey",
 }
 FIRST_BATCH = 101
-SHARD, ROUTER = 1, 2
+CATALOGUE, SHARD, ROUTER = 0, 1, 2
 
 
 def refusal(refused):
@@ -108,8 +108,8 @@ def catalogue_ceiling_record(at):
     return b"\1\x25" + struct.pack("<Q", at)
 
 
-def life_record():
-    return b"\1\x30" + struct.pack("<Q", 1)
+def life_record(number=1):
+    return b"\1\x30" + struct.pack("<Q", number)
 
 
 def block_record(number):
@@ -125,14 +125,43 @@ class Cluster:
     """Collections with all versions of their documents, numbered statements and open cursors."""
 
     def __init__(self):
-        self.time, self.moment, self.requests = 0, 0, 0
-        self.collections, self.book, self.cursors, self.told = {}, {}, {}, 0
+        self.collections, self.book, self.blocks = {}, {}, 0
         self.covered = 0  # the greatest time of an entry or a ceiling of the shard
-        self.journals = [[], [], [life_record()]]
+        self.stored = [0, 0]  # the greatest times in the journals of the catalogue and of the shard
+        self.journals = [[], [], []]
+        self.life = 0
+        self.begin_life()
+
+    def begin_life(self):
+        """The nodes start on their journals: the router begins its next life, without a time, tables, requests or cursors."""
+        self.life += 1
+        self.journals[ROUTER].append(life_record(self.life))
+        self.time, self.moment, self.requests = 0, 0, 0
+        self.of_catalogue, self.of_shard = self.stored
+        self.tables, self.cursors, self.told = set(), {}, 64 * self.blocks
 
     def rise(self, moment):
         self.moment = moment
-        self.time = max(self.time, min(moment // 1000, 2**31) << 32)
+        at = min(moment // 1000, 2**31) << 32
+        self.time, self.of_catalogue, self.of_shard = max(self.time, at), max(self.of_catalogue, at), max(self.of_shard, at)
+
+    def store(self, node, at, record):
+        self.stored[node] = max(self.stored[node], at)
+        self.journals[node].append(record)
+
+    # messages: who gets one is at its time, if that is later
+
+    def to_catalogue(self):
+        self.of_catalogue = max(self.of_catalogue, self.time)
+
+    def from_catalogue(self):
+        self.time = max(self.time, self.of_catalogue)
+
+    def to_shard(self):
+        self.of_shard = max(self.of_shard, self.time)
+
+    def from_shard(self):
+        self.time = max(self.time, self.of_shard)
 
     def take(self, command, is_silent=False):
         """The reply to a command, or to a refusal; raised refusals are replies too."""
@@ -168,10 +197,14 @@ class Cluster:
 
     def begin(self, namespace):
         """The collection, which begins where it is not there."""
+        self.to_catalogue()
         if namespace not in self.collections:
-            self.time += 1
-            self.collections[namespace] = {"at": self.time, "keys": {}, "chunks": WHOLE, "table": False}
-            self.journals[0].append(create_record(namespace, self.time))
+            self.of_catalogue += 1
+            at = self.of_catalogue
+            self.collections[namespace] = {"at": at, "keys": {}, "chunks": WHOLE, "table": False}
+            self.store(CATALOGUE, at, create_record(namespace, at))
+        self.tables.add(namespace)
+        self.from_catalogue()
         return self.collections[namespace]
 
     def shard(self, command):
@@ -180,27 +213,31 @@ class Cluster:
 
     def split(self, command):
         namespace, middle = command["own"], command["middle"]
+        self.to_catalogue()
+        if namespace in self.collections and not begins_at(self.collections[namespace]["chunks"], middle):
+            self.of_catalogue += 1
+            self.collections[namespace]["chunks"] = split_at(self.collections[namespace]["chunks"], middle)
+            self.store(CATALOGUE, self.of_catalogue, split_record(namespace, middle, self.of_catalogue))
+        self.from_catalogue()
         if namespace not in self.collections:
             raise Refused(118)
-        collection = self.collections[namespace]
-        if not begins_at(collection["chunks"], middle):
-            self.time += 1
-            collection["chunks"] = split_at(collection["chunks"], middle)
-            self.journals[0].append(split_record(namespace, middle, self.time))
         return done(self.time)
 
     def learn(self, collection, namespace):
         """The shard is asked for the collection, and stores its table where it has none; it is not asked for another while no chunk moves."""
         if not collection["table"]:
             collection["table"] = True
-            self.journals[1].append(table_record(namespace, collection["at"], collection["chunks"]))
+            self.of_catalogue = max(self.of_catalogue, self.of_shard)
+            self.of_shard = max(self.of_shard, self.of_catalogue)
+            self.store(SHARD, collection["at"], table_record(namespace, collection["at"], collection["chunks"]))
 
     # writes
 
     def write(self, command):
         kind, namespace = command["name"], command["own"]
-        collection = self.begin(namespace)
-        session, transaction = (ROUTER, 1, self.requests), 0
+        collection = self.collections[namespace] if namespace in self.tables else self.begin(namespace)
+        self.to_shard()
+        session, transaction = (ROUTER, self.life, self.requests), 0
         if "txnNumber" in command:
             session, transaction = command["lsid"], command["txnNumber"]
         told = {"n": 0, "modified": 0, "upserted": [], "errors": [], "time": None}
@@ -208,6 +245,7 @@ class Cluster:
             is_error = self.state(collection, namespace, (session, transaction, index), kind, statement, told)
             if is_error and command.get("ordered", True):
                 break
+        self.from_shard()
         return self.written_reply(kind, told)
 
     def state(self, collection, namespace, number, kind, statement, told):
@@ -233,15 +271,15 @@ class Cluster:
 
     def enter(self, collection, namespace, number, kind, statement):
         """A new entry: its time and its reply."""
-        self.time += 1
+        self.learn(collection, namespace)
+        self.of_shard += 1
+        at = self.covered = self.of_shard
         versions = collection["keys"].setdefault(order_of(key_of(kind, statement)), [])
         before = versions[-1][1] if versions else None
         after, reply = applied(kind, statement, before)
-        versions.append((self.time, after))
-        self.learn(collection, namespace)
-        self.covered = self.time
-        self.journals[1].append(entry_record(self.time, namespace, number, kind, statement, reply))
-        return self.time, reply
+        versions.append((at, after))
+        self.store(SHARD, at, entry_record(at, namespace, number, kind, statement, reply))
+        return at, reply
 
     def written_reply(self, kind, told):
         fields = [("n", whole(told["n"]))]
@@ -259,6 +297,9 @@ class Cluster:
         """The time of a read."""
         at, after = command.get("readConcern") or (None, None)
         if max(at or 0, after or 0) > self.time:
+            self.to_shard()
+            self.from_shard()
+        if max(at or 0, after or 0) > self.time:
             raise Refused(72, ("greatest", time(self.time)))
         return self.time if at is None else at
 
@@ -274,11 +315,7 @@ class Cluster:
 
     def read(self, command, is_silent):
         namespace, at = command["own"], self.time_of(command)
-        if namespace not in self.collections:
-            self.journals[0].append(catalogue_ceiling_record(at))
-        elif self.collections[namespace]["at"] <= at:
-            self.learn(self.collections[namespace], namespace)
-            self.cover(at)
+        self.reach(namespace, at)
         try:
             found = answer(stages_of(command), self.documents_at(namespace, at))
         except Overflow:
@@ -290,11 +327,28 @@ class Cluster:
             return [("n", count), ("atClusterTime", time(at))] + done(at)
         return self.first_batch(command, namespace, at, found, is_silent)
 
+    def reach(self, namespace, at):
+        """The catalogue is asked where the router has no table that says who owned what at that time, and the shard where there was a collection."""
+        collection = self.collections.get(namespace)
+        is_there = collection is not None and collection["at"] <= at
+        if not is_there or namespace not in self.tables:
+            self.to_catalogue()
+            if collection is None:
+                self.store(CATALOGUE, at, catalogue_ceiling_record(at))
+            else:
+                self.tables.add(namespace)
+            self.from_catalogue()
+        if is_there:
+            self.to_shard()
+            self.learn(collection, namespace)
+            self.cover(at)
+            self.from_shard()
+
     def cover(self, at):
         """The shard stores the time of a read that is above those of its entries and ceilings."""
         if at > self.covered:
             self.covered = at
-            self.journals[1].append(ceiling_record(at))
+            self.store(SHARD, at, ceiling_record(at))
 
     def first_batch(self, command, namespace, at, found, is_silent):
         asked = command.get("cursor") if command["name"] == "aggregate" else command.get("batchSize")
@@ -305,8 +359,9 @@ class Cluster:
         return cursor_reply(identifier, namespace, "firstBatch", shown, at)
 
     def open_cursor(self, namespace, at, left):
-        if self.told % 64 == 0:
-            self.journals[2].append(block_record(self.told // 64))
+        if self.told == 64 * self.blocks:
+            self.journals[ROUTER].append(block_record(self.blocks))
+            self.blocks += 1
         self.told += 1
         self.cursors[self.told] = (namespace, at, left)
         return self.told

@@ -21,6 +21,7 @@ import routers
 import scripts
 import sessions
 import sizes
+import starts
 from form import put_file
 
 TOP = pathlib.Path(__file__).resolve().parent.parent.parent
@@ -36,6 +37,8 @@ def main():
     put_file(DATA / "chunks.script.rows", chunk_scripts.rows())
     put_file(DATA / "retries.script.rows", scripts.rows() + routers.one_router() + ceilings.one_router())
     put_file(DATA / "routers.rows", routers.rows() + ceilings.rows())
+    put_file(DATA / "starts.rows", starts.rows())
+    put_file(DATA / "starts.script.rows", starts.scripts())
     put_file(DATA / "drivers.reads.rows", drivers.rows(DATA / "drivers.rows"))
     sessions.put(TOP / "examples", TOP / "examples-README-parts.md")
 

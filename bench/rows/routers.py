@@ -65,17 +65,17 @@ class Play:
         return lines + [f"keeps {node} {pieces(file_of(records))}" for node, records in enumerate(keeps)] + [f"ends {status} 0"]
 
 
-def entry(at, source, count, router=0, index=0, before=None, number=None, namespace="d.c"):
+def entry(at, source, count, router=0, index=0, before=None, number=None, namespace="d.c", life=1):
     """The record of a statement of an insert, under the router's own number or the client's."""
     command = command_of(fields_of(source), [])
     statement = command["statements"][index]
     _, reply = applied("insert", statement, before)
-    session, transaction = number or ((ROUTER + router, 1, count), 0)
+    session, transaction = number or ((ROUTER + router, life, count), 0)
     return entry_record(at, namespace, (session, transaction, index), "insert", statement, reply)
 
 
-def lives(routers):
-    return [[life_record()] for _ in range(routers)]
+def lives(routers, last=1):
+    return [[life_record(number) for number in range(1, last + 1)] for _ in range(routers)]
 
 
 def at(counter, seconds=0):

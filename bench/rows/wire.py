@@ -136,10 +136,10 @@ def reply_bytes(request, number, fields):
 
 
 class Connection:
-    """A connection to a new cluster."""
+    """A connection to a new cluster, or to one whose nodes have just started again."""
 
-    def __init__(self, moments=()):
-        self.cluster, self.replies, self.moments = Cluster(), 0, list(moments)
+    def __init__(self, moments=(), cluster=None):
+        self.cluster, self.replies, self.moments = cluster or Cluster(), 0, list(moments)
 
     def ask(self, bytes_, moment=None):
         """The request, and the fields and bytes of its reply, or nothing."""

@@ -1,9 +1,9 @@
 //! The program `cluster`. Its arguments are `pipe`: it takes the bytes of one connection from standard input and replies on
 //! standard output; or `sim`: it plays the script of events on standard input, with one router, and prints on standard output; or
 //! `sim --routers m`: the same with m routers, from 1 to 8. What requests change is stored in the files node00.journal, node01.journal and
-//! on in the working folder, one for each node, which must be empty or absent at the start. It ends with the status of the run, and where that is not 0 it
-//! writes one line to standard error. It holds the lock of each of these files from before their first use to its end, and ends with status
-//! 5 where one is held by another; where its arguments are refused no file is opened.
+//! on in the working folder, one for each node: they are absent, empty, or those that earlier starts left, with as many routers. It ends
+//! with the status of the run, and where that is not 0 it writes one line to standard error. It holds the lock of each of these files from
+//! before their first use to its end, and ends with status 5 where one is held by another; where its arguments are refused no file is opened.
 #![tactic(auto)]
 
 mod arguments;

@@ -4,6 +4,7 @@ ghost use Rattle.std.specs.Prelude.{◌≡◌, ◌↔◌, ◌⊎◌, ℕ, Err, I
 ghost use Rattle.outside.specs.Devices.{SinkIsUntouched, SourceIsUntouched, sink_call, source_call};
 ghost use Rattle.pipe_driver.specs.Counts.{RoseWhere};
 ghost use Rattle.cluster_service.specs.Arguments.{node_count_of};
+ghost use Rattle.cluster_service.specs.Openings.{disk_facts};
 ghost use Rattle.cluster_service.specs.Statuses.{number_of};
 ghost use Rattle.std.specs.Process.{exit_status};
 ghost use Rattle.cluster_main.specs.Disks.{IsLeft, command_in};
@@ -63,7 +64,7 @@ fn status_of<R: Threads + Wait + Sync, S: Source, D: Disk + Send, K: Witness<D>,
     ensures unreadable { words ≡ Err none.Unreadable → result.status ≡ 2 }
     ensures no_memory { words ≡ Err none.Memory → result.status ≡ 7 }
     ensures words { IfOk words (λ given. (result.status ≡ 2) ↔ IsNone (node_count_of given.items)) }
-    ensures refused { (result.status ≡ 2) ⊎ (result.status ≡ 6) →
+    ensures untouched { (result.status ≡ 2) ⊎ (result.status ≡ 6) →
         SourceIsUntouched (source_call S.tells S.left S.fault_count input.old input.new)
         × SinkIsUntouched (sink_call K.tells K.held K.fault_count out.old out.new) }
     ensures read_fault { RoseWhere (result.status ≡ 3) (S.fault_count input.old) (S.fault_count input.new) }
@@ -74,8 +75,8 @@ fn status_of<R: Threads + Wait + Sync, S: Source, D: Disk + Send, K: Witness<D>,
         (command_in words (λ given. given.items))
         (source_call S.tells S.left S.fault_count input.old input.new)
         (sink_call K.tells K.held K.fault_count out.old out.new) (K.noted out.new)
-        (C.gives clock.now) D.tells D.content D.may_leave D.moment D.left_since D.place
-        D.fault_count disks.items result.disks.items rest }
+        (C.gives clock.now) (disk_facts D.tells D.content D.may_leave D.moment D.left_since D.place D.fault_count)
+        disks.items result.disks.items rest }
 {
     let words = match words {
         Ok(words) => words,
@@ -121,7 +122,7 @@ pub fn serve<
     ensures unreadable { words ≡ Err none.Unreadable → exit_status result.code ≡ 2 }
     ensures no_memory { words ≡ Err none.Memory → exit_status result.code ≡ 7 }
     ensures words { IfOk words (λ given. (exit_status result.code ≡ 2) ↔ IsNone (node_count_of given.items)) }
-    ensures refused { (exit_status result.code ≡ 2) ⊎ (exit_status result.code ≡ 6) →
+    ensures untouched { (exit_status result.code ≡ 2) ⊎ (exit_status result.code ≡ 6) →
         SourceIsUntouched (source_call S.tells S.left S.fault_count input.old input.new)
         × SinkIsUntouched (sink_call K.tells K.held K.fault_count out.old out.new) }
     ensures read_fault { RoseWhere (exit_status result.code ≡ 3) (S.fault_count input.old) (S.fault_count input.new) }
@@ -132,8 +133,8 @@ pub fn serve<
         (command_in words (λ given. given.items))
         (source_call S.tells S.left S.fault_count input.old input.new)
         (sink_call K.tells K.held K.fault_count out.old out.new) (K.noted out.new)
-        (C.gives clock.now) D.tells D.content D.may_leave D.moment D.left_since D.place
-        D.fault_count disks.items result.disks.items rest }
+        (C.gives clock.now) (disk_facts D.tells D.content D.may_leave D.moment D.left_since D.place D.fault_count)
+        disks.items result.disks.items rest }
 {
     let stopped = status_of(rt, alloc, words, input, out, disks, clock);
     Served {

@@ -23,6 +23,11 @@ fn is_sized(plan: &DiskPlan, disk: &MemDisk) -> bool {
     plan.size.unwrap_or(size) == size
 }
 
+/// Returns whether the disk's file is that of the start, where the row says so.
+fn is_same(plan: &DiskPlan, disk: &MemDisk) -> bool {
+    !plan.is_same || disk.bytes() == plan.file.as_slice()
+}
+
 /// Returns whether the disk's file is the one that it must be.
 fn is_kept(plan: &DiskPlan, disk: &MemDisk) -> bool {
     match &plan.kept {
@@ -39,7 +44,7 @@ fn is_untouched(plan: &DiskPlan, disk: &MemDisk) -> bool {
 /// Returns whether each disk's file is the one that it must be.
 fn are_kept(row: &Row, disks: &[MemDisk]) -> bool {
     for (plan, disk) in row.disks.iter().zip(disks) {
-        let is_right = is_kept(plan, disk) && is_sized(plan, disk);
+        let is_right = is_kept(plan, disk) && is_sized(plan, disk) && is_same(plan, disk);
         if !is_right || row.is_untouched && !is_untouched(plan, disk) {
             return false;
         }

@@ -98,6 +98,18 @@ fn holds<R: Threads + Wait + Sync>(
     is_met(rt, alloc, row, end, Cutting::none())
 }
 
+/// Ends a call of the row, notes whether it was as its lines say, and begins the next one on the files that it left.
+fn go_on<R: Threads + Wait + Sync>(
+    rt: &R,
+    alloc: Global,
+    row: &mut Row,
+    end: End,
+) -> Result<(), RowFault> {
+    row.is_held = holds(rt, alloc, row, end)? && row.is_held;
+    let left = served(rt, alloc, row, Cutting::none())?;
+    row.go_on(alloc, &left.disks)
+}
+
 /// Reads a line. Returns whether the row that it ends holds.
 fn take_line<R: Threads + Wait + Sync>(
     rt: &R,
@@ -107,7 +119,11 @@ fn take_line<R: Threads + Wait + Sync>(
 ) -> Result<Option<bool>, RowFault> {
     let (word, rest) = line.split_once(' ').unwrap_or((line, ""));
     if word == "ends" {
-        return Ok(Some(holds(rt, alloc, row, end_in(rest)?)?));
+        return Ok(Some(holds(rt, alloc, row, end_in(rest)?)? && row.is_held));
+    }
+    if word == "then" {
+        go_on(rt, alloc, row, end_in(rest)?)?;
+        return Ok(None);
     }
     if word == "unserved" {
         return Ok(Some(is_told(alloc, row, Cutting::none(), true)?));
@@ -152,7 +168,7 @@ fn check_file<R: Files + AllocGlobal + Print + Threads + Wait + Sync>(
 }
 
 /// The files, in the order in which they are checked.
-const FILES: [&str; 17] = [
+const FILES: [&str; 19] = [
     "frames.rows",
     "commands.rows",
     "refusals.rows",
@@ -170,6 +186,8 @@ const FILES: [&str; 17] = [
     "routers.rows",
     "chunks.script.rows",
     "takings.rows",
+    "starts.rows",
+    "starts.script.rows",
 ];
 
 /// Checks all files.

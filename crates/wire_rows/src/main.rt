@@ -1,5 +1,5 @@
 //! Connections of the wire, from the bytes that arrive to the bytes of the replies: what the framer returns for them, which commands they are or why they are
-//! refused, and the replies of a run. Their rows are in the files of data/, whose lines begin with a word:
+//! refused, and the replies of a run, or of several on the same files. Their rows are in the files of data/, whose lines begin with a word:
 //!
 //! - `#` and the name of the row that begins; `note` and a remark;
 //! - `clock` and the moments at which the first requests are served, in milliseconds; each later one is served at 1000000;
@@ -12,11 +12,13 @@
 //! - `fail` and `take`, `put` or a disk (0 the catalogue's, 1 the shard's, 2 and on the routers'), and the number of a call that fails;
 //! - `narrow` and the greatest number of bytes that one write takes;
 //! - `file`, a disk and its bytes at the start; `keeps`, a disk and its bytes at the end: an opening of its journal finds just the records in these by their
-//!   gates and lengths, and all bytes of each are read as one record; `size`, a disk and the number of its bytes at the end; `untouched`: the bytes of the
-//!   start, and no call that changed or synced the disk;
+//!   gates and lengths, and all bytes of each are read as one record; `size`, a disk and the number of its bytes at the end; `same` and a disk: its bytes at the
+//!   end are those at its start; `untouched`: all disks have the bytes of the start, and no call changed or synced one;
 //! - `untaken` and how many bytes were left to take;
 //! - `record`, a disk and a record, and `finds`, a disk and two numbers: an opening of that disk's journal finds the first of its records, at least as many
 //!   as the first number, and at most as many as the second;
+//! - `then`, and what follows `ends`: the call ends, and the row goes on with another one, of `pipe` if no line `sim` says otherwise, on the files that this
+//!   one left;
 //! - `unserved`: the bytes are read as if they arrived in an OP_QUERY, and the row ends;
 //! - `ends`, the status of the run and how many bytes follow the last whole request, and the row ends.
 //!

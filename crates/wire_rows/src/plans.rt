@@ -4,14 +4,15 @@ use crate::faults::RowFault;
 use crate::numbers::{number, put_pieces, split};
 use std::alloc::Global;
 
-/// A disk: its file at the start and the numbers of its calls that fail; and, where the row says so, its file at the end or the length of that, and the
-/// records of which an opening of its journal finds the first ones, at least and at most how many.
+/// A disk: its file at the start and the numbers of its calls that fail; and, where the row says so, its file at the end or the length of that, whether that is
+/// the file of the start, and the records of which an opening of its journal finds the first ones, at least and at most how many.
 #[derive(Drop)]
 pub struct DiskPlan {
     pub file: Vec<u8>,
     pub failing: Vec<u64>,
     pub kept: Option<Vec<u8>>,
     pub size: Option<u64>,
+    pub is_same: bool,
     pub records: Vec<Vec<u8>>,
     pub found: Option<(u64, u64)>,
 }
@@ -31,6 +32,7 @@ impl DiskPlan {
             failing: Vec::new(alloc),
             kept: None,
             size: None,
+            is_same: false,
             records: Vec::new(alloc),
             found: None,
         }

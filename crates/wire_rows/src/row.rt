@@ -3,9 +3,11 @@
 use crate::faults::RowFault;
 use crate::numbers::{number, put_number, put_pieces, split};
 use crate::plans::DiskPlan;
+use outside_memory::MemDisk;
 use std::alloc::Global;
+use std::mem;
 
-/// A connection, and what it must result in.
+/// A call of a row: a connection or a script, and what it must result in.
 #[derive(Drop)]
 pub struct Row {
     pub name: String,
@@ -34,6 +36,8 @@ pub struct Row {
     pub is_script: bool,
     /// The words after `sim`: none, or `--routers` and how many.
     pub options: String,
+    /// Whether each call of the row before this one was as its lines say.
+    pub is_held: bool,
 }
 
 /// Returns three disks about which the row says nothing.
@@ -43,6 +47,17 @@ fn fresh_plans(alloc: Global) -> Result<Vec<DiskPlan>, RowFault> {
         disks.push(DiskPlan::new(alloc))?;
     }
     Ok(disks)
+}
+
+/// Returns disks that have at the start what these have, and about which the row says nothing else.
+fn plans_on(alloc: Global, disks: &[MemDisk]) -> Result<Vec<DiskPlan>, RowFault> {
+    let mut plans = Vec::new(alloc);
+    for disk in disks {
+        let mut plan = DiskPlan::new(alloc);
+        plan.file = Vec::from_slice(alloc, disk.bytes())?;
+        plans.push(plan)?;
+    }
+    Ok(plans)
 }
 
 impl Row {
@@ -64,7 +79,18 @@ impl Row {
             is_cut: false,
             is_script: false,
             options: String::new(alloc),
+            is_held: true,
         })
+    }
+
+    /// Begins the next call of the row, on the disks that the one before it left. Returns `Memory` if memory runs out.
+    pub fn go_on(&mut self, alloc: Global, disks: &[MemDisk]) -> Result<(), RowFault> {
+        let mut next = Row::new(alloc)?;
+        next.name = mem::replace(&mut self.name, String::new(alloc));
+        next.is_held = self.is_held;
+        next.disks = plans_on(alloc, disks)?;
+        *self = next;
+        Ok(())
     }
 
     /// Reads a line: its first word, and what follows it. Returns `Memory` if memory runs out, and an error where no line begins with the word.
@@ -103,14 +129,14 @@ impl Row {
         }
     }
 
-    /// Reads the words after `sim`: none, or `--routers` and how many, each of which has a disk.
+    /// Reads the words after `sim`: none, or `--routers` and how many, each of which has a disk, an empty one where it has none yet.
     fn take_options(&mut self, alloc: Global, words: &str) -> Result<(), RowFault> {
         self.is_script = true;
         self.options.push_str(words)?;
         let Some(routers) = words.strip_prefix("--routers ") else {
             return Ok(());
         };
-        for _ in 1..number(routers)? {
+        for _ in self.disks.len() as u64..number(routers)?.saturating_add(2) {
             self.disks.push(DiskPlan::new(alloc))?;
         }
         Ok(())
@@ -135,6 +161,9 @@ impl Row {
             Ok(())
         } else if word == "untouched" {
             self.is_untouched = true;
+            Ok(())
+        } else if word == "same" {
+            disk_of(&mut self.disks, rest)?.is_same = true;
             Ok(())
         } else {
             let (disk, pieces) = split(rest)?;

@@ -9,8 +9,8 @@ returns-clause-no_memory g c = rw c.told.ensures c.status_of-stopped.ensures.no_
 pub returns-clause-words : goal.returns-clause-words
 returns-clause-words g c = rw c.told.ensures c.status_of-stopped.ensures.words
 
-pub returns-clause-refused : goal.returns-clause-refused
-returns-clause-refused g c = rw c.told.ensures c.status_of-stopped.ensures.refused
+pub returns-clause-untouched : goal.returns-clause-untouched
+returns-clause-untouched g c = rw c.told.ensures c.status_of-stopped.ensures.untouched
 
 pub returns-clause-read_fault : goal.returns-clause-read_fault
 returns-clause-read_fault g c = rw c.told.ensures c.status_of-stopped.ensures.read_fault

@@ -1,9 +1,9 @@
-use Rattle.std.proofs.Common.{◌≡◌, sym, refl, ap, subst, inl, inr, append-nil, arith}
+use Rattle.std.proofs.Common.{◌≡◌, sym, refl, ap, subst, inl, inr, append-nil}
 use Rattle.std.specs.Prelude.{None, IsOkAnd, IsSome}
 use Rattle.outside.specs.Devices.{sink_call, source_call}
 use Rattle.cluster_service.specs.Arguments.{command_of, node_count_of}
 use Rattle.cluster_main.specs.Disks.{command_in}
-use Rattle.cluster_main.proofs.Unstarted.{as_they_were, none_unless, some_unless}
+use Rattle.cluster_main.proofs.Unstarted.{as_they_were, none_unless}
 use Rattle.cluster_main.proofs.status.status_of.Goals as goal
 
 pub returns-in-Err-Unreadable-clause-disks : goal.returns-in-Err-Unreadable-clause-disks
@@ -11,7 +11,7 @@ returns-in-Err-Unreadable-clause-disks g c =
     let never : ¬ IsOkAnd c.args.words (λ given. IsSome (node_count_of given.items)) = rw c.in-Err-Unreadable.is (λ started. absurd started) in
     let unread : command_in c.args.words (λ given. given.items) ≡ None = rw c.in-Err-Unreadable.is refl in (
       0,
-      rw c.unstarted.ensures.disks (as_they_were _ _ _ (source_call g.S.Source.tells g.S.Source.left g.S.Source.fault_count c.args.input.now c.args.input.now) (sink_call g.K.Sink.tells g.K.Sink.held g.K.Sink.fault_count c.args.out.now c.args.out.now) _ _ _ _ _ _ _ _ _ c.args.disks.items never unread (λ told. refl, refl) (λ told. sym (append-nil (g.K.Sink.held c.args.out.now)), refl) (inl c.unstarted.ensures.status)),
+      rw c.unstarted.ensures.disks (as_they_were _ _ _ (source_call g.S.Source.tells g.S.Source.left g.S.Source.fault_count c.args.input.now c.args.input.now) (sink_call g.K.Sink.tells g.K.Sink.held g.K.Sink.fault_count c.args.out.now c.args.out.now) _ _ _ c.args.disks.items never unread (λ told. refl, refl) (λ told. sym (append-nil (g.K.Sink.held c.args.out.now)), refl) (inl c.unstarted.ensures.status)),
     )
 
 pub returns-in-Err-Memory-clause-disks : goal.returns-in-Err-Memory-clause-disks
@@ -19,7 +19,7 @@ returns-in-Err-Memory-clause-disks g c =
     let never : ¬ IsOkAnd c.args.words (λ given. IsSome (node_count_of given.items)) = rw c.in-Err-Memory.is (λ started. absurd started) in
     let unread : command_in c.args.words (λ given. given.items) ≡ None = rw c.in-Err-Memory.is refl in (
       0,
-      rw c.unstarted-in-Err-Memory.ensures.disks (as_they_were _ _ _ (source_call g.S.Source.tells g.S.Source.left g.S.Source.fault_count c.args.input.now c.args.input.now) (sink_call g.K.Sink.tells g.K.Sink.held g.K.Sink.fault_count c.args.out.now c.args.out.now) _ _ _ _ _ _ _ _ _ c.args.disks.items never unread (λ told. refl, refl) (λ told. sym (append-nil (g.K.Sink.held c.args.out.now)), refl) (inr c.unstarted-in-Err-Memory.ensures.status)),
+      rw c.unstarted-in-Err-Memory.ensures.disks (as_they_were _ _ _ (source_call g.S.Source.tells g.S.Source.left g.S.Source.fault_count c.args.input.now c.args.input.now) (sink_call g.K.Sink.tells g.K.Sink.held g.K.Sink.fault_count c.args.out.now c.args.out.now) _ _ _ c.args.disks.items never unread (λ told. refl, refl) (λ told. sym (append-nil (g.K.Sink.held c.args.out.now)), refl) (inr c.unstarted-in-Err-Memory.ensures.status)),
     )
 
 pub returns-clause-disks : goal.returns-clause-disks
@@ -34,18 +34,16 @@ returns-clause-disks g c =
         places = e.places;
         disk_fault = e.disk_fault;
         none_fell = e.none_fell;
-        refused = λ never.
+        unstarted = λ never.
             let two = e.words.1 (none_unless count (λ some. never (back some))) in
             let rest = e.untouched (inl two) in
-            (ap (λ ds. ds.items) (e.refused two), rest.0, rest.1, rest.2);
+            (ap (λ ds. ds.items) (e.arguments two), rest.0, rest.1, rest.2);
         untouched = λ is. (e.untouched is).0;
         six = e.six;
-        not_empty = λ started told bytes.
-            let done = e.not_empty (starts started) told bytes in
-            (done.0, (done.1, done.2, done.3, done.4, done.5));
+        refused = λ started told bad. e.refused (starts started) told bad;
         headline =
             let read : command_in c.args.words (λ given. given.items) ≡ command_of c.deref.result.now = rw c.in-Ok.is (rw c.deref.ensures.value refl) in
             rw read e.headline;
-        durable = λ two told empty failed. e.durable (some_unless count (λ none. two (e.words.1 none))) told empty failed;
+        durable = λ started told failed. e.durable (starts started) told failed;
       },
     )
