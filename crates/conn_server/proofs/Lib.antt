@@ -1,0 +1,7 @@
+pub mod Asked
+pub mod Exchanged
+pub mod Framed
+pub mod Serving
+pub mod Taken
+pub mod Told
+pub mod Written

@@ -1,0 +1,87 @@
+use Rattle.std.proofs.Common.{◌≡◌, ◌∙◌, ℕ, List, [], ◌++◌, take, ap, refl}
+use Rattle.pipe_driver.proofs.Framings.{all_fed}
+use Rattle.conn_server.proofs.Taken.{took_more, talked_long, talked_lost, talked_no_more, talked_on, talked_out}
+use Rattle.conn_server.proofs.Written.{end_unasked, some_fed, some_none, some_then}
+use Rattle.conn_server.proofs.link.serve_requests.Goals as goal
+
+pub returns-in_default : goal.returns-in_default
+returns-in_default g c = record {
+  read = [];
+  took = λ told. refl;
+  to_end = λ is. cc;
+  spoke = end_unasked g.S.Sink.tells (g.S.Sink.held c.args.link.now) [] c.args.talk.now.said 0 [] c.requires;
+}
+
+pub pieces-init : goal.pieces-init
+pieces-init g c = record {
+  len = c.in-Ok.ensures;
+  fault = rw c.new-framer.ensures refl;
+  partial = rw c.new-framer.ensures refl;
+  went = (
+    [],
+    (λ told. refl),
+    rw (c.new-framer.ensures, c.requires) (some_none g.S.Sink.tells (g.S.Sink.held c.args.link.now) [] 0 []),
+  );
+}
+
+pub returns-then-taken-ge-MOST_TAKEN : goal.returns-then-taken-ge-MOST_TAKEN
+returns-then-taken-ge-MOST_TAKEN g c =
+    let went = c.pieces.invariant.went in
+    talked_long g.S.Source.tells g.S.Source.left g.S.Sink.tells g.S.Sink.held g.S.Link.is_closed c.args.link.now c.pieces.link c.pieces.talk.said
+    went.0 c.pieces.framer.bytes c.pieces.framer.offset went.1 c.pieces.invariant.partial went.2
+
+pub returns-in-Err : goal.returns-in-Err
+returns-in-Err g c =
+    let went = c.pieces.invariant.went in
+    talked_out g.S.Source.tells g.S.Source.left g.S.Sink.tells g.S.Sink.held g.S.Link.is_closed c.args.link.now c.pieces.link c.take_some.new.link
+    c.pieces.talk.said c.in-Err.end went.0 c.pieces.framer.bytes c.pieces.framer.offset went.1 c.in-Err.ensures.nothing c.take_some.ensures.held
+    c.in-Err.ensures.ends c.in-Err.ensures.at_end c.pieces.invariant.partial went.2
+
+pub returns-in_default-feed : goal.returns-in_default-feed
+returns-in_default-feed g c =
+    let went = c.pieces.invariant.went in
+    talked_no_more g.S.Source.tells g.S.Source.left g.S.Sink.tells g.S.Sink.held g.S.Link.is_closed c.args.link.now c.pieces.link c.take_some.new.link
+    c.pieces.talk.said went.0 c.pieces.framer.bytes (take c.in-Ok-take_some.count c.take_some.new.piece.items) c.pieces.framer.offset went.1
+    c.in-Ok-take_some.ensures.took c.take_some.ensures.held went.2
+
+pub pieces-preserved : goal.pieces-preserved
+pieces-preserved g c =
+    let went = c.pieces.invariant.went in
+    let bytes : List ℕ = take c.in-Ok-take_some.count c.take_some.new.piece.items in
+    let step = c.in-Ok-feed.ensures.taken in
+    let calm = step.2 ∙ c.pieces.invariant.fault in
+    let fed : c.feed.new.self.bytes ≡ c.pieces.framer.bytes ++ bytes =
+    all_fed c.pieces.framer.bytes c.pieces.framer.bytes c.feed.new.self.bytes _ bytes refl step.0
+    (ap (λ (b : List ℕ). take c.in-Ok-take_some.count b) c.deref.ensures.value) in
+    record {
+      len = c.take_some.ensures.len ∙ c.pieces.invariant.len;
+      fault = (c.in-Ok-exchange_all.ensures.partial calm).1;
+      partial = (c.in-Ok-exchange_all.ensures.partial calm).0;
+      went = (
+        went.0 ++ bytes,
+        took_more g.S.Source.tells _ _ _ _ went.0 bytes went.1 c.in-Ok-take_some.ensures.took c.exchange_all.ensures.left,
+        some_then g.S.Sink.tells _ _ _ _ _ _ _ _ _ _ _ _
+            (some_fed g.S.Sink.tells _ _ _ _ _ _ _ c.pieces.framer.bytes bytes c.feed.new.self.bytes fed
+            (rw (c.take_some.ensures.held, step.1) went.2)) c.in-Ok-exchange_all.ensures.spoke,
+      );
+    }
+
+pub returns-in-Err-exchange_all : goal.returns-in-Err-exchange_all
+returns-in-Err-exchange_all g c =
+    let went = c.pieces.invariant.went in
+    let bytes : List ℕ = take c.in-Ok-take_some.count c.take_some.new.piece.items in
+    let step = c.in-Ok-feed.ensures.taken in
+    let calm = step.2 ∙ c.pieces.invariant.fault in
+    let fed : c.feed.new.self.bytes ≡ c.pieces.framer.bytes ++ bytes =
+    all_fed c.pieces.framer.bytes c.pieces.framer.bytes c.feed.new.self.bytes _ bytes refl step.0
+    (ap (λ (b : List ℕ). take c.in-Ok-take_some.count b) c.deref.ensures.value) in
+    talked_on g.S.Source.tells g.S.Source.left g.S.Sink.tells g.S.Sink.held g.S.Link.is_closed c.args.link.now c.pieces.link c.take_some.new.link
+    c.exchange_all.new.link c.pieces.talk.said c.exchange_all.new.talk.said c.in-Err-exchange_all.end went.0 bytes c.pieces.framer.bytes
+    c.feed.new.self.bytes c.pieces.framer.offset c.feed.new.self.offset went.1 c.in-Ok-take_some.ensures.took c.exchange_all.ensures.left
+    c.take_some.ensures.held step.1 fed c.in-Err-exchange_all.ensures.other went.2 (c.in-Err-exchange_all.ensures.ended calm)
+
+pub returns : goal.returns
+returns g c =
+    let went = c.pieces.invariant.went in
+    talked_lost g.S.Source.tells g.S.Source.left g.S.Sink.tells g.S.Sink.held g.S.Link.is_closed c.args.link.now c.pieces.link c.pieces.talk.said
+    went.0 c.pieces.framer.bytes c.pieces.framer.offset went.1 went.2
