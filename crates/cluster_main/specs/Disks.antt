@@ -41,6 +41,6 @@ pub record IsLeft {D : Type 0} (status : ℕ) (started : Type 0) (given : Option
       → OfStatus status (λ s. OfConnection s (λ ending. HeadlineOf command first source sink facts.tells
       (map facts.content left) (LeaveTheWay first facts.tells facts.moment facts.left_since before left)
       (AreDurableBefore sink.tells facts.tells facts.place facts.moment facts.left_since command first notes sink.held_before left) gives ending rest)))
-  -- but where a disk failed, a crash takes none of the records; or the nodes were not started, and each file has the records that it had
+  -- unless a disk failed, a crash takes none of the records; or the nodes were not started, and each file has the records that it had
   pub durable : started → IsTrue facts.tells → status ≢ 5
       → AllByRecursion (IsDurable facts.content facts.may_leave) left ⊎ (((status ≡ 6) ⊎ (status ≡ 7)) × IsNotBegun facts source sink rest before left)

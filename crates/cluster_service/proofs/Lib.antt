@@ -1,4 +1,5 @@
 pub mod Answered
+pub mod Composed
 pub mod Counts
 pub mod Crashes
 pub mod Firsts
@@ -9,5 +10,6 @@ pub mod Numbers
 pub mod OpenJournals
 pub mod OpenedUpTo
 pub mod Openings
+pub mod SameJournals
 pub mod SeatFacts
 pub mod Statuses

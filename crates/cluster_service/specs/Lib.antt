@@ -2,6 +2,7 @@ pub mod Arguments
 pub mod Counts
 pub mod Crashes
 pub mod Drivers
+pub mod Ends
 pub mod Headline
 pub mod OpenJournals
 pub mod Openings

@@ -29,8 +29,8 @@ use std::thread::Threads;
 /// The most bytes that are taken of one input.
 const MOST_TAKEN: u64 = 1 << 40;
 
-/// Serves one connection, or plays a script, as the command says, by the nodes in order of their numbers, whose logs are open and empty at
-/// the start.
+/// Serves one connection, or plays a script, as the command says, by the nodes in order of their numbers, whose logs are open and keep what they keep in the
+/// world that the call begins in.
 pub fn drive<
     R: Threads + Sync,
     N: Node<Request = Request>,

@@ -5,6 +5,7 @@ mod arguments;
 mod disks;
 mod drive;
 mod journals;
+pub mod laws;
 mod seats;
 mod service;
 mod status;

@@ -41,7 +41,7 @@ fn status_of(fault: OpenFault) -> Status
 }
 
 /// Serves one connection, or plays a script, to its end, by the catalogue, the shard and as many routers as the command has, each with the disk in its
-/// place. The files are opened as journals, in order of the nodes, and then the nodes on the records in them; what the nodes write is stored behind these.
+/// place. The files are opened as journals, in order of the nodes, and then the nodes on the records in them; what the nodes write is stored after these.
 pub fn run_nodes<R: Threads + Sync, S: Source, D: Disk, K: Witness<D>, C: Clock>(
     rt: &R,
     alloc: Global,

@@ -40,9 +40,10 @@ pub struct Ended<D: Drop, L: Drop> {
 }
 
 /// Runs the cluster as the arguments say: with `pipe` one connection from `input` to `out` is served to its end, with `sim` the script in `input`
-/// is played to its end, by one router or by as many as `--routers` says. What the requests change is stored on the disks, one for each node. Their files are
-/// empty, or the journals that earlier calls left, with as many routers: then the nodes go on where these stopped. The acceptor and the gate are not used.
-/// `Status` has the statuses; with 2 and 6 nothing was taken or put, and with 10 2^40 bytes were taken.
+/// is played to its end, by one router or by as many as `--routers` says. What the requests change is stored on the disks, one for each node. On files without
+/// records all nodes are new; on the journals that earlier calls left, with as many routers, they go on where these stopped. On files that are damaged, or have
+/// a record that may not follow, nothing is served. Of other files nothing is said but `durable`. The acceptor and the gate are not used. `Status` has the
+/// statuses; with 2 and 6 nothing was taken or put, and with 10 2^40 bytes were taken.
 pub fn run<R, S, K, A, D, C, G>(
     rt: &R,
     alloc: Global,
@@ -86,10 +87,10 @@ where
     ensures disk_fault { OneRoseWhere (result.status ≡ 5) (map D.fault_count disks.items) (map D.fault_count result.disks.items) }
     ensures none_fell { NoneFell (map D.fault_count disks.items) (map D.fault_count result.disks.items) }
 
-    // The headline, in the world that the call begins in: the files are empty, or the journals that earlier calls left. A run of the nodes from there on, by
-    // the schedule or as a script says, took these bytes and put these replies, its journals are what the disks store, and they form one legal history with
-    // those of all calls before, in which each reply is a right one. The file of each disk after a crash at any moment of the call is one that was possible
-    // before, or what the disk's node wrote in a world on the way of that run.
+    // The headline, in the world that the call begins in: the files have no record, or are the journals that earlier calls left. A run of the nodes from
+    // there on, by the schedule or as a script says, took these bytes and put these replies, its journals are what the disks store, and they form one legal
+    // history with those of all calls before, in which each reply is a right one. The file of each disk after a crash at any moment of the call is one that
+    // was possible before, or what the disk's node wrote in a world on the way of that run.
     ensures headline { IfSome (command_of words.now) (λ command. (first : World) → IsTrue D.tells → BeginsOnFiles (routers_of command) (map D.content disks.items) first →
         OfStatus result.status (λ status. OfConnection status (λ ending. HeadlineOf command first
         (source_call S.tells S.left S.fault_count input.old input.new)
@@ -99,7 +100,7 @@ where
         (AreDurableBefore K.tells D.tells D.place D.moment D.left_since command first (K.noted out.new) (K.held out.old) result.disks.items)
         (C.gives clock.now) ending result.rest))) }
 
-    // But where a disk failed, each file is a journal, byte for byte, with nothing after its closed gate, and a crash results in just that; or the nodes were
+    // Unless a disk failed, each file is a journal, byte for byte, with nothing after its closed gate, and a crash results in just that; or the nodes were
     // not started, and then nothing was taken or put, and each file has the records that it had.
     ensures durable { IsSome (node_count_of words.now) → IsTrue D.tells → result.status ≢ 5 → AllByRecursion (IsDurable D.content D.may_leave) result.disks.items
         ⊎ (((result.status ≡ 6) ⊎ (result.status ≡ 7))

@@ -35,11 +35,11 @@ fn room_for(alloc: Global, count: usize) -> Result<Vec<AnyNode>, Memory>
     Ok(Vec::with_capacity(alloc, count)?)
 }
 
-/// Returns the nodes, in order of their numbers, each opened on the records that were found in its journal.
+/// Returns the nodes, 64 at most, in order of their numbers, each opened on the records that were found in its journal.
 ///
 /// # Errors
-/// - `Refused` exactly where a record of some node is none or may not follow, unless memory runs out.
-/// - `Memory` if memory runs out, and where a number would pass the end of its type.
+/// - `Refused` exactly where a record of some node is none or may not follow, unless memory runs out. No clause says of which node the index is.
+/// - `Memory` if memory runs out, and as `open_catalogue`, `open_shard` and `open_router` have it.
 pub fn open_nodes(alloc: Global, found: Vec<RecordList>) -> Result<Vec<AnyNode>, OpenFault>
     requires { vec_len found ≤ 64 }
     ensures opened { IfOk result (λ nodes. AreOpened 0 found.items (map state_of nodes.items)) }
