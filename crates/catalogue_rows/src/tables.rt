@@ -54,7 +54,8 @@ fn are_owners(owners: &[Owned], words: &str) -> Result<bool, RowFault> {
     Ok(wanted.next().is_none())
 }
 
-fn read_owned(words: &str) -> Result<Owned, RowFault> {
+/// Returns an owner: the time since when, and the shard.
+pub fn read_owned(words: &str) -> Result<Owned, RowFault> {
     let Some((since, shard)) = words.split_once(' ') else {
         return Err(RowFault::Form);
     };

@@ -2,6 +2,7 @@
 
 ghost use Rattle.std.specs.Prelude.{◌≡◌, IfOk};
 ghost use Rattle.chunk_table.specs.Whole.{IsWritableBound};
+ghost use Rattle.value_compare.specs.Bounds.{bound_of};
 ghost use Rattle.value_compare.specs.Keys.{key_bound};
 
 use bson_values::{Aligned, Value};
@@ -42,7 +43,9 @@ fn long_key(n: i64) -> Result<Key, RowFault>
     Key::of(Value::Int64(n)).map_err(|_value| RowFault::Form)
 }
 
-fn read_bound(words: &str) -> Result<Bound, RowFault> {
+fn read_bound(words: &str) -> Result<Bound, RowFault>
+    ensures { IfOk result (λ b. IsWritableBound (bound_of b)) }
+{
     match words {
         "min" => Ok(Bound::MinKey),
         "max" => Ok(Bound::MaxKey),
@@ -51,7 +54,10 @@ fn read_bound(words: &str) -> Result<Bound, RowFault> {
 }
 
 /// Returns a range: two bounds with a comma between, each of them `min`, `max` or a key.
-pub fn read_range(words: &str) -> Result<KeyRange, RowFault> {
+pub fn read_range(words: &str) -> Result<KeyRange, RowFault>
+    ensures min { IfOk result (λ r. IsWritableBound r.min) }
+    ensures max { IfOk result (λ r. IsWritableBound r.max) }
+{
     let Some((min, max)) = words.split_once(", ") else {
         return Err(RowFault::Form);
     };
