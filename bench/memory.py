@@ -193,7 +193,8 @@ MESSAGES = {
     "$and nested deep": lambda size: find(document(*times(size, nested_and(40)))),
     "$in of nulls": lambda size: find(tested("$in", times(size, element(0x0A, "", b"")))),
     "$in of empty documents": lambda size: find(tested("$in", times(size, element(0x03, "", document())))),
-    "$in of keys": lambda size: find(document(element(0x03, "_id", document(element(0x04, "$in", array(numbered(size, lambda number: element(0x10, "", int32(number))))))))),
+    "$in of keys": lambda size: find(document(element(0x03, "_id", document(element(0x04, "$in", array(
+        numbered(size, lambda number: element(0x10, "", int32(number))))))))),
     "lists of one null": lambda size: find(filled(size, element(0x03, "a", document(element(0x04, "$in", array([element(0x0A, "", b"")])))))),
     "$all of nulls": lambda size: find(tested("$all", times(size, element(0x0A, "", b"")))),
     "$not of $ne": lambda size: find(filled(size, element(0x03, "a", document(element(0x03, "$not", document(element(0x0A, "$ne", b""))))))),
@@ -208,7 +209,8 @@ MESSAGES = {
     "1,000 stages of $match": lambda size: aggregate([stage("$match", filled(size // 1000, element(0x0A, "a", b"")))] * 1000),
     "too many stages": lambda size: aggregate(times(size, stage("$match", document()))),
     "$project": lambda size: aggregate([stage("$project", ones(size))]),
-    "$group by many keys": lambda size: aggregate([stage("$group", document(element(0x03, "_id", document(*numbered(size, lambda number: element(0x02, f"{number:x}x", text("$a")))))))]),
+    "$group by many keys": lambda size: aggregate([stage("$group", document(element(0x03, "_id", document(
+        *numbered(size, lambda number: element(0x02, f"{number:x}x", text("$a")))))))]),
     "$group with many sums": lambda size: aggregate([group(size, document(element(0x10, "$sum", int32(1))))]),
     "$group with many counts": lambda size: aggregate([group(size, document(element(0x03, "$count", document())))]),
     # updates and deletes

@@ -17,7 +17,8 @@ import tempfile
 sys.path.insert(0, str(pathlib.Path(__file__).resolve().parent / "rows"))
 
 from bson import fields_of, read_fields, shown, written
-from cluster import Cluster, file_of
+from cluster import Cluster
+from records import file_of
 from wire import Connection, message
 
 SESSIONS = ["000102030405060708090a0b0c0d0e0f", "101112131415161718191a1b1c1d1e1f"]

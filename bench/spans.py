@@ -1,8 +1,8 @@
 #!/usr/bin/env -S python3 -B
 """Measures, in one run, by ratios, what reads of ten keys cost among many documents, beside ten finds by `_id`.
 
-The ten keys are named by `$in`, or are a range. Wanted of each: at most 5 times as long as ten finds. Printed too, without a bound: a find of ten with `limit` and no
-filter, and the first batch of all, which go through all documents.
+The ten keys are named by `$in`, or are a range. Wanted of each: at most 5 times as long as ten finds. Printed too, without a bound: a find of ten with `limit`
+and no filter, and the first batch of all, which go through all documents.
 
 The program is $CLUSTER, or the one that `cluster` builds, run with `pipe` in a new folder (in $SPEED_FOLDER, where that is given). Every reply is looked at,
 after its time. Each figure is the median of the rounds. Ends with status 1 where a wanted bound does not hold, or a reply is wrong.

@@ -21,7 +21,7 @@ printf '\001\154\334\002\0\0\0\0\0\0\0\0\335\007\0\0' > "$work/long"
 failed=0
 mkdir "$work/first" && (cd "$work/first" && "$top/cluster" sim < /dev/null) && rm -r "$work/first" || { echo "statuses: the program is not built"; exit 1; }
 advice_5='cluster: is another run using this folder? then use a new one; else look at the disk: full, read-only or faulty'
-advice_6='cluster: a node*.journal is damaged, or of another node or run (docs/OPERATING.md): restore those of one backup, or use a new folder'
+advice_6='cluster: a node*.journal is damaged or of another node (docs/OPERATING.md): restore those of one backup, or use a new folder'
 
 # fresh: goes to a new working folder
 fresh() {
@@ -80,7 +80,8 @@ tells "the shard's journal of an insert without a reply" node01.journal 025f6964
 fresh; "$program" pipe < "$work/silent" > /dev/full 2> "$work/errors"; check "no reply to a full device" 0 "" $?
 fresh; "$program" pipe < "$work/greeting" > "$work/reply" 2> "$work/errors"; check "a greeting" 0 "" $?
 tells "the reply to a greeting" "$work/reply" 0869736d617374657200
-fresh; cat "$work/request" "$work/flags" | "$program" pipe > "$work/reply" 2> "$work/errors"; check "an insert and flags that are refused" 9 "cluster: bad input" $?
+fresh; cat "$work/request" "$work/flags" | "$program" pipe > "$work/reply" 2> "$work/errors"
+check "an insert and flags that are refused" 9 "cluster: bad input" $?
 tells "the reply before flags that are refused" "$work/reply" 106e0001000000
 fresh; "$program" pope < "$work/nothing" > "$work/reply" 2> "$work/errors"; check "bad words" 2 "cluster: bad words" $?
 leaves_none "bad words"
@@ -94,7 +95,8 @@ fresh; "$program" pipe < "$work/request" 2> "$work/errors" >&-; check "a closed 
 fresh; "$program" pipe <&- > "$work/reply" 2> "$work/errors"; check "a closed input" 3 "cluster: read failed" $?
 : > "$work/errors"
 fresh; "$program" pipe < "$work/long" > "$work/reply" 2>&-; check "a closed error stream" 9 "" $?
-[ "$(cat node00.journal node01.journal node02.journal | xxd -p)" = 0000010a000000000000000130010000000000000000 ] || { echo "wrong: bytes of a closed stream in a journal"; failed=1; }
+[ "$(cat node00.journal node01.journal node02.journal | xxd -p)" = 0000010a000000000000000130010000000000000000 ] ||
+    { echo "wrong: bytes of a closed stream in a journal"; failed=1; }
 fresh; { sh -c '"$1" pipe < "$2" 2> "$3"; echo $? > "$4"' - "$program" "$work/request" "$work/errors" "$work/status"; } | :
 check "a pipe without a reader" 4 "cluster: write failed" "$(cat "$work/status")"
 fresh; "$program" pipe < "$work/long" > "$work/reply" 2> "$work/errors"; check "a length of 48,000,001" 9 "cluster: bad input" $?

@@ -2,9 +2,9 @@
 
 Each reply and each record is told by hand, as in `routers`.
 """
-from cluster import catalogue_ceiling_record, ceiling_record, create_record, table_record
 from form import Ask
 from reads import count, counted, find, first, inserted
+from records import catalogue_ceiling_record, ceiling_record, create_record, table_record
 from retries import done
 from routers import Play, at, entry, lives
 

@@ -4,9 +4,10 @@ Each reply and each record is told by hand, as in `routers`.
 """
 from bson import int32, int64
 from chunks import MISSING, changed, shard, sharded, split
-from cluster import WHOLE, create_record, split_at, split_record, table_record
+from cluster import split_at
 from form import Ask
 from reads import find, first, inserted
+from records import WHOLE, create_record, split_record, table_record
 from retries import done
 from routers import Play, at, entry, lives
 

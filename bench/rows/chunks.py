@@ -74,7 +74,8 @@ def beside_writes():
         aggregate('{$group: {_id: null, n: {$count: {}}}}', first("{_id: null, n: 1}", 9)),
     ], keeps=(0, 1, 2))
     snapshot = 'readConcern: {level: "snapshot", atClusterTime: Timestamp(1000, %d)}'
-    lines += connection_row("reads of a collection without documents: before it was created, since then; the first that asks the shard has it store its table", [
+    words = "reads of a collection without documents: before it was created, since then; the first that asks the shard has it store its table"
+    lines += connection_row(words, [
         find("", first("", 0)), shard(sharded(1)), split(5, changed(2)), find(snapshot % 0, first("", 0)), find("", first("", 2)),
         split(6, changed(3)), find(snapshot % 1, first("", 1)), count("", counted(0, 3)), find("", first("", 3), words="another time"),
     ], keeps=(0, 1, 2))

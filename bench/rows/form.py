@@ -2,7 +2,7 @@
 import struct
 
 from bson import DOCUMENT, fields_of, shown, written
-from cluster import file_of
+from records import file_of
 from wire import QUERY, Connection, message, pieces, shown_request, told
 
 # the longest request or reply that a note tells

@@ -2,8 +2,8 @@
 """Writes the rows of reads, cursors and retries into the data of wire_rows, and the requests of the examples for a new user.
 
 What each request gets is told by the modules of this folder alone, which hold a separate account of the formats: bson (documents), order, matching,
-changing and pipelines (the languages), commands (the order of refusals), cluster (what is done, times, journals), wire (messages, and the words by which
-the program of the rows tells commands). Where a row tells the wanted reply by hand too, both must agree.
+changing and pipelines (the languages), commands (the order of refusals), cluster (what is done, times), records (of journals), wire (messages, and the words
+by which the program of the rows tells commands). Where a row tells the wanted reply by hand too, both must agree.
 The pages of the examples go to examples-README-parts.md at the top, to be put into examples/README.md by hand. Usage: make.py
 """
 import pathlib
@@ -21,6 +21,7 @@ import routers
 import scripts
 import sessions
 import sizes
+import starting_scripts
 import starts
 from form import put_file
 
@@ -38,7 +39,7 @@ def main():
     put_file(DATA / "retries.script.rows", scripts.rows() + routers.one_router() + ceilings.one_router())
     put_file(DATA / "routers.rows", routers.rows() + ceilings.rows())
     put_file(DATA / "starts.rows", starts.rows())
-    put_file(DATA / "starts.script.rows", starts.scripts())
+    put_file(DATA / "starts.script.rows", starting_scripts.scripts())
     put_file(DATA / "drivers.reads.rows", drivers.rows(DATA / "drivers.rows"))
     sessions.put(TOP / "examples", TOP / "examples-README-parts.md")
 

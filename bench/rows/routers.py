@@ -10,10 +10,10 @@ import tempfile
 
 from bson import fields_of, stamp
 from changing import applied
-from cluster import catalogue_ceiling_record, ceiling_record, create_record, entry_record, file_of, life_record, table_record
 from commands import command_of
 from form import Ask
 from reads import find, first, inserted
+from records import catalogue_ceiling_record, ceiling_record, create_record, entry_record, file_of, life_record, table_record
 from retries import done, errors, insert
 from scripts import spelled
 from wire import Request, pieces, reply_bytes

@@ -3,9 +3,9 @@
 What the shard does first decides; which message is which follows from the rows of the nodes and is told beside each line that delivers it.
 """
 from bson import DOCUMENT, shown
-from cluster import file_of
 from form import Ask, check
 from reads import find, first, inserted
+from records import file_of
 from retries import delete, done, errors, insert, sequence, update
 from wire import Connection, pieces, reply_bytes
 

@@ -1,20 +1,19 @@
 """Rows of several calls on the same files: what each start keeps, files that are refused, and disks that fail while they are opened.
 
-Each reply is told beside its request, by hand. Journals whose records may not follow are those of the data of replay_rows.
+Each reply is written beside its request, by hand. Journals whose records may not follow are those of the data of replay_rows.
 """
 import pathlib
 import struct
 
-from bson import fields_of, stamp
-from changing import applied
+from bson import stamp
 from chunks import ADMIN, changed, shard, sharded, split
-from cluster import CATALOGUE, ROUTER, SHARD, Cluster, create_record, entry_record, file_of, life_record, table_record
-from commands import command_of
+from cluster import Cluster
 from cursors import KILLED, kill, listed, more, next_, not_found
 from form import Ask, ask_lines
 from reads import count, counted, find, first, inserted, refused
+from records import CATALOGUE, ROUTER, SHARD, create_record, file_of, life_record
 from retries import OTHER, delete, done, errors, insert, update
-from routers import ONE, Play, at, entry, lives
+from routers import ONE
 from wire import Connection, Request, pieces, told
 
 JOURNALS = pathlib.Path(__file__).resolve().parent.parent.parent / "crates" / "replay_rows" / "data" / "journals.txt"
@@ -223,10 +222,13 @@ REFUSED = [
     (SHARD, "an entry whose time does not rise", "table insert same-time"), (SHARD, "an entry under a number that is stored", "table insert same-number"),
     (SHARD, "an entry without its table", "insert"), (SHARD, "an entry with another outcome", "table none"),
     (SHARD, "an entry at the time of a ceiling", "table ceiling-2 insert"), (SHARD, "an older transaction", "table second first"),
+    (SHARD, "a ceiling at the time of an entry", "table insert ceiling-2"), (SHARD, "a ceiling that does not rise", "table ceiling-3 ceiling-2"),
+    (SHARD, "a ceiling without a table", "ceiling-2"),
     (SHARD, "a table that is not longer", "table table"), (SHARD, "a creation on the shard", "create"), (SHARD, "a life on the shard", "table life-1"),
     (SHARD, "a record of kind 05", "table move"), (SHARD, "a record of kind 04", "table floor"), (SHARD, "a table that is cut short", "cut-table"),
     (CATALOGUE, "a name that exists", "create create-again"), (CATALOGUE, "an epoch that is not the next", "create-second"),
     (CATALOGUE, "a split of no collection", "split"), (CATALOGUE, "a split whose time does not rise", "create split split-early"),
+    (CATALOGUE, "a split at a bound", "create split split-again"),
     (CATALOGUE, "a change at the time of a ceiling", "no-table create"), (CATALOGUE, "a table on the catalogue", "table"),
     (CATALOGUE, "a record of kind 05 on the catalogue", "create move"),
     (ROUTER, "life 2 first", "life-2"), (ROUTER, "life 1 twice", "life-1 life-1"), (ROUTER, "block 1 first", "life-1 block-1"),
@@ -323,127 +325,18 @@ def found_again(row, nodes):
 
 def failing_beside():
     """Which of a disk that fails and of a file that is refused decides: journals are opened in order, and records are read after all openings."""
-    lines, life_on_shard = [], pieces(file_of(named("table life-1")))
-    damage = pieces(damages()[0][1])
+    lines, damage, life_on_shard = [], pieces(damages()[0][1]), pieces(file_of(named("table life-1")))
     listed_ = [(0, f"file {SHARD} {life_on_shard}", 5), (1, f"file {SHARD} {life_on_shard}", 5), (2, f"file {SHARD} {life_on_shard}", 5),
         (0, f"file {SHARD} {damage}", 5), (2, f"file {SHARD} {damage}", 6), (1, f"file {ROUTER} {damage}", 5), (1, f"file {CATALOGUE} {damage}", 6)]
     for failing_disk, file_line, status in listed_:
-        kind = "a damaged file" if damage in file_line else "a record that may not follow"
+        kind = "a record that may not follow" if life_on_shard in file_line else "a damaged file"
         refused_disk = file_line.split(" ")[1]
         plan = [file_line, f"fail {failing_disk} 0", f"same {refused_disk}"]
-        lines += Calls(f"{kind} on disk {refused_disk}, call 0 of disk {failing_disk} fails").not_served("", plan, status).rows()
+        lines += Calls(f"{kind} on disk {refused_disk}, call 0 of disk {failing_disk} fails").not_served(
+            "the disk decides" if status == 5 else "the file decides", plan, status).rows()
     return lines
-
-
-# scripts
-
-
-def script_calls(name, *plays):
-    """Plays of scripts, one after another on the same files, as one row; each with the records that are kept, and its status."""
-    lines = [f"# {name}"]
-    for number, (play, keeps, status) in enumerate(plays):
-        told_ = play.rows(keeps, status)[1:]
-        told_ = [line for line in told_ if line != "ask "]
-        last = told_.pop()
-        lines += told_ + [last if number == len(plays) - 1 else last.replace("ends", "then")]
-    return lines
-
-
-def script_insert(number="1L", at_=(1, 2), **options):
-    return insert(ONE, number, done(at_[0], at_[1], seconds=0), **options)
-
-
-def two_routers():
-    session = bytes(range(16))
-    stored = [table_record("d.c", at(1)), entry(at(2), inserted(ONE), 1, number=(session, 1))]
-    one = Play("", 2)
-    asked = one.client(0, script_insert())
-    one.settled(asked)
-    two = Play("", 2)
-    again_ = two.client(1, script_insert())
-    two.settled(again_)
-    early = two.client(0, find("", first("", 0, seconds=0)), 2)
-    two.settled(early)
-    late = two.client(0, find(AFTER % (0, 2), first(ONE, 2, seconds=0)), 3)
-    two.settled(late)
-    three = Play("", 2)
-    own = three.client(1, Ask(inserted("{_id: 2}"), done(1, 3, seconds=0)))
-    three.settled(own)
-    other = stored + [entry(at(3), inserted("{_id: 2}"), 1, router=1, life=3)]
-    created = [create_record("d.c", at(1))]
-    return script_calls("three scripts of two routers on the same files: an insert by one router is sent again by the other; each router has three lives",
-        (one, [created, stored] + lives(2), 0), (two, [created, stored] + lives(2, 2), 0), (three, [created, other] + lives(2, 3), 0))
-
-
-def nothing():
-    row = [(Play("", 3), [[], []] + lives(3, number), 0) for number in (1, 2, 3)]
-    return script_calls("three scripts of three routers without a line: three lives each", *row)
-
-
-def lost():
-    session = bytes(range(16))
-    created, table = [create_record("d.c", at(1))], table_record("d.c", at(1))
-    stored = [table, entry(at(2), inserted(ONE), 1, number=(session, 1))]
-    one = Play("")
-    one.client(0, script_insert())
-    one.play("settle except WriteDone")
-    two = Play("")
-    two.play("settle")
-    asked = two.client(0, script_insert())
-    two.settled(asked)
-    lines = script_calls("the answer of a write is not delivered when the script ends, and no later one delivers it; the insert is sent again",
-        (one, [created, stored] + lives(1), 0), (two, [created, stored] + lives(1, 2), 0))
-    one = Play("")
-    one.client(0, script_insert())
-    one.play("settle except WriteAsk")
-    two = Play("")
-    two.play("settle")
-    early = two.client(0, find(AFTER % (0, 1), refused(72, "InvalidOptions", "{greatest: Timestamp(0, 0)}")))
-    two.settled(early)
-    asked = two.client(0, script_insert(), 2)
-    two.settled(asked)
-    return lines + script_calls("a write that did not reach the shard when the script ended is not done later: what its creation left is there",
-        (one, [created, []] + lives(1), 0), (two, [created, stored] + lives(1, 2), 0))
-
-
-def refused_line():
-    session = bytes(range(16))
-    created = [create_record("d.c", at(1))]
-    stored = [table_record("d.c", at(1)), entry(at(2), inserted(ONE), 1, number=(session, 1))]
-    one = Play("")
-    asked = one.client(0, script_insert())
-    one.settled(asked)
-    one.play("next WriteDone")
-    two = Play("")
-    again_ = two.client(0, script_insert())
-    two.settled(again_)
-    return script_calls("a line that is refused ends a script; the next one goes on from its files",
-        (one, [created, stored] + lives(1), 9), (two, [created, stored] + lives(1, 2), 0))
-
-
-def mixed():
-    """A script, a connection and a script, each of one router."""
-    one = Play("")
-    asked = one.client(0, Ask(inserted(ONE), done(1, 2, seconds=0)))
-    one.settled(asked)
-    created, stored = [create_record("d.c", at(1))], [table_record("d.c", at(1)), entry(at(2), inserted(ONE), 1)]
-    lines = ["# a script, a connection and a script on the same files"] + one.rows([created, stored] + lives(1))[1:-1]
-    cluster = Cluster()
-    Connection((), cluster).ask(Ask(inserted(ONE)).bytes(1), 0)
-    row = Calls("", cluster)
-    row.end = "0 0"
-    row.call("a connection", find("sort: {_id: 1}", first(ONE, 0)), Ask(inserted("{_id: 2}"), done(1, 1)))
-    three = Play("")
-    last = three.client(0, find(f"sort: {{_id: 1}}, {AFTER % (1000, 1)}", first(TWO, 1)))
-    three.settled(last)
-    journals = cluster.journals[:ROUTER] + lives(1, 3)
-    return lines + row.lines + ["then 0 0"] + three.rows(journals)[1:]
 
 
 def rows():
     served = found() + same_second() + again() + cursors() + times() + chunks() + plain() + ends()
     return served + unread() + refused_records() + damaged() + failing()
-
-
-def scripts():
-    return two_routers() + nothing() + lost() + refused_line() + mixed()

@@ -12,8 +12,8 @@
 //! - `fail` and `take`, `put` or a disk (0 the catalogue's, 1 the shard's, 2 and on the routers'), and the number of a call that fails;
 //! - `narrow` and the greatest number of bytes that one write takes;
 //! - `file`, a disk and its bytes at the start; `keeps`, a disk and its bytes at the end: an opening of its journal finds just the records in these by their
-//!   gates and lengths, and all bytes of each are read as one record; `size`, a disk and the number of its bytes at the end; `same` and a disk: its bytes at the
-//!   end are those at its start; `untouched`: all disks have the bytes of the start, and no call changed or synced one;
+//!   gates and lengths, and all bytes of each are read as one record; `size`, a disk and the number of its bytes at the end; `same` and a disk: its bytes at
+//!   the end are those at its start; `untouched`: all disks have the bytes of the start, and no call changed or synced one;
 //! - `untaken` and how many bytes were left to take;
 //! - `record`, a disk and a record, and `finds`, a disk and two numbers: an opening of that disk's journal finds the first of its records, at least as many
 //!   as the first number, and at most as many as the second;
