@@ -21,7 +21,7 @@ use Rattle.cluster_service.specs.Arguments.{routers_of}
 use Rattle.cluster_service.specs.Ends.{ends_in}
 use Rattle.cluster_service.specs.Headline.{HeadlineOf}
 use Rattle.cluster_service.specs.declared.arguments.Command.{Command}
-use Rattle.cluster_service.specs.declared.arguments.Command.TheVariants.{Pipe, Sim}
+use Rattle.cluster_service.specs.declared.arguments.Command.TheVariants.{Pipe, Sim, Serve}
 use Rattle.cluster_service.proofs.SameJournals.{same_journals}
 
 -- a run is one in which no node stops
@@ -41,11 +41,13 @@ module _ (tells : Bool) (files_after : List (List ℕ)) (first : World) (source 
       → LeadsTo first (ends_in command _ _ _ _ _ _ _ _ _ _ headline)
   leads_to_end Pipe headline = piped_run source sink gives first_router _ leaves owed first most_taken ending rest headline.piped
   leads_to_end (Sim routers) headline = simulated_run source sink _ leaves owed first most_taken ending headline.simulated
+  leads_to_end (Serve server) headline = absurd headline
 
   files_of_end : IsTrue tells → (command : Command) (headline : HeadlineOf command first source sink tells files_after leaves owed gives ending rest)
       → AreJournals files_after (ends_in command _ _ _ _ _ _ _ _ _ _ headline).nodes
   files_of_end told Pipe headline = headline.piped.files told
   files_of_end told (Sim routers) headline = headline.simulated.files told
+  files_of_end told (Serve server) headline = absurd headline
 
 -- LAWS
 

@@ -92,7 +92,7 @@ first_leaves moment left_since first befores afters leave =
 module _ {N D : Type 0} (state : N → NodeState) (tells : Bool) (content : D → List ℕ) (moment : D → ℕ) (left_since : D → ℕ → Outcomes) (fault_count : D → ℕ)
     (place : D → List ℕ) (first w : World) (told : IsTrue tells) where
   -- what is said of a log is said of its disk
-  at_place : (at : ℕ) (disk : D) (old new : JournalView D) → LeavesAlso moment left_since disk old.disk (IsOfWorld first at)
+  pub at_place : (at : ℕ) (disk : D) (old new : JournalView D) → LeavesAlso moment left_since disk old.disk (IsOfWorld first at)
       → LeavesKept (journal_facts tells content moment left_since fault_count place) first old new at w
       → LeavesAlso moment left_since disk new.disk (λ file. IsOfTheWay first w at file)
   at_place at disk old new early k =

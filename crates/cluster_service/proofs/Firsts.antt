@@ -26,10 +26,10 @@ use Rattle.journal_starts.specs.Starts.{BeginsOnFiles, begins_new, begins_again}
 -- A ROUTER IS STARTED AS ONE
 
 -- the durable part is that of a router
-abbrev IsOfRouter : DurableState → Type 0
+abbrev pub IsOfRouter : DurableState → Type 0
 IsOfRouter e = (r : DurableRouter) × (e ≡ durable_router r)
 
-router_replays : (records : List Record) (d : DurableRouter) (e : DurableState) → replayed (Some (durable_router d)) records ≡ Some e → IsOfRouter e
+pub router_replays : (records : List Record) (d : DurableRouter) (e : DurableState) → replayed (Some (durable_router d)) records ≡ Some e → IsOfRouter e
 router_replays [] d e is = (d, cc is)
 router_replays (r ∷ records) d e is = by_next (λ n. router_replays records n e) (router_follow d r) is
   where
@@ -85,7 +85,7 @@ record HasNodes (routers : ℕ) (nodes : List Held) : Type 0 where
 move_count : (w v : World) (at : ℕ) (i : Input) → Moves w at i v → length v.nodes ≡ length w.nodes
 move_count w v at i m = ap (λ (x : World). length x.nodes) m.then ∙ length_set w.nodes at (record { state = m.new; kept = m.old.kept ++ m.f.written })
 
-happens_count : (w v : World) (e : Event) → Happens w e v → length v.nodes ≡ length w.nodes
+pub happens_count : (w v : World) (e : Event) → Happens w e v → length v.nodes ≡ length w.nodes
 happens_count _ _ _ (comes w v at link number request router m) = move_count w v at _ m
 happens_count _ _ _ (delivers w v at which letter got to m) = move_count w v at _ m
 happens_count _ _ _ (passes w v at moment m) = move_count w v at _ m

@@ -10,6 +10,11 @@ pub mod Numbers
 pub mod OpenJournals
 pub mod OpenedUpTo
 pub mod Openings
+pub mod OptionRanges
+pub mod OptionWords
 pub mod SameJournals
 pub mod SeatFacts
+pub mod Served
+pub mod ServedDisks
+pub mod ServerEnds
 pub mod Statuses

@@ -18,13 +18,14 @@ use Rattle.sim_driver.specs.Moves.{MayPlay}
 use Rattle.sim_driver.specs.Simulations.{Cause as ScriptCause, CameTo, IsSimulated, came_opening as began}
 use Rattle.sim_driver.specs.Simulations.{disk_failed as script_disk_failed, no_memory as script_no_memory}
 use Rattle.sim_driver.proofs.Histories.{simulated_changes, simulated_history}
+use Rattle.cluster_service.specs.Arguments.{IsServer}
 use Rattle.cluster_service.specs.Drivers.{IsDriven}
 use Rattle.cluster_service.specs.Headline.{Headline, HeadlineOf, ScriptHeadline}
 use Rattle.journal_starts.specs.Journals.{AreJournals}
 use Rattle.cluster_service.specs.Statuses.{OfConnection}
 use Rattle.cluster_service.specs.Stops.{StopsOpening, at_opening_fault, at_damage, at_opening_memory}
 use Rattle.cluster_service.specs.declared.arguments.Command.{Command}
-use Rattle.cluster_service.specs.declared.arguments.Command.TheVariants.{Pipe, Sim}
+use Rattle.cluster_service.specs.declared.arguments.Command.TheVariants.{Pipe, Sim, Serve}
 use Rattle.cluster_service.specs.declared.status.Status.{Status}
 use Rattle.cluster_service.specs.declared.status.Status.TheVariants as statuses
 use Rattle.cluster_service.proofs.Answered.{all_played, all_served}
@@ -78,6 +79,7 @@ module _ (source : SourceCall) (sink : SinkCall) (tells : Bool) (files_after : L
       → HeadlineOf command first source sink tells files_after leaves owed gives ending rest
   headline_of Pipe first begins ending driven = headline_from first begins ending driven
   headline_of (Sim routers) first begins ending driven = script_from first begins ending driven.0 driven.1
+  headline_of (Serve server) first begins ending driven = absurd driven
 
   -- Nothing was taken and nothing put, in a world whose journals the files are.
   module _ (first : World) (none : rest ≡ 0) (took : SourceGave source []) (put : SinkTook sink [])
@@ -130,21 +132,23 @@ module _ (source : SourceCall) (sink : SinkCall) (tells : Bool) (files_after : L
       acknowledged = debts;
     }
 
-    disk_driven : (command : Command)
+    disk_driven : (command : Command) → ¬ IsServer command
         → IsDriven command first source sink gives (λ nodes. IsTrue tells → AreJournals files_after nodes) leaves owed ended.DiskFailed rest
-    disk_driven Pipe = none_piped ended.DiskFailed (disk_failed (none_served first gives))
-    disk_driven (Sim routers) = (none_simulated ended.DiskFailed (script_disk_failed (none_played first)), none)
+    disk_driven Pipe driver = none_piped ended.DiskFailed (disk_failed (none_served first gives))
+    disk_driven (Sim routers) driver = (none_simulated ended.DiskFailed (script_disk_failed (none_played first)), none)
+    disk_driven (Serve server) driver = absurd (driver tt)
 
-    memory_driven : (command : Command)
+    memory_driven : (command : Command) → ¬ IsServer command
         → IsDriven command first source sink gives (λ nodes. IsTrue tells → AreJournals files_after nodes) leaves owed ended.OutOfMemory rest
-    memory_driven Pipe = none_piped ended.OutOfMemory (no_memory (none_served first gives))
-    memory_driven (Sim routers) = (none_simulated ended.OutOfMemory (script_no_memory (none_played first)), none)
+    memory_driven Pipe driver = none_piped ended.OutOfMemory (no_memory (none_served first gives))
+    memory_driven (Sim routers) driver = (none_simulated ended.OutOfMemory (script_no_memory (none_played first)), none)
+    memory_driven (Serve server) driver = absurd (driver tt)
 
     -- a disk failed, or memory ran out, before anything was served
-    pub unopened : (command : Command) → MayPlay first → (status : Status) → (status ≡ statuses.DiskFailed) ⊎ (status ≡ statuses.OutOfMemory)
+    pub unopened : (command : Command) → ¬ IsServer command → MayPlay first → (status : Status) → (status ≡ statuses.DiskFailed) ⊎ (status ≡ statuses.OutOfMemory)
         → OfConnection status (λ ending. HeadlineOf command first source sink tells files_after leaves owed gives ending rest)
-    unopened command may status (inl failed) = (ended.DiskFailed, failed, headline_of command first may.begins ended.DiskFailed (disk_driven command))
-    unopened command may status (inr memory) = (ended.OutOfMemory, memory, headline_of command first may.begins ended.OutOfMemory (memory_driven command))
+    unopened command driver may status (inl failed) = (ended.DiskFailed, failed, headline_of command first may.begins ended.DiskFailed (disk_driven command driver))
+    unopened command driver may status (inr memory) = (ended.OutOfMemory, memory, headline_of command first may.begins ended.OutOfMemory (memory_driven command driver))
 
 -- why journals are not opened whose files are not damaged
 pub opening_ends : (status : Status) → StopsOpening status → status ≢ statuses.DamagedJournal → (status ≡ statuses.DiskFailed) ⊎ (status ≡ statuses.OutOfMemory)

@@ -1,14 +1,16 @@
 -- Numbers of the arguments, and what comes after the first bytes of a word.
-use Rattle.std.specs.Prelude.{◌≡◌, ℕ, ◌≤◌, ◌<◌, ◌^◌, ◌&&◌, Bool, true, false, List, length, Option, Some, None, nat_le, nat_lt, if◌then◌else◌, IfSome, Result, Ok, Err}
+use Rattle.std.specs.Prelude.{◌≡◌, ℕ, ◌≤◌, ◌<◌, ◌^◌, ◌&&◌, Bool, true, false, List, length, take, drop, Option, Some, None, eqb, nat_le, nat_lt, if◌then◌else◌, IfSome, Result, Ok, Err}
 use Rattle.std.proofs.Common.{refl, sym, ap, subst, ◌∙◌}
+use Rattle.std.specs.List.{starts_with}
 use Rattle.std.specs.Option.{option_map}
 use Rattle.std.specs.Str.{all_ascii_digits}
 use Rattle.std.specs.Str.Parse.{IsNumeral, ParsesUnsigned, digits_value, without_leading_plus}
 use Rattle.std.proofs.lemmas.Bool.{lt-ltb, ltb-true, le-leb, leb-true}
 use Rattle.std.proofs.lemmas.Str.Parse.{IsNumeralModel, numerals_by_value, tells_all_ascii_digits}
-use Rattle.cluster_service.specs.Arguments.{most_routers, number_in, routers_of, script_of, within}
+use Rattle.cluster_service.specs.Arguments.{command_of, routers_of, script_of}
+use Rattle.cluster_service.specs.Numbers.{most_routers, number_in, within}
 use Rattle.cluster_service.specs.declared.arguments.Command.{Command}
-use Rattle.cluster_service.specs.declared.arguments.Command.TheVariants.{Sim}
+use Rattle.cluster_service.specs.declared.arguments.Command.TheVariants.{Pipe, Sim}
 
 both : (a b : Bool) → a && b ≡ true → (a ≡ true) × (b ≡ true)
 both true b e = (refl, e)
@@ -68,7 +70,7 @@ outside_range least most n never =
     sym (ap (λ (b : Bool). if b then Some n else None) (false_unless (nat_le least n && nat_le n most)
     (λ is. let all = both (nat_le least n) (nat_le n most) is in never (leb-true least n all.0, leb-true n most all.1))))
 
-within_range : (least most : ℕ) (n : Option ℕ) → IfSome (within least most n) (λ m. (least ≤ m) × (m ≤ most))
+pub within_range : (least most : ℕ) (n : Option ℕ) → IfSome (within least most n) (λ m. (least ≤ m) × (m ≤ most))
 within_range least most None = tt
 within_range least most (Some n) = by_test (nat_le least n && nat_le n most) refl
   where

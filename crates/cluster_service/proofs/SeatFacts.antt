@@ -21,7 +21,7 @@ use Rattle.pipe_driver.specs.declared.status.Status.TheVariants as ended
 use Rattle.cluster_service.specs.Counts.{OneRoseWhere}
 use Rattle.cluster_service.specs.Drivers.{IsDriven}
 use Rattle.cluster_service.specs.declared.arguments.Command.{Command}
-use Rattle.cluster_service.specs.declared.arguments.Command.TheVariants.{Pipe, Sim}
+use Rattle.cluster_service.specs.declared.arguments.Command.TheVariants.{Pipe, Sim, Serve}
 use Rattle.journal_starts.specs.Journals.{AreJournals}
 use Rattle.cluster_service.specs.OpenJournals.{AreAllOpen, AreOpenWith, disks_of}
 use Rattle.cluster_service.specs.Seats.{seats_of}
@@ -119,6 +119,7 @@ driven_as Pipe first source sink gives kept then leaves leaves_then owed owed_th
     (λ w put leave owes. pays w put owes)
 driven_as (Sim routers) first source sink gives kept then leaves leaves_then owed owed_then status rest f g pays driven =
     (simulated_as source sink kept then leaves leaves_then owed owed_then first most_taken status f g (λ w put leave owes. pays w put owes) driven.0, driven.1)
+driven_as (Serve server) first source sink gives kept then leaves leaves_then owed owed_then status rest f g pays driven = driven
 
 -- a connection ends with no status of another kind
 pub of_no_other : (ending : connections.Status)

@@ -8,15 +8,17 @@ use Rattle.pipe_driver.specs.declared.status.Status.{Status}
 use Rattle.pipe_driver.specs.Progress.{all_replies}
 use Rattle.sim_driver.specs.Simulations.{IsSimulated, all_printed}
 use Rattle.cluster_service.specs.declared.arguments.Command.{Command}
-use Rattle.cluster_service.specs.declared.arguments.Command.TheVariants.{Pipe, Sim}
+use Rattle.cluster_service.specs.declared.arguments.Command.TheVariants.{Pipe, Sim, Serve}
 
--- from the first world on one connection was served, or a script was played, for which no rest is returned
+-- From the first world on one connection was served, or a script was played, for which no rest is returned. A server is driven otherwise.
 abbrev pub IsDriven : Command → World → SourceCall → SinkCall → (ℕ → Type 0) → (List Held → Type 0) → (World → Type 0) → (World → List ℕ → Type 0) → Status
     → (rest : ℕ) → Type 0
 IsDriven Pipe first source sink gives kept leaves owed status rest = IsPiped source sink gives first_router kept leaves owed first most_taken status rest
 IsDriven (Sim routers) first source sink gives kept leaves owed status rest = IsSimulated source sink kept leaves owed first most_taken status × (rest ≡ 0)
+IsDriven (Serve server) first source sink gives kept leaves owed status rest = ⊥
 
 -- what is all output in a world, since the first one: the replies that were given, or what the lines of a script print
 abbrev pub output_of : Command → (first w : World) → List ℕ → Type 0
 output_of Pipe = all_replies
 output_of (Sim routers) = all_printed
+output_of (Serve server) = λ first w bytes. ⊥

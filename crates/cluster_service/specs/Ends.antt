@@ -5,7 +5,7 @@ use Rattle.node_model.specs.World.{World}
 use Rattle.pipe_driver.specs.declared.status.Status.{Status}
 use Rattle.cluster_service.specs.Headline.{HeadlineOf}
 use Rattle.cluster_service.specs.declared.arguments.Command.{Command}
-use Rattle.cluster_service.specs.declared.arguments.Command.TheVariants.{Pipe, Sim}
+use Rattle.cluster_service.specs.declared.arguments.Command.TheVariants.{Pipe, Sim, Serve}
 
 -- that of the run that a headline says there was, whose type has all other arguments
 abbrev pub ends_in : (command : Command) (first : World) (source : SourceCall) (sink : SinkCall) (tells : Bool) (files : List (List ℕ))
@@ -13,3 +13,4 @@ abbrev pub ends_in : (command : Command) (first : World) (source : SourceCall) (
     → HeadlineOf command first source sink tells files leaves owed gives status rest → World
 ends_in Pipe first source sink tells files leaves owed gives status rest headline = headline.piped.end
 ends_in (Sim routers) first source sink tells files leaves owed gives status rest headline = headline.simulated.end
+ends_in (Serve server) first source sink tells files leaves owed gives status rest headline = absurd headline

@@ -13,7 +13,7 @@ use Rattle.pipe_driver.specs.declared.status.Status.TheVariants as statuses
 use Rattle.sim_driver.specs.Simulations.{EndInSettle, IsSimulated}
 use Rattle.journal_starts.specs.Journals.{AreJournals}
 use Rattle.cluster_service.specs.declared.arguments.Command.{Command}
-use Rattle.cluster_service.specs.declared.arguments.Command.TheVariants.{Pipe, Sim}
+use Rattle.cluster_service.specs.declared.arguments.Command.TheVariants.{Pipe, Sim, Serve}
 
 -- what the catalogue and the shard of a world store, and the requests and replies, are one history, where the changes have the steps in which they were made
 abbrev pub MakesOneHistory : World → Type 0
@@ -42,8 +42,9 @@ pub record ScriptHeadline (first : World) (source : SourceCall) (sink : SinkCall
   pub answered : status ≡ statuses.InputEnded → EndInSettle simulated.lines → AreAnswered first simulated.end
   pub no_rest : rest ≡ 0
 
--- by the command, of a run from the first world on
+-- by the command, which is no server, of a run from the first world on
 abbrev pub HeadlineOf : Command → World → SourceCall → SinkCall → Bool → List (List ℕ) → (World → Type 0) → (World → List ℕ → Type 0) → (ℕ → Type 0) → Status
     → ℕ → Type 0
 HeadlineOf Pipe first source sink tells files leaves owed gives status rest = Headline first source sink tells files leaves owed gives status rest
 HeadlineOf (Sim routers) first source sink tells files leaves owed gives status rest = ScriptHeadline first source sink tells files leaves owed status rest
+HeadlineOf (Serve server) first source sink tells files leaves owed gives status rest = ⊥

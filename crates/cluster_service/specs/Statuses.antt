@@ -1,5 +1,7 @@
 -- The statuses that a run ends with: their numbers, and their lines.
 use Rattle.std.specs.Prelude.{◌≡◌, ◌==◌, ℕ, List, Option, Some, None, codes, if◌then◌else◌}
+use Rattle.conn_server.specs.declared.server.ServeEnd.{ServeEnd}
+use Rattle.conn_server.specs.declared.server.ServeEnd.TheVariants as served
 use Rattle.pipe_driver.specs.declared.status.Status as connections
 use Rattle.pipe_driver.specs.declared.status.Status.TheVariants as ended
 use Rattle.cluster_service.specs.declared.status.Status.{Status}
@@ -58,6 +60,13 @@ of_connection ended.DiskFailed = DiskFailed
 of_connection ended.OutOfMemory = OutOfMemory
 of_connection ended.BadInput = BadInput
 of_connection ended.InputTooLong = InputTooLong
+
+-- the status of a run whose server ended so
+abbrev pub of_server : ServeEnd → Status
+of_server served.Done = InputEnded
+of_server served.AcceptFailed = AcceptFailed
+of_server served.DiskFailed = DiskFailed
+of_server served.OutOfMemory = OutOfMemory
 
 -- the status is that of a connection of which this holds
 abbrev pub OfConnection : Status → (connections.Status → Type 0) → Type 0

@@ -10,6 +10,7 @@ ghost use Rattle.pipe_driver.specs.Progress.{AreAskedAsRead};
 ghost use Rattle.pipe_driver.specs.Rounds.{first_router};
 ghost use Rattle.pipe_driver.specs.declared.status.Status.TheVariants as statuses;
 ghost use Rattle.sim_driver.specs.Moves.{MayPlay};
+ghost use Rattle.cluster_service.specs.Arguments.{IsServer};
 ghost use Rattle.cluster_service.specs.Drivers.{IsDriven, output_of};
 
 use crate::arguments::Command;
@@ -29,8 +30,8 @@ use std::thread::Threads;
 /// The most bytes that are taken of one input.
 const MOST_TAKEN: u64 = 1 << 40;
 
-/// Serves one connection, or plays a script, as the command says, by the nodes in order of their numbers, whose logs are open and keep what they keep in the
-/// world that the call begins in.
+/// Serves one connection, or plays a script, as the command says, which is no server, by the nodes in order of their numbers, whose logs are open and keep what
+/// they keep in the world that the call begins in.
 pub fn drive<
     R: Threads + Sync,
     N: Node<Request = Request>,
@@ -48,6 +49,7 @@ pub fn drive<
     clock: &C,
 ) -> Ending
     requires at { first_router < vec_len seats.old }
+    requires driver { ¬ IsServer command }
     requires open { AreOpen L.facts.is_open seats.old.items }
     ensures driven { AreAskedAsRead N.asks → (first : World) → MayPlay first → AreHeld (seat_view N.state L.facts) seats.old.items first.nodes →
         IsDriven command first (source_call S.tells S.left S.fault_count input.old input.new) (sink_call K.tells K.held K.fault_count out.old out.new)
@@ -78,5 +80,6 @@ pub fn drive<
             status: simulate(rt, alloc, input, out, seats, MOST_TAKEN),
             rest: 0,
         },
+        Command::Serve(_) => unreachable!(),
     }
 }

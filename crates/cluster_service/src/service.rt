@@ -9,7 +9,7 @@ ghost use Rattle.node_traits.specs.Effects.{spellings};
 ghost use Rattle.pipe_driver.specs.Counts.{RoseWhere};
 ghost use Rattle.pipe_driver.specs.Progress.{AreAskedAsRead};
 ghost use Rattle.sim_driver.specs.Moves.{MayPlay};
-ghost use Rattle.cluster_service.specs.Arguments.{nodes_of, routers_of};
+ghost use Rattle.cluster_service.specs.Arguments.{IsServer, nodes_of, routers_of};
 ghost use Rattle.cluster_service.specs.Counts.{OneRoseWhere};
 ghost use Rattle.cluster_service.specs.Crashes.{AreDurableBefore, LeaveSuch, LeaveTheWay};
 ghost use Rattle.cluster_service.specs.Headline.{HeadlineOf};
@@ -75,6 +75,7 @@ pub fn serve<
     clock: &C,
 ) -> RunEnd<D>
     requires some { 0 < routers_of command }
+    requires driver { ¬ IsServer command }
     requires nodes { vec_len nodes ≡ nodes_of command }
     requires journals { vec_len journals ≡ nodes_of command }
     requires open { AreAllOpen journals.items }

@@ -2,14 +2,15 @@
 
 ghost use Rattle.std.specs.Prelude.{◌≡◌};
 ghost use Rattle.std.specs.Option.{option_map};
-ghost use Rattle.cluster_service.specs.Statuses.{line_of, number_of, of_connection, with_number};
+ghost use Rattle.cluster_service.specs.Statuses.{line_of, number_of, of_connection, of_server, with_number};
 
+use conn_server::ServeEnd;
 use pipe_driver::Status as Ending;
 
 /// How a run ended, by its cause.
 #[derive(Clone, Copy, Debug, PartialEq, Eq)]
 pub enum Status {
-    /// The input was read to its end.
+    /// The input was read to its end, or all connections have ended.
     InputEnded,
     /// The arguments start no nodes.
     BadArguments,
@@ -44,6 +45,18 @@ impl Status {
             Ending::OutOfMemory => Status::OutOfMemory,
             Ending::BadInput => Status::BadInput,
             Ending::InputTooLong => Status::InputTooLong,
+        }
+    }
+
+    /// Returns the status of a server that ended so.
+    pub(crate) fn of_server(ending: ServeEnd) -> Status
+        ensures { result ≡ of_server ending }
+    {
+        match ending {
+            ServeEnd::Done => Status::InputEnded,
+            ServeEnd::AcceptFailed => Status::AcceptFailed,
+            ServeEnd::DiskFailed => Status::DiskFailed,
+            ServeEnd::OutOfMemory => Status::OutOfMemory,
         }
     }
 

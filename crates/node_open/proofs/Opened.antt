@@ -1,5 +1,6 @@
 -- Nodes that are opened one after another, each on the records of its journal.
 use Rattle.std.proofs.Common.{◌≡◌, ◌∙◌, inl, inr, ℕ, suc, ◌+◌, List, [], ◌∷◌, ◌++◌, length, refl, sym, subst, append_assoc, append-nil, length-append, arith}
+use Rattle.std.specs.List.{AllByRecursion}
 use Rattle.journal_replay.specs.Replayed.{IsFault, IsRefused}
 use Rattle.journal_replay.specs.declared.fault.OpenFault.{OpenFault}
 use Rattle.journal_replay.specs.declared.fault.OpenFault.TheVariants.{Refused, Memory}
@@ -72,3 +73,8 @@ up_to_fault all left me states records Memory u refused = tt
 pub none_left : (left : List (List (List ℕ))) → length left ≡ 0 → left ≡ []
 none_left [] e = refl
 none_left (r ∷ left) e = absurd (omega arith)
+
+-- so is it of each, with one more
+pub all_with : {X : Type 0} (P : X → Type 0) (all : List X) (x : X) → AllByRecursion P all → P x → AllByRecursion P (all ++ x ∷ [])
+all_with P [] x are is = (is, tt)
+all_with P (y ∷ all) x are is = (are.0, all_with P all x are.1 is)

@@ -1,7 +1,8 @@
 //! The nodes of the cluster, opened on the records of their journals.
 
 ghost use Rattle.std.specs.Prelude.{◌≡◌, ◌≤◌, [], IfErr, IfOk, map, vec_capacity, vec_len};
-ghost use Rattle.any_node.specs.Kinds.{state_of};
+ghost use Rattle.std.specs.List.{AllByRecursion};
+ghost use Rattle.any_node.specs.Kinds.{state_of, steps_of};
 ghost use Rattle.journal_replay.specs.declared.fault.OpenFault.{OpenFault};
 ghost use Rattle.journal_starts.specs.Records.{AreOpened, IsOpened, SomeRefused, part_at};
 ghost use Rattle.node_open.specs.Faults.{IfRefused};
@@ -18,6 +19,7 @@ use std::alloc::Global;
 /// Returns the node of a number, opened on the records of its journal: node 0 is the catalogue, node 1 the shard, and the others are routers.
 fn open_node(alloc: Global, me: u32, records: RecordList) -> Result<AnyNode, OpenFault>
     ensures opened { IfOk result (λ node. IsOpened (part_at me) records (state_of node)) }
+    ensures new { IfOk result (λ node. steps_of node ≡ 0) }
     ensures fault { IfErr result (λ fault. IsFault (part_at me) records fault) }
 {
     match me {
@@ -35,7 +37,7 @@ fn room_for(alloc: Global, count: usize) -> Result<Vec<AnyNode>, Memory>
     Ok(Vec::with_capacity(alloc, count)?)
 }
 
-/// Returns the nodes, 64 at most, in order of their numbers, each opened on the records that were found in its journal.
+/// Returns the nodes, 64 at most, in order of their numbers, each opened on the records that were found in its journal, before its first step.
 ///
 /// # Errors
 /// - `Refused` exactly where a record of some node is none or may not follow, unless memory runs out. No clause says of which node the index is.
@@ -44,6 +46,7 @@ pub fn open_nodes(alloc: Global, found: Vec<RecordList>) -> Result<Vec<AnyNode>,
     requires { vec_len found ≤ 64 }
     ensures opened { IfOk result (λ nodes. AreOpened 0 found.items (map state_of nodes.items)) }
     ensures len { IfOk result (λ nodes. vec_len nodes ≡ vec_len found) }
+    ensures new { IfOk result (λ nodes. AllByRecursion (λ node. steps_of node ≡ 0) nodes.items) }
     ensures fault { IfErr result (λ fault. IfRefused fault (SomeRefused 0 found.items)) }
 {
     let mut nodes = room_for(alloc, found.len())?;

@@ -2,9 +2,9 @@ use Rattle.std.proofs.Common.{◌≡◌, ◌∷◌, ◌∙◌, [], ℕ, List, le
 use Rattle.std.proofs.lemmas.List.{map_push}
 use Rattle.std.proofs.lemmas.Result.{err_from_is_err_and}
 use Rattle.std.specs.Vec.Iter.{into_iter_items}
-use Rattle.any_node.specs.Kinds.{state_of}
+use Rattle.any_node.specs.Kinds.{state_of, steps_of}
 use Rattle.any_node.specs.declared.AnyNode.{AnyNode}
-use Rattle.node_open.proofs.Opened.{none_left, up_to_end, up_to_fault, up_to_next, up_to_start}
+use Rattle.node_open.proofs.Opened.{all_with, none_left, up_to_end, up_to_fault, up_to_next, up_to_start}
 use Rattle.node_open.proofs.nodes.open_nodes.Goals as goal
 
 pub loop-records-init : goal.loop-records-init
@@ -15,6 +15,7 @@ loop-records-init c =
     let length_of_none = ap (λ (l : List AnyNode). length l) none in
     record {
       so_far = rw (all, none) (up_to_start c.args.found.items);
+      new = rw none tt;
       count = omega (arith, length_of_all, c.args.found.ok);
       len = omega (arith, length_of_none, c.in_ok-nodes.nodes.ok);
       few = c.requires;
@@ -39,6 +40,7 @@ loop-records-preserved c =
       so_far = rw (c.push_reserved.ensures.items, map_push state_of before node)
           (up_to_next c.args.found.items (into_iter_items c.next.new.self) c.loop-records.me (map state_of before) c.in-Some.records (state_of node)
           (rw first at c.loop-records.invariant.so_far) c.in_ok-open_node.ensures.opened);
+      new = rw c.push_reserved.ensures.items (all_with (λ n. steps_of n ≡ 0) before node c.loop-records.invariant.new c.in_ok-open_node.ensures.new);
       count = omega (arith, short, c.loop-records.invariant.count);
       len = omega (arith, c.loop-records.invariant.len, c.push_reserved.ensures.len);
       few = c.loop-records.invariant.few;

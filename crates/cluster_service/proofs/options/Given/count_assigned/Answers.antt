@@ -1,0 +1,10 @@
+use Rattle.std.proofs.Common.{◌∙◌, sym}
+use Rattle.cluster_service.specs.declared.options.Name.TheVariants.{Routers}
+use Rattle.cluster_service.proofs.OptionWords.{value_none, value_some}
+use Rattle.cluster_service.proofs.options.Given.count_assigned.Goals as goal
+
+pub returns-in-Some : goal.returns-in-Some
+returns-in-Some c = c.with.ensures ∙ sym (value_some Routers _ _ _ _ (rw c.in-Some.is at c.value_in.ensures))
+
+pub returns-in-None : goal.returns-in-None
+returns-in-None c = c.sessions_assigned.ensures ∙ sym (value_none Routers _ _ _ (rw c.in-None.is at c.value_in.ensures))

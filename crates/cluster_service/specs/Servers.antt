@@ -1,0 +1,68 @@
+-- What one call says of the connections that it served on threads, and of the disks that it hands back (own).
+use Rattle.std.specs.Prelude.{◌≡◌, ◌⊎◌, ℕ, Bool, IsTrue, List, Some, map}
+use Rattle.std.specs.List.{slice_get}
+use Rattle.outside.specs.Disks.{Outcomes}
+use Rattle.outside.specs.declared.exchange.Spoken.{Spoken}
+use Rattle.node_model.specs.Letters.{Input}
+use Rattle.node_model.specs.States.{NodeState}
+use Rattle.node_model.specs.World.{Held, World, Event, Happens, Run, journal_at}
+use Rattle.node_cell.specs.Courses.{RoutersFrom}
+use Rattle.conn_server.specs.Conversations.{LinkFacts, WereServed}
+use Rattle.driver_steps.specs.Seats.{AreHeld, SeatView}
+use Rattle.journal_frames.specs.Views.{JournalView}
+use Rattle.journal_starts.specs.Journals.{AreJournals, IsJournal}
+use Rattle.pipe_driver.specs.Rounds.{first_router}
+use Rattle.cluster_service.specs.Crashes.{IsOfTheWay, LeaveSuch}
+use Rattle.cluster_service.specs.Headline.{MakesOneHistory}
+use Rattle.cluster_service.specs.OpenJournals.{AreOpenWith}
+use Rattle.cluster_service.specs.declared.status.Status.{Status}
+use Rattle.cluster_service.specs.declared.status.Status.TheVariants.{InputEnded, DiskFailed, OutOfMemory, AcceptFailed}
+
+-- the world at the end, or one in which one event more happened
+abbrev pub IsUpTo : (end v : World) → Type 0
+IsUpTo end v = (v ≡ end) ⊎ ((e : Event) × Happens end e v)
+
+-- each file is the journal of its node in such a world
+abbrev pub AreJournalsUpTo : List (List ℕ) → World → Type 0
+AreJournalsUpTo files end = (at : ℕ) (file : List ℕ) → slice_get files at ≡ Some file → (v : World) × IsUpTo end v × IsJournal file (journal_at v.nodes at)
+
+-- a crash at any moment of the call left of each disk what it might have left before, or what its node stored on the way to such a world
+abbrev pub LeaveUpTo : {D : Type 0} → (first : World) → Bool → (D → ℕ) → (D → ℕ → Outcomes) → List D → List D → World → Type 0
+LeaveUpTo first tells moment left_since befores afters end =
+    IsTrue tells → LeaveSuch moment left_since (λ at file. (v : World) × IsUpTo end v × IsOfTheWay first v at file) befores afters
+
+-- From the first world on there is a run of the nodes, which makes one legal history with all calls before. On each link, each request was taken in a step of
+-- the run, and its reply returned by one, in the steps that are named; and these replies were written. The disks store the journals; but where a disk failed
+-- each may be one event further. `tells` is whether the files of the disks are observable, `failed` whether a disk failed, and `leaves` gives the files after a
+-- crash at any moment of the call, of the world up to which the run may proceed, and `leaves_up_to` those of worlds that are one event further.
+pub record ServerHeadline {I S : Type 0} (meaning : I → Input) (bytes : LinkFacts S) (first : World) (tells : Bool) (failed : Type 0) (files : List (List ℕ))
+    (leaves leaves_up_to : World → Type 0) (links : List (Spoken S)) : Type 0 where
+  pub events : List Event
+  pub end : World
+  pub run : Run first events end
+  pub journals : ¬ failed → IsTrue tells → AreJournals files end.nodes
+  pub journals_up_to : IsTrue tells → AreJournalsUpTo files end
+  pub crashes : ¬ failed → leaves end
+  pub crashes_up_to : leaves_up_to end
+  pub history : MakesOneHistory end
+  pub served : WereServed meaning bytes first.now events end 0 links
+
+-- how a server ends
+pub data IsServerEnd : Status → Type 0 where
+  at_end : IsServerEnd InputEnded
+  at_disk : IsServerEnd DiskFailed
+  at_memory : IsServerEnd OutOfMemory
+  at_accept : IsServerEnd AcceptFailed
+
+-- Nodes in these states, with these journals, are those of some world: its journals store the same, and behind the shard there are routers.
+pub record AreOfSomeWorld {D : Type 0} (tells : Bool) (content : D → List ℕ) (states : List NodeState) (journals : List (JournalView D)) : Type 0 where
+  pub nodes : List Held
+  pub same : states ≡ map (λ h. h.state) nodes
+  pub are : AreOpenWith tells content journals nodes
+  pub routers : RoutersFrom first_router nodes
+
+-- so are nodes with their logs
+pub record AreSeatedSomewhere {S : Type 0} (view : S → SeatView) (seats : List S) : Type 0 where
+  pub nodes : List Held
+  pub held : AreHeld view seats nodes
+  pub routers : RoutersFrom first_router nodes
