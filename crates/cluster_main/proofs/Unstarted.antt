@@ -1,5 +1,5 @@
 -- A start whose arguments start no nodes leaves everything as it was.
-use Rattle.std.specs.Prelude.{◌≡◌, ◌⊎◌, ℕ, Option, Some, None, IsNone, IsSome, List, map}
+use Rattle.std.specs.Prelude.{◌≡◌, ◌⊎◌, ℕ, Option, Some, None, IfSome, IsNone, IsSome, List, map}
 use Rattle.std.proofs.Common.{refl, inl, inr, arith}
 use Rattle.outside.specs.Devices.{SourceCall, SinkCall, SinkIsUntouched, SourceIsUntouched}
 use Rattle.outside.specs.Notes.{Note}
@@ -13,6 +13,19 @@ use Rattle.cluster_main.specs.Disks.{IsLeft}
 pub none_unless : (count : Option ℕ) → ¬ IsSome count → IsNone count
 none_unless None never = refl
 none_unless (Some n) never = absurd (never refl)
+
+pub if_some : {X : Type 0} (o : Option X) (P Q : X → Type 0) → IfSome o P → ((x : X) → P x → Q x) → IfSome o Q
+if_some None P Q is then = tt
+if_some (Some x) P Q is then = then x is
+
+-- where a port was refused, the same of the lists of the disks
+pub port_or : (one port same other : Type 0) → (same → other) → one ⊎ (port × same) → one ⊎ (port × other)
+port_or one port same other so (inl x) = inl x
+port_or one port same other so (inr (refused, all)) = inr (refused, so all)
+
+pub port_last : (one two port same other : Type 0) → (same → other) → one ⊎ (two ⊎ (port × same)) → one ⊎ (two ⊎ (port × other))
+port_last one two port same other so (inl x) = inl x
+port_last one two port same other so (inr x) = inr (port_or two port same other so x)
 
 -- a status of a start in which no arguments were read
 other_than : (status other : ℕ) → ¬ (other ≡ 2) → ¬ (other ≡ 7) → (status ≡ 2) ⊎ (status ≡ 7) → ¬ (status ≡ other)

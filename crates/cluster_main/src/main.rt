@@ -1,11 +1,14 @@
 //! The program `cluster`. Its arguments are `pipe`: it takes the bytes of one connection from standard input and replies on
 //! standard output; or `sim`: it plays the script of events on standard input, with one router, and prints on standard output; or
-//! `sim --routers m`: the same with m routers, from 1 to 8. What requests change is stored in the files node00.journal, node01.journal and
-//! on in the working folder, one for each node: they are absent, empty, or those that earlier starts left, with as many routers. It ends
-//! with the status of the run, and where that is not 0 it writes one line to standard error. It holds the lock of each of these files from
-//! before their first use to its end, and ends with status 5 where one is held by another; where its arguments are refused no file is opened.
+//! `sim --routers m`: the same with m routers, from 1 to 8; or `serve --port p --sessions k`, and `--routers m` where wanted: it listens on
+//! port p of 127.0.0.1, says so on standard error, serves k connections, and ends once they have ended. What requests change is stored in
+//! the files node00.journal, node01.journal and on in the working folder, one for each node: they are absent, empty, or those that earlier
+//! starts left, with as many routers. It ends with the status of the run, and where that is not 0 it writes one line to standard error. It
+//! holds the lock of each of these files from before their first use to its end, and ends with status 5 where one is held by another; where
+//! its arguments are refused no file is opened.
 #![tactic(auto)]
 
+mod announced;
 mod arguments;
 mod journals;
 mod laws;
@@ -14,6 +17,7 @@ mod locks;
 mod places;
 mod status;
 
+use crate::announced::Announced;
 use crate::arguments::arguments_of;
 use crate::journals::file_disks;
 use crate::line::told;
@@ -22,6 +26,7 @@ use crate::places::hold_places;
 use crate::status::serve;
 use cluster_top::Status;
 use outside::standard::{StdSink, StdSource, WallClock};
+use outside_tcp::TcpPort;
 use std::env;
 use std::process::ExitCode;
 
@@ -39,6 +44,7 @@ fn main(rt: HostRuntime) -> ExitCode {
     };
     let mut input = StdSource::new(rt.stdin());
     let mut out = StdSink::new(rt.stdout());
+    let mut port = Announced::new(TcpPort::new(rt), rt);
     let Ok(disks) = file_disks(rt, rt.alloc(), count) else {
         return told(&rt, Status::OutOfMemory.number());
     };
@@ -48,6 +54,7 @@ fn main(rt: HostRuntime) -> ExitCode {
         words,
         &mut input,
         &mut out,
+        &mut port,
         disks,
         &WallClock::new(rt),
     )

@@ -5,7 +5,7 @@ ghost use Rattle.std.specs.List.{AllByRecursion};
 ghost use Rattle.outside.specs.Devices.{NoneFell, SinkIsUntouched, SourceIsUntouched, sink_call, source_call};
 ghost use Rattle.node_model.specs.World.{World};
 ghost use Rattle.pipe_driver.specs.Counts.{RoseWhere};
-ghost use Rattle.cluster_service.specs.Arguments.{nodes_of, routers_of};
+ghost use Rattle.cluster_service.specs.Arguments.{IsServer, nodes_of, routers_of};
 ghost use Rattle.cluster_service.specs.Counts.{OneRoseWhere};
 ghost use Rattle.cluster_service.specs.Crashes.{AreDurableBefore, LeaveTheWay};
 ghost use Rattle.cluster_service.specs.Headline.{HeadlineOf};
@@ -30,7 +30,7 @@ use std::marker::Sync;
 use std::thread::Threads;
 
 /// Why no node was opened, as the status of a run.
-fn status_of(fault: OpenFault) -> Status
+pub(crate) fn status_of(fault: OpenFault) -> Status
     ensures refused { result ≡ statuses.DamagedJournal → (index : ℕ) × (fault ≡ Refused index) }
     ensures two { (result ≡ statuses.DamagedJournal) ⊎ (result ≡ statuses.OutOfMemory) }
 {
@@ -52,6 +52,7 @@ pub fn run_nodes<R: Threads + Sync, S: Source, D: Disk, K: Witness<D>, C: Clock>
     clock: &C,
 ) -> RunEnd<D>
     requires some { 0 < routers_of command }
+    requires driver { ¬ IsServer command }
     requires few { routers_of command ≤ 8 }
     requires disks { vec_len disks ≡ nodes_of command }
     ensures headline { (first : World) → IsTrue D.tells → BeginsOnFiles (routers_of command) (map D.content disks.items) first →
@@ -102,6 +103,7 @@ fn run_opened<R: Threads + Sync, S: Source, D: Disk, K: Witness<D>, C: Clock>(
     clock: &C,
 ) -> RunEnd<D>
     requires some { 0 < routers_of command }
+    requires driver { ¬ IsServer command }
     requires few { routers_of command ≤ 8 }
     requires journals { vec_len opened.journals ≡ nodes_of command }
     requires found { vec_len opened.found ≡ nodes_of command }

@@ -22,6 +22,14 @@ fn commands_start_nodes(rt: HostRuntime) -> Result<(), Fail> {
     assert!(rt; started(rt.alloc(), "sim --routers=8")? == Some(10));
     assert!(rt; started(rt.alloc(), "sim --routers +2")? == Some(4));
     assert!(rt; started(rt.alloc(), "sim --routers=007")? == Some(9));
+    assert!(rt; started(rt.alloc(), "serve --port 27017 --sessions 8")? == Some(3));
+    assert!(rt; started(rt.alloc(), "serve --sessions=8 --port=65535")? == Some(3));
+    assert!(rt;
+        started(
+            rt.alloc(),
+            "serve --routers 8 --port=1 --sessions 4294967295"
+        )? == Some(10)
+    );
     Ok(())
 }
 
@@ -45,6 +53,20 @@ fn other_words_start_none(rt: HostRuntime) -> Result<(), Fail> {
         "sim --",
         "sim --router 2",
         "--routers 2 sim",
+        "serve",
+        "serve --port 27017",
+        "serve --sessions 8",
+        "serve --port 0 --sessions 8",
+        "serve --port 65536 --sessions 8",
+        "serve --port 27017 --sessions 0",
+        "serve --port 27017 --sessions 4294967296",
+        "serve --port 27017 --sessions 8 --routers 9",
+        "serve --port 27017 --port=27017 --sessions 8",
+        "serve --port --sessions 8",
+        "serve --port 27017 --sessions",
+        "serve --port 27017 --sessions 8 --shards 2",
+        "serve --port 27017 --sessions 8 8",
+        "--port 27017 serve --sessions 8",
     ] {
         assert!(rt; started(rt.alloc(), line)?.is_none());
     }

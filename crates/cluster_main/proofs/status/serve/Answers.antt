@@ -20,3 +20,9 @@ returns-clause-write_fault g c = rw c.told.ensures c.status_of-stopped.ensures.w
 
 pub returns-clause-disks : goal.returns-clause-disks
 returns-clause-disks g c = rw c.told.ensures c.status_of-stopped.ensures.disks
+
+pub returns-clause-accept_fault : goal.returns-clause-accept_fault
+returns-clause-accept_fault g c = rw c.told.ensures c.status_of-stopped.ensures.accept_fault
+
+pub returns-clause-served : goal.returns-clause-served
+returns-clause-served g c = rw c.told.ensures c.status_of-stopped.ensures.served

@@ -3,7 +3,7 @@ use Rattle.std.specs.Prelude.{None, IsOkAnd, IsSome}
 use Rattle.outside.specs.Devices.{sink_call, source_call}
 use Rattle.cluster_service.specs.Arguments.{command_of, node_count_of}
 use Rattle.cluster_main.specs.Disks.{command_in}
-use Rattle.cluster_main.proofs.Unstarted.{as_they_were, none_unless}
+use Rattle.cluster_main.proofs.Unstarted.{as_they_were, if_some, none_unless, port_last, port_or}
 use Rattle.cluster_main.proofs.status.status_of.Goals as goal
 
 pub returns-in-Err-Unreadable-clause-disks : goal.returns-in-Err-Unreadable-clause-disks
@@ -40,10 +40,37 @@ returns-clause-disks g c =
             (ap (λ ds. ds.items) (e.arguments two), rest.0, rest.1, rest.2);
         untouched = λ is. (e.untouched is).0;
         six = e.six;
-        refused = λ started told bad. e.refused (starts started) told bad;
+        refused = λ started told bad.
+            let done = e.refused (starts started) told bad in
+            (port_or _ _ _ _ (λ all. ap (λ ds. ds.items) all) done.0, done.1);
         headline =
             let read : command_in c.args.words (λ given. given.items) ≡ command_of c.deref.result.now = rw c.in-Ok.is (rw c.deref.ensures.value refl) in
             rw read e.headline;
-        durable = λ started told failed. e.durable (starts started) told failed;
+        durable = λ started told failed. port_last _ _ _ _ _ (λ all. ap (λ ds. ds.items) all) (e.durable (starts started) told failed);
       },
     )
+
+pub returns-clause-server : goal.returns-clause-server
+returns-clause-server g c =
+    let read : command_in c.args.words (λ given. given.items) ≡ command_of c.deref.result.now = rw c.in-Ok.is (rw c.deref.ensures.value refl) in
+    rw read (if_some (command_of c.deref.result.now) _ _ c.run-ended.ensures.server (λ command both is. let all = both is in (all.0, all.1)))
+
+pub returns-clause-served : goal.returns-clause-served
+returns-clause-served g c =
+    let read : command_in c.args.words (λ given. given.items) ≡ command_of c.deref.result.now = rw c.in-Ok.is (rw c.deref.ensures.value refl) in
+    rw read c.run-ended.ensures.served
+
+pub returns-in-Err-Unreadable-clause-server : goal.returns-in-Err-Unreadable-clause-server
+returns-in-Err-Unreadable-clause-server g c = rw c.in-Err-Unreadable.is tt
+
+pub returns-in-Err-Unreadable-clause-served : goal.returns-in-Err-Unreadable-clause-served
+returns-in-Err-Unreadable-clause-served g c = rw c.in-Err-Unreadable.is tt
+
+pub returns-in-Err-Memory-clause-server : goal.returns-in-Err-Memory-clause-server
+returns-in-Err-Memory-clause-server g c = rw c.in-Err-Memory.is tt
+
+pub returns-in-Err-Memory-clause-served : goal.returns-in-Err-Memory-clause-served
+returns-in-Err-Memory-clause-served g c = rw c.in-Err-Memory.is tt
+
+pub returns-clause-words : goal.returns-clause-words
+returns-clause-words g c = rw c.in-Ok.is (rw c.deref.ensures.value at c.run-ended.ensures.words)

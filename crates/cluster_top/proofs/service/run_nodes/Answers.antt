@@ -74,7 +74,7 @@ returns-in-Err-clause-headline g c = λ first told begun.
     (λ told. first_leaves g.D.Disk.moment g.D.Disk.left_since first c.args.disks.items c.in-Err.field-0.disks.items
     (unopened_leave (disk_facts g.D.Disk.tells g.D.Disk.content g.D.Disk.may_leave g.D.Disk.moment g.D.Disk.left_since g.D.Disk.place g.D.Disk.fault_count) c.in-Err.field-0.status c.args.disks.items c.in-Err.field-0.disks.items c.in-Err.ensures.unopened first.nodes told journals))
     (none_owed g.K.Sink.tells g.D.Disk.tells g.D.Disk.place g.D.Disk.moment g.D.Disk.left_since c.args.command first (g.K.Sink.noted c.args.out.now) (g.K.Sink.held c.args.out.now) _ first)
-    c.args.command (first_may_play _ (map g.D.Disk.content c.args.disks.items) first begun) c.in-Err.field-0.status
+    c.args.command c.requires.driver (first_may_play _ (map g.D.Disk.content c.args.disks.items) first begun) c.in-Err.field-0.status
     (opening_ends c.in-Err.field-0.status (unopened_stops (disk_facts g.D.Disk.tells g.D.Disk.content g.D.Disk.may_leave g.D.Disk.moment g.D.Disk.left_since g.D.Disk.place g.D.Disk.fault_count) c.in-Err.field-0.status c.args.disks.items c.in-Err.field-0.disks.items c.in-Err.ensures.unopened) other))
 
 pub returns-in-Err-clause-durable : goal.returns-in-Err-clause-durable

@@ -69,7 +69,7 @@ returns-in-Err-clause-headline g c = λ disks first told opened begun.
     (λ told. first_leaves g.D.Disk.moment g.D.Disk.left_since first disks (disks_of c.args.opened.journals.items)
     (opened_leave facts disks c.args.opened.journals.items c.args.opened.found.items first.nodes told opened journals))
     (none_owed g.K.Sink.tells g.D.Disk.tells g.D.Disk.place g.D.Disk.moment g.D.Disk.left_since c.args.command first (g.K.Sink.noted c.args.out.now) (g.K.Sink.held c.args.out.now) _ first)
-    c.args.command (first_may_play _ (map g.D.Disk.content disks) first begun) c.status_of.result (inr (memory_of c.status_of.result c.status_of.ensures.two other)))
+    c.args.command c.requires.driver (first_may_play _ (map g.D.Disk.content disks) first begun) c.status_of.result (inr (memory_of c.status_of.result c.status_of.ensures.two other)))
 
 pub returns-in-Err-clause-durable : goal.returns-in-Err-clause-durable
 returns-in-Err-clause-durable g c = λ told failed. rw c.unserved.ensures.disks (c.close_all.ensures.durable told c.requires.«open»)
