@@ -156,12 +156,7 @@ impl<'a, R: Wait> Acceptor for TurnAcceptor<'a, R> {
         Ok(())
     }
 
-    fn next(&mut self) -> Result<Option<TurnLink<'a, R>>, Failed>
-        ensures cause { OnErr result (Rose self.old.faults self.new.faults) }
-        ensures calm { OnOk result (self.new.faults ≡ self.old.faults) }
-        ensures later { self.old.faults ≤ self.new.faults }
-        ensures fault { OnErr result (self.new.faults ≡ next_count self.old.faults) }
-    {
+    fn next(&mut self) -> Result<Option<TurnLink<'a, R>>, Failed> {
         match self.links.pop_front() {
             Some(link) => Ok(Some(link)),
             None => {

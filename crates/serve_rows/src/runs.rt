@@ -73,6 +73,25 @@ fn arguments_of(alloc: Global, row: &Row) -> Result<Vec<Text>, RowFault> {
     Ok(arguments)
 }
 
+/// Serves links as these arguments say, by nodes on these disks.
+fn served_on<'a, R: Threads + Wait + Sync>(
+    rt: &R,
+    alloc: Global,
+    arguments: &[Text],
+    acceptor: &mut TurnAcceptor<'a, R>,
+    disks: Vec<MemDisk>,
+) -> Result<Ended<MemDisk, TurnLink<'a, R>>, RowFault> {
+    if node_count(arguments) != Some(disks.len()) {
+        return Err(RowFault::BadLine);
+    }
+    let mut input = MemSource::new(Vec::new(alloc), Vec::new(alloc));
+    let mut out = MemSink::new(Vec::new(alloc));
+    let clock = FixedClock(MOMENT);
+    Ok(run(
+        rt, alloc, arguments, &mut input, &mut out, acceptor, disks, &clock, &OpenGate,
+    ))
+}
+
 /// Serves the row's links.
 fn served<'a, R: Threads + Wait + Sync>(
     rt: &'a R,
@@ -82,24 +101,8 @@ fn served<'a, R: Threads + Wait + Sync>(
 ) -> Result<Ended<MemDisk, TurnLink<'a, R>>, RowFault> {
     let arguments = arguments_of(alloc, row)?;
     let disks = disks_of(alloc, row)?;
-    if node_count(&arguments) != Some(disks.len()) {
-        return Err(RowFault::BadLine);
-    }
-    let mut input = MemSource::new(Vec::new(alloc), Vec::new(alloc));
-    let mut out = MemSink::new(Vec::new(alloc));
     let mut acceptor = TurnAcceptor::new(links_of(rt, alloc, row, turns)?, row.is_refused);
-    let clock = FixedClock(MOMENT);
-    Ok(run(
-        rt,
-        alloc,
-        &arguments,
-        &mut input,
-        &mut out,
-        &mut acceptor,
-        disks,
-        &clock,
-        &OpenGate,
-    ))
+    served_on(rt, alloc, &arguments, &mut acceptor, disks)
 }
 
 /// Appends the bytes of the requests, and those of the replies. Returns whether each reply's step is not before that of its request.
