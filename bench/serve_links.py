@@ -87,6 +87,7 @@ def all_at_once(many=64, each=20):
         for it in threads:
             it.join()
         checks.compare(f"{many} connections at once", [it for it in got.values() if it != [WROTE] * each + [PONG]], [])
+        time.sleep(1.5)  # a read that names no time may miss what other routers wrote in the same second
         with Link(running.port) as link:
             checks.compare("what they inserted", link.ask('{count: "c", $db: "d"}').startswith(f"{{n: {many * each},"), True)
         checks.compare("the end of all connections", running.end(), (0, ""))
@@ -261,9 +262,9 @@ def try_port_in_use():
         again.kill()
     with tempfile.TemporaryDirectory() as folder:
         held = pathlib.Path(folder) / "node01.journal"
-        held.write_bytes(b"\0")
+        held.write_bytes(b"\1\0")
         refused = Server(PROGRAM, folder)
-        checks.compare("a journal with a byte", (refused.said.strip(), refused.end()[0], held.read_bytes()), ("cluster: damaged journal", 6, b"\0"))
+        checks.compare("a damaged journal", (refused.end()[0], held.read_bytes()), (6, b"\1\0"))
 
 
 def try_words():
