@@ -13,7 +13,6 @@ import contextlib
 import os
 import pathlib
 import re
-import socket
 import struct
 import subprocess
 import sys
@@ -25,6 +24,7 @@ sys.path.insert(0, str(TOP / "bench" / "rows"))
 
 from bson import DOCUMENT, fields_of, read_fields, shown  # noqa: E402
 from inserts import built  # noqa: E402
+from losing import Losing, connect, next_message  # noqa: E402
 from wire import message, split_messages  # noqa: E402
 
 PROGRAM = os.path.abspath(sys.argv[1]) if len(sys.argv) > 1 else built()
@@ -73,17 +73,6 @@ def server():
                 running.kill()
 
 
-def connect(port):
-    connection = socket.create_connection(("127.0.0.1", port))
-    connection.settimeout(20)
-    return connection, connection.makefile("rb")
-
-
-def next_message(stream):
-    header = stream.read(16)
-    return header + stream.read(struct.unpack_from("<i", header)[0] - 16) if len(header) == 16 else b""
-
-
 def document_of(reply):
     return shown((DOCUMENT, read_fields(reply, 21)[0])) if reply else "none"
 
@@ -104,45 +93,13 @@ def run_app(port):
     return ran.stdout.splitlines() + ran.stderr.splitlines()
 
 
-class Losing:
-    """Passes connections on to a server, and loses the first reply to each numbered write together with its connection."""
-
-    def __init__(self, port):
-        self.port, self.lost, self.seen = port, 0, set()
-        self.listener = socket.create_server(("127.0.0.1", 0))
-        threading.Thread(target=self.accept, daemon=True).start()
-
-    def accept(self):
-        while True:
-            threading.Thread(target=self.pass_on, args=self.listener.accept()[:1], daemon=True).start()
-
-    def is_to_lose(self, request):
-        # The driver's own writes have `ordered`. The one that app.py numbers and sends twice itself has not.
-        is_numbered = b"\x12txnNumber\0" in request and b"\x08ordered\0" in request
-        is_new = request[8:] not in self.seen
-        self.seen.add(request[8:])
-        return is_numbered and is_new
-
-    def pass_on(self, client):
-        server, replies = connect(self.port)
-        with client, server, replies, client.makefile("rb") as requests, contextlib.suppress(OSError):
-            while request := next_message(requests):
-                server.sendall(request)
-                reply = next_message(replies)
-                if self.is_to_lose(request):
-                    self.lost += 1
-                    client.shutdown(socket.SHUT_RDWR)
-                    return
-                client.sendall(reply)
-
-
 def try_app():
     wanted = block("inserted:")
     with server() as port:
         compare("app.py", run_app(port), wanted)
     with server() as port:
         losing = Losing(port)
-        compare("app.py with lost replies", run_app(losing.listener.getsockname()[1]), wanted)
+        compare("app.py with lost replies", run_app(losing.port), wanted)
         compare("app.py retries 12 writes", losing.lost, 12)
 
 
