@@ -188,7 +188,7 @@ def try_hex(name):
 def try_script():
     script = (EXAMPLES / "twice.script").read_bytes()
     with tempfile.TemporaryDirectory() as folder:
-        ran = subprocess.run([PROGRAM, "sim"], cwd=folder, input=script, capture_output=True, timeout=60)
+        ran = subprocess.run([PROGRAM, "sim", "--shards", "1"], cwd=folder, input=script, capture_output=True, timeout=60)
     compare("twice.script", ran.stdout.decode().splitlines(), block("reply 0"))
 
 

@@ -1,10 +1,10 @@
 #!/usr/bin/env -S python3 -B
 """Plays random calls on the same files, one after another, by the built program, and compares replies and journals with the separate account of rows/.
 
-Each try is some calls of `cluster sim` in one folder. Each request comes as in `pipe`: all nodes are given a moment, the router takes the request, and
-messages are delivered until none is left. The moments of a call begin anywhere, also before those of the calls before. Requests are inserts, updates and
-deletes with and without a client's number, some sent again, also those of earlier calls; finds and counts, some at or after times that were returned;
-cursors, also of earlier calls; `shardCollection` and `split`. Ends with status 1 where a reply or a journal is another.
+Each try is some calls of `cluster sim` in one folder, with one to three shards. Each request comes as in `pipe`: all nodes are given a moment, the router
+takes the request, and messages are delivered until none is left. The moments of a call begin anywhere, also before those of the calls before. Requests are
+inserts, updates and deletes with and without a client's number, some sent again, also those of earlier calls; finds and counts, some at or after times that
+were returned; cursors, also of earlier calls; `shardCollection` and `split`. Ends with status 1 where a reply or a journal is another.
 
     bench/random_calls.py PROGRAM [TRIES] [SEED]
 """
@@ -83,21 +83,21 @@ def call(program, folder, cluster, client):
         source = client.request()
         bytes_ = message(number, source)
         moment += client.chance.choice([0, 0, 1000])
-        lines += [f"moment {node} {moment}" for node in range(3)] + [f"client 0 {bytes_.hex()}", "settle"]
+        lines += [f"moment {node} {moment}" for node in range(cluster.router + 1)] + [f"client 0 {bytes_.hex()}", "settle"]
         _, fields, reply = connection.ask(bytes_, moment)
         client.note(fields)
         wanted.append(f"reply 0 {reply.hex()}")
         sources.append(source)
     script = "".join(f"{line}\n" for line in lines)
-    ran = subprocess.run([program, "sim"], cwd=folder, input=script.encode(), capture_output=True)
+    ran = subprocess.run([program, "sim", "--shards", str(cluster.router - 1)], cwd=folder, input=script.encode(), capture_output=True)
     got = ran.stdout.decode().split("\n")[:-1]
     if ran.returncode != 0 or len(got) != len(wanted):
         return f"status {ran.returncode}, {len(got)} replies of {len(wanted)}"
     for source, one, other in zip(sources, wanted, got):
         if one != other:
             return f"{source}\n  wanted {reply_in(one)}\n  got    {reply_in(other)}"
-    files = [(pathlib.Path(folder) / f"node{node:02}.journal").read_bytes() for node in range(3)]
-    return next((f"node {node}'s journal is another" for node in range(3) if files[node] != file_of(cluster.journals[node])), None)
+    files = [(pathlib.Path(folder) / f"node{node:02}.journal").read_bytes() for node in range(cluster.router + 1)]
+    return next((f"node {node}'s journal is another" for node in range(cluster.router + 1) if files[node] != file_of(cluster.journals[node])), None)
 
 
 def reply_in(line):
@@ -109,7 +109,7 @@ def main():
     seed = int(sys.argv[3]) if len(sys.argv) > 3 else random.randrange(10**6)
     calls = 0
     for number in range(tries):
-        client, cluster = Client(random.Random(seed + number)), Cluster()
+        client, cluster = Client(random.Random(seed + number)), Cluster(1 + number % 3)
         with tempfile.TemporaryDirectory() as folder:
             for place in range(client.chance.randrange(2, 6)):
                 if place:

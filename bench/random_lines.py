@@ -5,14 +5,13 @@ from wire import Request, message
 
 KINDS = ["TableAsk", "TableTold", "WriteAsk", "ReadAsk", "TimeAsk", "HalfAsk", "WriteDone", "ReadRows", "TimeTold", "Refused", "Batch",
     "SplitAsk", "SplitDone"]
-FIRST_ROUTER = 2
 
 
 class Asked:
-    """A request: the router and the link that it came on, its number among the router's requests, and the time that the router had returned before."""
+    """A request: the router, its node and the link that it came on, its number among the router's requests, and the time that it had returned before."""
 
-    def __init__(self, router, link, count, bytes_, known):
-        self.router, self.link, self.count, self.known = router, link, count, known
+    def __init__(self, router, node, link, count, bytes_, known):
+        self.router, self.node, self.link, self.count, self.known = router, node, link, count, known
         self.request = Request(bytes_)
         self.reply = None
 
@@ -21,8 +20,9 @@ class Script:
     """A random script, and what its requests are."""
 
     def __init__(self, rng):
-        self.rng, self.routers = rng, rng.choice([1, 1, 2, 3, 4])
-        self.lines, self.requests, self.moment = [], [], [0] * (FIRST_ROUTER + self.routers)
+        self.rng, self.shards, self.routers = rng, rng.choice([1, 1, 2, 3]), rng.choice([1, 1, 2, 3, 4])
+        self.first_router = 1 + self.shards
+        self.lines, self.requests, self.moment = [], [], [0] * (self.first_router + self.routers)
         self.links, self.counts, self.numbered, self.settled = [0] * self.routers, [0] * self.routers, [], 0
         self.transactions = {}
 
@@ -51,11 +51,12 @@ class Script:
         return f'{{update: "c", updates: [{listed}], $db: "d"{end}}}'
 
     def read(self):
-        key = self.key()
+        key, after = self.key(), f"readConcern: {{afterClusterTime: Timestamp({self.rng.randrange(8)}, 0)}}"
         return self.rng.choice([
             '{find: "c", $db: "d"}', '{find: "c", sort: {x: 1, _id: -1}, $db: "d"}', f'{{find: "c", filter: {{_id: {key}}}, $db: "d"}}',
             f'{{find: "c", filter: {{_id: {{$in: [{key}, {self.key()}]}}}}, $db: "d"}}', f'{{find: "c", filter: {{_id: {{$gte: {key}}}}}, limit: 2, $db: "d"}}',
-            '{count: "c", $db: "d"}', f'{{count: "c", query: {{x: {{$gt: 1}}}}, $db: "d"}}', '{find: "none", $db: "d"}',
+            '{count: "c", $db: "d"}', f'{{count: "c", {after}, $db: "d"}}', f'{{find: "c", {after}, sort: {{_id: 1}}, $db: "d"}}',
+            f'{{count: "c", query: {{x: {{$gt: 1}}}}, $db: "d"}}', '{find: "none", $db: "d"}',
             '{aggregate: "c", pipeline: [{$group: {_id: null, total: {$sum: "$x"}}}], cursor: {}, $db: "d"}',
         ])
 
@@ -69,7 +70,7 @@ class Script:
     def client(self, router, source):
         self.counts[router] += 1
         bytes_ = message(len(self.requests) + 1, source)
-        self.lines.append((f"client {router} {bytes_.hex()}", Asked(router, self.links[router], self.counts[router], bytes_, None)))
+        self.lines.append((f"client {router} {bytes_.hex()}", Asked(router, self.first_router + router, self.links[router], self.counts[router], bytes_, None)))
         self.requests.append(self.lines[-1][1])
         if "txnNumber" in source:
             self.numbered.append(source)
@@ -86,7 +87,7 @@ class Script:
         if choice < 0.5:
             self.ask()
         elif choice < 0.6:
-            node = rng.randrange(FIRST_ROUTER + self.routers)
+            node = rng.randrange(self.first_router + self.routers)
             self.moment[node] += rng.choice([0, 1, 999, 1000, 5000])
             self.add(f"moment {node} {self.moment[node]}")
         elif choice < 0.75:
@@ -120,7 +121,7 @@ class Script:
             self.line()
         for moment in (10**6, 2 * 10**6):
             self.add("settle")
-            for node in range(FIRST_ROUTER + self.routers):
+            for node in range(self.first_router + self.routers):
                 self.add(f"moment {node} {moment}")
         self.add("settle")
         return self

@@ -1,9 +1,9 @@
 #!/usr/bin/env -S python3 -B
 """Plays random scripts on the built program, and looks whether its journals tell one history that explains every reply.
 
-Scripts have clients of one to four routers, moments, messages held back by kind, delivered late or again, links that are closed by bytes that are no request,
-retries of numbered writes by other routers, and collections that are created and split. Of what the program printed and of what its journals hold, read by
-the account of the formats in rows/, it checks:
+Scripts have one to three shards and clients of one to four routers, moments, messages held back by kind, delivered late or again, links that are closed by
+bytes that are no request, retries of numbered writes by other routers, and collections that are created and split. Of what the program printed and of what its
+journals hold, read by the account of the formats in rows/, it checks:
 
 - the shard's entries rise in time, no two have one number, and each has the outcome of its operation on what the entries before it left;
 - each write's reply shows the entry of each statement, or 225 where its session has a greater transaction; after the first error of an ordered write
@@ -11,6 +11,7 @@ the account of the formats in rows/, it checks:
 - the catalogue's changes rise in time, and each was requested; a collection is created once, and split where no chunk begins; each table of the shard is
   what the first so many of them make, each longer than the last;
 - what a reply says of a collection or a chunk was so by its time, and 118 comes only where no earlier reply showed the collection;
+- the other shards store nothing; 72 comes only for a time that is above the greatest one that it names, which is not before what its router returned earlier;
 - each read at T is the answer of its pipeline on the entries up to T, and T is not before what its router returned earlier, nor above all entries and
   ceilings of the shard, or, of a name that was never created, all ceilings of the catalogue;
 - each request has one reply at most, and has one at the end, where its link is still open.
@@ -33,7 +34,7 @@ from commands import CHUNKS, stages_of  # noqa: E402
 from inserts import records  # noqa: E402
 from order import order_of  # noqa: E402
 from pipelines import Ambiguous, answer  # noqa: E402
-from random_lines import FIRST_ROUTER, Script  # noqa: E402
+from random_lines import Script  # noqa: E402
 from records import WHOLE, table_record  # noqa: E402
 
 
@@ -156,7 +157,7 @@ class History:
 
 
 def check_write(history, asked, command, fields):
-    own = ((FIRST_ROUTER + asked.router, 1, asked.count), 0)
+    own = ((asked.node, 1, asked.count), 0)
     session, transaction = (command["lsid"], command["txnNumber"]) if "txnNumber" in command else own
     errors = {dict(value[1])["index"][1]: dict(value[1]) for _, value in enumerate((field(fields, "writeErrors") or (0, []))[1])}
     count = modified = 0
@@ -232,8 +233,13 @@ def check_reply(history, catalogue, asked):
     command, fields = asked.request.command(), asked.reply
     if command["name"] in CHUNKS:
         return check_change(catalogue, asked, command, fields)
+    after = (command.get("readConcern") or (None, None))[1]
+    if after is not None and field(fields, "code") == (0x10, 72):
+        greatest = field(field(fields, "evidence")[1], "greatest")[1]
+        return want(asked.known <= greatest < after, "72 for a time that is there, or below what the router returned")
     want(field(fields, "ok") == (0x10, 1), "a refusal")
     at = field(fields, "operationTime")[1]
+    want(after is None or at >= after, "a read before the time that it names")
     if command["name"] in ("insert", "update", "delete"):
         return check_write(history, asked, command, fields)
     want(at >= asked.known, "a read before what its router returned")
@@ -244,7 +250,8 @@ def check_reply(history, catalogue, asked):
 def play(program, folder, script):
     """Plays the script line by line in one go, and gives its status and the lines printed."""
     text = "".join(f"{line}\n" for line, _ in script.lines)
-    arguments = [program, "sim"] + ([] if script.routers == 1 else ["--routers", str(script.routers)])
+    arguments = [program, "sim"] + ([] if script.shards == 2 else ["--shards", str(script.shards)])
+    arguments += [] if script.routers == 1 else ["--routers", str(script.routers)]
     run = subprocess.run(arguments, cwd=folder, input=text.encode(), stdout=subprocess.PIPE, stderr=subprocess.PIPE)
     return run.returncode, run.stdout.decode().splitlines()
 
@@ -287,6 +294,8 @@ def one(program, seed, length):
         history = History(pathlib.Path(folder) / "node01.journal")
         catalogue = Catalogue(pathlib.Path(folder) / "node00.journal", script.requests)
         catalogue.check_tables(pathlib.Path(folder) / "node01.journal")
+        for node in range(2, script.first_router):
+            want(not list(records(pathlib.Path(folder) / f"node{node:02}.journal")), f"shard {node} stored something")
         want(status == 0, f"status {status}")
         known_times(script, printed)
         replies = 0

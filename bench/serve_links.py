@@ -255,7 +255,7 @@ def try_port_in_use():
         refused = Server(PROGRAM, folder, port=taken.getsockname()[1])
         checks.compare("a port in use", (refused.said.strip(), refused.end()), ("cluster: accept failed", (8, "")))
         left = files_in(folder)
-        checks.compare("the journals beside a port in use", sorted(left), ["node00.journal", "node01.journal", "node02.journal"])
+        checks.compare("the journals beside a port in use", sorted(left), [f"node{node:02}.journal" for node in range(4)])
         print(f"told: their lengths {sorted(len(it) for it in left.values())}")
         again = Server(PROGRAM, folder, sessions=1)
         checks.compare("a start with another port in the same folder", again.listens(), True)

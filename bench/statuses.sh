@@ -21,7 +21,7 @@ printf '\001\154\334\002\0\0\0\0\0\0\0\0\335\007\0\0' > "$work/long"
 failed=0
 mkdir "$work/first" && (cd "$work/first" && "$top/cluster" sim < /dev/null) && rm -r "$work/first" || { echo "statuses: the program is not built"; exit 1; }
 advice_5='cluster: is another run using this folder? then use a new one; else look at the disk: full, read-only or faulty'
-advice_6='cluster: a node*.journal is damaged or of another node (docs/OPERATING.md): restore those of one backup, or use a new folder'
+advice_6='cluster: a node*.journal is damaged, or of another node: did the folder begin with other numbers (--shards, --routers)? see docs/OPERATING.md'
 
 # fresh: goes to a new working folder
 fresh() {

@@ -22,23 +22,30 @@ def halves(key=10):
     return split_at(WHOLE, int32(key))
 
 
-def old_table():
-    play = Play("router 0 inserts, router 1 splits, router 0 inserts by its old table; router 1 reads by its new one: the shard stores one table", 2)
+def of_shards(shards):
+    return "" if shards == 1 else f"; {shards} shards"
+
+
+def old_table(shards=1):
+    words = "router 0 inserts, router 1 splits, router 0 inserts by its old table; router 1 reads by its new one: the shard stores one table"
+    play = Play(words + of_shards(shards), 2, shards)
     play.settled(play.client(0, Ask(ONE, done(1, 2, seconds=0))))
     play.settled(play.client(1, split(10, changed(2, 0))))
     play.settled(play.client(0, Ask(inserted("{_id: 20}"), done(1, 3, seconds=0)), 2))
     play.settled(play.client(1, find("sort: {_id: 1}", first("{_id: 1}", 2, seconds=0)), 2))
-    entries = [table_record("d.c", at(1)), entry(at(2), ONE, 1), entry(at(3), inserted("{_id: 20}"), 2)]
-    return play.rows([[created(), split_record("d.c", int32(10), at(2))], entries] + lives(2))
+    entries = [table_record("d.c", at(1)), entry(at(2), ONE, 1, shards=shards), entry(at(3), inserted("{_id: 20}"), 2, shards=shards)]
+    return play.rows([[created(), split_record("d.c", int32(10), at(2))], entries] + [[]] * (shards - 1) + lives(2))
 
 
-def held_answer():
-    play = Play("the answer to a split is held back; at a moment the split is requested again, and it is one split")
+def held_answer(shards=1, more=(), status=0):
+    words = "the answer to a split is held back; at a moment the split is requested again, and it is one split"
+    play = Play(words + of_shards(shards) + "".join(f"; {line}" for line in more), 1, shards)
     play.settled(play.client(0, shard(sharded(1, seconds=0))))
     asked = play.client(0, split(10, changed(0, 1)), 2)
-    play.play("settle except SplitDone", "moment 2 1000", "settle")
+    play.play("settle except SplitDone", f"moment {1 + shards} 1000", "settle")
     play.gets(asked)
-    return play.rows([[created(), split_record("d.c", int32(10), at(2))], []] + lives(1))
+    play.play(*more)
+    return play.rows([[created(), split_record("d.c", int32(10), at(2))]] + [[]] * shards + lives(1), status)
 
 
 def moment_creates_once():

@@ -33,18 +33,19 @@ def changed(counter, seconds=1000):
 MISSING = refused(118, "NamespaceNotSharded")
 
 
-def examples():
-    lines = connection_row("a collection is created, split at 10 and once more there, and has a document; a collection that there is not", [
+def examples(shards=1):
+    keeps, more_shards = range(2 + shards), "" if shards == 1 else f"; {shards} shards"
+    lines = connection_row(f"a collection is created, split at 10 and once more there, and has a document; a collection that there is not{more_shards}", [
         shard(sharded(1)), split(10, changed(2)), split(10, changed(2)), Ask(inserted("{_id: 10}"), done(1, 3)), split(10, MISSING, "d.e"),
-    ], keeps=(0, 1, 2))
-    return lines + connection_row("four chunks, and a document in each: reads see one collection; it is created once", [
+    ], keeps=keeps, shards=shards)
+    return lines + connection_row(f"four chunks, and a document in each: reads see one collection; it is created once{more_shards}", [
         shard(sharded(1)), split(10, changed(2)), split(5, changed(3)), split(20, changed(4)),
         Ask(inserted("{_id: 1, x: 1}"), done(1, 5)), Ask(inserted("{_id: 7, x: 1}"), done(1, 6)), Ask(inserted("{_id: 12, x: 0}"), done(1, 7)),
         Ask(inserted("{_id: 25, x: 1}"), done(1, 8)),
         find("sort: {x: 1, _id: -1}, skip: 1, limit: 2", first("{_id: 25, x: 1}, {_id: 7, x: 1}", 8)),
         find("filter: {_id: {$gte: 7}}, sort: {_id: 1}", first("{_id: 7, x: 1}, {_id: 12, x: 0}, {_id: 25, x: 1}", 8)),
         shard(sharded(8)),
-    ], keeps=(0, 1, 2))
+    ], keeps=keeps, shards=shards)
 
 
 def served():

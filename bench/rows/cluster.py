@@ -1,6 +1,7 @@
-"""What connections to the cluster are answered, one after another, and what they leave in the journals of its three nodes.
+"""What connections to the cluster are answered, one after another, and what they leave in the journals of its nodes.
 
 Each node has a time of its own: after a start those of the catalogue and of the shard are the greatest in their journals, and the router's is 0.
+The first shard has all chunks. The other shards store nothing, and their time is that of the last moment, which the router has too.
 """
 from bson import BOOLEAN, DATE, DOCUMENT, array, doc, int32, int64, size, text, time, whole
 from changing import applied, key_of
@@ -56,18 +57,19 @@ def split_at(chunks, key):
 class Cluster:
     """Collections with all versions of their documents, numbered statements and open cursors."""
 
-    def __init__(self):
+    def __init__(self, shards=1):
+        self.router = ROUTER + shards - 1
         self.collections, self.book, self.blocks = {}, {}, 0
         self.covered = 0  # the greatest time of an entry or a ceiling of the shard
         self.stored = [0, 0]  # the greatest times in the journals of the catalogue and of the shard
-        self.journals = [[], [], []]
+        self.journals = [[] for _ in range(self.router + 1)]
         self.life = 0
         self.begin_life()
 
     def begin_life(self):
         """The nodes start on their journals: the router begins its next life, without a time, tables, requests or cursors."""
         self.life += 1
-        self.journals[ROUTER].append(life_record(self.life))
+        self.journals[self.router].append(life_record(self.life))
         self.time, self.moment, self.requests = 0, 0, 0
         self.of_catalogue, self.of_shard = self.stored
         self.tables, self.cursors, self.told = set(), {}, 64 * self.blocks
@@ -169,7 +171,7 @@ class Cluster:
         kind, namespace = command["name"], command["own"]
         collection = self.collections[namespace] if namespace in self.tables else self.begin(namespace)
         self.to_shard()
-        session, transaction = (ROUTER, self.life, self.requests), 0
+        session, transaction = (self.router, self.life, self.requests), 0
         if "txnNumber" in command:
             session, transaction = command["lsid"], command["txnNumber"]
         told = {"n": 0, "modified": 0, "upserted": [], "errors": [], "time": None}
@@ -292,7 +294,7 @@ class Cluster:
 
     def open_cursor(self, namespace, at, left):
         if self.told == 64 * self.blocks:
-            self.journals[ROUTER].append(block_record(self.blocks))
+            self.journals[self.router].append(block_record(self.blocks))
             self.blocks += 1
         self.told += 1
         self.cursors[self.told] = (namespace, at, left)

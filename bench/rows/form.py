@@ -2,6 +2,7 @@
 import struct
 
 from bson import DOCUMENT, fields_of, shown, written
+from cluster import Cluster
 from records import file_of
 from wire import QUERY, Connection, message, pieces, shown_request, told
 
@@ -54,10 +55,11 @@ def ask_lines(name, connection, ask, number):
     return lines
 
 
-def connection_row(name, asks, clock=(), keeps=(), is_cut=False):
+def connection_row(name, asks, clock=(), keeps=(), is_cut=False, shards=1):
     """The lines of a row: a connection to a new cluster. `keeps`: the nodes whose journals are told; `is_cut`: in every cutting."""
-    connection = Connection(clock)
-    lines = [f"# {name}"] + ([f"clock {' '.join(map(str, clock))}"] if clock else []) + (["cut"] if is_cut else [])
+    connection = Connection(clock, Cluster(shards))
+    lines = [f"# {name}"] + ([f"pipe --shards {shards}"] if shards > 1 else [])
+    lines += ([f"clock {' '.join(map(str, clock))}"] if clock else []) + (["cut"] if is_cut else [])
     for number, ask in enumerate(asks):
         ask = Ask(ask) if isinstance(ask, str) else ask
         lines += ask_lines(name, connection, ask, number + 1)

@@ -1,5 +1,5 @@
 #!/usr/bin/env python3
-"""Writes the rows of reads, cursors and retries into the data of wire_rows, and the requests of the examples for a new user.
+"""Writes rows into the data of wire_rows and serve_rows, and the requests of the examples for a new user.
 
 What each request gets is told by the modules of this folder alone, which hold a separate account of the formats: bson (documents), order, matching,
 changing and pipelines (the languages), commands (the order of refusals), cluster (what is done, times), records (of journals), wire (messages, and the words
@@ -19,7 +19,9 @@ import refusals
 import retries
 import routers
 import scripts
+import serving
 import sessions
+import shards
 import sizes
 import starting_scripts
 import starts
@@ -27,6 +29,7 @@ from form import put_file
 
 TOP = pathlib.Path(__file__).resolve().parent.parent.parent
 DATA = TOP / "crates" / "wire_rows" / "data"
+SERVED = TOP / "crates" / "serve_rows" / "data"
 
 
 def main():
@@ -38,9 +41,12 @@ def main():
     put_file(DATA / "chunks.script.rows", chunk_scripts.rows())
     put_file(DATA / "retries.script.rows", scripts.rows() + routers.one_router() + ceilings.one_router())
     put_file(DATA / "routers.rows", routers.rows() + ceilings.rows())
+    put_file(DATA / "shards.rows", shards.rows())
     put_file(DATA / "starts.rows", starts.rows())
     put_file(DATA / "starts.script.rows", starting_scripts.scripts())
     put_file(DATA / "drivers.reads.rows", drivers.rows(DATA / "drivers.rows"))
+    put_file(SERVED / "links.rows", serving.links_rows())
+    put_file(SERVED / "ends.rows", serving.ends_rows())
     sessions.put(TOP / "examples", TOP / "examples-README-parts.md")
 
 

@@ -1,8 +1,9 @@
-"""The records of the three journals, and the bytes of a journal."""
+"""The records of the journals, and the bytes of a journal."""
 import struct
 
 from bson import written
 
+# the first router's number is that of a cluster of one shard; more shards come before it
 CATALOGUE, SHARD, ROUTER = 0, 1, 2
 # the chunks of a table: where each begins and ends, a key or None, and its minor number; a table has seen one change for each of its chunks
 WHOLE = ((None, None, 0),)

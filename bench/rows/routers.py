@@ -13,20 +13,19 @@ from changing import applied
 from commands import command_of
 from form import Ask
 from reads import find, first, inserted
-from records import catalogue_ceiling_record, ceiling_record, create_record, entry_record, file_of, life_record, table_record
+from records import ROUTER, catalogue_ceiling_record, ceiling_record, create_record, entry_record, file_of, life_record, table_record
 from retries import done, errors, insert
 from scripts import spelled
 from wire import Request, pieces, reply_bytes
 
-ROUTER = 2
 ONE = "{_id: 1}"
 
 
 class Play:
-    """A script for so many routers: its lines, its requests in order, and what is printed."""
+    """A script for so many routers and shards: its lines, its requests in order, and what is printed."""
 
-    def __init__(self, name, routers=1):
-        self.name, self.routers, self.lines, self.printed, self.notes, self.replies = name, routers, [], [], [], [0] * routers
+    def __init__(self, name, routers=1, shards=1):
+        self.name, self.routers, self.shards, self.lines, self.printed, self.notes, self.replies = name, routers, shards, [], [], [], [0] * routers
 
     def client(self, router, ask, identifier=1):
         bytes_ = ask.bytes(identifier)
@@ -59,18 +58,18 @@ class Play:
 
     def rows(self, keeps, status=0):
         """The lines of the row; `keeps`: the records of each node, from node 0 on."""
-        head = "sim" if self.routers == 1 else f"sim --routers {self.routers}"
+        head = f"sim --shards {self.shards}" + (f" --routers {self.routers}" if self.routers > 1 else "")
         lines = [f"# {self.name}", head] + self.notes + [f"ask {spelled(self.lines)}"]
         lines += [f"gets {spelled(self.printed)}"] if self.printed else []
         return lines + [f"keeps {node} {pieces(file_of(records))}" for node, records in enumerate(keeps)] + [f"ends {status} 0"]
 
 
-def entry(at, source, count, router=0, index=0, before=None, number=None, namespace="d.c", life=1):
+def entry(at, source, count, router=0, index=0, before=None, number=None, namespace="d.c", life=1, shards=1):
     """The record of a statement of an insert, under the router's own number or the client's."""
     command = command_of(fields_of(source), [])
     statement = command["statements"][index]
     _, reply = applied("insert", statement, before)
-    session, transaction = number or ((ROUTER + router, life, count), 0)
+    session, transaction = number or ((ROUTER + shards - 1 + router, life, count), 0)
     return entry_record(at, namespace, (session, transaction, index), "insert", statement, reply)
 
 

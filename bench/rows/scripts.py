@@ -41,7 +41,7 @@ class Script:
 
     def rows(self, printed):
         """The lines of the row; `printed`: what was told, in the order in which it is printed."""
-        lines = [f"# {self.name}", "sim"] + [f"note {ask.source}" for ask, _ in self.requests]
+        lines = [f"# {self.name}", "sim --shards 1"] + [f"note {ask.source}" for ask, _ in self.requests]
         lines += [f"note {' / '.join(line if not line.startswith('client') else 'client' for line in self.lines)}"]
         lines.append(f"ask {spelled(self.lines)}")
         lines += [f"gets {spelled([line for line, _ in printed])}"] + [f"note gets {note}" for _, note in printed]

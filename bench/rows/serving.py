@@ -1,22 +1,26 @@
 """Rows of servers: several connections at once."""
 from bson import DOCUMENT, shown
-from cluster import Cluster, file_of, refusal
+from chunks import changed, split
+from cluster import Cluster, refusal
 from commands import Refused
 from cursors import SORTED, listed, more, next_, not_found
 from form import SHOWN, Ask, check
-from reads import find, first, inserted
+from reads import find, first, inserted, refused
+from records import file_of
 from retries import done, errors, insert, update
 from wire import CLOCK, Request, pieces, reply_bytes, shown_request
 
 PING = '{ping: 1, $db: "d"}'
+AHEAD = "readConcern: {afterClusterTime: Timestamp(1000, 5)}"
+GREATEST = "{greatest: Timestamp(1000, 4)}"
 TIME = b"\x11operationTime\0"
 
 
 class Links:
     """Connections to one new cluster, each with the number of its last reply."""
 
-    def __init__(self, links):
-        self.cluster, self.replies = Cluster(), [0] * links
+    def __init__(self, links, shards=1):
+        self.cluster, self.replies = Cluster(shards), [0] * links
         self.cluster.rise(CLOCK)
 
     def ask(self, link, bytes_):
@@ -64,9 +68,9 @@ def said_line(said):
     return lines + [f"{'ask' if wants_reply else 'send'} {said.link} {pieces(said.bytes())}"]
 
 
-def outcome_lines(name, links, order, keeps, open_times, says=None):
+def outcome_lines(name, served, order, keeps, open_times, says=None):
     """What is got where the requests are taken in this order. `open_times`: the time of each reply may be any."""
-    served, got = Links(links), []
+    got = []
     for said in (said for said in order if said.is_request()):
         _, fields, reply = served.ask(said.link, said.bytes())
         check(name, said.ask.source, said.ask.says if says is None else says.get(said), fields)
@@ -86,25 +90,26 @@ def opened(reply):
     return f"{reply[:at].hex()} ?8 {reply[at + 8:].hex()}"
 
 
-def row(name, turns, keeps=(0, 1, 2), more=(), orders=None, open_times=False, routers=1, status=0):
+def row(name, turns, keeps=(0, 1, 2), more=(), orders=None, open_times=False, routers=1, status=0, shards=1):
     """The lines of a row: turns of what links send at once. `orders`: in which orders the requests may be taken, where the outcome depends on it, each with the
     replies; `more`: further lines of each outcome."""
     turns = numbered(turns)
     everything = [said for turn in turns for said in turn]
     links = 1 + max(said.link for said in everything)
-    lines = [f"# {name}"] + ([f"routers {routers}"] if routers > 1 else [])
+    lines = [f"# {name}"] + ([f"shards {shards}"] if shards > 1 else []) + ([f"routers {routers}"] if routers > 1 else [])
     for at, turn in enumerate(turns):
         lines += (["turn"] if at else []) + [line for said in turn for line in said_line(said)]
     for at, (order, says) in enumerate(orders or [(range(len(everything)), None)]):
         wanted = None if says is None else {everything[it]: said for it, said in zip(order, says)}
         lines += ["or"] if at else []
-        lines += outcome_lines(name, links, [everything[it] for it in order], keeps, open_times, wanted) + list(more)
+        lines += outcome_lines(name, Links(links, shards), [everything[it] for it in order], keeps, open_times, wanted) + list(more)
     return lines + [f"ends {status}"]
 
 
 def at_once():
     one = '{insert: "c", documents: [{_id: 1}], $db: "d"}'
-    lines = row("an insert and a ping on two links", [[Said(0, Ask(one, done(1, 2))), Said(1, Ask(PING, "{ok: 1}"))]])
+    orders = [((0, 1), (done(1, 2), "{ok: 1}")), ((1, 0), ("{ok: 1}", done(1, 2)))]
+    lines = row("an insert and a ping on two links: the router takes one of them first", [[Said(0, one), Said(1, PING)]], orders=orders)
     orders = [((0, 1), (done(1, 2), done(0, 3, errors((0, 11000))))), ((1, 0), (done(1, 2), done(0, 3, errors((0, 11000)))))]
     lines += row("one key on two links: one is inserted, one refused, and both are entries", [[Said(0, one), Said(1, one)]], orders=orders)
     again = insert("{_id: 1}", "1L", done(1, 2), identifier=7)
@@ -148,6 +153,16 @@ def with_routers():
     return lines + row("eight links to four routers insert each a key", [links], keeps=(), more=[f"size 1 {length}"], open_times=True, routers=4)
 
 
+def with_shards():
+    one = insert("{_id: 1}", None, done(1, 2))
+    turns = [[Said(0, one)], [Said(1, split(10, changed(3)))], [Said(0, insert("{_id: 20}", None, done(1, 4)))],
+        [Said(1, find(SORTED, first(listed(1, 20), 4)))], [Said(1, find(f"{SORTED}, {AHEAD}", refused(72, "InvalidOptions", GREATEST)))]]
+    lines = row("two shards, the first of which has all chunks; a time that neither has", turns, keeps=range(4), shards=2)
+    other = insert("{_id: 1}", "1L", done(1, 2))
+    turns = [[Said(0, other)], [Said(1, other)]]
+    return lines + row("two shards and two routers: a numbered insert, again by the other router", turns, keeps=(0, 1, 2), routers=2, shards=2)
+
+
 def outcome_journal(order):
     served = Links(8)
     for said in order:
@@ -174,4 +189,4 @@ def links_rows():
 
 
 def ends_rows():
-    return badly() + with_routers() + lost() + unaccepted()
+    return badly() + with_routers() + lost() + unaccepted() + with_shards()

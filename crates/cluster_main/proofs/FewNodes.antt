@@ -1,9 +1,9 @@
--- The arguments start ten nodes at most.
+-- The arguments start 25 nodes at most.
 use Rattle.std.specs.Prelude.{◌≡◌, ℕ, ◌≤◌, Option, Some, None, IfSome}
 use Rattle.std.proofs.Common.{arith, subst, sym}
 use Rattle.std.specs.Option.{unwrap_or}
 
-pub few_or_none : (given : Option ℕ) → IfSome given (λ count. count ≤ 10) → unwrap_or given 0 ≤ 10
+pub few_or_none : (given : Option ℕ) → IfSome given (λ count. count ≤ 25) → unwrap_or given 0 ≤ 25
 few_or_none None few = omega arith
 few_or_none (Some count) few = few
 

@@ -44,7 +44,7 @@ as_they_were {D} status started given source sink notes gives facts disks never 
   unstarted = λ any. (refl, refl, took, put);
   untouched = λ is. refl;
   six = λ is. absurd (other_than status 6 (λ e. omega (arith, e)) (λ e. omega (arith, e)) ended is);
-  refused = λ is. absurd (never is);
+  refused = rw none tt;
   headline = rw none tt;
   durable = λ is. absurd (never is);
 }

@@ -1,12 +1,12 @@
 -- What a start says of the disks that it leaves.
-use Rattle.std.specs.Prelude.{◌≡◌, ◌≢◌, ◌⊎◌, ℕ, IsTrue, IfSome, List, map, Option, None, Result, Ok, Err}
+use Rattle.std.specs.Prelude.{◌≡◌, ◌≢◌, ◌⊎◌, ℕ, IsTrue, IfSome, IsSomeAnd, List, map, Option, None, Result, Ok, Err}
 use Rattle.std.specs.List.{AllByRecursion}
 use Rattle.outside.specs.Devices.{NoneFell, SinkCall, SinkIsUntouched, SourceCall, SourceIsUntouched}
 use Rattle.outside.specs.Notes.{Note}
 use Rattle.node_model.specs.World.{World}
 use Rattle.journal_starts.specs.Records.{AreRefused}
 use Rattle.journal_starts.specs.Starts.{BeginsOnFiles}
-use Rattle.cluster_service.specs.Arguments.{IsServer, command_of, routers_of}
+use Rattle.cluster_service.specs.Arguments.{IsServer, command_of, others_of, routers_of}
 use Rattle.cluster_service.specs.Counts.{OneRoseWhere}
 use Rattle.cluster_service.specs.Crashes.{AreDurableBefore, LeaveTheWay}
 use Rattle.cluster_service.specs.Headline.{HeadlineOf}
@@ -32,12 +32,13 @@ pub record IsLeft {D : Type 0} (status : ℕ) (started : Type 0) (given : Option
   pub unstarted : ¬ started → (left ≡ before) × (rest ≡ 0) × SourceIsUntouched source × SinkIsUntouched sink
   pub untouched : (status ≡ 2) ⊎ (status ≡ 6) → rest ≡ 0
   -- status 6 comes only where files are refused; there nothing is taken or put, and each file has the records that it had
-  pub six : status ≡ 6 → IsTrue facts.tells → AreRefused (map facts.content before)
-  pub refused : started → IsTrue facts.tells → AreRefused (map facts.content before)
-      → (((status ≡ 6) ⊎ ((status ≡ 5) ⊎ (status ≡ 7))) ⊎ ((status ≡ 8) × (left ≡ before))) × IsNotBegun facts source sink rest before left
+  pub six : status ≡ 6 → IsTrue facts.tells → IsSomeAnd given (λ command. AreRefused (others_of command) (map facts.content before))
+  pub refused : IfSome given (λ command. IsTrue facts.tells → AreRefused (others_of command) (map facts.content before)
+      → (((status ≡ 6) ⊎ ((status ≡ 5) ⊎ (status ≡ 7))) ⊎ ((status ≡ 8) × (left ≡ before))) × IsNotBegun facts source sink rest before left)
   -- in the world that the call begins in on its files a run of the nodes served, whose journals the disks keep, and which makes one legal history with the
   -- calls before; a crash meanwhile left what they kept on the way, and each byte was put only after what it says was durable
-  pub headline : IfSome given (λ command. ¬ IsServer command → (first : World) → IsTrue facts.tells → BeginsOnFiles (routers_of command) (map facts.content before) first
+  pub headline : IfSome given (λ command. ¬ IsServer command → (first : World) → IsTrue facts.tells
+      → BeginsOnFiles (others_of command) (routers_of command) (map facts.content before) first
       → OfStatus status (λ s. OfConnection s (λ ending. HeadlineOf command first source sink facts.tells
       (map facts.content left) (LeaveTheWay first facts.tells facts.moment facts.left_since before left)
       (AreDurableBefore sink.tells facts.tells facts.place facts.moment facts.left_since command first notes sink.held_before left) gives ending rest)))

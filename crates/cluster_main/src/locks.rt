@@ -69,7 +69,7 @@ pub fn lock_journals<R: Files<File = File>>(
 pub fn journal_count(words: &Result<Vec<Text>, NoArguments>) -> usize
     ensures nodes { IfOk words.now (λ given. result ≡ unwrap_or (node_count_of given.items) 0) }
     ensures refused { IsErr words.now → result ≡ 0 }
-    ensures few { result ≤ 10 }
+    ensures few { result ≤ 25 }
 {
     match words {
         Ok(given) => node_count(given).unwrap_or(0),

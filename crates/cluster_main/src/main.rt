@@ -1,11 +1,12 @@
-//! The program `cluster`. Its arguments are `pipe`: it takes the bytes of one connection from standard input and replies on
-//! standard output; or `sim`: it plays the script of events on standard input, with one router, and prints on standard output; or
-//! `sim --routers m`: the same with m routers, from 1 to 8; or `serve --port p --sessions k`, and `--routers m` where wanted: it listens on
-//! port p of 127.0.0.1, says so on standard error, serves k connections, and ends once they have ended. What requests change is stored in
-//! the files node00.journal, node01.journal and on in the working folder, one for each node: they are absent, empty, or those that earlier
-//! starts left, with as many routers. It ends with the status of the run, and where that is not 0 it writes one line to standard error. It
-//! holds the lock of each of these files from before their first use to its end, and ends with status 5 where one is held by another; where
-//! its arguments are refused no file is opened.
+//! The program `cluster`. Its arguments are `pipe`: it takes the bytes of one connection from standard input and replies on standard
+//! output; or `sim`: it plays the script of events on standard input, and prints on standard output; or `serve --port p --sessions k`: it
+//! listens on port p of 127.0.0.1, says so on standard error, serves k connections, and ends once they have ended. With `--shards n` there
+//! are n shards, from 1 to 16, in place of one for `pipe` and two for `sim` and `serve`; with `--routers m`, which `pipe` does not have, m
+//! routers, from 1 to 8, in place of one. What requests change is stored in the files node00.journal, node01.journal and on in the working
+//! folder, one for each node, first the catalogue's, then those of the shards, then those of the routers: they are absent, empty, or those
+//! that earlier starts left, with as many shards and routers. It ends with the status of the run, and where that is not 0 it writes one
+//! line to standard error. It holds the lock of each of these files from before their first use to its end, and ends with status 5 where
+//! one is held by another; where its arguments are refused no file is opened.
 #![tactic(auto)]
 
 mod announced;

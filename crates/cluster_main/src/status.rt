@@ -8,7 +8,7 @@ ghost use Rattle.protocol_model.specs.Inputs.{input_of};
 ghost use Rattle.conn_server.specs.Conversations.{link_facts};
 ghost use Rattle.node_model.specs.World.{World};
 ghost use Rattle.journal_starts.specs.Starts.{BeginsOnFiles};
-ghost use Rattle.cluster_service.specs.Arguments.{IsServer, node_count_of, routers_of};
+ghost use Rattle.cluster_service.specs.Arguments.{IsServer, node_count_of, others_of, routers_of};
 ghost use Rattle.cluster_service.specs.Crashes.{LeaveTheWay};
 ghost use Rattle.cluster_service.specs.Openings.{disk_facts};
 ghost use Rattle.cluster_service.specs.Servers.{LeaveUpTo, ServerHeadline};
@@ -104,7 +104,7 @@ where
         SourceIsUntouched (source_call S.tells S.left S.fault_count input.old input.new)
         × SinkIsUntouched (sink_call K.tells K.held K.fault_count out.old out.new)) }
     ensures served { IfSome (command_in words (λ given. given.items)) (λ command. IsServer command → (first : World) → IsTrue D.tells →
-        BeginsOnFiles (routers_of command) (map D.content disks.items) first → ServerHeadline input_of
+        BeginsOnFiles (others_of command) (routers_of command) (map D.content disks.items) first → ServerHeadline input_of
         (link_facts A.Link.Source.tells A.Link.Source.left A.Link.Sink.tells A.Link.Sink.held A.Link.is_closed)
         first D.tells (result.status ≡ 5) (map D.content result.disks.items)
         (LeaveTheWay first D.tells D.moment D.left_since disks.items result.disks.items)
@@ -169,7 +169,7 @@ where
         SourceIsUntouched (source_call S.tells S.left S.fault_count input.old input.new)
         × SinkIsUntouched (sink_call K.tells K.held K.fault_count out.old out.new)) }
     ensures served { IfSome (command_in words (λ given. given.items)) (λ command. IsServer command → (first : World) → IsTrue D.tells →
-        BeginsOnFiles (routers_of command) (map D.content disks.items) first → ServerHeadline input_of
+        BeginsOnFiles (others_of command) (routers_of command) (map D.content disks.items) first → ServerHeadline input_of
         (link_facts A.Link.Source.tells A.Link.Source.left A.Link.Sink.tells A.Link.Sink.held A.Link.is_closed)
         first D.tells (exit_status result.code ≡ 5) (map D.content result.disks.items)
         (LeaveTheWay first D.tells D.moment D.left_since disks.items result.disks.items)

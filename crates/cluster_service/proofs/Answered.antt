@@ -19,13 +19,14 @@ all_served limit at_end taken fault all some short _ (no_memory part) is = absur
 all_served limit at_end taken fault all some short _ (no_request faulty served) is = absurd (cc is)
 all_served limit at_end taken fault all some short _ (too_long full none served) is = absurd (cc is)
 
-pub all_played : (first : World) (limit : ℕ) (at_end : Type 0) (taken : List ℕ) (lines : List (List ℕ)) (left put : List ℕ) (end : World) (status : Status)
-    → ScriptCause first limit at_end taken lines left put end status → status ≡ statuses.InputEnded → AllPlayed first lines put end
-all_played first limit at_end taken lines left put end _ (script_ended ends below none played) is = played
-all_played first limit at_end taken lines left put end _ (script_unread below none played) is = absurd (cc is)
-all_played first limit at_end taken lines left put end _ (script_unput short) is = absurd (cc is)
-all_played first limit at_end taken lines left put end _ (script_unstored came) is = absurd (cc is)
-all_played first limit at_end taken lines left put end _ (script_full came) is = absurd (cc is)
-all_played first limit at_end taken lines left put end _ (line_refused bytes others next played refused) is = absurd (cc is)
-all_played first limit at_end taken lines left put end _ (line_unended ends below some none played) is = absurd (cc is)
-all_played first limit at_end taken lines left put end _ (script_too_long full none played) is = absurd (cc is)
+pub all_played : (first_router : ℕ) (first : World) (limit : ℕ) (at_end : Type 0) (taken : List ℕ) (lines : List (List ℕ)) (left put : List ℕ) (end : World)
+    (status : Status) → ScriptCause first_router first limit at_end taken lines left put end status → status ≡ statuses.InputEnded
+    → AllPlayed first_router first lines put end
+all_played first_router first limit at_end taken lines left put end _ (script_ended ends below none played) is = played
+all_played first_router first limit at_end taken lines left put end _ (script_unread below none played) is = absurd (cc is)
+all_played first_router first limit at_end taken lines left put end _ (script_unput short) is = absurd (cc is)
+all_played first_router first limit at_end taken lines left put end _ (script_unstored came) is = absurd (cc is)
+all_played first_router first limit at_end taken lines left put end _ (script_full came) is = absurd (cc is)
+all_played first_router first limit at_end taken lines left put end _ (line_refused bytes others next played refused) is = absurd (cc is)
+all_played first_router first limit at_end taken lines left put end _ (line_unended ends below some none played) is = absurd (cc is)
+all_played first_router first limit at_end taken lines left put end _ (script_too_long full none played) is = absurd (cc is)

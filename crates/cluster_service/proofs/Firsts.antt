@@ -1,5 +1,5 @@
--- The world that a call begins in has a catalogue, a shard and as many routers as the calls before it had.
-use Rattle.std.specs.Prelude.{◌≡◌, ◌≢◌, ◌⊎◌, ℕ, zero, suc, ◌+◌, ◌<◌, List, [], ◌∷◌, ◌++◌, length, Option, Some, None}
+-- The world that a call begins in has a catalogue, and as many shards and routers as the calls before it had.
+use Rattle.std.specs.Prelude.{◌≡◌, ◌≢◌, ◌⊎◌, ℕ, ◌+◌, ◌-◌, ◌<◌, List, [], ◌∷◌, ◌++◌, length, Option, Some, None}
 use Rattle.std.proofs.Common.{refl, sym, ap, subst, inl, inr, ◌∙◌, arith}
 use Rattle.std.specs.List.{slice_get, slice_set}
 use Rattle.std.specs.Option.{option_map}
@@ -7,7 +7,7 @@ use Rattle.record_model.specs.Records.{Record}
 use Rattle.node_model.specs.Journal.{Kept}
 use Rattle.node_model.specs.Letters.{Input}
 use Rattle.node_model.specs.States.{NodeState, Router, router_state}
-use Rattle.node_model.specs.World.{Held, World, IsRouter, Moves, Event, Happens, comes, delivers, passes, begins as was_opened, routers_from, start}
+use Rattle.node_model.specs.World.{Held, World, IsRouter, Moves, Event, Happens, comes, delivers, passes, begins as was_opened, start}
 use Rattle.node_laws.proofs.StepsKeep.{get_set}
 use Rattle.node_replay.specs.Durable.{DurableState, DurableRouter, durable_router, empty_router}
 use Rattle.node_replay.specs.Follow.{router_follow}
@@ -17,10 +17,9 @@ use Rattle.node_replay.specs.Restarts.{EventOrStop, Occurs, occurs, restarts, st
 use Rattle.restart_laws.specs.Calls.{BeginsOn, Calls, this_call, next_call}
 use Rattle.node_progress.specs.Firsts.{first_again}
 use Rattle.node_progress.proofs.Bags.{get_other, length_set, same_place}
-use Rattle.pipe_driver.specs.Rounds.{first_router}
 use Rattle.pipe_driver.proofs.Routers.{happens_stays}
 use Rattle.sim_driver.specs.Moves.{MayPlay}
-use Rattle.sim_driver.proofs.Plays.{start_may_play}
+use Rattle.sim_driver.proofs.Plays.{start_count, start_may_play, start_router}
 use Rattle.journal_starts.specs.Starts.{BeginsOnFiles, begins_new, begins_again}
 
 -- A ROUTER IS STARTED AS ONE
@@ -44,13 +43,13 @@ router_in other (router_state q) = q
 router_in other s = other
 
 router_opens : (r : Router) (kept : List Kept) (new : NodeState) → opened_on (router_state r) kept ≡ Some new → (q : Router) × (new ≡ router_state q)
-router_opens r kept new = by_replay (replayed (Some (durable_router (empty_router r.me))) (records_of kept)) refl
+router_opens r kept new = by_replay (replayed (Some (durable_router (empty_router r.me r.shards))) (records_of kept)) refl
   where
-    by_replay : (d : Option DurableState) → replayed (Some (durable_router (empty_router r.me))) (records_of kept) ≡ d
+    by_replay : (d : Option DurableState) → replayed (Some (durable_router (empty_router r.me r.shards))) (records_of kept) ≡ d
         → option_map (opened (latest_time (records_of kept))) d ≡ Some new → (q : Router) × (new ≡ router_state q)
     by_replay None same is = absurd (cc is)
     by_replay (Some d) same is =
-        let durable = router_replays (records_of kept) (empty_router r.me) d same in
+        let durable = router_replays (records_of kept) (empty_router r.me r.shards) d same in
         let one : opened (latest_time (records_of kept)) d ≡ new = cc is in (
           router_in r (opened (latest_time (records_of kept)) (durable_router durable.0)),
           sym one ∙ ap (λ (e : DurableState). opened (latest_time (records_of kept)) e) durable.1,
@@ -77,8 +76,8 @@ router_stays nodes place at old new kept stored here opens (r, was, got) = by_pl
 
 -- ALL NODES
 
--- the nodes are a catalogue, a shard and so many routers
-record HasNodes (routers : ℕ) (nodes : List Held) : Type 0 where
+-- there are so many routers, after so many other nodes
+record HasNodes (first_router routers : ℕ) (nodes : List Held) : Type 0 where
   count : length nodes ≡ first_router + routers
   each : (router : ℕ) → router < routers → IsRouter nodes (first_router + router)
 
@@ -91,65 +90,64 @@ happens_count _ _ _ (delivers w v at which letter got to m) = move_count w v at 
 happens_count _ _ _ (passes w v at moment m) = move_count w v at _ m
 happens_count _ _ _ (was_opened w v at m) = move_count w v at _ m
 
-module _ (routers : ℕ) where
+module _ (first_router routers : ℕ) where
   started_has : (w : World) (at : ℕ) (old : Held) (new : NodeState) (kept stored : List Kept) → slice_get w.nodes at ≡ Some old
-      → opened_on old.state kept ≡ Some new → HasNodes routers w.nodes → HasNodes routers (slice_set w.nodes at (record { state = new; kept = stored }))
+      → opened_on old.state kept ≡ Some new → HasNodes first_router routers w.nodes
+      → HasNodes first_router routers (slice_set w.nodes at (record { state = new; kept = stored }))
   started_has w at old new kept stored here opens has = record {
     count = length_set w.nodes at (record { state = new; kept = stored }) ∙ has.count;
     each = λ router below. router_stays w.nodes at (first_router + router) old new kept stored here opens (has.each router below);
   }
 
-  occurs_has : (w v : World) (e : EventOrStop) → Occurs w e v → HasNodes routers w.nodes → HasNodes routers v.nodes
+  occurs_has : (w v : World) (e : EventOrStop) → Occurs w e v → HasNodes first_router routers w.nodes → HasNodes first_router routers v.nodes
   occurs_has _ _ _ (occurs w v e h) has = record {
     count = happens_count w v e h ∙ has.count;
     each = λ router below. happens_stays w v e (first_router + router) h (has.each router below);
   }
   occurs_has _ _ _ (restarts w v at m) has =
-      subst (λ (x : World). HasNodes routers x.nodes) (sym m.then) (started_has w at m.old m.new m.old.kept (m.old.kept ++ []) m.here m.opens has)
+      subst (λ (x : World). HasNodes first_router routers x.nodes) (sym m.then) (started_has w at m.old m.new m.old.kept (m.old.kept ++ []) m.here m.opens has)
   occurs_has _ _ _ (stops w v at e i gives m) has =
-      subst (λ (x : World). HasNodes routers x.nodes) (sym m.then)
+      subst (λ (x : World). HasNodes first_router routers x.nodes) (sym m.then)
       (started_has w at m.old m.new (m.old.kept ++ m.f.written) (m.old.kept ++ m.f.written) m.here m.opens has)
 
-  run_has : (u w : World) (events : List EventOrStop) → RunWithStops u events w → HasNodes routers u.nodes → HasNodes routers w.nodes
+  run_has : (u w : World) (events : List EventOrStop) → RunWithStops u events w → HasNodes first_router routers u.nodes → HasNodes first_router routers w.nodes
   run_has _ _ _ (stays w) has = has
   run_has _ _ _ (proceeds u v w e events h more) has = run_has v w events more (occurs_has u v e h has)
 
-  begins_has : (u first : World) → BeginsOn u first → HasNodes routers u.nodes → HasNodes routers first.nodes
-  begins_has u first b has = subst (λ (x : World). HasNodes routers x.nodes) (sym b.then) (run_has u b.started _ b.starts has)
+  begins_has : (u first : World) → BeginsOn u first → HasNodes first_router routers u.nodes → HasNodes first_router routers first.nodes
+  begins_has u first b has = subst (λ (x : World). HasNodes first_router routers x.nodes) (sym b.then) (run_has u b.started _ b.starts has)
 
-  calls_have : (u w : World) → Calls u w → HasNodes routers u.nodes → HasNodes routers w.nodes
+  calls_have : (u w : World) → Calls u w → HasNodes first_router routers u.nodes → HasNodes first_router routers w.nodes
   calls_have u _ (this_call w events run) has = run_has u w events run has
   calls_have u _ (next_call v first w events calls b run) has = run_has first w events run (begins_has v first b (calls_have u v calls has))
 
 -- THE FIRST WORLD
 
-from_length : (first count : ℕ) → length (routers_from first count) ≡ count
-from_length first zero = refl
-from_length first (suc count) = omega (arith, from_length (first + 1) count)
-
-start_count : (routers : ℕ) → length (start routers).nodes ≡ first_router + routers
-start_count routers = omega (arith, from_length 2 routers)
-
-start_has : (routers : ℕ) → HasNodes routers (start routers).nodes
-start_has routers = record {
-  count = start_count routers;
-  each = λ router below. (start_may_play routers).routers router (omega (arith, below, start_count routers));
+start_has : (others routers : ℕ) → HasNodes (others + 2) routers (start others routers).nodes
+start_has others routers = record {
+  count = start_count others routers;
+  each = λ router below. start_router others routers router below;
 }
 
-first_has : (routers : ℕ) (files : List (List ℕ)) (first : World) → BeginsOnFiles routers files first → HasNodes routers first.nodes
-first_has routers files _ (begins_new are) = start_has routers
-first_has routers files _ (begins_again u first reached are b) = begins_has routers u first b (calls_have routers (start routers) u reached (start_has routers))
-
--- how many nodes it has
-pub first_count : (routers : ℕ) (files : List (List ℕ)) (first : World) → BeginsOnFiles routers files first → length first.nodes ≡ 2 + routers
-first_count routers files first begun = (first_has routers files first begun).count
+first_has : (others routers : ℕ) (files : List (List ℕ)) (first : World) → BeginsOnFiles others routers files first
+    → HasNodes (others + 2) routers first.nodes
+first_has others routers files _ (begins_new are) = start_has others routers
+first_has others routers files _ (begins_again u first reached are b) =
+    begins_has (others + 2) routers u first b (calls_have (others + 2) routers (start others routers) u reached (start_has others routers))
 
 -- a call may be played from it on
-pub first_may_play : (routers : ℕ) (files : List (List ℕ)) (first : World) → BeginsOnFiles routers files first → MayPlay first
-first_may_play routers files _ (begins_new are) = start_may_play routers
-first_may_play routers files _ (begins_again u first reached are b) =
-    let has = first_has routers files first (begins_again u first reached are b) in
+begun_may_play : (others routers : ℕ) (files : List (List ℕ)) (first : World) → BeginsOnFiles others routers files first → MayPlay (others + 2) first
+begun_may_play others routers files _ (begins_new are) = start_may_play others routers
+begun_may_play others routers files _ (begins_again u first reached are b) =
+    let has = first_has others routers files first (begins_again u first reached are b) in
     record {
-      begins = first_again routers u first reached b;
+      begins = first_again others routers u first reached b;
       routers = λ router below. has.each router (omega (arith, below, has.count));
     }
+
+-- with so many shards in all
+pub first_may_play : (shards routers : ℕ) (files : List (List ℕ)) (first : World) → 0 < shards → BeginsOnFiles (shards - 1) routers files first
+    → MayPlay (1 + shards) first
+first_may_play shards routers files first some begun =
+    let same : shards - 1 + 2 ≡ 1 + shards = omega (arith, some) in
+    subst (λ (n : ℕ). MayPlay n first) same (begun_may_play (shards - 1) routers files first begun)

@@ -15,8 +15,8 @@ one_less {X} all new left rest whole x more first are =
 pub no_more : {X : Type 0} (all left whole : List X) → left ≡ [] → all ++ left ≡ whole → all ≡ whole
 no_more {X} all left whole none are = sym (append-nil all) ∙ ap (λ (l : List X). all ++ l) (sym none) ∙ are
 
-pub all_behind : {X : Type 0} (P : X → Type 0) (all new : List X) (x : X) → new ≡ all ++ x ∷ [] → AllByRecursion P all → P x → AllByRecursion P new
-all_behind {X} P all new x more are is = rw more (each all are)
+pub all_after : {X : Type 0} (P : X → Type 0) (all new : List X) (x : X) → new ≡ all ++ x ∷ [] → AllByRecursion P all → P x → AllByRecursion P new
+all_after {X} P all new x more are is = rw more (each all are)
   where
     each : (l : List X) → AllByRecursion P l → AllByRecursion P (l ++ x ∷ [])
     each [] are = (is, tt)

@@ -7,6 +7,7 @@ pub mod Lefts
 pub mod NotBegun
 pub mod NotServed
 pub mod Numbers
+pub mod OneHistories
 pub mod OpenJournals
 pub mod OpenedUpTo
 pub mod Openings

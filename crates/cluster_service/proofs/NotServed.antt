@@ -1,5 +1,5 @@
 -- How `pipe` and `sim` end where nothing is served, and what is said of an end.
-use Rattle.std.specs.Prelude.{◌≡◌, ◌≢◌, ◌⊎◌, ℕ, None, Bool, IsTrue, List, [], length}
+use Rattle.std.specs.Prelude.{◌≡◌, ◌≢◌, ◌⊎◌, ℕ, ◌+◌, None, Bool, IsTrue, List, [], length}
 use Rattle.std.proofs.Common.{refl, sym, ap, inl, inr, arith}
 use Rattle.outside.specs.Devices.{SourceCall, SinkCall, SourceGave, SinkTook}
 use Rattle.opmsg_frames.specs.Frames.{ends}
@@ -8,16 +8,15 @@ use Rattle.node_model.specs.World.{World, stands}
 use Rattle.node_progress.specs.Firsts.{IsFirst}
 use Rattle.node_traits.specs.declared.outputs.ToLink.{ToLink}
 use Rattle.pipe_driver.specs.Endings.{AllServed, Cause, IsPiped, LastCutShort, SomeServed, disk_failed, most_taken, no_memory}
-use Rattle.pipe_driver.specs.Rounds.{bytes_of, first_router}
+use Rattle.pipe_driver.specs.Rounds.{bytes_of}
 use Rattle.pipe_driver.specs.Schedules.{came_opening}
 use Rattle.pipe_driver.specs.declared.status.Status as connections
 use Rattle.pipe_driver.specs.declared.status.Status.TheVariants as ended
-use Rattle.pipe_driver.proofs.Histories.{piped_changes, piped_history}
+use Rattle.pipe_driver.proofs.Histories.{piped_run}
 use Rattle.pipe_driver.proofs.Since.{since_none}
-use Rattle.sim_driver.specs.Moves.{MayPlay}
 use Rattle.sim_driver.specs.Simulations.{Cause as ScriptCause, CameTo, IsSimulated, came_opening as began}
 use Rattle.sim_driver.specs.Simulations.{disk_failed as script_disk_failed, no_memory as script_no_memory}
-use Rattle.sim_driver.proofs.Histories.{simulated_changes, simulated_history}
+use Rattle.sim_driver.proofs.Histories.{simulated_run}
 use Rattle.cluster_service.specs.Arguments.{IsServer}
 use Rattle.cluster_service.specs.Drivers.{IsDriven}
 use Rattle.cluster_service.specs.Headline.{Headline, HeadlineOf, ScriptHeadline}
@@ -29,10 +28,11 @@ use Rattle.cluster_service.specs.declared.arguments.Command.TheVariants.{Pipe, S
 use Rattle.cluster_service.specs.declared.status.Status.{Status}
 use Rattle.cluster_service.specs.declared.status.Status.TheVariants as statuses
 use Rattle.cluster_service.proofs.Answered.{all_played, all_served}
+use Rattle.cluster_service.proofs.OneHistories.{one_history}
 
 -- no request was served, and no node was opened
-none_served : (first : World) (gives : ℕ → Type 0) → SomeServed first gives first_router [] [] [] first
-none_served first gives = record {
+none_served : (router : ℕ) (first : World) (gives : ℕ → Type 0) → SomeServed first gives router [] [] [] first
+none_served router first gives = record {
   under_way = [];
   others = [];
   whole = first;
@@ -41,54 +41,52 @@ none_served first gives = record {
   replied = ap (λ (replies : List ToLink). bytes_of replies) (sym (since_none first first refl));
 }
 
-none_played : (first : World) → CameTo first [] [] [] first
-none_played first = began [] [] first (openings 0 (length first.nodes), refl) (stands first)
+none_played : (first_router : ℕ) (first : World) → CameTo first_router first [] [] [] first
+none_played first_router first = began [] [] first (openings 0 (length first.nodes), refl) (stands first)
 
 module _ (source : SourceCall) (sink : SinkCall) (tells : Bool) (files_after : List (List ℕ)) (leaves : World → Type 0)
     (owed : World → List ℕ → Type 0) (gives : ℕ → Type 0) (rest : ℕ) where
-  headline_from : (first : World) → IsFirst first → (ending : connections.Status)
-      → IsPiped source sink gives first_router (λ nodes. IsTrue tells → AreJournals files_after nodes) leaves owed first most_taken ending rest
-      → Headline first source sink tells files_after leaves owed gives ending rest
-  headline_from first begins ending piped = record {
+  headline_from : (router : ℕ) (first : World) → IsFirst first → (ending : connections.Status)
+      → IsPiped source sink gives router (λ nodes. IsTrue tells → AreJournals files_after nodes) leaves owed first most_taken ending rest
+      → Headline router first source sink tells files_after leaves owed gives ending rest
+  headline_from router first begins ending piped = record {
     piped = piped;
-    history = (
-      piped_changes source sink gives first_router (λ nodes. IsTrue tells → AreJournals files_after nodes) leaves owed first most_taken ending rest begins
-          piped,
-      piped_history source sink gives first_router (λ nodes. IsTrue tells → AreJournals files_after nodes) leaves owed first most_taken ending rest begins
-          piped,
-    );
+    history =
+        let run = piped_run source sink gives router (λ nodes. IsTrue tells → AreJournals files_after nodes) leaves owed first most_taken ending rest piped in
+        one_history first begins run.0 piped.end run.1;
     answered = λ ended. (all_served most_taken _ piped.taken piped.fault _ _ _ ending piped.cause ended).answered;
   }
 
-  script_from : (first : World) → IsFirst first → (ending : connections.Status)
-      → IsSimulated source sink (λ nodes. IsTrue tells → AreJournals files_after nodes) leaves owed first most_taken ending
-      → rest ≡ 0 → ScriptHeadline first source sink tells files_after leaves owed ending rest
-  script_from first begins ending simulated none = record {
+  script_from : (first_router : ℕ) (first : World) → IsFirst first → (ending : connections.Status)
+      → IsSimulated source sink first_router (λ nodes. IsTrue tells → AreJournals files_after nodes) leaves owed first most_taken ending
+      → rest ≡ 0 → ScriptHeadline first_router first source sink tells files_after leaves owed ending rest
+  script_from first_router first begins ending simulated none = record {
     simulated = simulated;
-    history = (
-      simulated_changes source sink (λ nodes. IsTrue tells → AreJournals files_after nodes) leaves owed first most_taken ending begins simulated,
-      simulated_history source sink (λ nodes. IsTrue tells → AreJournals files_after nodes) leaves owed first most_taken ending begins simulated,
-    );
+    history =
+        let run = simulated_run source sink first_router (λ nodes. IsTrue tells → AreJournals files_after nodes) leaves owed first most_taken ending simulated in
+        one_history first begins run.0 simulated.end run.1;
     answered = λ ended last.
-        (all_played first most_taken _ simulated.taken simulated.lines simulated.left simulated.put simulated.end ending simulated.cause ended).answered last;
+        let all =
+        all_played first_router first most_taken _ simulated.taken simulated.lines simulated.left simulated.put simulated.end ending simulated.cause ended in
+        all.answered last;
     no_rest = none;
   }
 
   pub headline_of : (command : Command) (first : World) → IsFirst first → (ending : connections.Status)
       → IsDriven command first source sink gives (λ nodes. IsTrue tells → AreJournals files_after nodes) leaves owed ending rest
       → HeadlineOf command first source sink tells files_after leaves owed gives ending rest
-  headline_of Pipe first begins ending driven = headline_from first begins ending driven
-  headline_of (Sim routers) first begins ending driven = script_from first begins ending driven.0 driven.1
+  headline_of (Pipe shards) first begins ending driven = headline_from (1 + shards) first begins ending driven
+  headline_of (Sim shards routers) first begins ending driven = script_from (1 + shards) first begins ending driven.0 driven.1
   headline_of (Serve server) first begins ending driven = absurd driven
 
   -- Nothing was taken and nothing put, in a world whose journals the files are.
   module _ (first : World) (none : rest ≡ 0) (took : SourceGave source []) (put : SinkTook sink [])
       (files : IsTrue tells → AreJournals files_after first.nodes) (crashes : leaves first) (debts : owed first []) where
-    none_piped : (ending : connections.Status)
+    none_piped : (router : ℕ) (ending : connections.Status)
         → Cause most_taken (IsTrue source.tells → source.left_after ≡ []) [] None (AllServed first [] [] [] first)
-        (SomeServed first gives first_router [] [] [] first) (LastCutShort first [] [] [] first) ending
-        → IsPiped source sink gives first_router (λ nodes. IsTrue tells → AreJournals files_after nodes) leaves owed first most_taken ending rest
-    none_piped ending cause = record {
+        (SomeServed first gives router [] [] [] first) (LastCutShort first [] [] [] first) ending
+        → IsPiped source sink gives router (λ nodes. IsTrue tells → AreJournals files_after nodes) leaves owed first most_taken ending rest
+    none_piped router ending cause = record {
       taken = [];
       put = [];
       requests = [];
@@ -110,10 +108,10 @@ module _ (source : SourceCall) (sink : SinkCall) (tells : Bool) (files_after : L
       acknowledged = debts;
     }
 
-    none_simulated : (ending : connections.Status)
-        → ScriptCause first most_taken (IsTrue source.tells → source.left_after ≡ []) [] [] [] [] first ending
-        → IsSimulated source sink (λ nodes. IsTrue tells → AreJournals files_after nodes) leaves owed first most_taken ending
-    none_simulated ending cause = record {
+    none_simulated : (first_router : ℕ) (ending : connections.Status)
+        → ScriptCause first_router first most_taken (IsTrue source.tells → source.left_after ≡ []) [] [] [] [] first ending
+        → IsSimulated source sink first_router (λ nodes. IsTrue tells → AreJournals files_after nodes) leaves owed first most_taken ending
+    none_simulated first_router ending cause = record {
       taken = [];
       put = [];
       lines = [];
@@ -134,21 +132,26 @@ module _ (source : SourceCall) (sink : SinkCall) (tells : Bool) (files_after : L
 
     disk_driven : (command : Command) → ¬ IsServer command
         → IsDriven command first source sink gives (λ nodes. IsTrue tells → AreJournals files_after nodes) leaves owed ended.DiskFailed rest
-    disk_driven Pipe driver = none_piped ended.DiskFailed (disk_failed (none_served first gives))
-    disk_driven (Sim routers) driver = (none_simulated ended.DiskFailed (script_disk_failed (none_played first)), none)
+    disk_driven (Pipe shards) driver = none_piped (1 + shards) ended.DiskFailed (disk_failed (none_served (1 + shards) first gives))
+    disk_driven (Sim shards routers) driver =
+        (none_simulated (1 + shards) ended.DiskFailed (script_disk_failed (none_played (1 + shards) first)), none)
     disk_driven (Serve server) driver = absurd (driver tt)
 
     memory_driven : (command : Command) → ¬ IsServer command
         → IsDriven command first source sink gives (λ nodes. IsTrue tells → AreJournals files_after nodes) leaves owed ended.OutOfMemory rest
-    memory_driven Pipe driver = none_piped ended.OutOfMemory (no_memory (none_served first gives))
-    memory_driven (Sim routers) driver = (none_simulated ended.OutOfMemory (script_no_memory (none_played first)), none)
+    memory_driven (Pipe shards) driver = none_piped (1 + shards) ended.OutOfMemory (no_memory (none_served (1 + shards) first gives))
+    memory_driven (Sim shards routers) driver =
+        (none_simulated (1 + shards) ended.OutOfMemory (script_no_memory (none_played (1 + shards) first)), none)
     memory_driven (Serve server) driver = absurd (driver tt)
 
     -- a disk failed, or memory ran out, before anything was served
-    pub unopened : (command : Command) → ¬ IsServer command → MayPlay first → (status : Status) → (status ≡ statuses.DiskFailed) ⊎ (status ≡ statuses.OutOfMemory)
+    pub unopened : (command : Command) → ¬ IsServer command → IsFirst first → (status : Status)
+        → (status ≡ statuses.DiskFailed) ⊎ (status ≡ statuses.OutOfMemory)
         → OfConnection status (λ ending. HeadlineOf command first source sink tells files_after leaves owed gives ending rest)
-    unopened command driver may status (inl failed) = (ended.DiskFailed, failed, headline_of command first may.begins ended.DiskFailed (disk_driven command driver))
-    unopened command driver may status (inr memory) = (ended.OutOfMemory, memory, headline_of command first may.begins ended.OutOfMemory (memory_driven command driver))
+    unopened command driver begins status (inl failed) =
+        (ended.DiskFailed, failed, headline_of command first begins ended.DiskFailed (disk_driven command driver))
+    unopened command driver begins status (inr memory) =
+        (ended.OutOfMemory, memory, headline_of command first begins ended.OutOfMemory (memory_driven command driver))
 
 -- why journals are not opened whose files are not damaged
 pub opening_ends : (status : Status) → StopsOpening status → status ≢ statuses.DamagedJournal → (status ≡ statuses.DiskFailed) ⊎ (status ≡ statuses.OutOfMemory)

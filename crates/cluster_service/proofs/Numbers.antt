@@ -1,16 +1,11 @@
--- Numbers of the arguments, and what comes after the first bytes of a word.
-use Rattle.std.specs.Prelude.{◌≡◌, ℕ, ◌≤◌, ◌<◌, ◌^◌, ◌&&◌, Bool, true, false, List, length, take, drop, Option, Some, None, eqb, nat_le, nat_lt, if◌then◌else◌, IfSome, Result, Ok, Err}
+-- Numbers of the arguments.
+use Rattle.std.specs.Prelude.{◌≡◌, ℕ, ◌≤◌, ◌<◌, ◌^◌, ◌&&◌, Bool, true, false, List, length, Option, Some, None, nat_le, nat_lt, if◌then◌else◌, IfSome, Result, Ok, Err}
 use Rattle.std.proofs.Common.{refl, sym, ap, subst, ◌∙◌}
-use Rattle.std.specs.List.{starts_with}
-use Rattle.std.specs.Option.{option_map}
 use Rattle.std.specs.Str.{all_ascii_digits}
 use Rattle.std.specs.Str.Parse.{IsNumeral, ParsesUnsigned, digits_value, without_leading_plus}
 use Rattle.std.proofs.lemmas.Bool.{lt-ltb, ltb-true, le-leb, leb-true}
 use Rattle.std.proofs.lemmas.Str.Parse.{IsNumeralModel, numerals_by_value, tells_all_ascii_digits}
-use Rattle.cluster_service.specs.Arguments.{command_of, routers_of, script_of}
-use Rattle.cluster_service.specs.Numbers.{most_routers, number_in, within}
-use Rattle.cluster_service.specs.declared.arguments.Command.{Command}
-use Rattle.cluster_service.specs.declared.arguments.Command.TheVariants.{Pipe, Sim}
+use Rattle.cluster_service.specs.Numbers.{number_in, within}
 
 both : (a b : Bool) → a && b ≡ true → (a ≡ true) × (b ≡ true)
 both true b e = (refl, e)
@@ -19,7 +14,7 @@ both false b e = absurd (cc e)
 and_both : (a b : Bool) → a ≡ true → b ≡ true → a && b ≡ true
 and_both a b p q = rw (p, q) refl
 
-false_unless : (b : Bool) → ¬ (b ≡ true) → b ≡ false
+pub false_unless : (b : Bool) → ¬ (b ≡ true) → b ≡ false
 false_unless true never = absurd (never refl)
 false_unless false never = refl
 
@@ -77,14 +72,3 @@ within_range least most (Some n) = by_test (nat_le least n && nat_le n most) ref
     by_test : (b : Bool) → nat_le least n && nat_le n most ≡ b → IfSome (if b then Some n else None) (λ m. (least ≤ m) × (m ≤ most))
     by_test true is = let all = both (nat_le least n) (nat_le n most) is in (leb-true least n all.0, leb-true n most all.1)
     by_test false is = tt
-
--- a command has one router or more, and eight at most
-abbrev pub HasRouters : Option Command → Type 0
-HasRouters given = IfSome given (λ command. (1 ≤ routers_of command) × (routers_of command ≤ most_routers))
-
-pub script_has : (word : List ℕ) → HasRouters (script_of word)
-script_has word = mapped (within 1 most_routers (number_in word)) (within_range 1 most_routers (number_in word))
-  where
-    mapped : (n : Option ℕ) → IfSome n (λ m. (1 ≤ m) × (m ≤ most_routers)) → HasRouters (option_map (λ routers. Sim routers) n)
-    mapped None is = tt
-    mapped (Some n) is = is

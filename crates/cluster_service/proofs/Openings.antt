@@ -343,9 +343,9 @@ module _ {D : Type 0} (facts : DiskFacts D) where
       let damaged = s.unopened.damaged is told in
       subst (λ (ds : List D). SomeDamaged (map facts.content ds)) (sym s.were) (damaged_there s.done s.others s.disk damaged.0 damaged.1)
 
-  pub unopened_refused : (status : Status) (before after : List D) → AreUnopened facts status before after → status ≡ statuses.DamagedJournal
-      → IsTrue facts.tells → AreRefused (map facts.content before)
-  unopened_refused status before after are is told =
+  pub unopened_refused : (others : ℕ) (status : Status) (before after : List D) → AreUnopened facts status before after → status ≡ statuses.DamagedJournal
+      → IsTrue facts.tells → AreRefused others (map facts.content before)
+  unopened_refused others status before after are is told =
       let d = unopened_damaged status before after are is told in
       by_damage d.at d.offset d.file d.here d.damaged
 

@@ -1,9 +1,11 @@
 -- The words of options, one after another.
 use Rattle.std.proofs.Common.{◌≡◌, ℕ, zero, suc, ◌+◌, ◌<◌, ◌≤◌, List, [], ◌∷◌, length, get_or, drop, refl, sym, ap, ◌∙◌, arith, add-one, drop-cons}
-use Rattle.std.specs.Prelude.{Option, Some, None}
-use Rattle.cluster_service.specs.Options.{after_word, by_value, options_in, with_value}
+use Rattle.std.specs.Prelude.{Option, Some, None, nat_lt}
+use Rattle.std.specs.List.{after_first, before_first, position_or_len}
+use Rattle.std.proofs.lemmas.Bool.{lt-ltb, ltb-true}
+use Rattle.cluster_service.specs.Options.{after_word, assigned, awaited, is_equals_sign, name_in, options_in, word_in}
 use Rattle.cluster_service.specs.declared.options.Given.{Given}
-use Rattle.cluster_service.specs.declared.options.Name.{Name}
+use Rattle.cluster_service.proofs.Numbers.{false_unless}
 
 cut_at : (words : List (List ℕ)) (i : ℕ) (word : List ℕ) → i < length words → word ≡ get_or words i word → drop i words ≡ word ∷ drop (i + 1) words
 cut_at words i word less is =
@@ -41,9 +43,11 @@ options_read g words i whole end so_far =
 
 -- A WORD WITH A VALUE, OR WITHOUT
 
-pub value_some : (name : Name) (r : Option (List ℕ)) (value : List ℕ) (g : Given) (other : Option Given) → Some value ≡ r
-    → by_value name r g other ≡ with_value name value g
-value_some name r value g other is = ap (λ (o : Option (List ℕ)). by_value name o g other) (sym is)
+pub with_sign : (word name value : List ℕ) (g : Given)
+    → (position_or_len is_equals_sign word < length word) × (name ≡ before_first is_equals_sign word) × (value ≡ after_first is_equals_sign word)
+    → assigned (name_in name) value g ≡ word_in word g
+with_sign word name value g (less, before, after) =
+    rw (before, after, lt-ltb (position_or_len is_equals_sign word) (length word) less) refl
 
-pub value_none : (name : Name) (r : Option (List ℕ)) (g : Given) (other : Option Given) → None ≡ r → by_value name r g other ≡ other
-value_none name r g other is = ap (λ (o : Option (List ℕ)). by_value name o g other) (sym is)
+pub without_sign : (word : List ℕ) (g : Given) → position_or_len is_equals_sign word ≡ length word → awaited (name_in word) g ≡ word_in word g
+without_sign word g none = rw (none, false_unless (nat_lt (length word) (length word)) (λ is. omega (arith, ltb-true (length word) (length word) is))) refl

@@ -1,5 +1,5 @@
 -- Nodes with their journals: in the first world, and after a connection.
-use Rattle.std.specs.Prelude.{◌≡◌, ◌≢◌, ℕ, Bool, IsTrue, List, [], ◌∷◌, length, map}
+use Rattle.std.specs.Prelude.{◌≡◌, ◌≢◌, ℕ, ◌+◌, Bool, IsTrue, List, [], ◌∷◌, length, map}
 use Rattle.std.proofs.Common.{refl, sym, ap, subst, ◌∙◌, arith}
 use Rattle.std.specs.List.{AllByRecursion}
 use Rattle.outside.specs.Devices.{SourceCall, SinkCall, NoneFell}
@@ -12,7 +12,6 @@ use Rattle.driver_steps.specs.Seats.{AreHeld, AreKept, seat_view}
 use Rattle.driver_steps.specs.declared.seat.Seat.{Seat}
 use Rattle.pipe_driver.specs.Endings.{most_taken}
 use Rattle.pipe_driver.proofs.Endings.{piped_with}
-use Rattle.pipe_driver.specs.Rounds.{first_router}
 use Rattle.pipe_driver.specs.Counts.{HaveRisenWhere, RoseWhere}
 use Rattle.pipe_driver.proofs.Counts.{rose_as}
 use Rattle.sim_driver.proofs.Endings.{simulated_as}
@@ -114,11 +113,14 @@ pub driven_as : (command : Command) (first : World) (source : SourceCall) (sink 
     → ((nodes : List Held) → kept nodes → then nodes) → ((w : World) → leaves w → leaves_then w)
     → ((w : World) (put : List ℕ) → owed w put → owed_then w put) → IsDriven command first source sink gives kept leaves owed status rest
     → IsDriven command first source sink gives then leaves_then owed_then status rest
-driven_as Pipe first source sink gives kept then leaves leaves_then owed owed_then status rest f g pays driven =
-    piped_with source sink gives first_router kept then leaves leaves_then owed owed_then first most_taken status rest driven f g
+driven_as (Pipe shards) first source sink gives kept then leaves leaves_then owed owed_then status rest f g pays driven =
+    piped_with source sink gives (1 + shards) kept then leaves leaves_then owed owed_then first most_taken status rest driven f g
     (λ w put leave owes. pays w put owes)
-driven_as (Sim routers) first source sink gives kept then leaves leaves_then owed owed_then status rest f g pays driven =
-    (simulated_as source sink kept then leaves leaves_then owed owed_then first most_taken status f g (λ w put leave owes. pays w put owes) driven.0, driven.1)
+driven_as (Sim shards routers) first source sink gives kept then leaves leaves_then owed owed_then status rest f g pays driven = (
+  simulated_as source sink (1 + shards) kept then leaves leaves_then owed owed_then first most_taken status f g (λ w put leave owes. pays w put owes)
+      driven.0,
+  driven.1,
+)
 driven_as (Serve server) first source sink gives kept then leaves leaves_then owed owed_then status rest f g pays driven = driven
 
 -- a connection ends with no status of another kind

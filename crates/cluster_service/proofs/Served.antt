@@ -1,5 +1,5 @@
 -- From the nodes of a server at its end to their disks.
-use Rattle.std.specs.Prelude.{◌≡◌, ◌⊎◌, ℕ, zero, suc, ◌+◌, ◌<◌, ◌≤◌, Bool, true, false, ◌||◌, IsTrue, List, [], ◌∷◌, length, map, MatchOption, Option, Some, None}
+use Rattle.std.specs.Prelude.{◌≡◌, ◌⊎◌, ℕ, zero, suc, ◌+◌, ◌-◌, ◌<◌, ◌≤◌, Bool, true, false, ◌||◌, IsTrue, List, [], ◌∷◌, length, map, MatchOption, Option, Some, None}
 use Rattle.std.proofs.Common.{refl, sym, ap, subst, ◌∙◌, inl, inr, arith}
 use Rattle.std.specs.List.{AllByRecursion, slice_get}
 use Rattle.outside.specs.Causes.{Rose}
@@ -20,7 +20,6 @@ use Rattle.node_cell.specs.declared.view.Placed.{Placed}
 use Rattle.node_cell.specs.Courses.{NodeFacts, OpenedAs, RoutersFrom, node_facts, view_by}
 use Rattle.node_cell.specs.Standing.{AreFrom, Ends, StaysAt, StoppedAt}
 use Rattle.conn_server.specs.Conversations.{has_failed, some_failed}
-use Rattle.pipe_driver.specs.Rounds.{first_router}
 use Rattle.sim_driver.specs.Moves.{MayPlay}
 use Rattle.cluster_service.specs.Crashes.{IsOfTheWay, LeaveSuch}
 use Rattle.cluster_service.specs.Openings.{InPairs}
@@ -29,16 +28,15 @@ use Rattle.cluster_service.proofs.Crashes.{seats_leave}
 
 -- THE START
 
-pub routers_there : (first : World) → MayPlay first → RoutersFrom first_router first.nodes
-routers_there first may zero far below = absurd (omega (arith, far))
-routers_there first may (suc zero) far below = absurd (omega (arith, far))
-routers_there first may (suc (suc at)) far below =
-    let there : first_router + at ≡ suc (suc at) = omega arith in
-    subst (λ (n : ℕ). IsRouter first.nodes n) there (may.routers at (omega (arith, below)))
+pub routers_there : (first_router : ℕ) (first : World) → MayPlay first_router first → RoutersFrom first_router first.nodes
+routers_there first_router first may at far below =
+    let there : first_router + (at - first_router) ≡ at = omega (arith, far) in
+    subst (λ (n : ℕ). IsRouter first.nodes n) there (may.routers (at - first_router) (subst (λ (n : ℕ). n < length first.nodes) (sym there) below))
 
-pub opened_as : {N L M I : Type 0} (f : NodeFacts N L M I) (first : World) (seats : List (Seat N L)) → AreHeld (seat_view f.state f.facts) seats first.nodes
+pub opened_as : {N L M I : Type 0} (f : NodeFacts N L M I) (first_router : ℕ) (first : World) (seats : List (Seat N L))
+    → AreHeld (seat_view f.state f.facts) seats first.nodes
     → RoutersFrom first_router first.nodes → OpenedAs f (since_then seats first) first_router seats first
-opened_as f first seats held routers = record {
+opened_as f first_router first seats held routers = record {
   logs = refl;
   nodes = held_since f.state f.facts (since_then seats first) seats first.nodes held;
   crashes = start_leaves f.state f.facts seats first;

@@ -12,10 +12,7 @@ use Rattle.node_model.specs.States.{NodeState}
 use Rattle.node_model.specs.Journal.{Kept}
 use Rattle.node_model.specs.World.{Held, World, Event, Run, goes, journal_at, stands}
 use Rattle.node_model.proofs.Journals.{journal_got}
-use Rattle.node_laws.proofs.Runs.{makes_one_history}
-use Rattle.node_laws.proofs.StepsKeep.{run_keeps}
 use Rattle.node_progress.specs.Firsts.{IsFirst}
-use Rattle.node_progress.proofs.Firsts.{first_true}
 use Rattle.driver_steps.specs.declared.seat.Seat.{Seat}
 use Rattle.driver_steps.specs.Crashes.{LeavesKept}
 use Rattle.driver_steps.specs.Seats.{AreHeld, IsHeld, seat_since, seat_view, since_then}
@@ -28,7 +25,6 @@ use Rattle.conn_server.specs.Conversations.{LinkFacts, Served, some_failed}
 use Rattle.pipe_driver.proofs.Covers.{got_mapped}
 use Rattle.cluster_service.specs.Counts.{OneRoseWhere}
 use Rattle.cluster_service.specs.Crashes.{IsOfTheWay, LeaveSuch, LeaveTheWay}
-use Rattle.cluster_service.specs.Headline.{MakesOneHistory}
 use Rattle.journal_starts.specs.Journals.{AreJournals, IsJournal}
 use Rattle.cluster_service.specs.Openings.{InPairs}
 use Rattle.cluster_service.specs.Servers.{AreJournalsUpTo, IsUpTo, LeaveUpTo, ServerHeadline}
@@ -36,6 +32,7 @@ use Rattle.cluster_service.proofs.Counts.{all_still, one_of_them_rose}
 use Rattle.cluster_service.proofs.Crashes.{IsOfWorld, all_weaker, at_place, leaves_then, left_alone, of_the_first, seats_leave}
 use Rattle.cluster_service.proofs.Firsts.{happens_count}
 use Rattle.cluster_service.proofs.SeatFacts.{kept_in_files}
+use Rattle.cluster_service.proofs.OneHistories.{one_history}
 use Rattle.cluster_service.proofs.Served.{IsAfter, after_calm, after_later, after_places, after_rose, all_by_place, each_was, in_pairs, none_failed_at, opened_as}
 
 pub mapped_twice : {A B C : Type 0} (g : B → C) (h : A → B) (xs : List A) → map g (map h xs) ≡ map (λ x. g (h x)) xs
@@ -47,11 +44,6 @@ pub told_placed : {N D X : Type 0} (f : D → X) (disks : List D) (placed : List
     → map f disks ≡ map (λ p. f p.seat.log.disk) placed
 told_placed {N = N} {D = D} f disks placed is =
     ap (λ (ds : List D). map f ds) is ∙ mapped_twice f (λ (p : Placed N (JournalView D)). p.seat.log.disk) placed
-
-history_of : (first : World) → IsFirst first → (events : List Event) (w : World) → Run first events w → MakesOneHistory w
-history_of first begins events w run =
-    let kept = run_keeps first w events (first_true first begins) run in
-    (kept.0.good.dated, makes_one_history w kept)
 
 run_count : (u : World) (events : List Event) (w : World) → Run u events w → length w.nodes ≡ length u.nodes
 run_count _ _ _ (stands w) = refl
@@ -88,7 +80,7 @@ none_served meaning bytes first tells failed files moment left_since befores aft
   journals_up_to = λ told at file got. (first, inl refl, journal_there files first.nodes (are told) at file got);
   crashes = λ never. left;
   crashes_up_to = up_to_end first tells moment left_since befores afters first left;
-  history = history_of first begins [] first (stands first);
+  history = one_history first begins [] first (stands first);
   served = tt;
 }
 
@@ -284,6 +276,6 @@ module _ {N D : Type 0} (state : N → NodeState) (tells : Bool) (content : D �
     journals_up_to = served_up_to steps letter meaning placed s.events s.world s.run from s.nodes count disks are;
     crashes = λ never. served_leave steps letter meaning placed s.events s.world s.run from s.nodes count disks are (λ some. never (where_it some)) befores early;
     crashes_up_to = served_leave_up_to steps letter meaning placed s.events s.world s.run from s.nodes count disks are befores early;
-    history = history_of first begins s.events s.world s.run;
+    history = one_history first begins s.events s.world s.run;
     served = s.links_are;
   }

@@ -1,12 +1,12 @@
 -- How a server ended, and its status.
-use Rattle.std.specs.Prelude.{◌≡◌, ◌≢◌, ◌⊎◌, ◌<◌, ◌^◌, ℕ, List, [], ◌∷◌, length, map, Some, None}
+use Rattle.std.specs.Prelude.{◌≡◌, ◌≢◌, ◌⊎◌, ◌-◌, ◌<◌, ◌^◌, ℕ, List, [], ◌∷◌, length, map, Some, None}
 use Rattle.std.proofs.Common.{refl, sym, ap, subst, inl, inr, arith, ◌∙◌}
 use Rattle.std.specs.List.{AllByRecursion}
 use Rattle.driver_steps.specs.declared.seat.Seat.{Seat}
 use Rattle.journal_frames.specs.Views.{JournalView}
 use Rattle.conn_server.specs.declared.server.ServeEnd.{ServeEnd}
 use Rattle.conn_server.specs.declared.server.ServeEnd.TheVariants as served
-use Rattle.cluster_service.specs.Arguments.{IsServer, routers_of, server_in, sessions_of}
+use Rattle.cluster_service.specs.Arguments.{IsServer, others_of, routers_of, server_in, sessions_of, shards_of}
 use Rattle.cluster_service.specs.Seats.{seats_of}
 use Rattle.cluster_service.specs.Servers.{IsServerEnd, at_end, at_disk, at_memory, at_accept}
 use Rattle.cluster_service.specs.Statuses.{of_server}
@@ -68,23 +68,31 @@ server_no_other status (inr damaged) = rw damaged (λ is. cc, λ is. cc, λ is. 
 -- COMMANDS
 
 pub is_server : (command : Command) (server : Server) → server_in command ≡ Some server → IsServer command
-is_server Pipe server is = absurd (cc is)
-is_server (Sim routers) server is = absurd (cc is)
+is_server (Pipe shards) server is = absurd (cc is)
+is_server (Sim shards routers) server is = absurd (cc is)
 is_server (Serve other) server is = tt
 
 pub no_server : (command : Command) → server_in command ≡ None → ¬ IsServer command
-no_server Pipe none is = is
-no_server (Sim routers) none is = is
+no_server (Pipe shards) none is = is
+no_server (Sim shards routers) none is = is
 no_server (Serve server) none is = absurd (cc none)
 
+pub shards_are : (command : Command) (server : Server) → server_in command ≡ Some server → shards_of command ≡ server.shards
+shards_are (Pipe shards) server is = absurd (cc is)
+shards_are (Sim shards routers) server is = absurd (cc is)
+shards_are (Serve other) server is = let same : other ≡ server = cc is in ap (λ (s : Server). s.shards) same
+
+pub others_are : (command : Command) (server : Server) → server_in command ≡ Some server → others_of command ≡ server.shards - 1
+others_are command server is = ap (λ (shards : ℕ). shards - 1) (shards_are command server is)
+
 pub routers_are : (command : Command) (server : Server) → server_in command ≡ Some server → routers_of command ≡ server.routers
-routers_are Pipe server is = absurd (cc is)
-routers_are (Sim routers) server is = absurd (cc is)
+routers_are (Pipe shards) server is = absurd (cc is)
+routers_are (Sim shards routers) server is = absurd (cc is)
 routers_are (Serve other) server is = let same : other ≡ server = cc is in ap (λ (s : Server). s.routers) same
 
 pub sessions_are : (command : Command) (server : Server) → server_in command ≡ Some server → sessions_of command ≡ server.sessions
-sessions_are Pipe server is = absurd (cc is)
-sessions_are (Sim routers) server is = absurd (cc is)
+sessions_are (Pipe shards) server is = absurd (cc is)
+sessions_are (Sim shards routers) server is = absurd (cc is)
 sessions_are (Serve other) server is = let same : other ≡ server = cc is in ap (λ (s : Server). s.sessions) same
 
 -- nodes that took no step are far from their last

@@ -11,6 +11,6 @@ use Rattle.cluster_service.specs.declared.arguments.Command.TheVariants.{Pipe, S
 abbrev pub ends_in : (command : Command) (first : World) (source : SourceCall) (sink : SinkCall) (tells : Bool) (files : List (List ℕ))
     (leaves : World → Type 0) (owed : World → List ℕ → Type 0) (gives : ℕ → Type 0) (status : Status) (rest : ℕ)
     → HeadlineOf command first source sink tells files leaves owed gives status rest → World
-ends_in Pipe first source sink tells files leaves owed gives status rest headline = headline.piped.end
-ends_in (Sim routers) first source sink tells files leaves owed gives status rest headline = headline.simulated.end
+ends_in (Pipe shards) first source sink tells files leaves owed gives status rest headline = headline.piped.end
+ends_in (Sim shards routers) first source sink tells files leaves owed gives status rest headline = headline.simulated.end
 ends_in (Serve server) first source sink tells files leaves owed gives status rest headline = absurd headline

@@ -1,13 +1,13 @@
 -- What one call says of the bytes that it took and put, and of the disks that it hands back.
-use Rattle.std.specs.Prelude.{◌≡◌, ℕ, Bool, IsTrue, List}
+use Rattle.std.specs.Prelude.{◌≡◌, ℕ, ◌+◌, Bool, IsTrue, List}
 use Rattle.outside.specs.Devices.{SourceCall, SinkCall}
 use Rattle.node_model.specs.Journal.{changes_kept}
 use Rattle.node_model.specs.OneHistory.{OneHistory}
 use Rattle.node_model.specs.Accounts.{changes_in}
 use Rattle.node_model.specs.World.{World, journal_at, account_of}
+use Rattle.restart_laws.specs.Calls.{HaveOwnEntries}
 use Rattle.node_progress.specs.Completion.{AreAnswered}
 use Rattle.pipe_driver.specs.Endings.{IsPiped, most_taken}
-use Rattle.pipe_driver.specs.Rounds.{first_router}
 use Rattle.pipe_driver.specs.declared.status.Status.{Status}
 use Rattle.pipe_driver.specs.declared.status.Status.TheVariants as statuses
 use Rattle.sim_driver.specs.Simulations.{EndInSettle, IsSimulated}
@@ -15,29 +15,31 @@ use Rattle.journal_starts.specs.Journals.{AreJournals}
 use Rattle.cluster_service.specs.declared.arguments.Command.{Command}
 use Rattle.cluster_service.specs.declared.arguments.Command.TheVariants.{Pipe, Sim, Serve}
 
--- what the catalogue and the shard of a world store, and the requests and replies, are one history, where the changes have the steps in which they were made
+-- what the nodes of a world store, and the requests and replies, are one history, where the changes have the steps in which they were made, and each journal
+-- the entries of its own shard, in the order of their times
 abbrev pub MakesOneHistory : World → Type 0
 MakesOneHistory end =
     (changes_in end.changed ≡ changes_kept (journal_at end.nodes 0))
     × OneHistory (account_of end)
+    × HaveOwnEntries end.nodes
 
 -- The bytes taken are requests and a rest, and the bytes put are the replies of a run of the nodes from the first world on, by the schedule, whose journals
--- the disks store. For all inputs, what the catalogue and the shard store then is one legal history of an unsharded collection with each
--- statement at most once, in which each reply is a right one. `tells` is whether the files of the disks are observable; `leaves` gives the files after a
--- crash at any moment of the call, of the world up to which the run may proceed; and `owed` says that each byte was put only after what it says was durable.
--- Where the input was read to its end, every request that was taken since the first world is answered.
-pub record Headline (first : World) (source : SourceCall) (sink : SinkCall) (tells : Bool) (files : List (List ℕ)) (leaves : World → Type 0)
+-- the disks store; the requests come to the router of this number. For all inputs, what the nodes store then is one legal history of an unsharded collection
+-- with each statement at most once, in which each reply is a right one. `tells` is whether the files of the disks are observable; `leaves` gives the files
+-- after a crash at any moment of the call, of the world up to which the run may proceed; and `owed` says that each byte was put only after what it says was
+-- durable. Where the input was read to its end, every request that was taken since the first world is answered.
+pub record Headline (router : ℕ) (first : World) (source : SourceCall) (sink : SinkCall) (tells : Bool) (files : List (List ℕ)) (leaves : World → Type 0)
     (owed : World → List ℕ → Type 0) (gives : ℕ → Type 0) (status : Status) (rest : ℕ) : Type 0 where
-  pub piped : IsPiped source sink gives first_router (λ nodes. IsTrue tells → AreJournals files nodes) leaves owed first most_taken status rest
+  pub piped : IsPiped source sink gives router (λ nodes. IsTrue tells → AreJournals files nodes) leaves owed first most_taken status rest
   pub history : MakesOneHistory piped.end
   pub answered : status ≡ statuses.InputEnded → AreAnswered first piped.end
 
--- The bytes taken are lines of a script and a rest, and the bytes put are what a run of the nodes from the first world on prints, of the events
--- that the lines say. What their journals keep is one history too, in whatever order the script delivers. Where the script was played to its end, and its last
--- line is `settle`, every request that was taken since the first world is answered.
-pub record ScriptHeadline (first : World) (source : SourceCall) (sink : SinkCall) (tells : Bool) (files : List (List ℕ)) (leaves : World → Type 0)
-    (owed : World → List ℕ → Type 0) (status : Status) (rest : ℕ) : Type 0 where
-  pub simulated : IsSimulated source sink (λ nodes. IsTrue tells → AreJournals files nodes) leaves owed first most_taken status
+-- The bytes taken are lines of a script and a rest, and the bytes put are what a run of the nodes from the first world on prints, of the events that the
+-- lines say; the nodes from this number on are routers. What their journals keep is one history too, in whatever order the script delivers. Where the script
+-- was played to its end, and its last line is `settle`, every request that was taken since the first world is answered.
+pub record ScriptHeadline (first_router : ℕ) (first : World) (source : SourceCall) (sink : SinkCall) (tells : Bool) (files : List (List ℕ))
+    (leaves : World → Type 0) (owed : World → List ℕ → Type 0) (status : Status) (rest : ℕ) : Type 0 where
+  pub simulated : IsSimulated source sink first_router (λ nodes. IsTrue tells → AreJournals files nodes) leaves owed first most_taken status
   pub history : MakesOneHistory simulated.end
   pub answered : status ≡ statuses.InputEnded → EndInSettle simulated.lines → AreAnswered first simulated.end
   pub no_rest : rest ≡ 0
@@ -45,6 +47,8 @@ pub record ScriptHeadline (first : World) (source : SourceCall) (sink : SinkCall
 -- by the command, which is no server, of a run from the first world on
 abbrev pub HeadlineOf : Command → World → SourceCall → SinkCall → Bool → List (List ℕ) → (World → Type 0) → (World → List ℕ → Type 0) → (ℕ → Type 0) → Status
     → ℕ → Type 0
-HeadlineOf Pipe first source sink tells files leaves owed gives status rest = Headline first source sink tells files leaves owed gives status rest
-HeadlineOf (Sim routers) first source sink tells files leaves owed gives status rest = ScriptHeadline first source sink tells files leaves owed status rest
+HeadlineOf (Pipe shards) first source sink tells files leaves owed gives status rest =
+    Headline (1 + shards) first source sink tells files leaves owed gives status rest
+HeadlineOf (Sim shards routers) first source sink tells files leaves owed gives status rest =
+    ScriptHeadline (1 + shards) first source sink tells files leaves owed status rest
 HeadlineOf (Serve server) first source sink tells files leaves owed gives status rest = ⊥

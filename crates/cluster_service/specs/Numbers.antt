@@ -1,10 +1,12 @@
 -- Numbers in the arguments of the command line (own).
-use Rattle.std.specs.Prelude.{ℕ, ◌^◌, ◌&&◌, List, length, drop, Option, Some, None, eqb, nat_le, nat_lt, if◌then◌else◌}
-use Rattle.std.specs.List.{starts_with}
+use Rattle.std.specs.Prelude.{ℕ, ◌^◌, ◌&&◌, List, length, Option, Some, None, nat_le, nat_lt, if◌then◌else◌}
 use Rattle.std.specs.Str.{all_ascii_digits}
 use Rattle.std.specs.Str.Parse.{digits_value, without_leading_plus}
 
--- how many routers there may be
+-- how many shards and routers there may be
+abbrev pub most_shards : ℕ
+most_shards = 16
+
 abbrev pub most_routers : ℕ
 most_routers = 8
 
@@ -19,7 +21,3 @@ number_in word =
 abbrev pub within : (least most : ℕ) → Option ℕ → Option ℕ
 within least most None = None
 within least most (Some number) = if nat_le least number && nat_le number most then Some number else None
-
--- what comes in a word after these first bytes, if it begins with them
-abbrev pub rest_after : (first word : List ℕ) → Option (List ℕ)
-rest_after first word = if starts_with eqb word first then Some (drop (length first) word) else None

@@ -1,35 +1,37 @@
--- The options of `serve`: in any order, each at most once, as `--name value` or `--name=value` (own).
-use Rattle.std.specs.Prelude.{ℕ, List, [], ◌∷◌, Option, Some, None, codes, if◌then◌else◌}
+-- The options of the commands: in any order, each at most once, as `--name value` or `--name=value` (own).
+use Rattle.std.specs.Prelude.{ℕ, List, [], ◌∷◌, Bool, Option, Some, None, codes, eqb, length, nat_lt, if◌then◌else◌}
+use Rattle.std.specs.List.{after_first, before_first, position_or_len}
 use Rattle.std.specs.Str.{bytes_eq}
-use Rattle.cluster_service.specs.Numbers.{most_routers, number_in, rest_after, within}
-use Rattle.cluster_service.specs.declared.arguments.Command.{Command}
-use Rattle.cluster_service.specs.declared.arguments.Command.TheVariants.{Serve}
+use Rattle.cluster_service.specs.Numbers.{most_routers, most_shards, number_in, within}
 use Rattle.cluster_service.specs.declared.options.Given.{Given}
 use Rattle.cluster_service.specs.declared.options.Name.{Name}
-use Rattle.cluster_service.specs.declared.options.Name.TheVariants.{Port, Routers, Sessions}
+use Rattle.cluster_service.specs.declared.options.Name.TheVariants.{Port, Shards, Routers, Sessions}
 
 -- the values that words gave up to now, and the option of which the next word is the value
-abbrev given_as : (port routers sessions : Option ℕ) → (waiting : Option Name) → Given
-given_as port routers sessions waiting = record { port = port; routers = routers; sessions = sessions; waiting = waiting }
+abbrev given_as : (port shards routers sessions : Option ℕ) → (waiting : Option Name) → Given
+given_as port shards routers sessions waiting = record { port = port; shards = shards; routers = routers; sessions = sessions; waiting = waiting }
 
 abbrev pub nothing_given : Given
-nothing_given = given_as None None None None
+nothing_given = given_as None None None None None
 
 -- each value is at least 1, and at most
 abbrev pub most_of : Name → ℕ
 most_of Port = 65535
+most_of Shards = most_shards
 most_of Routers = most_routers
 most_of Sessions = 4294967295
 
 abbrev pub given_for : Name → Given → Option ℕ
 given_for Port g = g.port
+given_for Shards g = g.shards
 given_for Routers g = g.routers
 given_for Sessions g = g.sessions
 
 abbrev pub set_in : Name → (value : ℕ) → Given → Given
-set_in Port value g = given_as (Some value) g.routers g.sessions None
-set_in Routers value g = given_as g.port (Some value) g.sessions None
-set_in Sessions value g = given_as g.port g.routers (Some value) None
+set_in Port value g = given_as (Some value) g.shards g.routers g.sessions None
+set_in Shards value g = given_as g.port (Some value) g.routers g.sessions None
+set_in Routers value g = given_as g.port g.shards (Some value) g.sessions None
+set_in Sessions value g = given_as g.port g.shards g.routers (Some value) None
 
 -- an option gets a value in its range, once
 abbrev pub once : Name → (earlier value : Option ℕ) → Given → Option Given
@@ -43,28 +45,30 @@ with_value name word g = once name (given_for name g) (within 1 (most_of name) (
 abbrev pub name_in : (word : List ℕ) → Option Name
 name_in word =
     if bytes_eq word (codes "--port") then Some Port
+    else if bytes_eq word (codes "--shards") then Some Shards
     else if bytes_eq word (codes "--routers") then Some Routers
     else if bytes_eq word (codes "--sessions") then Some Sessions
     else None
 
--- a value that comes in one word with the option's name, or what else the word says
-abbrev pub by_value : Name → (value : Option (List ℕ)) → Given → (otherwise : Option Given) → Option Given
-by_value name (Some value) g otherwise = with_value name value g
-by_value name None g otherwise = otherwise
+-- the option that was named, if one was, has this value
+abbrev pub assigned : Option Name → (value : List ℕ) → Given → Option Given
+assigned None value g = None
+assigned (Some name) value g = with_value name value g
 
--- an option's name and its value in one word
-abbrev pub assigned_in : (word : List ℕ) → Given → Option Given
-assigned_in word g =
-    by_value Port (rest_after (codes "--port=") word) g
-    (by_value Routers (rest_after (codes "--routers=") word) g
-    (by_value Sessions (rest_after (codes "--sessions=") word) g None))
+-- or the next word is its value
+abbrev pub awaited : Option Name → Given → Option Given
+awaited None g = None
+awaited (Some name) g = Some (given_as g.port g.shards g.routers g.sessions (Some name))
 
-abbrev pub by_name : Option Name → (word : List ℕ) → Given → Option Given
-by_name (Some name) word g = Some (given_as g.port g.routers g.sessions (Some name))
-by_name None word g = assigned_in word g
+abbrev pub is_equals_sign : ℕ → Bool
+is_equals_sign byte = eqb byte 61
 
+-- An option's name, the first `=` and the option's value; or its name alone.
 abbrev pub word_in : (word : List ℕ) → Given → Option Given
-word_in word g = by_name (name_in word) word g
+word_in word g =
+    if nat_lt (position_or_len is_equals_sign word) (length word)
+    then assigned (name_in (before_first is_equals_sign word)) (after_first is_equals_sign word) g
+    else awaited (name_in word) g
 
 abbrev pub by_waiting : Option Name → (word : List ℕ) → Given → Option Given
 by_waiting (Some name) word g = with_value name word g
@@ -78,16 +82,3 @@ after_word (Some g) word = by_waiting g.waiting word g
 abbrev pub options_in : Option Given → List (List ℕ) → Option Given
 options_in given [] = given
 options_in given (word ∷ words) = options_in (after_word given word) words
-
-abbrev pub or_one : Option ℕ → ℕ
-or_one None = 1
-or_one (Some routers) = routers
-
--- a port and a number of sessions are needed; there is one router if no number is given
-abbrev pub server_by : (port sessions : Option ℕ) → (waiting : Option Name) → (routers : ℕ) → Option Command
-server_by (Some port) (Some sessions) None routers = Some (Serve (record { port = port; routers = routers; sessions = sessions }))
-server_by port sessions waiting routers = None
-
-abbrev pub server_of : Option Given → Option Command
-server_of None = None
-server_of (Some g) = server_by g.port g.sessions g.waiting (or_one g.routers)

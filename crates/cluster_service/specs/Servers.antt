@@ -11,7 +11,6 @@ use Rattle.conn_server.specs.Conversations.{LinkFacts, WereServed}
 use Rattle.driver_steps.specs.Seats.{AreHeld, SeatView}
 use Rattle.journal_frames.specs.Views.{JournalView}
 use Rattle.journal_starts.specs.Journals.{AreJournals, IsJournal}
-use Rattle.pipe_driver.specs.Rounds.{first_router}
 use Rattle.cluster_service.specs.Crashes.{IsOfTheWay, LeaveSuch}
 use Rattle.cluster_service.specs.Headline.{MakesOneHistory}
 use Rattle.cluster_service.specs.OpenJournals.{AreOpenWith}
@@ -54,15 +53,16 @@ pub data IsServerEnd : Status → Type 0 where
   at_memory : IsServerEnd OutOfMemory
   at_accept : IsServerEnd AcceptFailed
 
--- Nodes in these states, with these journals, are those of some world: its journals store the same, and behind the shard there are routers.
-pub record AreOfSomeWorld {D : Type 0} (tells : Bool) (content : D → List ℕ) (states : List NodeState) (journals : List (JournalView D)) : Type 0 where
+-- Nodes in these states, with these journals, are those of some world: its journals store the same, and its nodes from this number on are routers.
+pub record AreOfSomeWorld {D : Type 0} (first_router : ℕ) (tells : Bool) (content : D → List ℕ) (states : List NodeState)
+    (journals : List (JournalView D)) : Type 0 where
   pub nodes : List Held
   pub same : states ≡ map (λ h. h.state) nodes
   pub are : AreOpenWith tells content journals nodes
   pub routers : RoutersFrom first_router nodes
 
 -- so are nodes with their logs
-pub record AreSeatedSomewhere {S : Type 0} (view : S → SeatView) (seats : List S) : Type 0 where
+pub record AreSeatedSomewhere {S : Type 0} (first_router : ℕ) (view : S → SeatView) (seats : List S) : Type 0 where
   pub nodes : List Held
   pub held : AreHeld view seats nodes
   pub routers : RoutersFrom first_router nodes

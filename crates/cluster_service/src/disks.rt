@@ -85,7 +85,7 @@ fn open_some<D: Disk>(
 }
 
 /// Appends disks to those that a vector has, which has room for them.
-fn put_behind<D: Drop>(disks: Vec<D>, all: &mut Vec<D>)
+fn put_after<D: Drop>(disks: Vec<D>, all: &mut Vec<D>)
     requires { vec_len all.old + vec_len disks ≤ vec_capacity all.old }
     ensures { all.new.items ≡ all.old.items ++ disks.items }
 {
@@ -155,7 +155,7 @@ pub fn open_all<D: Disk>(alloc: Global, disks: Vec<D>) -> Result<Opened<D>, AllU
         }),
         Some(status) => {
             close_all(journals, &mut back);
-            put_behind(unopened, &mut back);
+            put_after(unopened, &mut back);
             Err(AllUnopened {
                 status,
                 disks: back,

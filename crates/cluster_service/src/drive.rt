@@ -7,10 +7,9 @@ ghost use Rattle.driver_steps.specs.Seats.{AreHeld, AreKept, AreOpen, LeaveKept,
 ghost use Rattle.pipe_driver.specs.Acknowledgements.{AreAcknowledgedBy};
 ghost use Rattle.pipe_driver.specs.Counts.{HaveRisenWhere, RoseWhere};
 ghost use Rattle.pipe_driver.specs.Progress.{AreAskedAsRead};
-ghost use Rattle.pipe_driver.specs.Rounds.{first_router};
 ghost use Rattle.pipe_driver.specs.declared.status.Status.TheVariants as statuses;
 ghost use Rattle.sim_driver.specs.Moves.{MayPlay};
-ghost use Rattle.cluster_service.specs.Arguments.{IsServer};
+ghost use Rattle.cluster_service.specs.Arguments.{IsServer, first_router_of};
 ghost use Rattle.cluster_service.specs.Drivers.{IsDriven, output_of};
 
 use crate::arguments::Command;
@@ -21,7 +20,7 @@ use outside::clock::Clock;
 use outside::log::Log;
 use outside::streams::Source;
 use outside::witness::Witness;
-use pipe_driver::{Ending, FIRST_ROUTER};
+use pipe_driver::Ending;
 use sim_driver::simulate;
 use std::alloc::Global;
 use std::marker::Sync;
@@ -48,10 +47,11 @@ pub fn drive<
     seats: &mut Vec<Seat<N, L>>,
     clock: &C,
 ) -> Ending
-    requires at { first_router < vec_len seats.old }
+    requires at { first_router_of command < vec_len seats.old }
     requires driver { ¬ IsServer command }
     requires open { AreOpen L.facts.is_open seats.old.items }
-    ensures driven { AreAskedAsRead N.asks → (first : World) → MayPlay first → AreHeld (seat_view N.state L.facts) seats.old.items first.nodes →
+    ensures driven { AreAskedAsRead N.asks → (first : World) → MayPlay (first_router_of command) first →
+        AreHeld (seat_view N.state L.facts) seats.old.items first.nodes →
         IsDriven command first (source_call S.tells S.left S.fault_count input.old input.new) (sink_call K.tells K.held K.fault_count out.old out.new)
         (C.gives clock.now) (AreKept (seat_view N.state L.facts) seats.new.items)
         (LeaveKept (seat_since N.state L.facts (since_then seats.old.items first)) seats.new.items)
@@ -65,19 +65,20 @@ pub fn drive<
         (faults_of L.facts.fault_count seats.new.items) }
     ensures places { places_of L.facts.place seats.new.items ≡ places_of L.facts.place seats.old.items }
 {
+    let first_router = command.first_router();
     match command {
-        Command::Pipe => pipe_driver::pipe(
+        Command::Pipe { .. } => pipe_driver::pipe(
             rt,
             alloc,
             input,
             out,
             seats,
             clock,
-            FIRST_ROUTER,
+            first_router,
             MOST_TAKEN,
         ),
         Command::Sim { .. } => Ending {
-            status: simulate(rt, alloc, input, out, seats, MOST_TAKEN),
+            status: simulate(rt, alloc, input, out, seats, first_router, MOST_TAKEN),
             rest: 0,
         },
         Command::Serve(_) => unreachable!(),

@@ -8,7 +8,7 @@ ghost use Rattle.node_replay.specs.Acknowledged.{KeepsJournals};
 ghost use Rattle.driver_steps.specs.Crashes.{LeadsTo};
 ghost use Rattle.pipe_driver.specs.declared.status.Status as connections;
 ghost use Rattle.journal_starts.specs.Starts.{BeginsOnFiles};
-ghost use Rattle.cluster_service.specs.Arguments.{routers_of};
+ghost use Rattle.cluster_service.specs.Arguments.{others_of, routers_of};
 ghost use Rattle.cluster_service.specs.Crashes.{AreDurableBefore, LeaveTheWay};
 ghost use Rattle.cluster_service.specs.Ends.{ends_in};
 ghost use Rattle.cluster_service.specs.Headline.{HeadlineOf};
@@ -31,10 +31,10 @@ pub fn calls_lead_to_their_ends<D: Disk, K: Witness<D>, C: Clock>()
 pub fn calls_go_on<D: Disk, K: Witness<D>, C: Clock>()
     ensures { (command : Command) (befores afters : List D) (first : World) (source : SourceCall) (sink : SinkCall) (notes : List Note) (held : List ℕ)
         (clock : C) (ending : connections.Status) (rest : ℕ) →
-        IsTrue D.tells → BeginsOnFiles (routers_of command) (map D.content befores) first →
+        IsTrue D.tells → BeginsOnFiles (others_of command) (routers_of command) (map D.content befores) first →
         HeadlineOf command first source sink D.tells (map D.content afters) (LeaveTheWay first D.tells D.moment D.left_since befores afters)
         (AreDurableBefore K.tells D.tells D.place D.moment D.left_since command first notes held afters) (C.gives clock) ending rest →
-        (next : World) × BeginsOnFiles (routers_of command) (map D.content afters) next }
+        (next : World) × BeginsOnFiles (others_of command) (routers_of command) (map D.content afters) next }
 {}
 
 /// The next call loses nothing, in whatever world it begins on the files that the one before left: in each world that it leads to, as in the one in which it
@@ -42,9 +42,9 @@ pub fn calls_go_on<D: Disk, K: Witness<D>, C: Clock>()
 pub fn acknowledged_goes_on<D: Disk, K: Witness<D>, C: Clock>()
     ensures { (command : Command) (befores afters : List D) (first : World) (source : SourceCall) (sink : SinkCall) (notes : List Note) (held : List ℕ)
         (clock : C) (ending : connections.Status) (rest : ℕ) →
-        IsTrue D.tells → BeginsOnFiles (routers_of command) (map D.content befores) first →
+        IsTrue D.tells → BeginsOnFiles (others_of command) (routers_of command) (map D.content befores) first →
         (headline : HeadlineOf command first source sink D.tells (map D.content afters) (LeaveTheWay first D.tells D.moment D.left_since befores afters)
         (AreDurableBefore K.tells D.tells D.place D.moment D.left_since command first notes held afters) (C.gives clock) ending rest) →
-        (next w : World) → BeginsOnFiles (routers_of command) (map D.content afters) next → LeadsTo next w →
+        (next w : World) → BeginsOnFiles (others_of command) (routers_of command) (map D.content afters) next → LeadsTo next w →
         KeepsJournals (ends_in command _ _ _ _ _ _ _ _ _ _ headline) w }
 {}

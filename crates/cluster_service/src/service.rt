@@ -9,7 +9,7 @@ ghost use Rattle.node_traits.specs.Effects.{spellings};
 ghost use Rattle.pipe_driver.specs.Counts.{RoseWhere};
 ghost use Rattle.pipe_driver.specs.Progress.{AreAskedAsRead};
 ghost use Rattle.sim_driver.specs.Moves.{MayPlay};
-ghost use Rattle.cluster_service.specs.Arguments.{IsServer, nodes_of, routers_of};
+ghost use Rattle.cluster_service.specs.Arguments.{IsServer, first_router_of, nodes_of, routers_of};
 ghost use Rattle.cluster_service.specs.Counts.{OneRoseWhere};
 ghost use Rattle.cluster_service.specs.Crashes.{AreDurableBefore, LeaveSuch, LeaveTheWay};
 ghost use Rattle.cluster_service.specs.Headline.{HeadlineOf};
@@ -84,7 +84,8 @@ pub fn serve<
 
     // The headline, in each world that a call may begin in, whose nodes these are, and which has stored what the journals have. `disks` are those of before
     // the journals were opened.
-    ensures headline { AreAskedAsRead N.asks → (first : World) → MayPlay first → map N.state nodes.items ≡ map (λ h. h.state) first.nodes →
+    ensures headline { AreAskedAsRead N.asks → (first : World) → MayPlay (first_router_of command) first →
+        map N.state nodes.items ≡ map (λ h. h.state) first.nodes →
         AreOpenWith D.tells D.content journals.items first.nodes → (disks : List D) →
         (IsTrue D.tells → LeaveSuch D.moment D.left_since (λ at file. Stands file (spellings (journal_at first.nodes at))) disks (disks_of journals.items)) →
         OfConnection result.status (λ ending. HeadlineOf command first

@@ -35,9 +35,6 @@ use std::sync::Wait;
 use std::thread::Threads;
 use wire_nodes::WireRequests;
 
-/// The place of the first router among the nodes.
-const FIRST_ROUTER: u64 = 2;
-
 /// How a server ended: its status, the disks, and what was said on each link.
 #[derive(Drop)]
 pub struct ServerEnd<D: Drop, S: Drop> {
@@ -104,12 +101,13 @@ where
     C: Clock + Sync,
     R: Threads + Wait + Sync,
     requires few { vec_len seats ≤ 64 }
-    requires somewhere { AreSeatedSomewhere (seat_view N.state (journal_facts D.tells D.content D.moment D.left_since D.fault_count D.place)) seats.items }
+    requires somewhere { AreSeatedSomewhere (1 + server.shards)
+        (seat_view N.state (journal_facts D.tells D.content D.moment D.left_since D.fault_count D.place)) seats.items }
     requires small { AllByRecursion (λ seat. N.steps seat.node < 2 ^ 56) seats.items }
     requires open { AllByRecursion (λ seat. IsTrue seat.log.is_open) seats.items }
     requires back { back.items ≡ [] }
     requires room { vec_len seats ≤ vec_capacity back }
-    ensures headline { (first : World) → MayPlay first →
+    ensures headline { (first : World) → MayPlay (1 + server.shards) first →
         AreHeld (seat_view N.state (journal_facts D.tells D.content D.moment D.left_since D.fault_count D.place)) seats.items first.nodes → (disks : List D) →
         (IsTrue D.tells → LeaveSuch D.moment D.left_since (λ at file. Stands file (spellings (journal_at first.nodes at))) disks (map (λ seat. seat.log.disk) seats.items)) →
         ServerHeadline N.meaning (link_facts A.Link.Source.tells A.Link.Source.left A.Link.Sink.tells A.Link.Sink.held A.Link.is_closed)
@@ -132,7 +130,7 @@ where
         acceptor,
         clock,
         seats,
-        FIRST_ROUTER,
+        1 + server.shards as u64,
         server.sessions,
     ) {
         Ok(Served { end, nodes, links }) => {
@@ -175,7 +173,7 @@ where
     R: Threads + Wait + Sync,
     requires few { vec_len journals ≤ 64 }
     requires nodes { vec_len nodes ≡ vec_len journals }
-    requires somewhere { AreOfSomeWorld D.tells D.content (map N.state nodes.items) journals.items }
+    requires somewhere { AreOfSomeWorld (1 + server.shards) D.tells D.content (map N.state nodes.items) journals.items }
     requires small { AllByRecursion (λ node. N.steps node < 2 ^ 56) nodes.items }
     requires open { AreAllOpen journals.items }
     requires back { back.items ≡ [] }
@@ -183,7 +181,7 @@ where
 
     // The headline, in each world that a call may begin in, whose nodes these are, and which has stored what the journals have. `disks` are those of before
     // the journals were opened.
-    ensures headline { (first : World) → MayPlay first → map N.state nodes.items ≡ map (λ h. h.state) first.nodes →
+    ensures headline { (first : World) → MayPlay (1 + server.shards) first → map N.state nodes.items ≡ map (λ h. h.state) first.nodes →
         AreOpenWith D.tells D.content journals.items first.nodes → (disks : List D) →
         (IsTrue D.tells → LeaveSuch D.moment D.left_since (λ at file. Stands file (spellings (journal_at first.nodes at))) disks (disks_of journals.items)) →
         ServerHeadline N.meaning (link_facts A.Link.Source.tells A.Link.Source.left A.Link.Sink.tells A.Link.Sink.held A.Link.is_closed)

@@ -1,8 +1,9 @@
 -- Nodes that are opened on the records of their journals are those of some world.
-use Rattle.std.specs.Prelude.{◌≡◌, ℕ, zero, suc, ◌+◌, ◌<◌, ◌≤◌, Bool, true, false, IsTrue, List, [], ◌∷◌, length, map, Option, Some, None, is_some, is_none, nat_lt, ◌&&◌, if◌then◌else◌}
+use Rattle.std.specs.Prelude.{◌≡◌, ℕ, zero, suc, ◌+◌, ◌-◌, ◌<◌, ◌≤◌, Bool, true, false, IsTrue, List, [], ◌∷◌, length, map, Option, Some, None, is_some, is_none, nat_lt, ◌&&◌, if◌then◌else◌}
 use Rattle.std.proofs.Common.{refl, sym, ap, subst, ◌∙◌, arith}
 use Rattle.std.specs.List.{AllByRecursion, slice_get}
 use Rattle.std.specs.Option.{option_map}
+use Rattle.std.proofs.lemmas.Bool.{lt-ltb}
 use Rattle.chunk_model.specs.Changes.{create_change, split_change}
 use Rattle.chunk_model.specs.Tables.{table_of}
 use Rattle.history_model.specs.History.{Entry}
@@ -89,78 +90,79 @@ unmapped (k ∷ kept) are = (are.0, unmapped kept are.1)
 
 -- ONE NODE
 
--- The node of a number, in its state, which stores these records.
-record IsHeldAs (n : ℕ) (records : List (List ℕ)) (state : NodeState) : Type 0 where
+-- The node of a number, in its state, which stores these records; there are so many shards after the first.
+record IsHeldAs (others n : ℕ) (records : List (List ℕ)) (state : NodeState) : Type 0 where
   held : Held
   same : state ≡ held.state
   stores : spellings held.kept ≡ records
   readable : AreReadable held.kept
-  router : 2 ≤ n → (r : Router) × (held.state ≡ router_state r)
+  router : others + 2 ≤ n → (r : Router) × (held.state ≡ router_state r)
 
 router_of : NodeState → Router → Router
 router_of (router_state r) other = r
 router_of s other = other
 
-opened_router : (n time : ℕ) (d : DurableState) (records : List Record) → replayed (Some (part_at n)) records ≡ Some d → 2 ≤ n
+opened_router : (others n time : ℕ) (d : DurableState) (records : List Record) → replayed (Some (part_at others n)) records ≡ Some d → others + 2 ≤ n
     → (r : Router) × (opened time d ≡ router_state r)
-opened_router zero time d records leads far = absurd (omega (arith, far))
-opened_router (suc zero) time d records leads far = absurd (omega (arith, far))
-opened_router (suc (suc n)) time d records leads far =
-    let x = router_replays records (empty_router (suc (suc n))) d leads in
+opened_router others zero time d records leads far = absurd (omega (arith, far))
+opened_router others (suc n) time d records leads far =
+    let is : part_at others (suc n) ≡ durable_router (empty_router (suc n) (others + 1)) = rw (lt-ltb others n (omega (arith, far))) refl in
+    let x = router_replays records (empty_router (suc n) (others + 1)) d (subst (λ (p : DurableState). replayed (Some p) records ≡ Some d) is leads) in
     subst (λ (e : DurableState). (r : Router) × (opened time e ≡ router_state r)) (sym x.1) (_, refl)
 
-one_held : (n : ℕ) (records : List (List ℕ)) (state : NodeState) → IsOpened (part_at n) records state → IsHeldAs n records state
-one_held n records state o =
-    let kept = kept_all (part_at n) o.d o.replayed.records o.replayed.leads in
+one_held : (others n : ℕ) (records : List (List ℕ)) (state : NodeState) → IsOpened (part_at others n) records state → IsHeldAs others n records state
+one_held others n records state o =
+    let kept = kept_all (part_at others n) o.d o.replayed.records o.replayed.leads in
     record {
       held = record { state = opened o.time o.d; kept = kept.0 };
       same = o.is;
       stores = sym (spelled_kept kept.0) ∙ ap (λ (rs : List Record). map (spelled 1) rs) kept.1 ∙ o.replayed.encoded;
       readable = unmapped kept.0 (subst (λ (rs : List Record). AllByRecursion IsReadable rs) (sym kept.1) o.replayed.readable);
-      router = λ far. opened_router n o.time o.d o.replayed.records o.replayed.leads far;
+      router = λ far. opened_router others n o.time o.d o.replayed.records o.replayed.leads far;
     }
 
 -- ALL NODES
 
 -- those from a number on
-record AreHeldAs {D : Type 0} (tells : Bool) (content : D → List ℕ) (n : ℕ) (journals : List (JournalView D)) (states : List NodeState) : Type 0 where
+record AreHeldAs {D : Type 0} (tells : Bool) (content : D → List ℕ) (others n : ℕ) (journals : List (JournalView D)) (states : List NodeState) : Type 0 where
   nodes : List Held
   same : states ≡ map (λ h. h.state) nodes
   are : AreOpenWith tells content journals nodes
-  routers : (at : ℕ) → 2 ≤ n + at → at < length nodes → IsRouter nodes at
+  routers : (at : ℕ) → others + 2 ≤ n + at → at < length nodes → IsRouter nodes at
 
 module _ {D : Type 0} (facts : DiskFacts D) where
-  all_held : (n : ℕ) (disks : List D) (journals : List (JournalView D)) (found : List (List (List ℕ))) (states : List NodeState)
-      → InThrees (IsOpenedOn facts) disks journals found → AreOpened n found states → AreHeldAs facts.tells facts.content n journals states
-  all_held n [] [] [] [] on opens = record { nodes = []; same = refl; are = tt; routers = λ at far below. absurd (omega (arith, below)) }
-  all_held n [] [] [] (s ∷ states) on opens = absurd opens
-  all_held n [] [] (records ∷ found) states on opens = absurd on
-  all_held n [] (j ∷ journals) found states on opens = absurd on
-  all_held n (d ∷ disks) [] found states on opens = absurd on
-  all_held n (d ∷ disks) (j ∷ journals) [] states on opens = absurd on
-  all_held n (d ∷ disks) (j ∷ journals) (records ∷ found) [] on opens = absurd opens
-  all_held n (d ∷ disks) (j ∷ journals) (records ∷ found) (s ∷ states) on opens =
-      let one = one_held n records s opens.0 in
-      let others = all_held (n + 1) disks journals found states on.1 opens.1 in
+  all_held : (others n : ℕ) (disks : List D) (journals : List (JournalView D)) (found : List (List (List ℕ))) (states : List NodeState)
+      → InThrees (IsOpenedOn facts) disks journals found → AreOpened others n found states → AreHeldAs facts.tells facts.content others n journals states
+  all_held others n [] [] [] [] on opens = record { nodes = []; same = refl; are = tt; routers = λ at far below. absurd (omega (arith, below)) }
+  all_held others n [] [] [] (s ∷ states) on opens = absurd opens
+  all_held others n [] [] (records ∷ found) states on opens = absurd on
+  all_held others n [] (j ∷ journals) found states on opens = absurd on
+  all_held others n (d ∷ disks) [] found states on opens = absurd on
+  all_held others n (d ∷ disks) (j ∷ journals) [] states on opens = absurd on
+  all_held others n (d ∷ disks) (j ∷ journals) (records ∷ found) [] on opens = absurd opens
+  all_held others n (d ∷ disks) (j ∷ journals) (records ∷ found) (s ∷ states) on opens =
+      let one = one_held others n records s opens.0 in
+      let later = all_held others (n + 1) disks journals found states on.1 opens.1 in
       record {
-        nodes = one.held ∷ others.nodes;
-        same = λ i. one.same i ∷ others.same i;
+        nodes = one.held ∷ later.nodes;
+        same = λ i. one.same i ∷ later.same i;
         are = (
           (subst (λ (rs : List (List ℕ)). IsOpenWith facts.tells facts.content j rs) (sym one.stores) on.0.has, one.readable),
-          others.are,
+          later.are,
         );
-        routers = each one others;
+        routers = each one later;
       }
     where
-      each : (one : IsHeldAs n records s) (others : AreHeldAs facts.tells facts.content (n + 1) journals states)
-          → (at : ℕ) → 2 ≤ n + at → at < length (one.held ∷ others.nodes) → IsRouter (one.held ∷ others.nodes) at
-      each one others zero far below =
+      each : (one : IsHeldAs others n records s) (later : AreHeldAs facts.tells facts.content others (n + 1) journals states)
+          → (at : ℕ) → others + 2 ≤ n + at → at < length (one.held ∷ later.nodes) → IsRouter (one.held ∷ later.nodes) at
+      each one later zero far below =
           let r = one.router (omega (arith, far)) in
           (r.0, one.held.kept, ap (λ (s : NodeState). Some (record { state = s; kept = one.held.kept })) r.1)
-      each one others (suc at) far below = others.routers at (omega (arith, far)) (omega (arith, below))
+      each one later (suc at) far below = later.routers at (omega (arith, far)) (omega (arith, below))
 
-  pub some_world : (disks : List D) (journals : List (JournalView D)) (found : List (List (List ℕ))) (states : List NodeState)
-      → InThrees (IsOpenedOn facts) disks journals found → AreOpened 0 found states → AreOfSomeWorld facts.tells facts.content states journals
-  some_world disks journals found states on opens =
-      let all = all_held 0 disks journals found states on opens in
-      record { nodes = all.nodes; same = all.same; are = all.are; routers = λ at far below. all.routers at (omega (arith, far)) below }
+  pub some_world : (shards : ℕ) → 0 < shards → (disks : List D) (journals : List (JournalView D)) (found : List (List (List ℕ))) (states : List NodeState)
+      → InThrees (IsOpenedOn facts) disks journals found → AreOpened (shards - 1) 0 found states
+      → AreOfSomeWorld (1 + shards) facts.tells facts.content states journals
+  some_world shards some disks journals found states on opens =
+      let all = all_held (shards - 1) 0 disks journals found states on opens in
+      record { nodes = all.nodes; same = all.same; are = all.are; routers = λ at far below. all.routers at (omega (arith, far, some)) below }

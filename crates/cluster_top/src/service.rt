@@ -5,7 +5,7 @@ ghost use Rattle.std.specs.List.{AllByRecursion};
 ghost use Rattle.outside.specs.Devices.{NoneFell, SinkIsUntouched, SourceIsUntouched, sink_call, source_call};
 ghost use Rattle.node_model.specs.World.{World};
 ghost use Rattle.pipe_driver.specs.Counts.{RoseWhere};
-ghost use Rattle.cluster_service.specs.Arguments.{IsServer, nodes_of, routers_of};
+ghost use Rattle.cluster_service.specs.Arguments.{IsServer, nodes_of, others_of, routers_of, shards_of};
 ghost use Rattle.cluster_service.specs.Counts.{OneRoseWhere};
 ghost use Rattle.cluster_service.specs.Crashes.{AreDurableBefore, LeaveTheWay};
 ghost use Rattle.cluster_service.specs.Headline.{HeadlineOf};
@@ -40,7 +40,7 @@ pub(crate) fn status_of(fault: OpenFault) -> Status
     }
 }
 
-/// Serves one connection, or plays a script, to its end, by the catalogue, the shard and as many routers as the command has, each with the disk in its
+/// Serves one connection, or plays a script, to its end, by the catalogue and as many shards and routers as the command has, each with the disk in its
 /// place. The files are opened as journals, in order of the nodes, and then the nodes on the records in them; what the nodes write is stored after these.
 pub fn run_nodes<R: Threads + Sync, S: Source, D: Disk, K: Witness<D>, C: Clock>(
     rt: &R,
@@ -51,11 +51,13 @@ pub fn run_nodes<R: Threads + Sync, S: Source, D: Disk, K: Witness<D>, C: Clock>
     disks: Vec<D>,
     clock: &C,
 ) -> RunEnd<D>
+    requires some_shards { 0 < shards_of command }
+    requires few_shards { shards_of command ≤ 16 }
     requires some { 0 < routers_of command }
     requires driver { ¬ IsServer command }
     requires few { routers_of command ≤ 8 }
     requires disks { vec_len disks ≡ nodes_of command }
-    ensures headline { (first : World) → IsTrue D.tells → BeginsOnFiles (routers_of command) (map D.content disks.items) first →
+    ensures headline { (first : World) → IsTrue D.tells → BeginsOnFiles (others_of command) (routers_of command) (map D.content disks.items) first →
         OfConnection result.status (λ ending. HeadlineOf command first
         (source_call S.tells S.left S.fault_count input.old input.new)
         (sink_call K.tells K.held K.fault_count out.old out.new)
@@ -72,8 +74,8 @@ pub fn run_nodes<R: Threads + Sync, S: Source, D: Disk, K: Witness<D>, C: Clock>
     ensures damaged { result.status ≡ statuses.DamagedJournal → (result.rest ≡ 0)
         × SourceIsUntouched (source_call S.tells S.left S.fault_count input.old input.new)
         × SinkIsUntouched (sink_call K.tells K.held K.fault_count out.old out.new)
-        × (IsTrue D.tells → AreRefused (map D.content disks.items)) }
-    ensures refused { IsTrue D.tells → AreRefused (map D.content disks.items) →
+        × (IsTrue D.tells → AreRefused (others_of command) (map D.content disks.items)) }
+    ensures refused { IsTrue D.tells → AreRefused (others_of command) (map D.content disks.items) →
         ((result.status ≡ statuses.DamagedJournal) ⊎ ((result.status ≡ statuses.DiskFailed) ⊎ (result.status ≡ statuses.OutOfMemory)))
         × IsNotBegun (disk_facts D.tells D.content D.may_leave D.moment D.left_since D.place D.fault_count)
         (source_call S.tells S.left S.fault_count input.old input.new)
@@ -102,6 +104,8 @@ fn run_opened<R: Threads + Sync, S: Source, D: Disk, K: Witness<D>, C: Clock>(
     opened: Opened<D>,
     clock: &C,
 ) -> RunEnd<D>
+    requires some_shards { 0 < shards_of command }
+    requires few_shards { shards_of command ≤ 16 }
     requires some { 0 < routers_of command }
     requires driver { ¬ IsServer command }
     requires few { routers_of command ≤ 8 }
@@ -114,7 +118,7 @@ fn run_opened<R: Threads + Sync, S: Source, D: Disk, K: Witness<D>, C: Clock>(
     // `disks` are those of before the journals were opened.
     ensures headline { (disks : List D) (first : World) → IsTrue D.tells →
         InThrees (IsOpenedOn (disk_facts D.tells D.content D.may_leave D.moment D.left_since D.place D.fault_count)) disks opened.journals.items opened.found.items →
-        BeginsOnFiles (routers_of command) (map D.content disks) first →
+        BeginsOnFiles (others_of command) (routers_of command) (map D.content disks) first →
         OfConnection result.status (λ ending. HeadlineOf command first
         (source_call S.tells S.left S.fault_count input.old input.new)
         (sink_call K.tells K.held K.fault_count out.old out.new)
@@ -129,10 +133,10 @@ fn run_opened<R: Threads + Sync, S: Source, D: Disk, K: Witness<D>, C: Clock>(
         × SinkIsUntouched (sink_call K.tells K.held K.fault_count out.old out.new)
         × ((disks : List D) → IsTrue D.tells →
         InThrees (IsOpenedOn (disk_facts D.tells D.content D.may_leave D.moment D.left_since D.place D.fault_count)) disks opened.journals.items opened.found.items →
-        AreRefused (map D.content disks)) }
+        AreRefused (others_of command) (map D.content disks)) }
     ensures refused { (disks : List D) → IsTrue D.tells →
         InThrees (IsOpenedOn (disk_facts D.tells D.content D.may_leave D.moment D.left_since D.place D.fault_count)) disks opened.journals.items opened.found.items →
-        AreRefused (map D.content disks) →
+        AreRefused (others_of command) (map D.content disks) →
         ((result.status ≡ statuses.DamagedJournal) ⊎ (result.status ≡ statuses.OutOfMemory))
         × IsNotBegun (disk_facts D.tells D.content D.may_leave D.moment D.left_since D.place D.fault_count)
         (source_call S.tells S.left S.fault_count input.old input.new)
@@ -148,7 +152,7 @@ fn run_opened<R: Threads + Sync, S: Source, D: Disk, K: Witness<D>, C: Clock>(
         found,
         mut back,
     } = opened;
-    match open_nodes(alloc, found) {
+    match open_nodes(alloc, command.shards(), found) {
         Ok(nodes) => serve(rt, alloc, command, input, out, nodes, journals, back, clock),
         Err(fault) => {
             close_all(journals, &mut back);

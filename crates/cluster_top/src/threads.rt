@@ -1,6 +1,6 @@
 //! The command `serve`: the nodes of the cluster on threads, each with its journal on a disk, and connections to a port.
 
-ghost use Rattle.std.specs.Prelude.{◌≡◌, ◌≢◌, ◌⊎◌, ◌+◌, ◌≤◌, [], List, map, IsTrue, vec_capacity, vec_len};
+ghost use Rattle.std.specs.Prelude.{◌≡◌, ◌≢◌, ◌⊎◌, ◌+◌, ◌-◌, ◌<◌, ◌≤◌, [], List, map, IsTrue, vec_capacity, vec_len};
 ghost use Rattle.std.specs.List.{AllByRecursion};
 ghost use Rattle.outside.specs.Causes.{Rose};
 ghost use Rattle.outside.specs.Devices.{NoneFell};
@@ -66,19 +66,21 @@ where
     A: Acceptor,
     A::Link: Send,
     C: Clock + Sync,
+    requires some_shards { 0 < server.shards }
+    requires few_shards { server.shards ≤ 16 }
     requires few { server.routers ≤ 8 }
-    requires journals { vec_len opened.journals ≡ 2 + server.routers }
-    requires found { vec_len opened.found ≡ 2 + server.routers }
+    requires journals { vec_len opened.journals ≡ 1 + server.shards + server.routers }
+    requires found { vec_len opened.found ≡ 1 + server.shards + server.routers }
     requires opened { (disks : List D) ×
         InThrees (IsOpenedOn (disk_facts D.tells D.content D.may_leave D.moment D.left_since D.place D.fault_count)) disks opened.journals.items opened.found.items }
     requires open { AreAllOpen opened.journals.items }
     requires back { opened.back.items ≡ [] }
-    requires room { 2 + server.routers ≤ vec_capacity opened.back }
+    requires room { 1 + server.shards + server.routers ≤ vec_capacity opened.back }
 
     // `disks` are those of before the journals were opened.
     ensures headline { (disks : List D) (first : World) → IsTrue D.tells →
         InThrees (IsOpenedOn (disk_facts D.tells D.content D.may_leave D.moment D.left_since D.place D.fault_count)) disks opened.journals.items opened.found.items →
-        BeginsOnFiles server.routers (map D.content disks) first →
+        BeginsOnFiles (server.shards - 1) server.routers (map D.content disks) first →
         ServerHeadline input_of (link_facts A.Link.Source.tells A.Link.Source.left A.Link.Sink.tells A.Link.Sink.held A.Link.is_closed)
         first D.tells (result.status ≡ statuses.DiskFailed)
         (map D.content result.disks.items) (LeaveTheWay first D.tells D.moment D.left_since disks result.disks.items)
@@ -88,10 +90,10 @@ where
     ensures damaged { result.status ≡ statuses.DamagedJournal →
         (result.links.items ≡ []) × (acceptor.new ≡ acceptor.old) × ((disks : List D) → IsTrue D.tells →
         InThrees (IsOpenedOn (disk_facts D.tells D.content D.may_leave D.moment D.left_since D.place D.fault_count)) disks opened.journals.items opened.found.items →
-        AreRefused (map D.content disks)) }
+        AreRefused (server.shards - 1) (map D.content disks)) }
     ensures refused { (disks : List D) → IsTrue D.tells →
         InThrees (IsOpenedOn (disk_facts D.tells D.content D.may_leave D.moment D.left_since D.place D.fault_count)) disks opened.journals.items opened.found.items →
-        AreRefused (map D.content disks) →
+        AreRefused (server.shards - 1) (map D.content disks) →
         ((result.status ≡ statuses.DamagedJournal) ⊎ (result.status ≡ statuses.OutOfMemory)) × (result.links.items ≡ []) × (acceptor.new ≡ acceptor.old)
         × AreAsTheyWere (disk_facts D.tells D.content D.may_leave D.moment D.left_since D.place D.fault_count) disks result.disks.items }
     ensures disk_fault { OneRoseWhere (result.status ≡ statuses.DiskFailed) (map D.fault_count (disks_of opened.journals.items)) (map D.fault_count result.disks.items) }
@@ -106,7 +108,7 @@ where
         found,
         mut back,
     } = opened;
-    match open_nodes(alloc, found) {
+    match open_nodes(alloc, server.shards, found) {
         Ok(nodes) => serve_links::<AnyNode, D, AsRead, A, C, R>(
             rt, alloc, server, acceptor, nodes, journals, back, clock,
         ),
@@ -117,9 +119,9 @@ where
     }
 }
 
-/// Serves so many connections to a port to their ends, by the catalogue, the shard and as many routers as the server has, each with the disk in its place. First
-/// the acceptor listens. Then the files are opened as journals, in order of the nodes, and then the nodes on the records in them; what the nodes write is stored
-/// behind these. Connections are accepted after that.
+/// Serves so many connections to a port to their ends, by the catalogue and as many shards and routers as the server has, each with the disk in its place.
+/// First the acceptor listens. Then the files are opened as journals, in order of the nodes, and then the nodes on the records in them; what the nodes write
+/// is stored after these. Connections are accepted after that.
 pub fn serve_nodes<R, D, A, C>(
     rt: &R,
     alloc: Global,
@@ -134,9 +136,11 @@ where
     A: Acceptor,
     A::Link: Send,
     C: Clock + Sync,
+    requires some_shards { 0 < server.shards }
+    requires few_shards { server.shards ≤ 16 }
     requires few { server.routers ≤ 8 }
-    requires disks { vec_len disks ≡ 2 + server.routers }
-    ensures headline { (first : World) → IsTrue D.tells → BeginsOnFiles server.routers (map D.content disks.items) first →
+    requires disks { vec_len disks ≡ 1 + server.shards + server.routers }
+    ensures headline { (first : World) → IsTrue D.tells → BeginsOnFiles (server.shards - 1) server.routers (map D.content disks.items) first →
         ServerHeadline input_of (link_facts A.Link.Source.tells A.Link.Source.left A.Link.Sink.tells A.Link.Sink.held A.Link.is_closed)
         first D.tells (result.status ≡ statuses.DiskFailed)
         (map D.content result.disks.items) (LeaveTheWay first D.tells D.moment D.left_since disks.items result.disks.items)
@@ -149,8 +153,8 @@ where
         ⊎ ((result.status ≡ statuses.AcceptFailed) × (result.disks ≡ disks))) }
     ensures status { IsServerEnd result.status ⊎ (result.status ≡ statuses.DamagedJournal) }
     ensures damaged { result.status ≡ statuses.DamagedJournal → (result.links.items ≡ []) × (A.left acceptor.new ≡ A.left acceptor.old)
-        × (IsTrue D.tells → AreRefused (map D.content disks.items)) }
-    ensures refused { IsTrue D.tells → AreRefused (map D.content disks.items) →
+        × (IsTrue D.tells → AreRefused (server.shards - 1) (map D.content disks.items)) }
+    ensures refused { IsTrue D.tells → AreRefused (server.shards - 1) (map D.content disks.items) →
         (((result.status ≡ statuses.DamagedJournal) ⊎ ((result.status ≡ statuses.DiskFailed) ⊎ (result.status ≡ statuses.OutOfMemory)))
         ⊎ ((result.status ≡ statuses.AcceptFailed) × (result.disks ≡ disks)))
         × (result.links.items ≡ []) × (A.left acceptor.new ≡ A.left acceptor.old)

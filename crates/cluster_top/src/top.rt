@@ -8,7 +8,7 @@ ghost use Rattle.node_model.specs.World.{World};
 ghost use Rattle.pipe_driver.specs.Counts.{RoseWhere};
 ghost use Rattle.protocol_model.specs.Inputs.{input_of};
 ghost use Rattle.conn_server.specs.Conversations.{link_facts};
-ghost use Rattle.cluster_service.specs.Arguments.{IsServer, command_of, node_count_of, routers_of, sessions_of};
+ghost use Rattle.cluster_service.specs.Arguments.{IsServer, command_of, node_count_of, others_of, routers_of, sessions_of};
 ghost use Rattle.cluster_service.specs.Counts.{OneRoseWhere};
 ghost use Rattle.cluster_service.specs.Crashes.{AreDurableBefore, LeaveTheWay};
 ghost use Rattle.cluster_service.specs.Headline.{HeadlineOf};
@@ -74,12 +74,12 @@ fn after_run<D: Drop, L: Drop>(alloc: Global, ending: RunEnd<D>) -> Ended<D, L>
     }
 }
 
-/// Runs the cluster as the arguments say: with `pipe` one connection from `input` to `out` is served to its end, with `sim` the script in `input`
-/// is played to its end, and with `serve` so many connections to a port are served to their ends, on threads; by one router or by as many as `--routers` says.
-/// What the requests change is stored on the disks, one for each node. On files without records all nodes are new; on the journals that earlier calls left, with
-/// as many routers, they go on where these stopped. On files that are damaged, or have a record that may not follow, nothing is served. Of other files nothing is
-/// said but `durable`. Only `serve` uses the acceptor, and the gate is not used. `Status` has the statuses; with 2 and 6 nothing was taken or put, with 8 no
-/// connection could be accepted, and with 10 2^40 bytes were taken.
+/// Runs the cluster as the arguments say: with `pipe` one connection from `input` to `out` is served to its end, with `sim` the script in `input` is played
+/// to its end, and with `serve` so many connections to a port are served to their ends, on threads; by as many shards and routers as `--shards` and
+/// `--routers` say. What the requests change is stored on the disks, one for each node. On files without records all nodes are new; on the journals that
+/// earlier calls left, with as many shards and routers, they go on where these stopped. On files that are damaged, or have a record that may not follow,
+/// nothing is served. Of other files nothing is said but `durable`. Only `serve` uses the acceptor, and the gate is not used. `Status` has the statuses; with
+/// 2 and 6 nothing was taken or put, with 8 no connection could be accepted, and with 10 2^40 bytes were taken.
 pub fn run<R, S, K, A, D, C, G>(
     rt: &R,
     alloc: Global,
@@ -109,12 +109,13 @@ where
     ensures untouched { (result.status ≡ 2) ⊎ (result.status ≡ 6) → (result.rest ≡ 0)
         × SourceIsUntouched (source_call S.tells S.left S.fault_count input.old input.new)
         × SinkIsUntouched (sink_call K.tells K.held K.fault_count out.old out.new) }
-    ensures six { result.status ≡ 6 → IsTrue D.tells → AreRefused (map D.content disks.items) }
-    ensures refused { IsSome (node_count_of words.now) → IsTrue D.tells → AreRefused (map D.content disks.items) →
+    ensures six { result.status ≡ 6 → IsTrue D.tells →
+        IsSomeAnd (command_of words.now) (λ command. AreRefused (others_of command) (map D.content disks.items)) }
+    ensures refused { IfSome (command_of words.now) (λ command. IsTrue D.tells → AreRefused (others_of command) (map D.content disks.items) →
         (((result.status ≡ 6) ⊎ ((result.status ≡ 5) ⊎ (result.status ≡ 7))) ⊎ ((result.status ≡ 8) × (result.disks ≡ disks)))
         × IsNotBegun (disk_facts D.tells D.content D.may_leave D.moment D.left_since D.place D.fault_count)
         (source_call S.tells S.left S.fault_count input.old input.new)
-        (sink_call K.tells K.held K.fault_count out.old out.new) result.rest disks.items result.disks.items }
+        (sink_call K.tells K.held K.fault_count out.old out.new) result.rest disks.items result.disks.items) }
 
     // Each disk comes back in its place. The fault of a device has its own status; with each other status its count is as before.
     ensures places { map D.place result.disks.items ≡ map D.place disks.items }
@@ -127,7 +128,8 @@ where
     // there on, by the schedule or as a script says, took these bytes and put these replies, its journals are what the disks store, and they form one legal
     // history with those of all calls before, in which each reply is a right one. The file of each disk after a crash at any moment of the call is one that
     // was possible before, or what the disk's node wrote in a world on the way of that run.
-    ensures headline { IfSome (command_of words.now) (λ command. ¬ IsServer command → (first : World) → IsTrue D.tells → BeginsOnFiles (routers_of command) (map D.content disks.items) first →
+    ensures headline { IfSome (command_of words.now) (λ command. ¬ IsServer command → (first : World) → IsTrue D.tells →
+        BeginsOnFiles (others_of command) (routers_of command) (map D.content disks.items) first →
         OfStatus result.status (λ status. OfConnection status (λ ending. HeadlineOf command first
         (source_call S.tells S.left S.fault_count input.old input.new)
         (sink_call K.tells K.held K.fault_count out.old out.new)
@@ -154,7 +156,7 @@ where
     ensures server_end { IfSome (command_of words.now) (λ command. IsServer command →
         OfStatus result.status (λ status. IsServerEnd status ⊎ (status ≡ statuses.DamagedJournal))) }
     ensures served { IfSome (command_of words.now) (λ command. IsServer command → (first : World) → IsTrue D.tells →
-        BeginsOnFiles (routers_of command) (map D.content disks.items) first → ServerHeadline input_of
+        BeginsOnFiles (others_of command) (routers_of command) (map D.content disks.items) first → ServerHeadline input_of
         (link_facts A.Link.Source.tells A.Link.Source.left A.Link.Sink.tells A.Link.Sink.held A.Link.is_closed)
         first D.tells (result.status ≡ 5)
         (map D.content result.disks.items)
@@ -168,7 +170,8 @@ where
     ensures acceptor { ¬ IsSomeAnd (command_of words.now) IsServer → acceptor.new ≡ acceptor.old }
     ensures links { ¬ IsSomeAnd (command_of words.now) IsServer → result.links.items ≡ [] }
     ensures not_accepted { result.status ≡ 6 → (A.left acceptor.new ≡ A.left acceptor.old) × (result.links.items ≡ []) }
-    ensures none_accepted { IsTrue D.tells → AreRefused (map D.content disks.items) → (A.left acceptor.new ≡ A.left acceptor.old) × (result.links.items ≡ []) }
+    ensures none_accepted { IfSome (command_of words.now) (λ command. IsTrue D.tells → AreRefused (others_of command) (map D.content disks.items) →
+        (A.left acceptor.new ≡ A.left acceptor.old) × (result.links.items ≡ [])) }
 {
     let command = match read_command(words) {
         Some(command) => command,

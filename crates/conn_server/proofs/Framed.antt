@@ -10,7 +10,7 @@ use Rattle.outside.specs.declared.exchange.Exchange.{Exchange}
 use Rattle.outside.specs.declared.exchange.LinkEnd.TheVariants.{NoFrame}
 use Rattle.conn_server.specs.Talks.{IsRest, SpokeSome}
 
--- the request that was returned comes first, and the rest behind it
+-- the request that was returned comes first, and the rest after it
 pub one_split : (old new : FramerView) (request : Request) (meant : requests.Request) → Given old new request meant
     → (old.bytes ≡ request.bytes ++ new.bytes) × (new.offset ≡ old.offset + length request.bytes)
 one_split old new request meant given =

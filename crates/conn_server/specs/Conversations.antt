@@ -29,7 +29,7 @@ abbrev pub link_facts : {S : Type 0} → Bool → (S → List ℕ) → Bool → 
 link_facts gives left tells held closed = record { gives = gives; left = left; tells = tells; held = held; closed = closed }
 
 -- From one state of a link to another bytes were taken from it, and the requests in these were asked, one after another, as many as the end says; their
--- replies were written to the link, behind what it held.
+-- replies were written to the link, after what it held.
 pub record WasTalked {S : Type 0} (bytes : LinkFacts S) (end : LinkEnd) (opened link : S) (said : List Exchange) : Type 0 where
   pub read : List ℕ
   pub took : Took bytes.gives (bytes.left opened) read (bytes.left link)

@@ -52,16 +52,17 @@ one_opening empty bytes a b p q =
     let times : p.time ≡ q.time = p.replayed.latest ∙ ap (λ (l : List Record). latest_time l) records ∙ sym q.replayed.latest in
     p.is ∙ (λ i. opened (times i) (parts i)) ∙ sym q.is
 
-pub one_opened : (first : ℕ) (found : List (List (List ℕ))) (a b : List NodeState) → AreOpened first found a → AreOpened first found b → a ≡ b
-one_opened first [] [] [] p q = refl
-one_opened first [] [] (t ∷ b) p q = absurd q
-one_opened first [] (s ∷ a) b p q = absurd p
-one_opened first (bytes ∷ found) [] b p q = absurd p
-one_opened first (bytes ∷ found) (s ∷ a) [] p q = absurd q
-one_opened first (bytes ∷ found) (s ∷ a) (t ∷ b) p q =
-    let one : s ≡ t = one_opening (part_at first) bytes s t p.0 q.0 in
-    let others : a ≡ b = one_opened (first + 1) found a b p.1 q.1 in
-    λ i. one i ∷ others i
+pub one_opened : (others first : ℕ) (found : List (List (List ℕ))) (a b : List NodeState) → AreOpened others first found a
+    → AreOpened others first found b → a ≡ b
+one_opened others first [] [] [] p q = refl
+one_opened others first [] [] (t ∷ b) p q = absurd q
+one_opened others first [] (s ∷ a) b p q = absurd p
+one_opened others first (bytes ∷ found) [] b p q = absurd p
+one_opened others first (bytes ∷ found) (s ∷ a) [] p q = absurd q
+one_opened others first (bytes ∷ found) (s ∷ a) (t ∷ b) p q =
+    let one : s ≡ t = one_opening (part_at others first) bytes s t p.0 q.0 in
+    let rest : a ≡ b = one_opened others (first + 1) found a b p.1 q.1 in
+    λ i. one i ∷ rest i
 
 -- the files have one list of records each
 pub one_found : (files : List (List ℕ)) (found others : List (List (List ℕ))) → HaveRecords files found → HaveRecords files others → found ≡ others
@@ -112,12 +113,13 @@ not_refused empty d time bytes index whole r =
     (r.before.encoded ∙ ap (λ (l : List (List ℕ)). take index l) (sym whole.encoded)) r.before.leads
     (ap (λ (l : List (List ℕ)). slice_get l index) whole.encoded ∙ r.here) r.refused whole.leads
 
-none_refused : (first : ℕ) (found : List (List (List ℕ))) (states : List NodeState) → AreOpened first found states → SomeRefused first found → ⊥
-none_refused first [] states opens some = some
-none_refused first (bytes ∷ found) [] opens some = absurd opens
-none_refused first (bytes ∷ found) (s ∷ states) opens (inl refused) =
-    not_refused (part_at first) opens.0.d opens.0.time bytes refused.0 opens.0.replayed refused.1
-none_refused first (bytes ∷ found) (s ∷ states) opens (inr later) = none_refused (first + 1) found states opens.1 later
+none_refused : (others first : ℕ) (found : List (List (List ℕ))) (states : List NodeState) → AreOpened others first found states
+    → SomeRefused others first found → ⊥
+none_refused others first [] states opens some = some
+none_refused others first (bytes ∷ found) [] opens some = absurd opens
+none_refused others first (bytes ∷ found) (s ∷ states) opens (inl refused) =
+    not_refused (part_at others first) opens.0.d opens.0.time bytes refused.0 opens.0.replayed refused.1
+none_refused others first (bytes ∷ found) (s ∷ states) opens (inr later) = none_refused others (first + 1) found states opens.1 later
 
 -- a file that has records is there
 stands_at : (files : List (List ℕ)) (found : List (List (List ℕ))) (at : ℕ) (file : List ℕ) → HaveRecords files found → slice_get files at ≡ Some file
@@ -127,10 +129,11 @@ stands_at (f ∷ files) [] at file have here = absurd have
 stands_at (f ∷ files) (records ∷ found) zero file have here = (records, subst (λ (x : List ℕ). Stands x records) (same_Some _ _ here) have.0)
 stands_at (f ∷ files) (records ∷ found) (suc at) file have here = stands_at files found at file have.1 here
 
-pub opened_are_not_refused : (files : List (List ℕ)) (found : List (List (List ℕ))) (states : List NodeState) → HaveRecords files found
-    → AreOpened 0 found states → ¬ AreRefused files
-opened_are_not_refused files found states have opens (by_damage at offset file here damaged) =
+pub opened_are_not_refused : (others : ℕ) (files : List (List ℕ)) (found : List (List (List ℕ))) (states : List NodeState) → HaveRecords files found
+    → AreOpened others 0 found states → ¬ AreRefused others files
+opened_are_not_refused others files found states have opens (by_damage at offset file here damaged) =
     let s = stands_at files found at file have here in
     unique.not_both file s.0 offset s.1 damaged
-opened_are_not_refused files found states have opens (by_record others these some) =
-    none_refused 0 found states opens (subst (λ (l : List (List (List ℕ))). SomeRefused 0 l) (one_found files others found these have) some)
+opened_are_not_refused others files found states have opens (by_record these records some) =
+    none_refused others 0 found states opens
+    (subst (λ (l : List (List (List ℕ))). SomeRefused others 0 l) (one_found files these found records have) some)

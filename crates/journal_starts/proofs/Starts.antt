@@ -26,10 +26,11 @@ abbrev states_of : List Held → List NodeState
 states_of nodes = map (λ h. h.state) nodes
 
 -- the state after the opening is that of records that replay
-node_opened : (n : ℕ) (kept : List Kept) (state : NodeState) (o : Option DurableState) → AreReadable kept → replayed (Some (part_at n)) (records_of kept) ≡ o
-    → option_map (opened (latest_time (records_of kept))) o ≡ Some state → IsOpened (part_at n) (spellings kept) state
-node_opened n kept state None readable leads is = absurd (cc)
-node_opened n kept state (Some d) readable leads is = record {
+node_opened : (others n : ℕ) (kept : List Kept) (state : NodeState) (o : Option DurableState) → AreReadable kept
+    → replayed (Some (part_at others n)) (records_of kept) ≡ o
+    → option_map (opened (latest_time (records_of kept))) o ≡ Some state → IsOpened (part_at others n) (spellings kept) state
+node_opened others n kept state None readable leads is = absurd (cc)
+node_opened others n kept state (Some d) readable leads is = record {
   d = d;
   time = latest_time (records_of kept);
   replayed = record {
@@ -42,14 +43,14 @@ node_opened n kept state (Some d) readable leads is = record {
   is = sym (same_Some _ _ is);
 }
 
-nodes_opened : (n : ℕ) (files : List (List ℕ)) (nodes : List Held) → AreJournals files nodes → EachAt IsBegun n nodes
-    → AreOpened n (encodings nodes) (states_of nodes)
-nodes_opened n [] [] stored begun = tt
-nodes_opened n [] (h ∷ nodes) stored begun = absurd stored
-nodes_opened n (file ∷ files) [] stored begun = tt
-nodes_opened n (file ∷ files) (h ∷ nodes) stored begun = (
-  node_opened n h.kept h.state (replayed (Some (part_at n)) (records_of h.kept)) stored.0.readable refl begun.0,
-  nodes_opened (n + 1) files nodes stored.1 begun.1,
+nodes_opened : (others n : ℕ) (files : List (List ℕ)) (nodes : List Held) → AreJournals files nodes → EachAt (IsBegun others) n nodes
+    → AreOpened others n (encodings nodes) (states_of nodes)
+nodes_opened others n [] [] stored begun = tt
+nodes_opened others n [] (h ∷ nodes) stored begun = absurd stored
+nodes_opened others n (file ∷ files) [] stored begun = tt
+nodes_opened others n (file ∷ files) (h ∷ nodes) stored begun = (
+  node_opened others n h.kept h.state (replayed (Some (part_at others n)) (records_of h.kept)) stored.0.readable refl begun.0,
+  nodes_opened others (n + 1) files nodes stored.1 begun.1,
 )
 
 have_encodings : (files : List (List ℕ)) (nodes : List Held) → AreJournals files nodes → HaveRecords files (encodings nodes)
@@ -60,23 +61,24 @@ have_encodings (file ∷ files) (h ∷ nodes) stored = (stored.0.stands, have_en
 
 -- LAWS
 
-pub starts_are_stored : (routers : ℕ) (files : List (List ℕ)) (first : World) → BeginsOnFiles routers files first → AreJournals files first.nodes
+pub starts_are_stored : (others routers : ℕ) (files : List (List ℕ)) (first : World) → BeginsOnFiles others routers files first → AreJournals files first.nodes
 starts_are_stored = begins_stored
 
-pub starts_are_opened : (routers : ℕ) (files : List (List ℕ)) (first : World) (found : List (List (List ℕ))) (states : List NodeState)
-    → BeginsOnFiles routers files first → HaveRecords files found → AreOpened 0 found states → states ≡ map (λ h. h.state) first.nodes
-starts_are_opened routers files first found states b have opens =
-    let stored : AreJournals files first.nodes = begins_stored routers files first b in
+pub starts_are_opened : (others routers : ℕ) (files : List (List ℕ)) (first : World) (found : List (List (List ℕ))) (states : List NodeState)
+    → BeginsOnFiles others routers files first → HaveRecords files found → AreOpened others 0 found states → states ≡ map (λ h. h.state) first.nodes
+starts_are_opened others routers files first found states b have opens =
+    let stored : AreJournals files first.nodes = begins_stored others routers files first b in
     let same : found ≡ encodings first.nodes = readings.one_found files found (encodings first.nodes) have (have_encodings files first.nodes stored) in
-    readings.one_opened 0 (encodings first.nodes) states (states_of first.nodes) (subst (λ (l : List (List (List ℕ))). AreOpened 0 l states) same opens)
-    (nodes_opened 0 files first.nodes stored (begins_begun routers files first b))
+    readings.one_opened others 0 (encodings first.nodes) states (states_of first.nodes)
+    (subst (λ (l : List (List (List ℕ))). AreOpened others 0 l states) same opens)
+    (nodes_opened others 0 files first.nodes stored (begins_begun others routers files first b))
 
-pub starts_are_not_refused : (routers : ℕ) (files : List (List ℕ)) (first : World) → BeginsOnFiles routers files first → ¬ AreRefused files
-starts_are_not_refused routers files first b =
-    let stored : AreJournals files first.nodes = begins_stored routers files first b in
-    readings.opened_are_not_refused files (encodings first.nodes) (states_of first.nodes) (have_encodings files first.nodes stored)
-    (nodes_opened 0 files first.nodes stored (begins_begun routers files first b))
+pub starts_are_not_refused : (others routers : ℕ) (files : List (List ℕ)) (first : World) → BeginsOnFiles others routers files first → ¬ AreRefused others files
+starts_are_not_refused others routers files first b =
+    let stored : AreJournals files first.nodes = begins_stored others routers files first b in
+    readings.opened_are_not_refused others files (encodings first.nodes) (states_of first.nodes) (have_encodings files first.nodes stored)
+    (nodes_opened others 0 files first.nodes stored (begins_begun others routers files first b))
 
-pub opened_are_not_refused : (files : List (List ℕ)) (found : List (List (List ℕ))) (states : List NodeState) → HaveRecords files found
-    → AreOpened 0 found states → ¬ AreRefused files
+pub opened_are_not_refused : (others : ℕ) (files : List (List ℕ)) (found : List (List (List ℕ))) (states : List NodeState) → HaveRecords files found
+    → AreOpened others 0 found states → ¬ AreRefused others files
 opened_are_not_refused = readings.opened_are_not_refused

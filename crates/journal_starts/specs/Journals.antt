@@ -19,7 +19,7 @@ AreJournals [] [] = Unit {0}
 AreJournals (file ∷ files) (h ∷ nodes) = IsJournal file h.kept × AreJournals files nodes
 AreJournals files nodes = ⊥
 
--- what the shard stores is a legal history, of collections that the catalogue stores
+-- what all journals store is a legal history, of collections that the catalogue stores
 pub record IsHistory (nodes : List Held) : Type 0 where
   pub legal : Legal (history_of nodes)
   pub placed : AllByRecursion (IsPlaced (changes_kept (journal_at nodes 0))) (history_of nodes)

@@ -17,23 +17,23 @@ pub fn one_history()
 /// In the world that a call begins in, its files are the journals of the nodes.
 #[tactic(auto, using(crate::proofs::Starts::starts_are_stored))]
 pub fn starts_are_stored()
-    ensures { (routers : ℕ) (files : List (List ℕ)) (first : World) → BeginsOnFiles routers files first → AreJournals files first.nodes }
+    ensures { (others routers : ℕ) (files : List (List ℕ)) (first : World) → BeginsOnFiles others routers files first → AreJournals files first.nodes }
 {}
 
 /// Nodes that are opened on the records of the files are in the states that nodes have in that world.
 #[tactic(auto, using(crate::proofs::Starts::starts_are_opened))]
 pub fn starts_are_opened()
-    ensures { (routers : ℕ) (files : List (List ℕ)) (first : World) (found : List (List (List ℕ))) (states : List NodeState) → BeginsOnFiles routers files first
-        → HaveRecords files found → AreOpened 0 found states → states ≡ map (λ h. h.state) first.nodes }
+    ensures { (others routers : ℕ) (files : List (List ℕ)) (first : World) (found : List (List (List ℕ))) (states : List NodeState) → BeginsOnFiles others routers files first
+        → HaveRecords files found → AreOpened others 0 found states → states ≡ map (λ h. h.state) first.nodes }
 {}
 
 /// No opening on such files is refused.
 pub fn starts_are_not_refused()
-    ensures { (routers : ℕ) (files : List (List ℕ)) (first : World) → BeginsOnFiles routers files first → ¬ AreRefused files }
+    ensures { (others routers : ℕ) (files : List (List ℕ)) (first : World) → BeginsOnFiles others routers files first → ¬ AreRefused others files }
 {}
 
 /// Where nodes are opened on the records of the files, no opening is refused.
 pub fn opened_are_not_refused()
-    ensures { (files : List (List ℕ)) (found : List (List (List ℕ))) (states : List NodeState) → HaveRecords files found
-        → AreOpened 0 found states → ¬ AreRefused files }
+    ensures { (others : ℕ) (files : List (List ℕ)) (found : List (List (List ℕ))) (states : List NodeState) → HaveRecords files found
+        → AreOpened others 0 found states → ¬ AreRefused others files }
 {}

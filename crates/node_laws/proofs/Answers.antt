@@ -25,7 +25,8 @@ use Rattle.reply_model.specs.Reads.{MayGive, IsExcess, excess_answer, excess_hal
 use Rattle.reply_model.specs.Right.{ends, MayBeTold, told_own, told_other, told_older, AreTold, AreAll, IsWhole, Reads, find_reads, count_reads, IsReadRefused, refused_overflow, refused_excess, refused_ahead, IsRight, right_write, right_find, right_count, right_refused_read, right_more, right_no_cursor, right_kill, right_shard, right_split, right_not_sharded, right_hello, right_legacy, right_ping, right_end_sessions, right_refusal}
 use Rattle.reply_model.specs.OneHistory.{StandsInPart, IsPlaced, KeepsNumbers}
 use Rattle.node_laws.proofs.Views.{View, changes_in, IsShardAt, history_in, IsWithin, IsBeyond, Later, account_in}
-use Rattle.node_laws.proofs.Facts.{IsFixed, IsRefusalFixed, IsSettled, AnswersFit, no_answer, one_answer, IsToldOf, NeighboursFit}
+use Rattle.node_laws.proofs.TimeFacts.{IsToldOf}
+use Rattle.node_laws.proofs.Facts.{IsFixed, IsRefusalFixed, IsSettled, AnswersFit, no_answer, one_answer, NeighboursFit}
 use Rattle.node_laws.proofs.CatalogueTables.{placed_first}
 use Rattle.node_laws.proofs.KeptDocuments.{AreOwned, all_owned, owned_same}
 use Rattle.node_laws.proofs.SeenStatements.{true_false}

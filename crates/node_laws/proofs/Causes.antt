@@ -29,7 +29,7 @@ use Rattle.node_model.specs.Letters.{At, split_done, Input, client_input, letter
 use Rattle.node_model.specs.States.{Telling, Work, writing, reading, sharding, splitting, Open, Router, Catalogue, Shard}
 use Rattle.node_model.specs.CatalogueRows.{CatalogueRow, catalogue_create, catalogue_tell, catalogue_split, catalogue_bound, catalogue_none, catalogue_skip, catalogue_moment, catalogue_opened, catalogue_client}
 use Rattle.node_model.specs.ShardRows.{ShardRow, shard_write, shard_repeat, shard_empty, shard_park, shard_waits, shard_stale, shard_read, shard_read_above, shard_rows, shard_excess, shard_overflow, shard_time, shard_learn, shard_known, shard_skip, shard_moment, shard_opened, shard_client}
-use Rattle.node_model.specs.RouterRows.{table_for, is_for, is_for_catalogue, reply_to, empty_answer, Next, replies_in, stays, is_told, next_waiting, next_of, RequestPlan, at_once, needs, needs_batch, needs_end, plan_of, block_size, Opened, gives_number, Tells, tells_overflow, tells_excess, tells_number, tells_batch, tells_cursor, RouterRow, router_begin, router_opened, router_plain, router_more, router_no_cursor, router_kill, router_take, router_learn, router_split, router_not_sharded, router_reach, router_ahead, router_note, router_wrote, router_read, router_excess, router_overflow, router_late, router_skip, router_moment}
+use Rattle.node_model.specs.RouterRows.{table_for, is_for, is_for_catalogue, reply_to, empty_answer, Next, replies_in, stays, is_told, next_waiting, next_of, RequestPlan, at_once, needs, needs_batch, needs_end, plan_of, block_size, Opened, gives_number, Tells, tells_overflow, tells_excess, tells_number, tells_batch, tells_cursor, RouterRow, router_begin, router_opened, router_plain, router_more, router_no_cursor, router_kill, router_take, router_learn, router_split, router_not_sharded, router_reach, router_hear, router_ahead, router_note, router_wrote, router_read, router_excess, router_overflow, router_late, router_skip, router_moment}
 use Rattle.node_model.specs.World.{World, answered_by, dated_onto}
 use Rattle.node_laws.proofs.Views.{Book, View, view_of}
 use Rattle.node_laws.proofs.ReadFacts.{IsTelling, tells_find, tells_count}
@@ -122,7 +122,8 @@ router_aside _ _ _ _ (router_learn r m namespace create at table says) = tt
 router_aside _ _ _ _ (router_split r m id q middle says o work) = tt
 router_aside _ _ _ _ (router_not_sharded r m id q middle says o work) = tt
 router_aside _ _ _ _ (router_reach r m id q named at stages telling says o w t le) = tt
-router_aside _ _ _ _ (router_ahead r m id q named at stages telling says o w t le) = tt
+router_aside _ _ _ _ (router_hear r m id q named at stages telling says o w t le some) = tt
+router_aside _ _ _ _ (router_ahead r m id q named at stages telling says o w t le all) = tt
 router_aside _ _ _ _ (router_note r m id dones q kind ordered statements answers says o w n c) = tt
 router_aside _ _ _ _ (router_wrote r m id dones q kind ordered statements answers says o w n c) = tt
 router_aside _ _ _ _ (router_read r m id rows q named at stages telling out answer f says o w merged tells) = tells_stored r q at telling out answer f tells
@@ -263,7 +264,8 @@ row_true dated asked _ _ _ _ works truly (router_split r m id q middle says o wo
 row_true dated asked _ _ _ _ works truly (router_not_sharded r m id q middle says o work) =
     ((λ split asks none. subst (λ i. WasMissing dated asked i) (open_of_found r id q o).own (truly id says)), tt)
 row_true dated asked _ _ _ _ works truly (router_reach r m id q named at stages telling says o work t le) = tt
-row_true dated asked _ _ _ _ works truly (router_ahead r m id q named at stages telling says o work t le) = (
+row_true dated asked _ _ _ _ works truly (router_hear r m id q named at stages telling says o work t le some) = tt
+row_true dated asked _ _ _ _ works truly (router_ahead r m id q named at stages telling says o work t le all) = (
   (λ split asks none. absurd (none_split q split (all_at HasWork q r.requests works (open_of_found r id q o).stands)
       (subst (λ x. IsNoSplitting x) (sym work) tt) asks)),
   tt,

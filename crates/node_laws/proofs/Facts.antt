@@ -12,7 +12,7 @@ use Rattle.chunk_model.specs.Placement.{AreFitting}
 use Rattle.chunk_model.specs.Tables.{Table, first_shard}
 use Rattle.history_model.specs.History.{Entry, Legal, IsIn}
 use Rattle.base_model.specs.Identities.{RequestId}
-use Rattle.reply_model.specs.Exchanges.{Asked, Answered, number_for}
+use Rattle.reply_model.specs.Exchanges.{Asked, Answered}
 use Rattle.reply_model.specs.Accounts.{Given, Dated, Account, changes_in as changes_of}
 use Rattle.reply_model.specs.Outcomes.{Done}
 use Rattle.reply_model.specs.Right.{ends, IsReadRefused, refused_overflow, refused_excess, refused_ahead, WasCreated, IsRight, right_write, right_find, right_count, right_refused_read, right_more, right_no_cursor, right_kill, right_shard, right_split, right_not_sharded, right_hello, right_legacy, right_ping, right_end_sessions, right_refusal}
@@ -22,11 +22,12 @@ use Rattle.node_model.specs.ShardRows.{top}
 use Rattle.node_model.specs.Letters.{At, no_time, at_time, Statement, Body, table_ask, table_told, split_ask, split_done, write_ask, write_done, read_ask, half_ask, read_rows, stale, time_ask, time_told, Letter}
 use Rattle.node_model.specs.States.{Catalogue, Shard, Router, Work, writing, reading, sharding, splitting, Wait, for_time, Open, NodeState, catalogue_state, shard_state, router_state, time_of_node}
 use Rattle.node_model.specs.RouterRows.{id_of, statements_from, owner_of_statement, is_ahead, block_size}
-use Rattle.node_model.specs.World.{Held, World, journal_at}
+use Rattle.node_model.specs.World.{Held, World, journal_at, entries_at}
 use Rattle.node_laws.proofs.Views.{Choice, Book, View, view_of, entries_in, changes_in, IsShardAt, history_in, HavePassed, IsWithin, MovesNothing, account_in}
 use Rattle.node_laws.proofs.Places.{EachAt}
 use Rattle.node_laws.proofs.SplitFacts.{IsSplitOf, IsSplitDone, WasMissing, IsMissing}
 use Rattle.node_laws.proofs.WriteFacts.{IsDoneAt, AreAnswers, OnlyLast, WasMade}
+use Rattle.node_laws.proofs.TimeFacts.{IsPast, HeardFits}
 use Rattle.node_laws.proofs.ReadFacts.{NoneBegan, WaitsFor, IsDecided, IsReading, IsReadOf, IsShown, RowsFit}
 
 -- TABLES
@@ -119,11 +120,12 @@ BodyFits v asked sender receiver time (split_done id false) = Unit {0}
 BodyFits v asked sender receiver time (write_ask id turn ordered namespace statements sent) = IsWriteOf v asked receiver time id ordered namespace statements
 BodyFits v asked sender receiver time (write_done id dones) = IsShardAt sender × IsDoneOf v asked sender time id dones
 BodyFits v asked sender receiver time (read_ask id turn namespace at half sent) = IsReadOf v asked id namespace at half × (at ≤ time) × IsShardAt receiver
-BodyFits v asked sender receiver time (half_ask id turn namespace at half documents) = IsShown v asked sender time id namespace at half documents
+BodyFits v asked sender receiver time (half_ask id turn namespace at half documents) =
+    IsShown v asked sender time id namespace at half documents × IsShardAt receiver
 BodyFits v asked sender receiver time (read_rows id turn rows) = RowsFit v asked sender time id rows
 BodyFits v asked sender receiver time (stale id turn met) = Unit {0}
 BodyFits v asked sender receiver time (time_ask id) = IsOfRequest asked id
-BodyFits v asked sender receiver time (time_told id) = IsShardAt sender × IsOfRequest asked id
+BodyFits v asked sender receiver time (time_told id) = IsOfRequest asked id
 
 abbrev pub LetterFits : View → List Asked → Letter → Type 0
 LetterFits v asked m = BodyFits v asked m.sender m.receiver m.time m.body
@@ -144,7 +146,7 @@ ParkedFits v asked time m = LetterFits v asked m × (m.time ≤ time) × IsShard
 
 pub record ShardFits (v : View) (asked : List Asked) (at : ℕ) (kept : List Kept) (s : Shard) : Type 0 where
   pub own : s.me ≡ at
-  pub place : IsShardAt at
+  pub came : AllByRecursion (λ (m : Letter). m.receiver ≡ at) s.parked
   pub entries : s.entries ≡ entries_kept kept
   pub tops : top s ≡ greatest_kept kept
   pub past : AllByRecursion (λ (e : Entry). e.time ≤ s.time) s.entries
@@ -316,16 +318,6 @@ pub data AnswersFit (v : View) (asked : List Asked) (answered : List Answered) :
 
 -- TIMES THAT SHARDS SEND
 
--- the entry is one of the statements of a write whose reply has the entry's time
-abbrev pub IsToldOf : (s : Answered) (write : WriteCommand) (index : ℕ) (e : Entry) → Type 0
-IsToldOf s write index e = (command_of s.request ≡ Ok (write_command write)) × (e.number ≡ number_for write.number s.id index)
-    × (operation_time (Some s.document) ≡ Some e.time)
-
--- no entry of a shard whose time any router had returned before the request came is above the time
-abbrev pub IsPast : View → (shard : ℕ) → List Answered → Asked → ℕ → Type 0
-IsPast v shard answered a time = (s : Answered) (write : WriteCommand) (index : ℕ) (e : Entry) → IsIn s answered → s.step < a.came
-    → IsIn e (entries_in v shard) → IsToldOf s write index e → e.time ≤ time
-
 abbrev pub TimeFits : View → List Dated → List Asked → List Answered → (sender time : ℕ) → Body → Type 0
 TimeFits v dated asked answered sender time (time_told id) = (a : Asked) × IsIn a asked × (a.id ≡ id) × IsPast v sender answered a time
 TimeFits v dated asked answered sender time (split_done id false) = WasMissing dated asked id
@@ -356,7 +348,7 @@ pub record NeighboursFit (v : View) (asked : List Asked) : Type 0 where
 
 -- THE WORLD
 
--- the catalogue is first, then the shard
+-- the catalogue is first, then the first shard
 abbrev pub IsCatalogue : NodeState → Type 0
 IsCatalogue (catalogue_state c) = Unit {0}
 IsCatalogue (shard_state s) = ⊥
@@ -368,7 +360,11 @@ IsShard (shard_state s) = Unit {0}
 IsShard (router_state r) = ⊥
 
 abbrev pub InOrder : List Held → Type 0
-InOrder nodes = (c : Held) × (s : Held) × (routers : List Held) × (nodes ≡ c ∷ s ∷ routers) × IsCatalogue c.state × IsShard s.state
+InOrder nodes = (c : Held) × (s : Held) × (others : List Held) × (nodes ≡ c ∷ s ∷ others) × IsCatalogue c.state × IsShard s.state
+
+-- nothing moves yet: no journal but the first shard's stores entries
+abbrev pub IsFirstAlone : List Held → Type 0
+IsFirstAlone nodes = (at : ℕ) → at ≢ first_shard → entries_at nodes at ≡ []
 
 -- what is true of a message that was ever sent
 abbrev pub SentFits : View → List Dated → List Asked → List Answered → List Given → Letter → Type 0
@@ -378,7 +374,9 @@ pub record Good (w : World) (book : Book) : Type 0 where
   pub order : InOrder w.nodes
   pub nodes : EachAt (HeldFits (view_of w.nodes book) w.asked w.answered w.given) 0 w.nodes
   pub dated : changes_of w.changed ≡ changes_kept (journal_at w.nodes 0)
+  pub beside : IsFirstAlone w.nodes
   pub letters : AllByRecursion (SentFits (view_of w.nodes book) w.changed w.asked w.answered w.given) w.sent
+  pub heard : EachAt (λ at h. HeardFits (view_of w.nodes book) w.asked w.answered h.state) 0 w.nodes
   pub answers : AnswersFit (view_of w.nodes book) w.asked w.answered [] w.answered book.cursors
   pub decided : AllByRecursion (λ (c : Choice). IsIn c.id (ids_asked w.asked)) book.chosen
   pub came : AllByRecursion (λ (a : Asked). a.came < w.now + 1) w.asked

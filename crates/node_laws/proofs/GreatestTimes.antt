@@ -30,7 +30,7 @@ within_more old written early late below le all =
     omega (arith, below, le, more, both)
 
 pub above_less : (at low high : ℕ) (k : Kept) → low ≤ high → IsAbove at high k → IsAbove at low k
-above_less at low high (kept_entry e) le above = let less = above.1 in (above.0, omega (arith, le, less))
+above_less at low high (kept_entry e) le above = let less = above.1 in (above.0, omega (arith, le, less), above.2)
 above_less at low high (kept_change x) le above = let less = above.0 in (omega (arith, le, less), above.1)
 above_less at low high (kept_ceiling n) le above = tt
 above_less at low high (kept_none n) le above = tt

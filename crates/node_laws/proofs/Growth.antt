@@ -304,11 +304,11 @@ body_grows v w asked more sender receiver time (write_done id dones) later f =
 body_grows v w asked more sender receiver time (read_ask id turn namespace at half sent) later f =
     (read_grows v w asked more id namespace at half later f.0, f.1, f.2)
 body_grows v w asked more sender receiver time (half_ask id turn namespace at half documents) later f =
-    shown_grows v w asked more sender time time id namespace at half documents later (omega arith) f
+    (shown_grows v w asked more sender time time id namespace at half documents later (omega arith) f.0, f.1)
 body_grows v w asked more sender receiver time (read_rows id turn rows) later f = rows_grow v w asked more sender time id rows later f
 body_grows v w asked more sender receiver time (stale id turn met) later f = f
 body_grows v w asked more sender receiver time (time_ask id) later f = request_grows asked more id f
-body_grows v w asked more sender receiver time (time_told id) later f = (f.0, request_grows asked more id f.1)
+body_grows v w asked more sender receiver time (time_told id) later f = request_grows asked more id f
 
 pub letter_grows : (v w : View) (asked more : List Asked) (m : Letter) → Later v w → LetterFits v asked m → LetterFits w (asked ++ more) m
 letter_grows v w asked more m later f = body_grows v w asked more m.sender m.receiver m.time m.body later f

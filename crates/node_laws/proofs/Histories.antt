@@ -44,10 +44,6 @@ shard_entries v at is = ap (λ n. entries_in v n) is
 pub entry_of_shard : (v : View) (at : ℕ) (e : Entry) → IsShardAt at → IsIn e (entries_in v at) → IsIn e (history_in v)
 entry_of_shard v at e is i = subst (λ l. IsIn e l) (shard_entries v at is) i
 
--- an entry that a shard stores, and that was stored, it stored then
-pub stored_before : (v w : View) (at : ℕ) (e : Entry) → IsShardAt at → IsIn e (entries_in w at) → IsIn e (history_in v) → IsIn e (entries_in v at)
-stored_before v w at e is now i = subst (λ l. IsIn e l) (sym (shard_entries v at is)) i
-
 -- the documents of a shard at a time are those of the history
 pub shard_documents : (v : View) (at : ℕ) (namespace : List ℕ) (time : ℕ) → IsShardAt at
     → documents_at (entries_in v at) namespace time ≡ documents_at (history_in v) namespace time

@@ -15,16 +15,17 @@ use Rattle.node_model.specs.Letters.{Body, table_ask, table_told, split_ask, spl
 use Rattle.node_model.specs.States.{Shard, NodeState, catalogue_state, shard_state, router_state}
 use Rattle.node_model.specs.World.{Held, World, asked_by, answered_by, dated_onto, after, journal_at}
 use Rattle.node_model.proofs.Journals.{journal_here}
-use Rattle.node_laws.proofs.Views.{Choice, Book, View, view_of, entries_in, changes_in, IsShardAt, history_in, IsWithin, MovesNothing, Later}
+use Rattle.node_laws.proofs.Views.{Choice, Book, View, view_of, entries_in, changes_in, history_in, IsWithin, MovesNothing, Later}
 use Rattle.node_laws.proofs.CatalogueTables.{wanted_still, placed_first}
 use Rattle.node_laws.proofs.Places.{EachAt, each_get, each_set}
 use Rattle.node_laws.proofs.WriteFacts.{WasMade}
-use Rattle.node_laws.proofs.Facts.{BodyFits, ShardFits, StateFits, is_of, HeldFits, IsMet, AnswersFit, IsPast, IsToldOf, TimeFits, TellsAll, AreMade, NeighboursFit, IsCatalogue, IsShard, InOrder, SentFits, Good, SameKind}
+use Rattle.node_laws.proofs.TimeFacts.{IsToldOf, IsPast, IsHeard, HeardFits}
+use Rattle.node_laws.proofs.Facts.{BodyFits, ShardFits, StateFits, is_of, HeldFits, IsMet, AnswersFit, TimeFits, TellsAll, AreMade, NeighboursFit, IsCatalogue, IsShard, InOrder, SentFits, Good, SameKind}
 use Rattle.node_laws.proofs.Dates.{IsNoChange, none_before, missing_grows, dated_same}
-use Rattle.node_laws.proofs.Owes.{asked_after, answered_after, dated_after, IsSaid, OwesIn, Owes}
+use Rattle.node_laws.proofs.Owes.{asked_after, answered_after, dated_after, IsSaid, StaysHeard, OwesIn, Owes}
 use Rattle.node_laws.proofs.Lists.{map_longer}
+use Rattle.node_laws.proofs.LongerJournals.{beside_stays}
 use Rattle.node_laws.proofs.Growth.{letter_grows, met_later}
-use Rattle.node_laws.proofs.Histories.{entry_of_shard, stored_before}
 use Rattle.node_laws.proofs.Journals.{with_more, with_news, views_later, journal_else}
 use Rattle.node_laws.proofs.GreatestTimes.{entries_within, changes_within}
 use Rattle.node_laws.proofs.Requests.{answered_now, answered_here, asked_now, asked_here, still_fresh}
@@ -60,7 +61,7 @@ order_after : (nodes : List Held) (at : ℕ) (old new : Held) → InOrder nodes 
 order_after nodes at old new (c, s, routers, same, is_c, is_s) here kind = subst (λ l. InOrder (slice_set l at new)) (sym same)
     (order_set c s routers at old new (ap (λ l. slice_get l at) (sym same) ∙ here) kind is_c is_s)
 
--- the shard, where its journal says all entries
+-- the first shard, where its journal says all entries
 pub record TheShard (w : View) (asked : List Asked) (nodes : List Held) : Type 0 where
   pub shard : Shard
   pub kept : List Kept
@@ -144,12 +145,19 @@ order_stays asked more now a came news order =
 
 -- TIMES THAT SHARDS SEND
 
+-- a shard stores the entries of its own among all
+stored_there : (v : View) (asked : List Asked) (shard : ℕ) (e : Entry) → NeighboursFit v asked → IsIn e (history_in v) → e.shard ≡ shard
+    → IsIn e (entries_in v shard)
+stored_there v asked shard e n i own =
+    let first : e.shard ≡ first_shard = placed_first (changes_in v) n.begun.still e (all_at (IsPlaced (changes_in v)) e (history_in v) n.placed i) in
+    subst (λ k. IsIn e (entries_in v k)) (sym first ∙ own) i
+
 -- what is sent fits
 times_told : (v : View) (dated : List Dated) (asked : List Asked) (answered : List Answered) (sender receiver time : ℕ) (b : Body)
-    → changes_of dated ≡ changes_in v → BodyFits v asked sender receiver time b
+    → changes_of dated ≡ changes_in v → NeighboursFit v asked → BodyFits v asked sender receiver time b
     → TellsAll v asked sender time b
     → TimeFits v dated asked answered sender time b
-times_told v dated asked answered sender receiver time (split_done id false) same fits none = record {
+times_told v dated asked answered sender receiver time (split_done id false) same around fits none = record {
   request = none.request;
   taken = none.taken;
   own = none.own;
@@ -157,38 +165,37 @@ times_told v dated asked answered sender receiver time (split_done id false) sam
   asks = none.asks;
   none = none_before none.request.came none.split.namespace dated (ap (λ l. known_table none.split.namespace l) same ∙ none.none);
 }
-times_told v dated asked answered sender receiver time (split_done id true) same fits all = tt
-times_told v dated asked answered sender receiver time (split_ask id namespace middle) same fits all = tt
-times_told v dated asked answered sender receiver time (time_told id) same fits all = (
-  fits.1.request,
-  fits.1.taken,
-  fits.1.own,
-  λ s write index e i before stands told. all_at (λ (d : Entry). d.time ≤ time) e (entries_in v sender) all stands,
+times_told v dated asked answered sender receiver time (split_done id true) same around fits all = tt
+times_told v dated asked answered sender receiver time (split_ask id namespace middle) same around fits all = tt
+times_told v dated asked answered sender receiver time (time_told id) same around fits all = (
+  fits.request,
+  fits.taken,
+  fits.own,
+  λ s write index e i before stands own told. all_at (λ (d : Entry). d.time ≤ time) e (entries_in v sender) all (stored_there v asked sender e around stands own),
 )
-times_told v dated asked answered sender receiver time (table_ask namespace create at) same fits all = tt
-times_told v dated asked answered sender receiver time (table_told namespace create at table) same fits all = tt
-times_told v dated asked answered sender receiver time (write_ask id turn ordered namespace statements sent) same fits all = tt
-times_told v dated asked answered sender receiver time (write_done id dones) same fits all = tt
-times_told v dated asked answered sender receiver time (read_ask id turn namespace at half sent) same fits all = tt
-times_told v dated asked answered sender receiver time (half_ask id turn namespace at half documents) same fits all = tt
-times_told v dated asked answered sender receiver time (read_rows id turn rows) same fits all = tt
-times_told v dated asked answered sender receiver time (stale id turn met) same fits all = tt
-times_told v dated asked answered sender receiver time (time_ask id) same fits all = tt
+times_told v dated asked answered sender receiver time (table_ask namespace create at) same around fits all = tt
+times_told v dated asked answered sender receiver time (table_told namespace create at table) same around fits all = tt
+times_told v dated asked answered sender receiver time (write_ask id turn ordered namespace statements sent) same around fits all = tt
+times_told v dated asked answered sender receiver time (write_done id dones) same around fits all = tt
+times_told v dated asked answered sender receiver time (read_ask id turn namespace at half sent) same around fits all = tt
+times_told v dated asked answered sender receiver time (half_ask id turn namespace at half documents) same around fits all = tt
+times_told v dated asked answered sender receiver time (read_rows id turn rows) same around fits all = tt
+times_told v dated asked answered sender receiver time (stale id turn met) same around fits all = tt
+times_told v dated asked answered sender receiver time (time_ask id) same around fits all = tt
 
 -- and continues to fit
 module _ (v w : View) (dated : List Dated) (written : List Kept) (asked more : List Asked) (answered news : List Answered) (now : ℕ)
     (g : Grows v w asked more answered news now)
     (closed : AllByRecursion (IsClosed v w) answered) where
-  past_grows : (a : Asked) (shard time : ℕ) → IsShardAt shard → IsIn a asked → IsPast v shard answered a time → IsPast w shard (answered ++ news) a time
-  past_grows a shard time is taken past = λ s write index e i before stands told.
-      by_place s write index e before stands told (in_append s answered news i)
+  past_grows : (a : Asked) (shard time : ℕ) → IsIn a asked → IsPast v shard answered a time → IsPast w shard (answered ++ news) a time
+  past_grows a shard time taken past = λ s write index e i before stands own told.
+      by_place s write index e before stands own told (in_append s answered news i)
     where
-      by_place : (s : Answered) (write : WriteCommand) (index : ℕ) (e : Entry) → s.step < a.came → IsIn e (entries_in w shard)
+      by_place : (s : Answered) (write : WriteCommand) (index : ℕ) (e : Entry) → s.step < a.came → IsIn e (history_in w) → e.shard ≡ shard
           → IsToldOf s write index e → IsIn s answered ⊎ IsIn s news → e.time ≤ time
-      by_place s write index e before stands told (inl j) =
-          past s write index e j before
-          (stored_before v w shard e is stands (all_at (IsClosed v w) s answered closed j write index e (entry_of_shard w shard e is stands) told)) told
-      by_place s write index e before stands told (inr j) =
+      by_place s write index e before stands own told (inl j) =
+          past s write index e j before (all_at (IsClosed v w) s answered closed j write index e stands told) own told
+      by_place s write index e before stands own told (inr j) =
           let at : s.step ≡ now = all_at (λ (x : Answered). x.step ≡ now) s news g.steps j in
           let came : a.came < now + 1 = all_at (λ (x : Asked). x.came < now + 1) a asked g.came taken in
           absurd (omega arith)
@@ -199,7 +206,7 @@ module _ (v w : View) (dated : List Dated) (written : List Kept) (asked more : L
   times_grow sender receiver time (split_done id true) fits f = tt
   times_grow sender receiver time (split_ask id namespace middle) fits f = tt
   times_grow sender receiver time (time_told id) fits (a, taken, own, past) =
-      (a, in_prefix a asked more taken, own, past_grows a sender time fits.0 taken past)
+      (a, in_prefix a asked more taken, own, past_grows a sender time taken past)
   times_grow sender receiver time (table_ask namespace create at) fits f = tt
   times_grow sender receiver time (table_told namespace create at table) fits f = tt
   times_grow sender receiver time (write_ask id turn ordered namespace statements sent) fits f = tt
@@ -209,6 +216,21 @@ module _ (v w : View) (dated : List Dated) (written : List Kept) (asked more : L
   times_grow sender receiver time (read_rows id turn rows) fits f = tt
   times_grow sender receiver time (stale id turn met) fits f = tt
   times_grow sender receiver time (time_ask id) fits f = tt
+
+  heard_grows : (s : NodeState) → HeardFits v asked answered s → HeardFits w (asked ++ more) (answered ++ news) s
+  heard_grows (catalogue_state c) h = tt
+  heard_grows (shard_state s) h = tt
+  heard_grows (router_state r) h = record {
+    some = h.some;
+    requests = all_weaken (IsHeard v asked answered r) (IsHeard w (asked ++ more) (answered ++ news) r) r.requests
+        (λ q x. record {
+          request = x.request;
+          taken = in_prefix x.request asked more x.taken;
+          own = x.own;
+          past = all_weaken (λ shard. IsPast v shard answered x.request r.time) (λ shard. IsPast w shard (answered ++ news) x.request r.time) q.told
+              (λ shard past. past_grows x.request shard r.time x.taken past) x.past;
+        }) h.requests;
+  }
 
   letters_grow : (given : List Given) (m : Letter) → SentFits v dated asked answered given m
       → SentFits w (dated_onto now dated written) (asked ++ more) (answered ++ news) given m
@@ -225,6 +247,7 @@ pub record GoodIn (v : View) (w : World) (at : ℕ) (old : Held) (f : Effect) (n
   pub order : InOrder (slice_set w.nodes at (with_more old f.written new))
   pub nodes : EachAt (HeldFits v (asked_after w f) (answered_after w f) w.given) 0 (slice_set w.nodes at (with_more old f.written new))
   pub letters : AllByRecursion (SentFits v (dated_after w f) (asked_after w f) (answered_after w f) w.given) (w.sent ++ f.mail)
+  pub heard : EachAt (λ k h. HeardFits v (asked_after w f) (answered_after w f) h.state) 0 (slice_set w.nodes at (with_more old f.written new))
   pub answers : AnswersFit v (asked_after w f) (answered_after w f) [] (answered_after w f) v.cursors
   pub decided : AllByRecursion (λ (c : Choice). IsIn c.id (ids_asked (asked_after w f))) v.chosen
   pub came : AllByRecursion (λ (a : Asked). a.came < w.now + 1) (asked_after w f)
@@ -237,8 +260,9 @@ pub record GoodIn (v : View) (w : World) (at : ℕ) (old : Held) (f : Effect) (n
 
 good_parts : (w : World) (book : Book) (at : ℕ) (old : Held) (f : Effect) (new : NodeState) (v : View) → Good w book → slice_get w.nodes at ≡ Some old
     → (owes : Owes w book at old f new) → v ≡ view_of (slice_set w.nodes at (with_more old f.written new)) (with_news book owes.news owes.cursors)
-    → Later (view_of w.nodes book) v → changes_of (dated_after w f) ≡ changes_in v → OwesIn v w book at old f new → GoodIn v w at old f new
-good_parts w book at old f new v good here owes is later dated owed =
+    → Later (view_of w.nodes book) v → changes_of (dated_after w f) ≡ changes_in v → HeardFits v (asked_after w f) (answered_after w f) new
+    → OwesIn v w book at old f new → GoodIn v w at old f new
+good_parts w book at old f new v good here owes is later dated heard owed =
     let u : View = view_of w.nodes book in
     let more : List Asked = asked_by w.now f.taken in
     let news : List Answered = answered_by w.now f.replies in
@@ -278,8 +302,11 @@ good_parts w book at old f new v good here owes is later dated owed =
           (λ m h. (
             h.0,
             h.1,
-            times_told v (dated_after w f) (asked_after w f) (answered_after w f) m.sender m.receiver m.time m.body dated h.0 h.2,
+            times_told v (dated_after w f) (asked_after w f) (answered_after w f) m.sender m.receiver m.time m.body dated after h.0 h.2,
           )) owed.letters);
+      heard = each_set (λ k h. HeardFits u w.asked w.answered h.state) (λ k h. HeardFits v (asked_after w f) (answered_after w f) h.state) 0 at w.nodes
+          (with_more old f.written new)
+          (λ k h other fits. heard_grows u v w.changed f.written w.asked more w.answered news w.now g closed h.state fits) heard good.heard;
       answers = answers_joined v (asked_after w f) (answered_after w f) [] book.cursors v.cursors w.answered news
           (answers_grow u v w.asked more w.answered news w.now g closed [] book.cursors w.answered good.answers) owed.answers;
       decided = subst (λ l. AllByRecursion (λ (c : Choice). IsIn c.id (ids_asked (asked_after w f))) l) (sym (ap (λ (x : View). x.chosen) is))
@@ -316,9 +343,9 @@ good_parts w book at old f new v good here owes is later dated owed =
 
 -- a step that owes what it owes keeps all facts, where only the catalogue changes the catalogue
 pub good_after : (w : World) (book : Book) (at : ℕ) (old : Held) (f : Effect) (new : NodeState) → Good w book → slice_get w.nodes at ≡ Some old
-    → (at ≡ 0) ⊎ AllByRecursion IsNoChange f.written
+    → (at ≡ 0) ⊎ AllByRecursion IsNoChange f.written → StaysHeard w at f new
     → (owes : Owes w book at old f new) → Good (after w at old f new) (with_news book owes.news owes.cursors)
-good_after w book at old f new good here changes owes =
+good_after w book at old f new good here changes heard owes =
     let v : View = view_of (slice_set w.nodes at (with_more old f.written new)) (with_news book owes.news owes.cursors) in
     let later : Later (view_of w.nodes book) (view_of (slice_set w.nodes at (with_more old f.written new)) (with_news book owes.news owes.cursors)) =
     views_later w.nodes at old f.written new book owes.news owes.cursors here owes.rises
@@ -327,6 +354,7 @@ good_after w book at old f new good here changes owes =
     dated_same w.now w.nodes at old f.written new w.changed here good.dated changes in
     let g : GoodIn (view_of (slice_set w.nodes at (with_more old f.written new)) (with_news book owes.news owes.cursors)) w at old f new =
     good_parts w book at old f new v good here owes refl later dated
+    (heard v (λ p other. journal_else w.nodes at (with_more old f.written new) p other))
     (owes.owed v later (λ p other. journal_else w.nodes at (with_more old f.written new) p other)
     (journal_here w.nodes at old (with_more old f.written new) here)
     (ap (λ k. greatest_kept k) (journal_here w.nodes at old (with_more old f.written new) here)) refl refl) in
@@ -334,7 +362,9 @@ good_after w book at old f new good here changes owes =
       order = g.order;
       nodes = g.nodes;
       dated = dated;
+      beside = λ p other. beside_stays (view_of w.nodes book) v p later other ∙ good.beside p other;
       letters = g.letters;
+      heard = g.heard;
       answers = g.answers;
       decided = g.decided;
       came = g.came;

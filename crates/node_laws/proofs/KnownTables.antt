@@ -1,13 +1,13 @@
 -- Tables that the catalogue had, and what they say of owners.
-use Rattle.std.proofs.Common.{◌≡◌, ℕ, ◌≤◌, List, [], ◌∷◌, refl, sym, ap, subst, ◌∙◌, Bool}
+use Rattle.std.proofs.Common.{◌≡◌, ℕ, List, [], ◌∷◌, refl, sym, ap, subst, ◌∙◌, Bool}
 use Rattle.std.specs.Prelude.{Option, Some, None, true, false, if◌then◌else◌}
 use Rattle.std.specs.List.{AllByRecursion}
 use Rattle.std.specs.Str.{bytes_eq}
 use Rattle.std.proofs.lemmas.Slice.Eq.{bytes_eq-Decides}
-use Rattle.history_model.proofs.Lists.{all_at, in_first, in_later, in_back}
+use Rattle.history_model.proofs.Lists.{in_first, in_later, in_back}
 use Rattle.bson_model.specs.Tree.{Datum}
 use Rattle.value_model.specs.Keys.{is_key}
-use Rattle.chunk_model.specs.Changes.{create_change, time_of}
+use Rattle.chunk_model.specs.Changes.{create_change}
 use Rattle.chunk_model.specs.Tables.{Table, first_shard, owner_now, owner_at, table_of, with_table, is_longer}
 use Rattle.history_model.specs.History.{IsIn}
 use Rattle.reply_model.specs.Right.{WasCreated}

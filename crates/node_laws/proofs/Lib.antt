@@ -6,6 +6,7 @@ pub mod CatalogueAnswers
 pub mod Places
 pub mod ReadFacts
 pub mod WriteFacts
+pub mod TimeFacts
 pub mod SplitFacts
 pub mod Facts
 pub mod Owes
@@ -24,8 +25,10 @@ pub mod Requests
 pub mod Others
 pub mod AnswerTimes
 pub mod Answers
+pub mod HeardTimes
 pub mod Keeps
 pub mod Neighbours
+pub mod OneJournal
 pub mod OpenRequests
 pub mod NextRequests
 pub mod KnownTables

@@ -1,8 +1,9 @@
 -- Journals grow: entries and changes of the catalogue stay, and there are more, above a time.
-use Rattle.std.proofs.Common.{◌≡◌, ℕ, ◌<◌, List, [], ◌∷◌, ◌++◌, refl, sym, ap, subst, ◌∙◌, append_assoc}
+use Rattle.std.proofs.Common.{◌≡◌, ◌≢◌, ℕ, ◌<◌, List, [], ◌∷◌, ◌++◌, refl, sym, ap, subst, ◌∙◌, append_assoc, append-nil}
 use Rattle.std.specs.List.{AllByRecursion}
 use Rattle.history_model.proofs.Lists.{all_weaken, all_append, in_prefix, in_back}
 use Rattle.chunk_model.specs.Changes.{Change, time_of}
+use Rattle.chunk_model.specs.Tables.{first_shard}
 use Rattle.history_model.specs.History.{Entry, IsIn}
 use Rattle.node_model.specs.Journal.{Kept, kept_table, kept_entry, kept_ceiling, kept_change, kept_none, kept_life, kept_block, entries_kept, changes_onto, changes_kept}
 use Rattle.node_laws.proofs.Views.{View, entries_in, changes_in, MovesNothing, IsAbove, Later}
@@ -50,7 +51,7 @@ IsNewAt at time e = (e.shard ≡ at) × (time < e.time)
 
 pub entries_above : (at time : ℕ) (kept : List Kept) → AllByRecursion (IsAbove at time) kept → AllByRecursion (IsNewAt at time) (entries_kept kept)
 entries_above at time [] all = tt
-entries_above at time (kept_entry e ∷ kept) all = (all.0, entries_above at time kept all.1)
+entries_above at time (kept_entry e ∷ kept) all = ((all.0.0, all.0.1), entries_above at time kept all.1)
 entries_above at time (kept_table t ∷ kept) all = entries_above at time kept all.1
 entries_above at time (kept_change x ∷ kept) all = entries_above at time kept all.1
 entries_above at time (kept_life n ∷ kept) all = entries_above at time kept all.1
@@ -98,6 +99,26 @@ more_changes v w later = record {
   same = ap (λ k. changes_kept k) (later.longer 0).same ∙ changes_longer (v.journal 0) (later.longer 0).written;
   above = changes_above 0 (v.bound 0) [] (later.longer 0).written tt (later.longer 0).rises;
 }
+
+-- nothing that a node beside the first shard stores is an entry
+none_above : (at time : ℕ) (kept : List Kept) → at ≢ first_shard → AllByRecursion (IsAbove at time) kept → entries_kept kept ≡ []
+none_above at time [] other all = refl
+none_above at time (kept_entry e ∷ kept) other all = absurd (other all.0.2)
+none_above at time (kept_table t ∷ kept) other all = none_above at time kept other all.1
+none_above at time (kept_change x ∷ kept) other all = none_above at time kept other all.1
+none_above at time (kept_life n ∷ kept) other all = none_above at time kept other all.1
+none_above at time (kept_block n ∷ kept) other all = none_above at time kept other all.1
+none_above at time (kept_ceiling n ∷ kept) other all = none_above at time kept other all.1
+none_above at time (kept_none n ∷ kept) other all = none_above at time kept other all.1
+
+-- so the entries beside the first shard's stay
+pub beside_stays : (v w : View) (at : ℕ) → Later v w → at ≢ first_shard → entries_in w at ≡ entries_in v at
+beside_stays v w at later other =
+    let longer = later.longer at in
+    ap (λ k. entries_kept k) longer.same
+    ∙ entries_longer (v.journal at) longer.written
+    ∙ ap (λ l. entries_in v at ++ l) (none_above at (v.bound at) longer.written other longer.rises)
+    ∙ append-nil (entries_in v at)
 
 pub entry_stays : (v w : View) (at : ℕ) (e : Entry) → Later v w → IsIn e (entries_in v at) → IsIn e (entries_in w at)
 entry_stays v w at e later i = let m = more_entries v w at later in subst (λ l. IsIn e l) (sym m.same) (in_prefix e (entries_in v at) m.more i)

@@ -19,6 +19,7 @@ use Rattle.node_laws.proofs.Others.{open_grows}
 abbrev pub with_own : Router → Router → Router
 with_own r s = record {
   me = r.me;
+  shards = r.shards;
   time = s.time;
   life = r.life;
   begun = s.begun;

@@ -141,7 +141,7 @@ other_state v w asked more answered news j at kept (catalogue_state c) other lat
 }
 other_state v w asked more answered news j at kept (shard_state s) other later decides different own told fits = record {
   own = fits.own;
-  place = fits.place;
+  came = fits.came;
   entries = fits.entries;
   tops = fits.tops;
   past = fits.past;

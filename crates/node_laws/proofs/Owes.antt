@@ -1,5 +1,5 @@
 -- What a step of one node owes, so that all facts stay.
-use Rattle.std.proofs.Common.{◌≡◌, ◌≢◌, ℕ, ◌≤◌, List, ◌++◌}
+use Rattle.std.proofs.Common.{◌≡◌, ◌≢◌, ℕ, List, ◌++◌}
 use Rattle.std.specs.Prelude.{filter}
 use Rattle.std.specs.List.{AllByRecursion}
 use Rattle.base_model.specs.Times.{time_of_moment}
@@ -13,6 +13,7 @@ use Rattle.node_model.specs.Journal.{greatest_kept}
 use Rattle.node_model.specs.States.{NodeState, time_of_node}
 use Rattle.node_model.specs.World.{Held, World, asked_by, answered_by, dated_onto, journal_at}
 use Rattle.node_laws.proofs.Views.{Choice, Book, View, view_of, IsAbove, Later}
+use Rattle.node_laws.proofs.TimeFacts.{HeardFits}
 use Rattle.node_laws.proofs.Facts.{LetterFits, SentFits, TellsAll, HeldFits, IsMet, AnswersFit, SameKind, is_of}
 
 -- what is known of an input: a message fits, and its time was met; so was a moment's time
@@ -34,6 +35,10 @@ dated_after w f = dated_onto w.now w.changed f.written
 -- a message that is sent: it fits, its time was met, and if a shard sends its time, no entry of it is later
 abbrev pub IsSaid : View → List Asked → List Given → Letter → Type 0
 IsSaid v asked given m = LetterFits v asked m × IsMet v given m.time × TellsAll v asked m.sender m.time m.body
+
+-- what a router heard of the times of shards is said in each view after the step
+abbrev pub StaysHeard : World → (at : ℕ) → Effect → NodeState → Type 0
+StaysHeard w at f new = (v : View) → ((p : ℕ) → p ≢ at → v.journal p ≡ journal_at w.nodes p) → HeardFits v (asked_after w f) (answered_after w f) new
 
 -- what the node at a place owes in a view of the world after the step
 pub record OwesIn (v : View) (w : World) (book : Book) (at : ℕ) (old : Held) (f : Effect) (new : NodeState) : Type 0 where

@@ -20,10 +20,11 @@ use Rattle.node_model.specs.RouterRows.{statements_from, noted, is_answered, at_
 use Rattle.reply_facts.proofs.Requests.{number_same, one_asked}
 use Rattle.node_laws.proofs.Views.{View, entries_in, history_in, IsShardAt, account_in}
 use Rattle.node_laws.proofs.ReadFacts.{IsAwaited}
+use Rattle.node_laws.proofs.TimeFacts.{IsToldOf, IsPast}
 use Rattle.node_laws.proofs.WriteFacts.{IsAnswerOf, by_entry, by_older, IsDoneAt, AreAnswers, OnlyLast, WasMade}
-use Rattle.node_laws.proofs.Facts.{HasBegun, IsDoneOf, WorkFits, AreSeen, IsOpenOf, AnswerFits, IsToldOf, IsPast, NeighboursFit}
+use Rattle.node_laws.proofs.Facts.{HasBegun, IsDoneOf, WorkFits, AreSeen, IsOpenOf, AnswerFits, NeighboursFit}
 use Rattle.node_laws.proofs.SeenStatements.{true_false}
-use Rattle.node_laws.proofs.Histories.{shard_entries, entry_of_shard}
+use Rattle.node_laws.proofs.Histories.{entry_of_shard}
 use Rattle.node_laws.proofs.Growth.{done_at_grows}
 use Rattle.node_laws.proofs.Answers.{StaysRight}
 use Rattle.node_laws.proofs.NotedOutcomes.{HasNoOther, made_no_other, answers_stand, noted_answers, noted_last, IsAllTold, told_whole}
@@ -53,12 +54,12 @@ answer_fits v asked answered told r time now q answer cursors next o later came 
 
 -- A TIME THAT IS AHEAD
 
--- the shard returned its time, requested after the request came
+-- the shard that stores all entries returned its time, requested after the request came
 pub ahead_right : (v : View) (asked : List Asked) (told : List Answered) (cursors : List Cursor) (a : Asked) (t : Answered) (id : RequestId)
     (at shard heard now : ℕ) (old : List Answered)
-    → IsAwaited v a id at → IsPast v shard old a heard → IsShardAt shard → heard ≤ t.time → t.time < at → a.came < now + 1 → told ≡ old ++ t ∷ [] → t.step ≡ now
+    → IsAwaited v a id at → IsPast v shard old a heard → ((e : Entry) → IsIn e (history_in v) → e.shard ≡ shard) → heard ≤ t.time → t.time < at → a.came < now + 1 → told ≡ old ++ t ∷ [] → t.step ≡ now
     → t.document ≡ answer_document (refusal_answer (time_ahead t.time)) → StaysRight v asked told cursors a t cursors
-ahead_right v asked told cursors a t id at shard heard now old waits past is by_now ahead came all step document = record {
+ahead_right v asked told cursors a t id at shard heard now old waits past all_of by_now ahead came all step document = record {
   right = right_refused_read waits.read waits.reads (refused_ahead (record {
     wanted = at;
     wants = waits.wanted;
@@ -72,7 +73,7 @@ ahead_right v asked told cursors a t id at shard heard now old waits past is by_
     by_place : (s : Answered) (write : WriteCommand) (index : ℕ) (e : Entry) → s.step < a.came → IsIn e (history_in v) → IsToldOf s write index e
         → IsIn s old ⊎ (s ≡ t) → e.time < at
     by_place s write index e before stands shown (inl i) =
-        let l = past s write index e i before (subst (λ l. IsIn e l) (sym (shard_entries v shard is)) stands) shown in omega arith
+        let l = past s write index e i before stands (all_of e stands) shown in omega arith
     by_place s write index e before stands shown (inr same) =
         let now_too : s.step ≡ t.step = ap (λ (x : Answered). x.step) same in absurd (omega arith)
 

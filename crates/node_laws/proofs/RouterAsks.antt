@@ -1,6 +1,6 @@
 -- What a router requests fits.
 use Rattle.std.proofs.Common.{◌≡◌, ◌≢◌, inl, inr, ℕ, ◌≤◌, List, [], ◌∷◌, ◌++◌, refl, sym, ap, subst, ◌∙◌, arith, Bool}
-use Rattle.std.specs.Prelude.{Option, Some, None, true, false, drop, length, if◌then◌else◌}
+use Rattle.std.specs.Prelude.{Option, Some, None, true, false, drop, length, map, if◌then◌else◌}
 use Rattle.std.specs.List.{AllByRecursion}
 use Rattle.std.proofs.lemmas.Bool.{eqb-true, ltb-false}
 use Rattle.history_model.proofs.Lists.{all_weaken, all_at}
@@ -16,13 +16,13 @@ use Rattle.base_model.specs.Identities.{RequestId}
 use Rattle.reply_model.specs.Exchanges.{Asked, Answered}
 use Rattle.reply_model.specs.Accounts.{Given}
 use Rattle.reply_model.specs.Outcomes.{Done}
-use Rattle.node_model.specs.Letters.{Statement, write_ask, read_ask, Letter}
+use Rattle.node_model.specs.Letters.{Statement, write_ask, read_ask, time_ask, Letter}
 use Rattle.node_model.specs.States.{Telling, Work, writing, reading, sharding, splitting, Wait, for_time, for_catalogue, for_shards, Open, Router}
 use Rattle.node_model.specs.RouterRows.{id_of, owner_of_statement, owner_of_span, is_on, run_to, unanswered, asks_to_write, asks_to_read, asks_shards}
-use Rattle.node_model.specs.RouterRows.{asks_catalogue, is_enough, enough_of, table_for, asks_times, is_ahead, asks_by, asks_for, asks_again, says}
+use Rattle.node_model.specs.RouterRows.{asks_catalogue, is_enough, enough_of, table_for, untold, shards_of, asks_times, is_ahead, asks_by, asks_for, asks_again, says}
 use Rattle.node_laws.proofs.Views.{View}
 use Rattle.node_laws.proofs.ReadFacts.{IsDecided, IsReadOf}
-use Rattle.node_laws.proofs.Facts.{IsKnownTable, IsOwned, IsWriteOf, WorkFits, AreSeen, HasTime, IsOpenOf, IsMet}
+use Rattle.node_laws.proofs.Facts.{IsKnownTable, IsOwned, IsWriteOf, WorkFits, AreSeen, HasTime, IsOfRequest, IsOpenOf, IsMet}
 use Rattle.node_laws.proofs.Owes.{IsSaid}
 use Rattle.node_laws.proofs.Growth.{seen_grows}
 use Rattle.node_laws.proofs.Journals.{later_self}
@@ -187,6 +187,11 @@ module _ (v : View) (asked : List Asked) (given : List Given) (r : Router) (time
 
   -- WHAT A REQUEST REQUESTS
 
+  times_fit : (id : RequestId) (shards : List ℕ) → IsOfRequest asked id
+      → AllByRecursion (IsSaid v asked given) (map (λ s. says r s time (time_ask id)) shards)
+  times_fit id [] of = tt
+  times_fit id (s ∷ shards) of = ((of, met, tt), times_fit id shards of)
+
   pub table_for_found : (tables : List Table) (namespace : List ℕ) (work : Work) (t : Table) → table_for tables namespace work ≡ Some t
       → FoundTable namespace tables t
   table_for_found tables namespace work t got = by_table (table_of namespace tables) refl got
@@ -213,8 +218,9 @@ module _ (v : View) (asked : List Asked) (given : List Given) (r : Router) (time
 
       by_ahead : (b : Bool) → is_ahead time work ≡ b
           → AllByRecursion (IsSaid v asked given)
-          (if b then asks_times r time (id_of r count) else asks_by r time count namespace work (table_for r.tables namespace work))
-      by_ahead true h = ((record { request = a.request; taken = a.taken; own = a.own }, met, tt), tt)
+          (if b then asks_times r time (id_of r count) [] else asks_by r time count namespace work (table_for r.tables namespace work))
+      by_ahead true h =
+          times_fit (id_of r count) (untold [] (shards_of r)) (record { request = a.request; taken = a.taken; own = a.own })
       by_ahead false h = by_table (table_for r.tables namespace work) refl h
 
   -- a request that waits for no time has reached it
@@ -243,11 +249,11 @@ module _ (v : View) (asked : List Asked) (given : List Given) (r : Router) (time
           shards_fit q.count q.namespace t q.work (asking n.1) (all_at (IsKnownTable v time) t r.tables known f.stands) f.name n.0
 
       by_wait : (wait : Wait) → q.wait ≡ wait → AllByRecursion (IsSaid v asked given) (elim wait as (λ (w : Wait). List Letter) [
-        | for_time ↦ asks_times r time (id_of r q.count)
+        | for_time ↦ asks_times r time (id_of r q.count) q.told
         | for_catalogue ↦ asks_catalogue r time q.count q.namespace q.work ∷ []
         | for_shards ↦ elim (table_of q.namespace r.tables) [ None ↦ [] | Some t ↦ asks_shards r time q.count q.namespace t q.work ]
       ])
-      by_wait for_time h = ((record { request = request; taken = taken; own = own }, met, tt), tt)
+      by_wait for_time h = times_fit (id_of r q.count) (untold q.told (shards_of r)) (record { request = request; taken = taken; own = own })
       by_wait for_catalogue h =
           let n = not_time for_catalogue h (λ e. cc) in
           (catalogue_ask_fits q.count q.namespace q.work (asking n.1) n.0, tt)

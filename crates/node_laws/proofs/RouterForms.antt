@@ -111,7 +111,7 @@ module _ (w : World) (book : Book) (at : ℕ) (kept : List Kept) (r : Router) (g
   quiet time moment tables requests later = record
       { news = []; chose = tt; cursors = book.cursors; turns = turns_stay time moment tables requests later; timeless = tt }
 
-  no_answers : (v : View) → v.cursors ≡ book.cursors → AnswersFit v w.asked (w.answered ++ []) book.cursors [] v.cursors
+  pub no_answers : (v : View) → v.cursors ≡ book.cursors → AnswersFit v w.asked (w.answered ++ []) book.cursors [] v.cursors
   no_answers v same = subst (λ l. AnswersFit v w.asked (w.answered ++ []) book.cursors [] l) (sym same) (no_answer book.cursors)
 
   -- FORMS OF STEPS

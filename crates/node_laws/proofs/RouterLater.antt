@@ -30,6 +30,7 @@ use Rattle.node_laws.proofs.OpenFacts.{by_weaken, open_begun}
 abbrev pub goes_to : Router → (time moment : ℕ) → List Table → List Open → Opened → Router
 goes_to r time moment tables requests f = record {
   me = r.me;
+  shards = r.shards;
   time = time;
   life = r.life;
   begun = r.begun;

@@ -1,5 +1,5 @@
 -- What a message carries for a router, and what the router requests and replies then.
-use Rattle.std.proofs.Common.{◌≡◌, ◌≢◌, inl, inr, ℕ, ◌+◌, ◌<◌, ◌≤◌, List, [], ◌∷◌, ◌++◌, refl, sym, ap, subst, ◌∙◌, arith, Bool}
+use Rattle.std.proofs.Common.{◌≡◌, ◌≢◌, inl, inr, ℕ, ◌+◌, ◌<◌, ◌≤◌, List, [], ◌∷◌, ◌++◌, refl, sym, ap, subst, ◌∙◌, arith, append-nil, Bool}
 use Rattle.std.specs.Prelude.{Option, Some, None, true, false, nat_lt, if◌then◌else◌}
 use Rattle.std.specs.List.{AllByRecursion}
 use Rattle.history_model.proofs.Lists.{all_weaken, all_at}
@@ -7,31 +7,34 @@ use Rattle.base_model.specs.Refusals.{time_ahead}
 use Rattle.command_model.specs.Answers.{refusal_answer}
 use Rattle.reply_model.specs.Cursors.{Cursor}
 use Rattle.pipeline_model.specs.Stages.{Stage}
-use Rattle.chunk_model.specs.Tables.{Table}
+use Rattle.chunk_model.specs.Tables.{Table, first_shard}
 use Rattle.command_model.specs.Writes.{WriteCommand, WriteKind}
 use Rattle.command_model.specs.Command.{command_of}
 use Rattle.history_model.specs.History.{IsIn}
 use Rattle.base_model.specs.Identities.{RequestId}
 use Rattle.reply_model.specs.Exchanges.{Asked, Answered}
-use Rattle.reply_model.specs.OneHistory.{ids_asked}
+use Rattle.reply_model.specs.OneHistory.{IsPlaced, ids_asked}
 use Rattle.reply_model.specs.Outcomes.{Done, answer_of}
 use Rattle.node_model.specs.Journal.{Kept, entries_kept}
-use Rattle.node_model.specs.Letters.{At, Statement, Body, table_told, write_done, time_told, Letter, Reply}
+use Rattle.node_model.specs.Letters.{At, Statement, Body, table_told, write_done, time_told, Letter, letter_input, Reply}
 use Rattle.node_model.specs.States.{Telling, writing, reading, for_time, Open, Router, router_state, replaced, without}
-use Rattle.node_model.specs.RouterRows.{id_of, heard, as_before, reached, asks_for, going_on, noted, is_answered, reply_to, adopted, next_of, was_created, Next}
+use Rattle.node_model.specs.RouterRows.{id_of, heard, untold, also_told, with_told, shards_of, as_before, reached, asks_for, going_on, noted, is_answered, reply_to, adopted, next_of, was_created, Next}
 use Rattle.node_model.specs.World.{World, answered_by}
 use Rattle.reply_facts.proofs.Requests.{one_asked}
-use Rattle.node_laws.proofs.Views.{Book, View, view_of, entries_in, chosen_time, history_in, IsShardAt}
+use Rattle.node_laws.proofs.Views.{Book, View, view_of, changes_in, chosen_time, history_in, IsShardAt}
 use Rattle.node_laws.proofs.WriteFacts.{AreAnswers}
 use Rattle.node_laws.proofs.ReadFacts.{IsAwaited, WaitsFor}
-use Rattle.node_laws.proofs.Facts.{IsKnownTable, TableFits, IsDoneOf, BodyFits, WorkFits, AreSeen, HasTime, IsOpenOf, ToldBelow, HeldFits, IsMet, AnswerFits, AnswersFit, no_answer, one_answer, IsPast, TimeFits, SentFits, Good}
+use Rattle.node_laws.proofs.TimeFacts.{IsPast, IsHeard, HasHeard}
+use Rattle.node_laws.proofs.Facts.{IsKnownTable, TableFits, IsDoneOf, BodyFits, WorkFits, AreSeen, HasTime, IsOpenOf, ToldBelow, HeldFits, IsMet, AnswerFits, AnswersFit, no_answer, one_answer, TimeFits, SentFits, Good}
 use Rattle.node_laws.proofs.Owes.{IsSaid, Owes}
 use Rattle.node_laws.proofs.Lists.{map_longer}
 use Rattle.node_laws.proofs.Choices.{chosen_last, none_of_others}
 use Rattle.node_laws.proofs.Journals.{later_self}
 use Rattle.node_laws.proofs.Growth.{known_grows, seen_grows, met_later, met_max}
-use Rattle.node_laws.proofs.OpenRequests.{IsOpenWith}
+use Rattle.node_laws.proofs.OpenRequests.{IsOpenWith, all_replaced, parted_replaced}
 use Rattle.node_laws.proofs.NextRequests.{NextIs, left_by, sent_by, told_by, each_next, parted_next}
+use Rattle.node_laws.proofs.HeardTimes.{TellsTime, all_told, first_of_all, told_past}
+use Rattle.node_laws.proofs.CatalogueTables.{placed_first}
 use Rattle.node_laws.proofs.KnownTables.{all_adopted}
 use Rattle.node_laws.proofs.NotedOutcomes.{noted_some, answers_below, none_ends}
 use Rattle.node_laws.proofs.AnswerTimes.{refusal_below, write_below}
@@ -40,7 +43,7 @@ use Rattle.node_laws.proofs.RouterAnswers.{as_answered, answer_fits, ahead_right
 use Rattle.node_laws.proofs.OpenFacts.{letter_stays}
 use Rattle.node_laws.proofs.NextFacts.{IsToldRightly, next_keeps, next_fits}
 use Rattle.node_laws.proofs.RouterLater.{goes_to, tells, goes_owes}
-use Rattle.node_laws.proofs.RouterForms.{not_ahead, GoesOn, IsBehind, around, each_open, known_tables, came_by, turns_stay, quiet, goes_on_owes, told_owes}
+use Rattle.node_laws.proofs.RouterForms.{not_ahead, GoesOn, IsBehind, around, each_open, risen_open, known_tables, came_by, turns_stay, quiet, no_answers, goes_on_owes, told_owes}
 
 -- what becomes of each open request where a message carries a table
 abbrev next_by : Router → Letter → Option Table → (namespace : List ℕ) → (create : Bool) → At → Open → Next
@@ -73,6 +76,28 @@ seen_of v a {time = time} {told = told} f = λ write asks.
 not_others : (r : Router) (count at n : ℕ) → n ≢ count → chosen_time (id_of r n) (record { id = id_of r count; at = at } ∷ []) ≡ None
 not_others r count at n other =
     none_of_others (id_of r n) (record { id = id_of r count; at = at } ∷ []) ((λ e. other (sym (ap (λ (i : RequestId). i.count) e))), tt)
+
+-- an open request stays one where a shard returned its time to it
+open_told : (v : View) (asked : List Asked) (answered : List Answered) (r : Router) (q : Open) (shard : ℕ) → IsOpenOf v asked answered r q
+    → IsOpenOf v asked answered r (with_told q shard)
+open_told v asked answered r q shard o = record {
+  request = o.request;
+  taken = o.taken;
+  own = o.own;
+  link = o.link;
+  number = o.number;
+  asks = o.asks;
+  past = o.past;
+  reached = o.reached;
+  silent = o.silent;
+  work = o.work;
+  seen = o.seen;
+}
+
+-- a message that returns a time says so of its sender
+pub time_said : (w : World) (book : Book) (m : Letter) → SentFits (view_of w.nodes book) w.changed w.asked w.answered w.given m
+    → TellsTime (view_of w.nodes book) w.asked w.answered (letter_input m)
+time_said w book m comes = λ id says. subst (λ b. TimeFits (view_of w.nodes book) w.changed w.asked w.answered m.sender m.time b) says comes.2
 
 module _ (w : World) (book : Book) (at : ℕ) (kept : List Kept) (r : Router) (good : Good w book)
     (h : HeldFits (view_of w.nodes book) w.asked w.answered w.given at (record { state = router_state r; kept = kept }))
@@ -203,25 +228,60 @@ module _ (w : World) (book : Book) (at : ℕ) (kept : List Kept) (r : Router) (g
             seen = tt;
           }
 
-  -- the shard's time came after the request, so that of no write that was answered before is an entry later
-  told_before : (v : View) → Behind v → (id : RequestId) → m.body ≡ time_told id → (a : Asked) → IsIn a w.asked → a.id ≡ id
-      → IsPast v m.sender w.answered a m.time
-  told_before v behind id says a taken own =
-      let t : TimeFits (view_of w.nodes book) w.changed w.asked w.answered m.sender m.time (time_told id) = subst
-      (λ b. TimeFits (view_of w.nodes book) w.changed w.asked w.answered m.sender m.time b) says comes.2 in
-      let same : t.0 ≡ a = one_asked t.0 a w.asked good.one t.1 taken (t.2 ∙ sym own) in
-      let is : IsShardAt m.sender = (body_in v behind (time_told id) says).0 in
-      let entries : entries_in v m.sender ≡ entries_in (view_of w.nodes book) m.sender =
-      ap (λ l. entries_kept l) (behind.1 m.sender (λ e. let place = h.state.place in omega (arith, e, is, place))) in
-      subst (λ b. IsPast v m.sender w.answered b m.time) same
-      (λ s write index e i before stands shown. t.3 s write index e i before (subst (λ l. IsIn e l) entries stands) shown)
+  -- a shard returned its time, and others have not
+  pub hear_owes : (id : RequestId) (q : Open) → IsOpenWith r id q
+      → Owes w book at (record { state = router_state r; kept = kept }) (tells (as_before r) [] [])
+      (router_state (goes_to r (heard r m) r.moment r.tables (replaced (with_told q m.sender) r.requests) (as_before r)))
+  hear_owes id q found =
+      goes_owes w book at r h.state good kept (heard r m) r.moment r.tables (replaced (with_told q m.sender) r.requests) (as_before r) [] [] later h.within
+      met_time (parted_replaced r (with_told q m.sender) r.requests h.state.different)
+      (quiet w book at kept r good h (heard r m) r.moment r.tables (replaced (with_told q m.sender) r.requests) later)
+      (λ v grows others chosen cursors.
+      let rise = risen_open w book at kept r good h v (grows, others) chosen
+      (goes_to r (heard r m) r.moment r.tables (replaced (with_told q m.sender) r.requests) (as_before r)) later in
+      record {
+        tables = known_tables w book at kept r good h v (grows, others) (heard r m) later;
+        requests = all_replaced
+            (IsOpenOf v w.asked w.answered (goes_to r (heard r m) r.moment r.tables (replaced (with_told q m.sender) r.requests) (as_before r)))
+            (with_told q m.sender) r.requests
+            (open_told v w.asked w.answered (goes_to r (heard r m) r.moment r.tables (replaced (with_told q m.sender) r.requests) (as_before r)) q m.sender
+            (all_at (IsOpenOf v w.asked w.answered (goes_to r (heard r m) r.moment r.tables (replaced (with_told q m.sender) r.requests) (as_before r))) q
+            r.requests rise found.stands))
+            (all_weaken
+            (IsOpenOf v w.asked w.answered (goes_to r (heard r m) r.moment r.tables (replaced (with_told q m.sender) r.requests) (as_before r)))
+            (λ (p : Open). p.count ≢ q.count
+            → IsOpenOf v w.asked w.answered (goes_to r (heard r m) r.moment r.tables (replaced (with_told q m.sender) r.requests) (as_before r)) p)
+            r.requests (λ p o other. o) rise);
+        letters = tt;
+        answers = no_answers w book at kept r good h v cursors;
+        below = tt;
+        times = tt;
+      })
+
+  -- all shards returned their times, so that no entry of a write that was answered before the request came is above the router's time
+  told_before : (v : View) → Behind v → (q : Open) (id : RequestId) → m.body ≡ time_told id → IsOpenWith r id q
+      → HasHeard (view_of w.nodes book) w.asked w.answered r → untold (also_told q.told m.sender) (shards_of r) ≡ []
+      → (a : Asked) → IsIn a w.asked → a.id ≡ id_of r q.count → IsPast v first_shard w.answered a (heard r m)
+  told_before v behind q id says found hears all a taken own =
+      let x = all_at (IsHeard (view_of w.nodes book) w.asked w.answered r) q r.requests hears.requests found.stands in
+      let same : x.request ≡ a = one_asked x.request a w.asked good.one x.taken taken (x.own ∙ sym own) in
+      let stored : history_in v ≡ history_in (view_of w.nodes book) =
+      ap (λ l. entries_kept l) (behind.1 first_shard (λ e. let place = h.state.place in omega (arith, e, place))) in
+      let past : AllByRecursion (λ shard. IsPast v shard (w.answered ++ []) x.request (heard r m)) (also_told q.told m.sender) =
+      told_past (view_of w.nodes book) v w.asked [] w.answered [] w.now stored good.came tt good.one r (heard r m) q m later (omega arith)
+      (says ∙ ap (λ i. time_told i) found.own) (time_said w book m comes) x in
+      first_of_all (λ shard. IsPast v shard w.answered a (heard r m)) r.shards hears.some
+      (all_told (λ shard. IsPast v shard w.answered a (heard r m)) (also_told q.told m.sender) (shards_of r) all
+      (subst (λ b. AllByRecursion (λ shard. IsPast v shard w.answered b (heard r m)) (also_told q.told m.sender)) same
+      (subst (λ l. AllByRecursion (λ shard. IsPast v shard l x.request (heard r m)) (also_told q.told m.sender)) (append-nil w.answered) past)))
 
   pub ahead_owes : (id : RequestId) (q : Open) (named : Bool) (time : ℕ) (stages : List Stage) (telling : Telling) → m.body ≡ time_told id → IsOpenWith r id q
       → q.work ≡ reading named time stages telling → q.wait ≡ for_time → heard r m < time
+      → HasHeard (view_of w.nodes book) w.asked w.answered r → untold (also_told q.told m.sender) (shards_of r) ≡ []
       → Owes w book at (record { state = router_state r; kept = kept })
       (tells (as_before r) [] (reply_to r (heard r m) q (refusal_answer (time_ahead (heard r m))) ∷ []))
       (router_state (goes_to r (heard r m) r.moment r.tables (without q.count r.requests) (as_before r)))
-  ahead_owes id q named time stages telling says found work wait ahead =
+  ahead_owes id q named time stages telling says found work wait ahead hears all =
       told_owes w book at kept r good h q (refusal_answer (time_ahead (heard r m))) (heard r m) (as_before r) book.cursors found.stands later met_time tt
       (turns_stay w book at kept r good h (heard r m) r.moment r.tables (without q.count r.requests) later)
       (λ v behind o n. (
@@ -230,9 +290,9 @@ module _ (w : World) (book : Book) (at : ℕ) (kept : List Kept) (r : Router) (g
             (came_by w book at kept r good h o.request o.taken)
             (ahead_right v w.asked (w.answered ++ as_answered w.now (reply_to r (heard r m) q (refusal_answer (time_ahead (heard r m)))) ∷ []) book.cursors
             o.request
-            (as_answered w.now (reply_to r (heard r m) q (refusal_answer (time_ahead (heard r m))))) (id_of r q.count) time m.sender m.time w.now w.answered
-            (awaited v q o.request named time stages telling work wait o.reached) (told_before v behind id says o.request o.taken (o.own ∙ sym found.own))
-            (body_in v behind (time_told id) says).0
+            (as_answered w.now (reply_to r (heard r m) q (refusal_answer (time_ahead (heard r m))))) (id_of r q.count) time first_shard (heard r m) w.now w.answered
+            (awaited v q o.request named time stages telling work wait o.reached) (told_before v behind q id says found hears all o.request o.taken o.own)
+            (λ e i. placed_first (changes_in v) n.begun.still e (all_at (IsPlaced (changes_in v)) e (history_in v) n.placed i))
             (omega arith) ahead
             (came_by w book at kept r good h o.request o.taken) refl refl refl),
         refusal_below (heard r m) (time_ahead (heard r m)),

@@ -22,9 +22,11 @@ use Rattle.reply_model.specs.Right.{asks_for_one, usual_size, unless_silent, rig
 use Rattle.node_model.specs.Journal.{Kept}
 use Rattle.node_model.specs.Letters.{Input, Reply, Effect}
 use Rattle.node_model.specs.States.{Telling, in_batches, as_number, Work, writing, reading, sharding, splitting, for_time, Open, Router, router_state}
-use Rattle.node_model.specs.RouterRows.{id_of, heard, is_ahead, table_for, wait_by, wait_of, asks_for, RequestPlan, at_once, needs, needs_batch, needs_end, plan_of, plan_read, opened_request, taken_now, RouterRow, router_begin, router_opened, router_plain, router_more, router_no_cursor, router_kill, router_take, router_learn, router_split, router_not_sharded, router_reach, router_ahead, router_note, router_wrote, router_read, router_excess, router_overflow, router_late, router_skip, router_moment}
-use Rattle.node_model.specs.World.{World}
+use Rattle.node_model.specs.RouterRows.{id_of, heard, is_ahead, table_for, wait_by, wait_of, asks_for, RequestPlan, at_once, needs, needs_batch, needs_end, plan_of, plan_read, opened_request, taken_now, RouterRow, router_begin, router_opened, router_plain, router_more, router_no_cursor, router_kill, router_take, router_learn, router_split, router_not_sharded, router_reach, router_hear, router_ahead, router_note, router_wrote, router_read, router_excess, router_overflow, router_late, router_skip, router_moment}
+use Rattle.node_model.specs.World.{Held, World}
 use Rattle.node_laws.proofs.Views.{Choice, Book, View, view_of, chosen_time}
+use Rattle.node_laws.proofs.Places.{each_get}
+use Rattle.node_laws.proofs.TimeFacts.{HeardFits}
 use Rattle.node_laws.proofs.ReadFacts.{is_named, WaitsFor, IsDecided, IsTelling, tells_find, tells_count}
 use Rattle.node_laws.proofs.Facts.{WorkFits, AreSeen, HasTime, IsOpenOf, CursorsFit, HeldFits, AnswerFits, AnswersFit, no_answer, one_answer, Good}
 use Rattle.node_laws.proofs.Owes.{InputFits, Owes}
@@ -40,7 +42,7 @@ use Rattle.node_laws.proofs.RouterAnswers.{as_answered, IsPlain, plain_fits}
 use Rattle.node_laws.proofs.Turns.{Turns, turns_same, turns_left, turns_closed, open_past}
 use Rattle.node_laws.proofs.RouterLater.{told_now}
 use Rattle.node_laws.proofs.RouterForms.{waits_not, known_tables, stays_owes, again_owes}
-use Rattle.node_laws.proofs.RouterMessages.{heard_met, learn_owes, reach_owes, ahead_owes, note_owes, wrote_owes}
+use Rattle.node_laws.proofs.RouterMessages.{heard_met, learn_owes, reach_owes, hear_owes, ahead_owes, note_owes, wrote_owes}
 use Rattle.node_laws.proofs.RouterReads.{read_owes, much_owes, none_overflows}
 use Rattle.node_laws.proofs.RouterSplits.{split_owes, unsplit_owes}
 use Rattle.node_laws.proofs.RouterTakes.{asked_now, took, counts_behind, new_answer, undecided, begin_owes, takes_owes}
@@ -390,8 +392,11 @@ router_owes w book at kept _ _ _ _ good here h comes (router_not_sharded r m id 
     unsplit_owes w book at kept r good h m comes id q middle (open_of_found r id q found) work
 router_owes w book at kept _ _ _ _ good here h comes (router_reach r m id q named time stages telling says found work wait reached) =
     reach_owes w book at kept r good h m comes q named time stages telling (open_of_found r id q found).stands work wait reached
-router_owes w book at kept _ _ _ _ good here h comes (router_ahead r m id q named time stages telling says found work wait ahead) =
+router_owes w book at kept _ _ _ _ good here h comes (router_hear r m id q named time stages telling says found work wait ahead some) =
+    hear_owes w book at kept r good h m comes id q (open_of_found r id q found)
+router_owes w book at kept _ _ _ _ good here h comes (router_ahead r m id q named time stages telling says found work wait ahead all) =
     ahead_owes w book at kept r good h m comes id q named time stages telling says (open_of_found r id q found) work wait ahead
+    (each_get (λ k (x : Held). HeardFits (view_of w.nodes book) w.asked w.answered x.state) 0 at w.nodes _ good.heard here) all
 router_owes w book at kept _ _ _ _ good here h comes (router_note r m id dones q kind ordered statements answers says found work news open_yet) =
     note_owes w book at kept r good h m comes id dones q kind ordered statements answers says (open_of_found r id q found) work open_yet
 router_owes w book at kept _ _ _ _ good here h comes (router_wrote r m id dones q kind ordered statements answers says found work news whole) =

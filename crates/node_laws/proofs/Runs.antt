@@ -1,5 +1,5 @@
 -- Every run keeps all facts, and so makes one history.
-use Rattle.std.proofs.Common.{◌≡◌, ℕ, zero, suc, ◌+◌, ◌<◌, List, [], ◌∷◌, refl, sym, ap, subst, ◌∙◌, arith, inl}
+use Rattle.std.proofs.Common.{◌≡◌, ℕ, zero, suc, ◌+◌, ◌<◌, ◌≤◌, List, [], ◌∷◌, ◌++◌, refl, sym, ap, subst, ◌∙◌, arith, inl}
 use Rattle.std.specs.List.{AllByRecursion}
 use Rattle.history_model.proofs.Lists.{all_weaken, all_both, all_at}
 use Rattle.chunk_model.specs.Placement.{AreFitting}
@@ -7,73 +7,118 @@ use Rattle.chunk_model.specs.Tables.{first_shard}
 use Rattle.history_model.specs.History.{Entry, IsIn, Legal}
 use Rattle.reply_model.specs.Exchanges.{Asked, Answered}
 use Rattle.reply_facts.proofs.SameAccounts.{right_so}
-use Rattle.reply_model.specs.Accounts.{Given, Dated, nothing_stored, changes_in as changes_of}
+use Rattle.reply_model.specs.Accounts.{Account, Given, Dated, nothing_stored, changes_in as changes_of}
 use Rattle.reply_model.specs.OneHistory.{WasSent, AreNumbered, IsReached, WasWanted, StandsInPart, IsPlaced, AreRight, nothing_told, then_told, IsKnown, OneHistory}
 use Rattle.reply_model.specs.Cursors.{Cursor}
 use Rattle.node_model.specs.Journal.{Kept, entries_kept, changes_kept}
-use Rattle.node_model.specs.States.{Catalogue, NodeState, catalogue_state, shard_state, router_state, new_router}
-use Rattle.node_model.specs.World.{Held, World, Event, Run, routers_from, start, journal_at, history_of, account_of}
-use Rattle.node_laws.proofs.Views.{View, view_of, changes_in, account_in}
+use Rattle.node_model.specs.States.{Catalogue, NodeState, catalogue_state, shard_state, router_state, new_catalogue, new_shard, new_router}
+use Rattle.node_model.specs.World.{Held, World, Event, Run, shards_from, routers_from, start, journal_at, entries_at, account_of}
+use Rattle.node_laws.proofs.Views.{View, view_of, changes_in, MovesNothing, account_in}
 use Rattle.node_laws.proofs.Places.{EachAt}
 use Rattle.node_laws.proofs.WriteFacts.{WasMade}
 use Rattle.node_laws.proofs.SentEntries.{was_sent, is_reached}
+use Rattle.node_laws.proofs.TimeFacts.{HeardFits}
 use Rattle.node_laws.proofs.Facts.{CatalogueFits, StateFits, CursorsFit, HeldFits, IsMet, AnswersFit, no_answer, one_answer, IsCatalogue, InOrder}
 use Rattle.node_laws.proofs.CatalogueTables.{placed_first}
 use Rattle.node_laws.proofs.Causes.{is_caused}
 use Rattle.node_laws.proofs.Keeps.{the_shard, nodes_keep}
+use Rattle.node_laws.proofs.OneJournal.{history_is}
 use Rattle.node_laws.proofs.Moments.{HasMoment, HadMoment, Moments}
 use Rattle.node_laws.proofs.StepsKeep.{HasBook, StaysTrue, run_keeps}
 
 -- THE START
 
-abbrev pub start_nodes : ℕ → List Held
-start_nodes routers = (start routers).nodes
+abbrev pub start_nodes : (others routers : ℕ) → List Held
+start_nodes others routers = (start others routers).nodes
 
-routers_fit : (v : View) (at n : ℕ) → v.cursors ≡ [] → first_shard < at → EachAt (HeldFits v [] [] []) at (routers_from at n)
-routers_fit v at zero none less = tt
-routers_fit v at (suc n) none less = (
-  record {
-    state = record { own = refl; place = less; requests = tt; different = tt; counted = tt; told = tt; tables = tt; closed = tt; risen = tt };
-    met = inl refl;
-    cursors = subst (λ l. CursorsFit l at (new_router at)) (sym none) (record { own = refl; given = tt; most = omega arith });
-    within = omega arith;
-  },
-  routers_fit v (at + 1) n none (omega arith),
+abbrev shard_at : ℕ → Held
+shard_at at = record { state = shard_state (new_shard at); kept = [] }
+
+abbrev router_at : (at shards : ℕ) → Held
+router_at at shards = record { state = router_state (new_router at shards); kept = [] }
+
+-- what holds of each shard, and of what comes after them, holds of all
+shards_each : (P : ℕ → Held → Type 0) (at n : ℕ) (later : List Held) → ((j : ℕ) → P j (shard_at j)) → EachAt P (at + n) later
+    → EachAt P at (shards_from at n ++ later)
+shards_each P at zero later one more = let same : at + 0 ≡ at = omega arith in subst (λ j. EachAt P j later) same more
+shards_each P at (suc n) later one more =
+    let same : at + suc n ≡ at + 1 + n = omega arith in
+    (one at, shards_each P (at + 1) n later one (subst (λ j. EachAt P j later) same more))
+
+routers_each : (P : ℕ → Held → Type 0) (at shards n : ℕ) → ((j : ℕ) → at ≤ j → P j (router_at j shards)) → EachAt P at (routers_from at shards n)
+routers_each P at shards zero one = tt
+routers_each P at shards (suc n) one = (one at (omega arith), routers_each P (at + 1) shards n (λ j le. one j (omega arith)))
+
+-- what holds of each node as it starts
+starts_each : (P : ℕ → Held → Type 0) (others routers : ℕ) → P 0 (record { state = catalogue_state (new_catalogue 0); kept = [] })
+    → ((j : ℕ) → P j (shard_at j)) → ((j : ℕ) → first_shard < j → P j (router_at j (others + 1))) → EachAt P 0 (start_nodes others routers)
+starts_each P others routers catalogue shard router = (
+  catalogue,
+  (
+    shard first_shard,
+    shards_each P (first_shard + 1) others (routers_from (first_shard + others + 1) (others + 1) routers) shard
+        (let same : first_shard + others + 1 ≡ first_shard + 1 + others = omega arith in
+        subst (λ k. EachAt P k (routers_from (first_shard + others + 1) (others + 1) routers)) same
+        (routers_each P (first_shard + others + 1) (others + 1) routers (λ j le. router j (omega arith)))),
+  ),
 )
 
-pub start_good : (routers : ℕ) → HasBook (start routers)
-start_good routers = record {
+shard_fits : (v : View) (at : ℕ) → changes_in v ≡ [] → HeldFits v [] [] [] at (shard_at at)
+shard_fits v at none = record {
+  state = record {
+    own = refl;
+    came = tt;
+    entries = refl;
+    tops = refl;
+    past = tt;
+    legal = tt;
+    sent = tt;
+    numbers = tt;
+    placed = tt;
+    parts = tt;
+    still = subst (λ l. AllByRecursion MovesNothing l) (sym none) tt;
+    tables = tt;
+    parked = tt;
+  };
+  met = inl refl;
+  cursors = tt;
+  within = omega arith;
+}
+
+router_fits : (v : View) (at shards : ℕ) → v.cursors ≡ [] → first_shard < at → HeldFits v [] [] [] at (router_at at shards)
+router_fits v at shards none less = record {
+  state = record { own = refl; place = less; requests = tt; different = tt; counted = tt; told = tt; tables = tt; closed = tt; risen = tt };
+  met = inl refl;
+  cursors = subst (λ l. CursorsFit l at (new_router at shards)) (sym none) (record { own = refl; given = tt; most = omega arith });
+  within = omega arith;
+}
+
+-- journals without records
+none_kept : (i : ℕ) (nodes : List Held) (at : ℕ) → EachAt (λ j h. h.kept ≡ []) i nodes → journal_at nodes at ≡ []
+none_kept i [] at all = refl
+none_kept i (h ∷ nodes) zero all = all.0
+none_kept i (h ∷ nodes) (suc at) all = none_kept (i + 1) nodes at all.1
+
+pub start_good : (others routers : ℕ) → HasBook (start others routers)
+start_good others routers = record {
   book = record { chosen = []; cursors = [] };
   good = record {
     order = (_, _, _, refl, tt, tt);
-    nodes = (
-      record { state = record { own = refl; place = refl; changes = refl; past = tt; fitting = tt; wanted = tt }; met = inl refl; cursors = tt; within = omega arith },
-      (
-        record {
-          state = record {
-            own = refl;
-            place = refl;
-            entries = refl;
-            tops = refl;
-            past = tt;
-            legal = tt;
-            sent = tt;
-            numbers = tt;
-            placed = tt;
-            parts = tt;
-            still = tt;
-            tables = tt;
-            parked = tt;
-          };
+    nodes = starts_each (HeldFits (view_of (start_nodes others routers) (record { chosen = []; cursors = [] })) [] [] []) others routers
+        (record {
+          state = record { own = refl; place = refl; changes = refl; past = tt; fitting = tt; wanted = tt };
           met = inl refl;
           cursors = tt;
           within = omega arith;
-        },
-        routers_fit (view_of (start_nodes routers) (record { chosen = []; cursors = [] })) 2 routers refl (omega arith),
-      ),
-    );
+        })
+        (λ j. shard_fits (view_of (start_nodes others routers) (record { chosen = []; cursors = [] })) j refl)
+        (λ j less. router_fits (view_of (start_nodes others routers) (record { chosen = []; cursors = [] })) j (others + 1) refl less);
     dated = refl;
+    beside = λ at other. ap (λ k. entries_kept k)
+        (none_kept 0 (start_nodes others routers) at (starts_each (λ j h. h.kept ≡ []) others routers refl (λ j. refl) (λ j less. refl)));
     letters = tt;
+    heard = starts_each (λ j h. HeardFits (view_of (start_nodes others routers) (record { chosen = []; cursors = [] })) [] [] h.state) others routers tt
+        (λ j. tt) (λ j less. record { some = omega arith; requests = tt });
     answers = no_answer [];
     decided = tt;
     came = tt;
@@ -86,15 +131,15 @@ start_good routers = record {
   };
 }
 
-moments_none : (at n : ℕ) → EachAt (λ j h. HasMoment [] j h.state) at (routers_from at n)
-moments_none at zero = tt
-moments_none at (suc n) = ((refl, refl, omega arith), moments_none (at + 1) n)
+pub start_moments : (others routers : ℕ) → Moments (start others routers)
+start_moments others routers = record {
+  nodes = starts_each (λ j h. HasMoment [] j h.state) others routers tt (λ j. tt) (λ j less. (refl, refl, omega arith));
+  asked = tt;
+  givens = tt;
+}
 
-pub start_moments : (routers : ℕ) → Moments (start routers)
-start_moments routers = record { nodes = (tt, (tt, moments_none 2 routers)); asked = tt; givens = tt }
-
-pub start_true : (routers : ℕ) → StaysTrue (start routers)
-start_true routers = (start_good routers, start_moments routers, tt, record { steps = tt; replies = tt })
+pub start_true : (others routers : ℕ) → StaysTrue (start others routers)
+start_true others routers = (start_good others routers, start_moments others routers, tt, record { steps = tt; replies = tt })
 
 -- ONE HISTORY
 
@@ -138,47 +183,55 @@ all_right v dated given asked answered _ _ _ (one_answer cursors next last t res
   right = right_so (account_in v asked answered) dated given nothing_stored cursors next f.request t f.right;
 }) (all_right v dated given asked answered next last rest others met.1)
 
-pub makes_one_history : (w : World) → StaysTrue w → OneHistory (account_of w)
-makes_one_history w (known, moments, told, based) =
+-- what is judged of a world, of the history that the first shard stores
+abbrev first_account : World → Account
+first_account w = record (account_of w) { history = entries_at w.nodes first_shard }
+
+first_makes_one : (w : World) → StaysTrue w → OneHistory (first_account w)
+first_makes_one w (known, moments, told, based) =
     let good = known.good in
     let v : View = view_of w.nodes known.book in
     let s = the_shard v w.asked w.answered w.given w.nodes good.order good.nodes in
     let c = the_catalogue v w.asked w.answered w.given w.nodes good.order good.nodes in
     let n = nodes_keep v w.asked w.answered w.given w.nodes good.order good.nodes (λ p. refl) (λ p. refl) good.one in
-    let entries : s.shard.entries ≡ history_of w.nodes = s.fits.entries ∙ sym (ap (λ k. entries_kept k) s.journal) in
+    let entries : s.shard.entries ≡ entries_at w.nodes first_shard = s.fits.entries ∙ sym (ap (λ k. entries_kept k) s.journal) in
     let changes : changes_kept c.kept ≡ changes_kept (journal_at w.nodes 0) = sym (ap (λ k. changes_kept k) c.journal) in
-    let history : List Entry = history_of w.nodes in
+    let history : List Entry = entries_at w.nodes first_shard in
     let numbers : AreNumbered history = subst (λ l. AreNumbered l) entries s.fits.numbers in
     let made : AllByRecursion (WasMade history w.asked) history = subst (λ l. AllByRecursion (WasMade history w.asked) l) entries s.fits.sent in
     let first : (e : Entry) → IsIn e history → e.shard ≡ first_shard =
     λ e i. placed_first (changes_in v) n.begun.still e (all_at (IsPlaced (changes_in v)) e history n.placed i) in
     record {
       legal = subst (λ l. Legal l) entries s.fits.legal;
-      sent = all_weaken (WasMade history w.asked) (WasSent (account_of w)) history (λ e m. was_sent (account_of w) numbers first e m) made;
+      sent = all_weaken (WasMade history w.asked) (WasSent (first_account w)) history (λ e m. was_sent (first_account w) numbers first e m) made;
       numbers = numbers;
-      reached = all_weaken (WasMade history w.asked) (IsReached (account_of w)) history (λ e m. is_reached (account_of w) numbers first e m) made;
+      reached = all_weaken (WasMade history w.asked) (IsReached (first_account w)) history (λ e m. is_reached (first_account w) numbers first e m) made;
       placed = n.placed;
       parts = subst (λ l. AllByRecursion (StandsInPart l) w.asked) entries s.fits.parts;
       wanted = subst (λ l. AllByRecursion (WasWanted w.asked) l) changes c.fits.wanted;
       fitting = subst (λ l. AreFitting l) changes c.fits.fitting;
       steps = good.dated;
-      caused = is_caused (account_of w) v w.now w.answered [] known.book.cursors w.answered good.one good.answers told based.replies;
+      caused = is_caused (first_account w) v w.now w.answered [] known.book.cursors w.answered good.one good.answers told based.replies;
       right = all_right v w.changed w.given w.asked w.answered [] known.book.cursors w.answered good.answers good.met;
       one = good.one;
       once = good.once;
       fresh = good.fresh;
       order = good.in_order;
-      known = all_both (λ (a : Asked). IsMet v w.given a.time) (λ a. HadMoment w.given a × (a.came < w.now + 1)) (IsKnown (account_of w)) w.asked
+      known = all_both (λ (a : Asked). IsMet v w.given a.time) (λ a. HadMoment w.given a × (a.came < w.now + 1)) (IsKnown (first_account w)) w.asked
           (λ a met had. record { moment = had.0.0; time = met; reached = had.0.1 }) good.known moments.asked;
       anew = refl;
     }
 
-pub run_makes_one_history : (routers : ℕ) (events : List Event) (w : World) → Run (start routers) events w → OneHistory (account_of w)
-run_makes_one_history routers events w run = makes_one_history w (run_keeps (start routers) w events (start_true routers) run)
+pub makes_one_history : (w : World) → StaysTrue w → OneHistory (account_of w)
+makes_one_history w stays =
+    subst (λ l. OneHistory (record (account_of w) { history = l })) (sym (history_is w stays.0.book stays.0.good)) (first_makes_one w stays)
+
+pub run_makes_one_history : (others routers : ℕ) (events : List Event) (w : World) → Run (start others routers) events w → OneHistory (account_of w)
+run_makes_one_history others routers events w run = makes_one_history w (run_keeps (start others routers) w events (start_true others routers) run)
 
 -- THE CHANGES OF THE CATALOGUE
 
 -- those that were made, newest first, are those that the catalogue's journal stores
-pub run_keeps_changes : (routers : ℕ) (events : List Event) (w : World) → Run (start routers) events w
+pub run_keeps_changes : (others routers : ℕ) (events : List Event) (w : World) → Run (start others routers) events w
     → changes_of w.changed ≡ changes_kept (journal_at w.nodes 0)
-run_keeps_changes routers events w run = (run_keeps (start routers) w events (start_true routers) run).0.good.dated
+run_keeps_changes others routers events w run = (run_keeps (start others routers) w events (start_true others routers) run).0.good.dated

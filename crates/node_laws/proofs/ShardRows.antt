@@ -2,7 +2,7 @@
 use Rattle.std.proofs.Common.{◌≡◌, ◌⊎◌, inl, inr, ℕ, ◌<◌, ◌≤◌, List, [], ◌∷◌, ◌++◌, refl, sym, ap, subst, ◌∙◌, arith, append-nil, Bool}
 use Rattle.std.specs.Prelude.{Some, true, not, max, filter}
 use Rattle.std.specs.List.{AllByRecursion, slice_get}
-use Rattle.history_model.proofs.Lists.{all_weaken, all_append}
+use Rattle.history_model.proofs.Lists.{all_weaken, all_both, all_append}
 use Rattle.bson_model.specs.Tree.{Fields}
 use Rattle.base_model.specs.Times.{time_of_moment}
 use Rattle.pipeline_model.specs.Halves.{Half, Rows, IsHalf}
@@ -20,8 +20,9 @@ use Rattle.node_model.specs.Letters.{At, Statement, Body, table_told, write_ask,
 use Rattle.node_model.specs.States.{Shard, shard_state}
 use Rattle.node_model.specs.Service.{Repeats, repeats_no_more, repeats, ends_repeat, documents_at}
 use Rattle.node_model.specs.ShardRows.{heard, at_later, under, greatest_entry, top, says, Ask, ask_in, wants_table, tries, asks_table, ShardRow, shard_write, shard_repeat, shard_empty, shard_park, shard_waits, shard_stale, shard_read, shard_read_above, shard_rows, shard_excess, shard_overflow, shard_time, shard_learn, shard_known, shard_skip, shard_moment, shard_opened, shard_client}
+use Rattle.node_model.specs.Steps.{IsFor}
 use Rattle.node_model.specs.World.{World}
-use Rattle.node_laws.proofs.Views.{Book, View, view_of, entries_in, Later}
+use Rattle.node_laws.proofs.Views.{Book, View, view_of, entries_in, IsShardAt, Later}
 use Rattle.node_laws.proofs.GreatestTimes.{greatest_both, within_more}
 use Rattle.node_laws.proofs.WriteFacts.{OnlyLast}
 use Rattle.node_laws.proofs.ReadFacts.{IsReadOf, IsShown, IsMade}
@@ -33,7 +34,7 @@ use Rattle.node_laws.proofs.Growth.{read_grows, known_grows, met_later, met_max}
 use Rattle.node_laws.proofs.ServedStatements.{up_to_later, repeats_told, repeats_last}
 use Rattle.node_laws.proofs.RequestParts.{ask_own}
 use Rattle.node_laws.proofs.ShardSteps.{wrote, quiet, letter_later, shown_later, shard_later, ask_receiver, retried_fits, asks_again_fit, tells_none, AreToldBy, told_done}
-use Rattle.node_laws.proofs.ShardWrites.{held_shard, Stood, heard_later, begun_by, served, writes_all}
+use Rattle.node_laws.proofs.ShardWrites.{held_shard, Stood, heard_later, first_served, begun_by, first_by, served, writes_all}
 use Rattle.node_laws.proofs.KnownTables.{all_with}
 
 -- QUIET ROWS
@@ -82,12 +83,13 @@ first_repeated ordered entries _ _ (repeats s rest d dones seen on more) = inr (
 first_repeated ordered entries _ _ (ends_repeat s rest d seen over) = inr (s, rest, refl)
 
 tells_again : (w : World) (book : Book) (at : ℕ) (kept : List Kept) (s : Shard) (m : Letter) (id : RequestId) (ordered : Bool) (namespace : List ℕ)
-    (statements : List Statement) (d : Done) (dones : List Done) → Stood w book at kept s → InputFits w book (letter_input m)
+    (statements : List Statement) (d : Done) (dones : List Done) → Stood w book at kept s → m.receiver ≡ s.me → InputFits w book (letter_input m)
     → IsWriteOf (view_of w.nodes book) w.asked m.receiver m.time id ordered namespace statements → Repeats ordered s.entries statements (d ∷ dones)
     → Owes w book at (held_shard s kept)
     (record { written = []; mail = says s id.router (heard s m) (write_done id (d ∷ dones)) ∷ []; taken = []; replies = [] })
     (shard_state (at_later s (heard s m)))
-tells_again w book at kept s m id ordered namespace statements d dones is comes ask repeated =
+tells_again w book at kept s m id ordered namespace statements d dones is to comes ask repeated =
+    let first = first_repeated ordered s.entries statements (d ∷ dones) repeated in
     let told : AreToldBy (view_of w.nodes book) w.asked s.entries (heard s m) id (d ∷ dones) = record {
       request = ask.request;
       write = ask.write;
@@ -99,13 +101,13 @@ tells_again w book at kept s m id ordered namespace statements d dones is comes 
           (up_to_later s.time (heard s m) s.entries (heard_later s m) is.fits.past);
       last = subst (λ b. OnlyLast b (d ∷ dones)) ask.order (repeats_last ordered s.entries statements (d ∷ dones) repeated);
       begun = begun_by (view_of w.nodes book) w.asked m.receiver m.time (heard s m) id ordered namespace statements d dones (omega arith) ask
-          (first_repeated ordered s.entries statements (d ∷ dones) repeated);
+          first;
     } in
     heard_back w book at kept s m _ is comes
     (λ v grows met entries bound. (
       (
         (
-          is.fits.own ∙ is.fits.place,
+          sym to ∙ first_by (view_of w.nodes book) w.asked m.receiver m.time id ordered namespace statements d dones ask first,
           subst (λ n. IsDoneOf v w.asked n (heard s m) id (d ∷ dones)) (sym is.fits.own)
               (told_done (view_of w.nodes book) v w.asked at (heard s m) id s.entries (d ∷ dones) grows entries told),
         ),
@@ -116,11 +118,12 @@ tells_again w book at kept s m id ordered namespace statements d dones is comes 
     ))
 
 -- a request waits
-parks : (w : World) (book : Book) (at : ℕ) (kept : List Kept) (s : Shard) (m : Letter) (a : Ask) → Stood w book at kept s → InputFits w book (letter_input m)
+parks : (w : World) (book : Book) (at : ℕ) (kept : List Kept) (s : Shard) (m : Letter) (a : Ask) → Stood w book at kept s → m.receiver ≡ s.me
+    → InputFits w book (letter_input m)
     → ask_in m.body ≡ Some a
     → Owes w book at (held_shard s kept) (record { written = []; mail = asks_table s (heard s m) a.namespace ∷ []; taken = []; replies = [] })
     (shard_state (record { me = s.me; time = heard s m; tables = s.tables; entries = s.entries; ceiling = s.ceiling; parked = s.parked ++ m ∷ [] }))
-parks w book at kept s m a is comes asks =
+parks w book at kept s m a is to comes asks =
     quiet w book at (held_shard s kept) (asks_table s (heard s m) a.namespace ∷ []) _ is.good tt (heard_later s m) (let n = is.within in omega (arith, n))
     (λ v grows journal bound.
     let met : IsMet v w.given (heard s m) = met_later (view_of w.nodes book) v w.given (heard s m) grows (heard_met w book at kept s m is comes.1) in
@@ -128,7 +131,7 @@ parks w book at kept s m a is comes asks =
     record {
       node = record {
         own = f.own;
-        place = f.place;
+        came = all_append (λ (l : Letter). l.receiver ≡ at) s.parked (m ∷ []) f.came (to ∙ is.fits.own, tt);
         entries = f.entries;
         tops = f.tops;
         past = f.past;
@@ -155,23 +158,25 @@ parks w book at kept s m a is comes asks =
 
 -- the documents of a read are taken, at a time that is stored after the step
 documents_shown : (w : World) (book : Book) (at : ℕ) (kept : List Kept) (s : Shard) (m : Letter) (v : View) (id : RequestId) (namespace : List ℕ) (moment : ℕ)
-    (half : Half) → Stood w book at kept s → Later (view_of w.nodes book) v → entries_in v at ≡ s.entries → moment ≤ v.bound at → moment ≤ m.time
+    (half : Half) → Stood w book at kept s → IsShardAt s.me → Later (view_of w.nodes book) v → entries_in v at ≡ s.entries → moment ≤ v.bound at
+    → moment ≤ m.time
     → IsReadOf (view_of w.nodes book) w.asked id namespace moment half
     → IsShown v w.asked s.me (heard s m) id namespace moment half (documents_at s.entries namespace moment half)
-documents_shown w book at kept s m v id namespace moment half is grows entries reached early reads =
+documents_shown w book at kept s m v id namespace moment half is first grows entries reached early reads =
     let own : at ≡ s.me = sym is.fits.own in
     let here : entries_in v s.me ≡ s.entries = subst (λ n. entries_in v n ≡ s.entries) own entries in
     record {
       read = subst (λ l. IsReadOf v l id namespace moment half) (append-nil w.asked)
           (read_grows (view_of w.nodes book) v w.asked [] id namespace moment half grows reads);
-      owner = is.fits.own ∙ is.fits.place;
+      owner = first;
       documents_are = ap (λ l. documents_at l namespace moment half) (sym here);
       settled = subst (λ n. moment ≤ v.bound n) own reached;
       past = omega (arith, early);
     }
 
 takes_documents : (w : World) (book : Book) (at : ℕ) (kept : List Kept) (s : Shard) (m : Letter) (id : RequestId) (turn : ℕ) (namespace : List ℕ) (moment : ℕ)
-    (half : Half) (sent : Sent) → Stood w book at kept s → InputFits w book (letter_input m) → m.body ≡ read_ask id turn namespace moment half sent
+    (half : Half) (sent : Sent) → Stood w book at kept s → m.receiver ≡ s.me → InputFits w book (letter_input m)
+    → m.body ≡ read_ask id turn namespace moment half sent
     → moment ≤ top s
     → Owes w book at (held_shard s kept) (record {
       written = [];
@@ -181,12 +186,16 @@ takes_documents : (w : World) (book : Book) (at : ℕ) (kept : List Kept) (s : S
       replies = [];
     })
     (shard_state (at_later s (heard s m)))
-takes_documents w book at kept s m id turn namespace moment half sent is comes asks covered =
+takes_documents w book at kept s m id turn namespace moment half sent is to comes asks covered =
     let f = body_is w book at m (read_ask id turn namespace moment half sent) asks comes in
     let tops : top s ≡ greatest_kept kept = is.fits.tops in
     heard_back w book at kept s m _ is comes
     (λ v grows met entries bound. (
-      (documents_shown w book at kept s m v id namespace moment half is grows entries (omega (arith, covered, tops, bound)) f.1 f.0, met, tt),
+      (
+        (documents_shown w book at kept s m v id namespace moment half is (sym to ∙ f.2) grows entries (omega (arith, covered, tops, bound)) f.1 f.0, sym to ∙ f.2),
+        met,
+        tt,
+      ),
       tt,
     ))
 
@@ -201,7 +210,7 @@ under_fits u v asked at time ceiling kept s later le above fits =
     let stored = greatest_both kept (kept_ceiling ceiling ∷ []) in
     record {
       own = f.own;
-      place = f.place;
+      came = f.came;
       entries = sym longer;
       tops = omega (arith, before, stored, above);
       past = f.past;
@@ -216,7 +225,8 @@ under_fits u v asked at time ceiling kept s later le above fits =
     }
 
 takes_above : (w : World) (book : Book) (at : ℕ) (kept : List Kept) (s : Shard) (m : Letter) (id : RequestId) (turn : ℕ) (namespace : List ℕ) (moment : ℕ)
-    (half : Half) (sent : Sent) → Stood w book at kept s → InputFits w book (letter_input m) → m.body ≡ read_ask id turn namespace moment half sent
+    (half : Half) (sent : Sent) → Stood w book at kept s → m.receiver ≡ s.me → InputFits w book (letter_input m)
+    → m.body ≡ read_ask id turn namespace moment half sent
     → top s < moment
     → Owes w book at (held_shard s kept) (record {
       written = kept_ceiling moment ∷ [];
@@ -226,7 +236,7 @@ takes_above : (w : World) (book : Book) (at : ℕ) (kept : List Kept) (s : Shard
       replies = [];
     })
     (shard_state (under s (heard s m) moment))
-takes_above w book at kept s m id turn namespace moment half sent is comes asks above =
+takes_above w book at kept s m id turn namespace moment half sent is to comes asks above =
     let f = body_is w book at m (read_ask id turn namespace moment half sent) asks comes in
     let early : moment ≤ m.time = f.1 in
     let longer : entries_kept (kept ++ kept_ceiling moment ∷ []) ≡ s.entries = entries_longer kept (kept_ceiling moment ∷ []) ∙ append-nil (entries_kept kept)
@@ -244,8 +254,11 @@ takes_above w book at kept s m id turn namespace moment half sent is comes asks 
       cursors = tt;
       letters = (
         (
-          documents_shown w book at kept s m v id namespace moment half is grows (ap (λ k. entries_kept k) journal ∙ longer) (omega (arith, bound, stored)) early
-              f.0,
+          (
+            documents_shown w book at kept s m v id namespace moment half is (sym to ∙ f.2) grows (ap (λ k. entries_kept k) journal ∙ longer)
+                (omega (arith, bound, stored)) early f.0,
+            sym to ∙ f.2,
+          ),
           met,
           tt,
         ),
@@ -256,19 +269,19 @@ takes_above w book at kept s m id turn namespace moment half sent is comes asks 
 -- what is made of the documents that were taken
 made_of : (w : World) (book : Book) (at : ℕ) (kept : List Kept) (s : Shard) (m : Letter) (v : View) (id : RequestId) (turn : ℕ) (namespace : List ℕ)
     (moment : ℕ) (half : Half)
-    (documents : List Fields) (rows : Rows) → Stood w book at kept s → InputFits w book (letter_input m)
+    (documents : List Fields) (rows : Rows) → Stood w book at kept s → m.receiver ≡ s.me → InputFits w book (letter_input m)
     → m.body ≡ half_ask id turn namespace moment half documents
     → Later (view_of w.nodes book) v → IsHalf half documents rows → IsMade v w.asked s.me (heard s m) id rows
-made_of w book at kept s m v id turn namespace moment half documents rows is comes asks grows makes =
+made_of w book at kept s m v id turn namespace moment half documents rows is to comes asks grows makes =
     let f = body_is w book at m (half_ask id turn namespace moment half documents) asks comes in
-    let from : m.sender ≡ s.me = f.owner ∙ sym is.fits.place ∙ sym is.fits.own in
+    let from : m.sender ≡ s.me = f.0.owner ∙ sym f.1 ∙ to in
     record {
       namespace = namespace;
       at = moment;
       half = half;
       documents = documents;
       shown = subst (λ n. IsShown v w.asked n (heard s m) id namespace moment half documents) from
-          (shown_later (view_of w.nodes book) v w.asked m.sender m.time (heard s m) id namespace moment half documents grows (omega arith) f);
+          (shown_later (view_of w.nodes book) v w.asked m.sender m.time (heard s m) id namespace moment half documents grows (omega arith) f.0);
       makes = makes;
     }
 
@@ -278,8 +291,8 @@ never_overflows : (w : World) (book : Book) (at : ℕ) (m : Letter) (id : Reques
     → InputFits w book (letter_input m) → m.body ≡ half_ask id turn namespace moment half documents → Runs half.stages documents overflowed → ⊥
 never_overflows w book at m id turn namespace moment half documents comes asks runs =
     let f = body_is w book at m (half_ask id turn namespace moment half documents) asks comes in
-    split_half_lists f.read.read.stages (split f.read.read.stages).0 (split f.read.read.stages).1 documents refl
-    (subst (λ (l : Half). Runs l.stages documents overflowed) f.read.shows runs)
+    split_half_lists f.0.read.read.stages (split f.0.read.read.stages).0 (split f.0.read.read.stages).1 documents refl
+    (subst (λ (l : Half). Runs l.stages documents overflowed) f.0.read.shows runs)
 
 -- a table is kept, and what waited for it is tried again
 learns : (w : World) (book : Book) (at : ℕ) (kept : List Kept) (s : Shard) (m : Letter) (namespace : List ℕ) (create : Bool) (moment : At) (t : Table)
@@ -312,7 +325,9 @@ learns w book at kept s m namespace create moment t is comes told =
     record {
       node = record {
         own = f.own;
-        place = f.place;
+        came = all_weaken (λ (p : Letter). (p.receiver ≡ at) × (not (wants_table t.namespace p) ≡ true)) (λ (p : Letter). p.receiver ≡ at)
+            (filter (λ p. not (wants_table t.namespace p)) s.parked) (λ p h. h.0)
+            (all_filtered (λ (p : Letter). p.receiver ≡ at) (λ p. not (wants_table t.namespace p)) s.parked f.came);
         entries = sym longer;
         tops = is.fits.tops ∙ sym same;
         past = f.past;
@@ -332,50 +347,55 @@ learns w book at kept s m namespace create moment t is comes told =
       cursors = tt;
       letters = all_mapped (IsSaid v w.asked w.given) (λ (l : Letter). says s s.me (heard s m) l.body)
           (filter (wants_table t.namespace) s.parked)
-          (all_weaken (λ p. ParkedFits v w.asked (heard s m) p × (wants_table t.namespace p ≡ true))
+          (all_weaken (λ p. (ParkedFits v w.asked (heard s m) p × (p.receiver ≡ at)) × (wants_table t.namespace p ≡ true))
           (λ (l : Letter). IsSaid v w.asked w.given (says s s.me (heard s m) l.body))
           (filter (wants_table t.namespace) s.parked)
           (λ l h. (
-            retried_fits v w.asked s (heard s m) (heard s m) t.namespace l (is.fits.own ∙ is.fits.place) (omega arith) h.0 h.1,
+            retried_fits v w.asked s (heard s m) (heard s m) t.namespace l (h.0.1 ∙ sym is.fits.own) (omega arith) h.0.0 h.1,
             met,
             tells_none v w.asked s.me
                 (heard s m) t.namespace l.body h.1,
           ))
-          (all_filtered (ParkedFits v w.asked (heard s m)) (wants_table t.namespace) s.parked f.parked));
+          (all_filtered (λ p. ParkedFits v w.asked (heard s m) p × (p.receiver ≡ at)) (wants_table t.namespace) s.parked
+          (all_both (ParkedFits v w.asked (heard s m)) (λ (p : Letter). p.receiver ≡ at) (λ p. ParkedFits v w.asked (heard s m) p × (p.receiver ≡ at)) s.parked
+          (λ p fit came. (fit, came)) f.parked f.came)));
     })
 
 -- ALL ROWS
 
-owes_row : (w : World) (book : Book) (at : ℕ) (kept : List Kept) (s t : Shard) (i : Input) (f : Effect) → Stood w book at kept s → InputFits w book i
+owes_row : (w : World) (book : Book) (at : ℕ) (kept : List Kept) (s t : Shard) (i : Input) (f : Effect) → Stood w book at kept s → IsFor s.me i → InputFits w book i
     → ShardRow s i f t
     → Owes w book at (held_shard s kept) f (shard_state t)
-owes_row w book at kept _ _ _ _ is comes (shard_write s m id turn ordered namespace statements sent d dones made last asks fits serves) =
-    writes_all w book at kept s m id (d ∷ dones) made last is (heard_met w book at kept s m is comes.1)
-    (served w book at kept s m.receiver m.time id ordered namespace statements d dones made last is
-    (body_is w book at m (write_ask id turn ordered namespace statements sent) asks comes) (heard s m) (heard_later s m) (omega arith) serves)
-owes_row w book at kept _ _ _ _ is comes (shard_repeat s m id turn ordered namespace statements sent d dones asks other repeated) =
-    tells_again w book at kept s m id ordered namespace statements d dones is comes
+owes_row w book at kept _ _ _ _ is own comes (shard_write s m id turn ordered namespace statements sent d dones made last asks fits serves) =
+    let ask = body_is w book at m (write_ask id turn ordered namespace statements sent) asks comes in
+    let place : IsShardAt at = sym is.fits.own ∙ sym own
+    ∙ first_by (view_of w.nodes book) w.asked m.receiver m.time id ordered namespace statements d dones ask
+    (first_served s.me namespace ordered s.entries (heard s m) statements (d ∷ dones) made last serves) in
+    writes_all w book at kept s m id (d ∷ dones) made last is place (heard_met w book at kept s m is comes.1)
+    (served w book at kept s m.receiver m.time id ordered namespace statements d dones made last is place ask (heard s m) (heard_later s m) (omega arith) serves)
+owes_row w book at kept _ _ _ _ is own comes (shard_repeat s m id turn ordered namespace statements sent d dones asks other repeated) =
+    tells_again w book at kept s m id ordered namespace statements d dones is own comes
     (body_is w book at m (write_ask id turn ordered namespace statements sent) asks comes) repeated
-owes_row w book at kept _ _ _ _ is comes (shard_empty s m id turn ordered namespace sent asks) =
+owes_row w book at kept _ _ _ _ is own comes (shard_empty s m id turn ordered namespace sent asks) =
     heard_back w book at kept s m [] is comes (λ v grows met entries bound. tt)
-owes_row w book at kept _ _ _ _ is comes (shard_park s m a asks new old waits) = parks w book at kept s m a is comes asks
-owes_row w book at kept _ _ _ _ is comes (shard_waits s m a asks new old waits) = heard_back w book at kept s m [] is comes (λ v grows met entries bound. tt)
-owes_row w book at kept _ _ _ _ is comes (shard_stale s m a version asks new old) =
+owes_row w book at kept _ _ _ _ is own comes (shard_park s m a asks new old waits) = parks w book at kept s m a is own comes asks
+owes_row w book at kept _ _ _ _ is own comes (shard_waits s m a asks new old waits) = heard_back w book at kept s m [] is comes (λ v grows met entries bound. tt)
+owes_row w book at kept _ _ _ _ is own comes (shard_stale s m a version asks new old) =
     heard_back w book at kept s m _ is comes (λ v grows met entries bound. ((tt, met, tt), tt))
-owes_row w book at kept _ _ _ _ is comes (shard_read s m id turn namespace moment half sent asks fits covered) =
-    takes_documents w book at kept s m id turn namespace moment half sent is comes asks covered
-owes_row w book at kept _ _ _ _ is comes (shard_read_above s m id turn namespace moment half sent asks fits above) =
-    takes_above w book at kept s m id turn namespace moment half sent is comes asks above
-owes_row w book at kept _ _ _ _ is comes (shard_rows s m id turn namespace moment half documents rows asks makes few) =
+owes_row w book at kept _ _ _ _ is own comes (shard_read s m id turn namespace moment half sent asks fits covered) =
+    takes_documents w book at kept s m id turn namespace moment half sent is own comes asks covered
+owes_row w book at kept _ _ _ _ is own comes (shard_read_above s m id turn namespace moment half sent asks fits above) =
+    takes_above w book at kept s m id turn namespace moment half sent is own comes asks above
+owes_row w book at kept _ _ _ _ is own comes (shard_rows s m id turn namespace moment half documents rows asks makes few) =
     heard_back w book at kept s m _ is comes
-    (λ v grows met entries bound. ((made_of w book at kept s m v id turn namespace moment half documents rows is comes asks grows makes, met, tt), tt))
-owes_row w book at kept _ _ _ _ is comes (shard_excess s m id turn namespace moment half documents rows length n asks makes much told) =
+    (λ v grows met entries bound. ((made_of w book at kept s m v id turn namespace moment half documents rows is own comes asks grows makes, met, tt), tt))
+owes_row w book at kept _ _ _ _ is own comes (shard_excess s m id turn namespace moment half documents rows length n asks makes much told) =
     heard_back w book at kept s m _ is comes
     (λ v grows met entries bound. (
       (
         record {
           rows = rows;
-          made = made_of w book at kept s m v id turn namespace moment half documents rows is comes asks grows makes;
+          made = made_of w book at kept s m v id turn namespace moment half documents rows is own comes asks grows makes;
           length = length;
           excess = much;
           told = told;
@@ -385,35 +405,36 @@ owes_row w book at kept _ _ _ _ is comes (shard_excess s m id turn namespace mom
       ),
       tt,
     ))
-owes_row w book at kept _ _ _ _ is comes (shard_overflow s m id turn namespace moment half documents asks runs) =
+owes_row w book at kept _ _ _ _ is own comes (shard_overflow s m id turn namespace moment half documents asks runs) =
     absurd (never_overflows w book at m id turn namespace moment half documents comes asks runs)
-owes_row w book at kept _ _ _ _ is comes (shard_time s m id asks) =
+owes_row w book at kept _ _ _ _ is own comes (shard_time s m id asks) =
     heard_back w book at kept s m _ is comes
     (λ v grows met entries bound.
     let here : s.entries ≡ entries_in v s.me = sym (subst (λ n. entries_in v n ≡ s.entries) (sym is.fits.own) entries) in (
       (
-        (is.fits.own ∙ is.fits.place, body_is w book at m (time_ask id) asks comes),
+        body_is w book at m (time_ask id) asks comes,
         met,
         subst (λ l. AllByRecursion (λ (e : Entry). e.time ≤ heard s m) l) here (up_to_later s.time (heard s m) s.entries (heard_later s m) is.fits.past),
       ),
       tt,
     ))
-owes_row w book at kept _ _ _ _ is comes (shard_learn s m namespace create moment t told news) = learns w book at kept s m namespace create moment t
+owes_row w book at kept _ _ _ _ is own comes (shard_learn s m namespace create moment t told news) = learns w book at kept s m namespace create moment t
     is comes told
-owes_row w book at kept _ _ _ _ is comes (shard_known s m namespace create moment table told old) =
+owes_row w book at kept _ _ _ _ is own comes (shard_known s m namespace create moment table told old) =
     heard_back w book at kept s m [] is comes (λ v grows met entries bound. tt)
-owes_row w book at kept _ _ _ _ is comes (shard_skip s m none) = at_rest w book at kept s s.time [] is (omega arith) is.met (λ v grows met entries bound. tt)
-owes_row w book at kept _ _ _ _ is comes (shard_moment s moment) =
+owes_row w book at kept _ _ _ _ is own comes (shard_skip s m none) = at_rest w book at kept s s.time [] is (omega arith) is.met (λ v grows met entries bound. tt)
+owes_row w book at kept _ _ _ _ is own comes (shard_moment s moment) =
     at_rest w book at kept s (max s.time (time_of_moment moment)) _ is (omega arith)
     (met_max (view_of w.nodes book) w.given s.time (time_of_moment moment) is.met comes)
     (λ v grows met entries bound. asks_again_fit v w.asked w.given s (max s.time (time_of_moment moment)) s.parked met)
-owes_row w book at kept _ _ _ _ is comes (shard_opened s) = at_rest w book at kept s s.time [] is (omega arith) is.met (λ v grows met entries bound. tt)
-owes_row w book at kept _ _ _ _ is comes (shard_client s link number request) =
+owes_row w book at kept _ _ _ _ is own comes (shard_opened s) = at_rest w book at kept s s.time [] is (omega arith) is.met (λ v grows met entries bound. tt)
+owes_row w book at kept _ _ _ _ is own comes (shard_client s link number request) =
     at_rest w book at kept s s.time [] is (omega arith) is.met (λ v grows met entries bound. tt)
 
 pub shard_owes : (w : World) (book : Book) (at : ℕ) (kept : List Kept) (s t : Shard) (i : Input) (f : Effect) → Good w book
     → slice_get w.nodes at ≡ Some (record { state = shard_state s; kept = kept })
-    → HeldFits (view_of w.nodes book) w.asked w.answered w.given at (record { state = shard_state s; kept = kept }) → InputFits w book i → ShardRow s i f t
+    → HeldFits (view_of w.nodes book) w.asked w.answered w.given at (record { state = shard_state s; kept = kept }) → IsFor s.me i → InputFits w book i
+    → ShardRow s i f t
     → Owes w book at (record { state = shard_state s; kept = kept }) f (shard_state t)
-shard_owes w book at kept s t i f good here fits comes row = owes_row w book at kept s t i f
-    (record { good = good; here = here; fits = fits.state; met = fits.met; within = fits.within }) comes row
+shard_owes w book at kept s t i f good here fits own comes row = owes_row w book at kept s t i f
+    (record { good = good; here = here; fits = fits.state; met = fits.met; within = fits.within }) own comes row

@@ -101,7 +101,7 @@ pub shard_later : (u v : View) (asked : List Asked) (at time : ℕ) (kept : List
     → ShardFits v asked at kept (at_later s time)
 shard_later u v asked at time kept s later le f = record {
   own = f.own;
-  place = f.place;
+  came = f.came;
   entries = f.entries;
   tops = f.tops;
   past = up_to_later s.time time s.entries le f.past;
@@ -177,13 +177,13 @@ wants_by namespace None h = absurd (cc)
 wants_by namespace (Some a) h = (a, refl)
 
 -- what waited fits as it is tried again
-pub retried_fits : (v : View) (asked : List Asked) (s : Shard) (early time : ℕ) (namespace : List ℕ) (m : Letter) → IsShardAt s.me → early ≤ time
+pub retried_fits : (v : View) (asked : List Asked) (s : Shard) (early time : ℕ) (namespace : List ℕ) (m : Letter) → m.receiver ≡ s.me → early ≤ time
     → ParkedFits v asked early m → wants_table namespace m ≡ true → LetterFits v asked (says s s.me time m.body)
 retried_fits v asked s early time namespace m own le p wants =
     let a = wants_by namespace (ask_in m.body) wants in
     let before = p.1 in
     ask_retried v asked m.sender s.me s.me m.time time m.body a.0 a.1 (omega arith)
-    (subst (λ r. BodyFits v asked m.sender r m.time m.body) (p.2 ∙ sym own) p.0)
+    (subst (λ r. BodyFits v asked m.sender r m.time m.body) own p.0)
 
 -- messages that request tables fit at a time that was met
 pub asks_again_fit : (v : View) (asked : List Asked) (given : List Given) (s : Shard) (time : ℕ) (parked : List Letter) → IsMet v given time

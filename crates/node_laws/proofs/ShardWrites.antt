@@ -30,7 +30,7 @@ use Rattle.node_laws.proofs.Growth.{entry_grows, made_later, known_grows, placed
 use Rattle.node_laws.proofs.NotedOutcomes.{HasNoOther, made_no_other, answers_stand}
 use Rattle.node_laws.proofs.ServedStatements.{AreUpTo, Rises, IsEntryOf, up_to_later, serves_rises, serves_legal, serves_numbered, legal_joined, serves_entries, serves_told, serves_last}
 use Rattle.node_laws.proofs.MadeEntries.{drop_statements, parted, few_answers, front_done, IsMadeAt, serves_made}
-use Rattle.node_laws.proofs.RequestParts.{owned_placed, ask_own, request_part, IsBy, parts_longer}
+use Rattle.node_laws.proofs.RequestParts.{owned_by_first, owned_placed, ask_own, request_part, IsBy, parts_longer}
 use Rattle.node_laws.proofs.ShardSteps.{wrote, parked_later, AreToldBy, told_done, begun_owned}
 
 abbrev pub held_shard : Shard → List Kept → Held
@@ -51,8 +51,9 @@ entries_only : (made : List Entry) → entries_kept (map kept_entry made) ≡ ma
 entries_only [] = refl
 entries_only (e ∷ made) = ap (λ l. e ∷ l) (entries_only made)
 
-kept_above : (at time : ℕ) (made : List Entry) → AllByRecursion (IsNewAt at time) made → AllByRecursion (IsAbove at time) (map kept_entry made)
-kept_above at time made all = all_mapped (IsAbove at time) kept_entry made all
+kept_above : (at time : ℕ) (made : List Entry) → IsShardAt at → AllByRecursion (IsNewAt at time) made → AllByRecursion (IsAbove at time) (map kept_entry made)
+kept_above at time made place all = all_mapped (IsAbove at time) kept_entry made
+    (all_weaken (IsNewAt at time) (λ (e : Entry). (e.shard ≡ at) × (time < e.time) × IsShardAt at) made (λ e h. (h.0, h.1, place)) all)
 
 -- what is served of a request that fits
 pub record Served (w : World) (book : Book) (at : ℕ) (s : Shard) (time : ℕ) (id : RequestId) (dones : List Done) (made : List Entry) (last : ℕ) : Type 0 where
@@ -67,9 +68,9 @@ pub record Served (w : World) (book : Book) (at : ℕ) (s : Shard) (time : ℕ) 
   pub told : AreToldBy (view_of w.nodes book) w.asked (s.entries ++ made) last id dones
 
 -- the journal at the shard's place has its entries, which are the history's
-own_entries : (w : World) (book : Book) (at : ℕ) (kept : List Kept) (s : Shard) → Stood w book at kept s
+own_entries : (w : World) (book : Book) (at : ℕ) (kept : List Kept) (s : Shard) → Stood w book at kept s → IsShardAt at
     → history_in (view_of w.nodes book) ≡ s.entries
-own_entries w book at kept s is = sym (shard_entries (view_of w.nodes book) at is.fits.place)
+own_entries w book at kept s is place = sym (shard_entries (view_of w.nodes book) at place)
     ∙ ap (λ k. entries_kept k) (journal_got w.nodes at (held_shard s kept) is.here) ∙ sym is.fits.entries
 
 part_moved : (a : RequestId) (from into : List ℕ) (x y : Bool) (operations : List Operation) (entries : List Entry) → from ≡ into → x ≡ y
@@ -98,6 +99,14 @@ begun_by v asked receiver early time id ordered namespace statements d dones le 
     begun_owned v early time namespace ask.write.namespace receiver s le ask.name
     (subst (λ l. AllByRecursion (IsOwned v early namespace receiver) l) same ask.owned).0
 
+-- and the first shard has the request
+pub first_by : (v : View) (asked : List Asked) (receiver time : ℕ) (id : RequestId) (ordered : Bool) (namespace : List ℕ) (statements : List Statement)
+    (d : Done) (dones : List Done) → IsWriteOf v asked receiver time id ordered namespace statements
+    → (d ∷ dones ≡ []) ⊎ ((s : Statement) × (rest : List Statement) × (statements ≡ s ∷ rest)) → IsShardAt receiver
+first_by v asked receiver time id ordered namespace statements d dones ask (inl none) = absurd (cc)
+first_by v asked receiver time id ordered namespace statements d dones ask (inr (s, rest, same)) =
+    owned_by_first v time namespace receiver s (subst (λ l. AllByRecursion (IsOwned v time namespace receiver) l) same ask.owned).0
+
 -- an entry that was made for a request was so among more entries
 pub longer_made : (old new : List Entry) (asked : List Asked) (e : Entry) → ((d : Entry) → IsIn d old → IsIn d new) → WasMade old asked e → WasMade new asked e
 longer_made old new asked e stays m = subst (λ l. WasMade new l e) (append-nil asked) (entry_grows old new asked [] e stays m)
@@ -109,7 +118,7 @@ last_met w book at v time last made entries place same met (inl e) = subst (λ t
 last_met w book at v time last made entries place same met (inr (e, i, t)) =
     inr (inr (inr (e, entry_of_shard v at e place (subst (λ l. IsIn e l) (sym same) (in_back e entries made i)), omega (arith, t))))
 
-module _ (w : World) (book : Book) (at : ℕ) (kept : List Kept) (s : Shard) (is : Stood w book at kept s)
+module _ (w : World) (book : Book) (at : ℕ) (kept : List Kept) (s : Shard) (is : Stood w book at kept s) (place : IsShardAt at)
     (receiver early now : ℕ) (id : RequestId) (ordered : Bool) (namespace : List ℕ) (statements : List Statement) (dones : List Done) (made : List Entry)
     (last : ℕ) (ask : IsWriteOf (view_of w.nodes book) w.asked receiver early id ordered namespace statements) (later : s.time ≤ now) (reached : early ≤ now)
     (serves : Serves s.me namespace ordered s.entries now statements dones made last) where
@@ -123,7 +132,7 @@ module _ (w : World) (book : Book) (at : ℕ) (kept : List Kept) (s : Shard) (is
   before : AreAnswers s.entries early ask.write Own.id 0 ask.front
   before =
       subst (λ i. AreAnswers s.entries early ask.write i 0 ask.front) (sym ask.own)
-      (subst (λ l. AreAnswers l early ask.write id 0 ask.front) (own_entries w book at kept s is) ask.answered)
+      (subst (λ l. AreAnswers l early ask.write id 0 ask.front) (own_entries w book at kept s is place) ask.answered)
 
   next : drop (length ask.front) (statements_from ask.write.number Own.id 0 ask.write.operations) ≡ statements ++ ask.back
   next = subst (λ i. drop (length ask.front) (statements_from ask.write.number i 0 ask.write.operations) ≡ statements ++ ask.back) (sym ask.own) ask.next
@@ -161,7 +170,7 @@ module _ (w : World) (book : Book) (at : ℕ) (kept : List Kept) (s : Shard) (is
   served_all begun =
       let u : View = view_of w.nodes book in
       let rises = serves_rises s.me namespace ordered s.entries now statements dones made last serves in
-      let first : s.me ≡ first_shard = is.fits.own ∙ is.fits.place in
+      let first : s.me ≡ first_shard = is.fits.own ∙ place in
       let owned : AllByRecursion (IsEntryOf s.me namespace (IsOwned u early namespace receiver)) made =
       serves_entries (IsOwned u early namespace receiver) s.me namespace ordered s.entries now statements dones made last serves ask.owned in
       record {
@@ -199,12 +208,13 @@ module _ (w : World) (book : Book) (at : ℕ) (kept : List Kept) (s : Shard) (is
 
 pub served : (w : World) (book : Book) (at : ℕ) (kept : List Kept) (s : Shard) (receiver time : ℕ) (id : RequestId) (ordered : Bool) (namespace : List ℕ)
     (statements : List Statement) (d : Done) (dones : List Done) (made : List Entry) (last : ℕ)
-    → Stood w book at kept s → IsWriteOf (view_of w.nodes book) w.asked receiver time id ordered namespace statements → (now : ℕ) → s.time ≤ now → time ≤ now
+    → Stood w book at kept s → IsShardAt at → IsWriteOf (view_of w.nodes book) w.asked receiver time id ordered namespace statements → (now : ℕ)
+    → s.time ≤ now → time ≤ now
     → Serves s.me namespace ordered s.entries now statements (d ∷ dones) made last → Served w book at s now id (d ∷ dones) made last
-served w book at kept s receiver time id ordered namespace statements d dones made last is ask now later reached serves =
+served w book at kept s receiver time id ordered namespace statements d dones made last is place ask now later reached serves =
     let rises = serves_rises s.me namespace ordered s.entries now statements (d ∷ dones) made last serves in
     let risen = rises.later in
-    served_all w book at kept s is receiver time now id ordered namespace statements (d ∷ dones) made last ask later reached serves
+    served_all w book at kept s is place receiver time now id ordered namespace statements (d ∷ dones) made last ask later reached serves
     (begun_by (view_of w.nodes book) w.asked receiver time last id ordered namespace statements d dones (omega arith) ask
     (first_served s.me namespace ordered s.entries now statements (d ∷ dones) made last serves))
 
@@ -222,14 +232,14 @@ kept_past last (e ∷ made) all = (all.0, kept_past last made all.1)
 -- where served entries are kept, the shard fits and answers
 pub writes_all : (w : World) (book : Book) (at : ℕ) (kept : List Kept) (s : Shard) (m : Letter) (id : RequestId) (dones : List Done)
     (made : List Entry) (last : ℕ)
-    → Stood w book at kept s → IsMet (view_of w.nodes book) w.given (heard s m) → Served w book at s (heard s m) id dones made last
+    → Stood w book at kept s → IsShardAt at → IsMet (view_of w.nodes book) w.given (heard s m) → Served w book at s (heard s m) id dones made last
     → Owes w book at (held_shard s kept) (record {
       written = map kept_entry made;
       mail = says s id.router last (write_done id dones) ∷ [];
       taken = [];
       replies = [];
     }) (shard_state (record { me = s.me; time = last; tables = s.tables; entries = s.entries ++ made; ceiling = s.ceiling; parked = s.parked }))
-writes_all w book at kept s m id dones made last is met h =
+writes_all w book at kept s m id dones made last is place met h =
     let u : View = view_of w.nodes book in
     let le : s.time ≤ last = let l = h.rises.later in omega arith in
     let tops : max s.ceiling (greatest_entry (s.entries ++ made)) ≡ greatest_kept (kept ++ map kept_entry made) =
@@ -243,16 +253,16 @@ writes_all w book at kept s m id dones made last is met h =
     let longer : entries_kept (kept ++ map kept_entry made) ≡ s.entries ++ made = entries_longer kept (map kept_entry made)
     ∙ ap (λ l. l ++ entries_kept (map kept_entry made)) (sym is.fits.entries) ∙ ap (λ l. s.entries ++ l) (entries_only made) in
     wrote w book at (held_shard s kept) (map kept_entry made) (says s id.router last (write_done id dones) ∷ []) _ is.good tt
-    (kept_above at s.time made (all_both (λ (e : Entry). heard s m < e.time) (λ (e : Entry). e.shard ≡ s.me) (IsNewAt at s.time) made
+    (kept_above at s.time made place (all_both (λ (e : Entry). heard s m < e.time) (λ (e : Entry). e.shard ≡ s.me) (IsNewAt at s.time) made
     (λ e l own. (own ∙ is.fits.own, omega arith)) h.rises.above h.own)) le within
     (λ v grows journal bound.
     let entries : entries_in v at ≡ s.entries ++ made = ap (λ k. entries_kept k) journal ∙ longer in
-    let reached : IsMet v w.given last = last_met w book at v (heard s m) last made s.entries is.fits.place entries
+    let reached : IsMet v w.given last = last_met w book at v (heard s m) last made s.entries place entries
     (met_later u v w.given (heard s m) grows met) h.rises.reached in
     record {
       node = record {
         own = is.fits.own;
-        place = is.fits.place;
+        came = is.fits.came;
         entries = sym longer;
         tops = tops;
         past = h.past;
@@ -262,7 +272,7 @@ writes_all w book at kept s m id dones made last is met h =
             (λ e m. made_later u v w.asked e grows m) is.fits.sent)
             (all_weaken (WasMade (s.entries ++ made) w.asked) (WasMade (history_in v) w.asked) made
             (λ e m. longer_made (s.entries ++ made) (history_in v) w.asked e
-            (λ d i. entry_of_shard v at d is.fits.place (subst (λ l. IsIn d l) (sym entries) i)) m) h.sent);
+            (λ d i. entry_of_shard v at d place (subst (λ l. IsIn d l) (sym entries) i)) m) h.sent);
         numbers = h.numbers;
         placed = all_weaken (IsPlaced (changes_in u)) (IsPlaced (changes_in v)) (s.entries ++ made) (λ e p. placed_grows u v e grows is.fits.still p)
             (all_append (IsPlaced (changes_in u)) s.entries made is.fits.placed h.placed);
@@ -277,7 +287,7 @@ writes_all w book at kept s m id dones made last is met h =
       letters = (
         (
           (
-            is.fits.own ∙ is.fits.place,
+            is.fits.own ∙ place,
             subst (λ n. IsDoneOf v w.asked n last id dones) (sym is.fits.own)
                 (told_done u v w.asked at last id (s.entries ++ made) dones grows entries h.told),
           ),

@@ -7,16 +7,20 @@ use Rattle.base_model.specs.Times.{time_of_moment}
 use Rattle.history_model.specs.History.{IsIn}
 use Rattle.reply_model.specs.Exchanges.{Asked, Answered}
 use Rattle.reply_model.specs.Accounts.{Given}
-use Rattle.node_model.specs.Journal.{Kept, kept_life}
+use Rattle.node_model.specs.Journal.{Kept, kept_life, entries_kept}
 use Rattle.node_model.specs.Letters.{Input, client_input, letter_input, moment_input, opened_input, Taken, Reply, Effect, nothing, writes, both}
-use Rattle.node_model.specs.States.{NodeState, router_state, time_of_node}
-use Rattle.node_model.specs.RouterRows.{begins, router_begin}
+use Rattle.node_model.specs.States.{Router, NodeState, router_state, time_of_node}
+use Rattle.node_model.specs.RouterRows.{begins, RouterRow, router_begin}
 use Rattle.node_model.specs.Steps.{Step, catalogue_step, shard_step, router_step, begin_step, other_step, BeginsBefore}
 use Rattle.node_model.specs.World.{Held, World, asked_by, answered_by, after, moment_in, is_given, tick, Moves, Event, Happens, comes, delivers, passes, begins as was_opened, Run, stands, goes}
 use Rattle.node_laws.proofs.Views.{Book, View, view_of, Later}
 use Rattle.node_laws.proofs.Places.{each_get, each_weaken}
+use Rattle.chunk_model.specs.Tables.{first_shard}
+use Rattle.node_laws.proofs.TimeFacts.{HeardFits}
+use Rattle.node_laws.proofs.HeardTimes.{TellsTime, row_times, still_heard}
+use Rattle.node_laws.proofs.RouterMessages.{time_said}
 use Rattle.node_laws.proofs.Facts.{HeldFits, IsMet, SentFits, Good}
-use Rattle.node_laws.proofs.Owes.{InputFits}
+use Rattle.node_laws.proofs.Owes.{InputFits, StaysHeard}
 use Rattle.node_laws.proofs.Growth.{met_grows, met_later}
 use Rattle.node_laws.proofs.Journals.{with_more, with_news, later_self, views_later}
 use Rattle.node_laws.proofs.Dates.{dated_more}
@@ -38,10 +42,12 @@ given_good w book at i good =
     record {
       order = good.order;
       dated = good.dated;
+      beside = good.beside;
       nodes = each_weaken (HeldFits v w.asked w.answered w.given) (HeldFits v w.asked w.answered (w.given ++ more)) 0 w.nodes
           (λ j h f. record { state = f.state; met = met_grows v v w.given more (time_of_node h.state) (later_self v) f.met; cursors = f.cursors; within = f.within }) good.nodes;
       letters = all_weaken (SentFits v w.changed w.asked w.answered w.given) (SentFits v w.changed w.asked w.answered (w.given ++ more)) w.sent
           (λ m f. (f.0, met_grows v v w.given more m.time (later_self v) f.1, f.2)) good.letters;
+      heard = good.heard;
       answers = good.answers;
       decided = good.decided;
       came = good.came;
@@ -144,6 +150,23 @@ fits_later w book at old f new next (moment_input moment) before later fits =
 fits_later w book at old f new next (letter_input m) before later fits = absurd before
 fits_later w book at old f new next opened_input before later fits = absurd before
 
+-- a step of a router keeps what it heard
+pub router_hears : (w : World) (book : Book) (at : ℕ) (kept : List Kept) (r s : Router) (i : Input) (f : Effect) → Good w book
+    → slice_get w.nodes at ≡ Some (record { state = router_state r; kept = kept }) → InputFits w book i → RouterRow r i f s
+    → StaysHeard w at f (router_state s)
+router_hears w book at kept r s i f good here input row = λ v others.
+    still_heard (view_of w.nodes book) v w.asked w.answered w.now r s i f
+    (let place = (fits_here w book at (record { state = router_state r; kept = kept }) good here).state.place in
+    ap (λ l. entries_kept l) (others first_shard (λ e. omega (arith, e, place))))
+    good.came good.one (input_said i input)
+    (each_get (λ k (x : Held). HeardFits (view_of w.nodes book) w.asked w.answered x.state) 0 at w.nodes _ good.heard here) (row_times r s i f row)
+  where
+    input_said : (j : Input) → InputFits w book j → TellsTime (view_of w.nodes book) w.asked w.answered j
+    input_said (letter_input m) fits = time_said w book m fits
+    input_said (client_input link number request) fits = tt
+    input_said (moment_input moment) fits = tt
+    input_said opened_input fits = tt
+
 -- a world with what is noted of its run
 pub record HasBook (w : World) : Type 0 where
   pub book : Book
@@ -155,19 +178,19 @@ pub step_good : (w : World) (book : Book) (at : ℕ) (kept : List Kept) (s t : N
 step_good w book at kept _ _ _ _ good here input (catalogue_step c d i f own row) =
     record {
       book = _;
-      good = good_after w book at _ f _ good here (inl (fits_here w book at _ good here).state.place)
+      good = good_after w book at _ f _ good here (inl (fits_here w book at _ good here).state.place) (λ v others. tt)
           (catalogue_owes w book at kept c d i f good here (fits_here w book at _ good here) input row);
     }
 step_good w book at kept _ _ _ _ good here input (shard_step s t i f own row) =
     record {
       book = _;
-      good = good_after w book at _ f _ good here (inr (shard_aside s t i f row).stores)
-          (shard_owes w book at kept s t i f good here (fits_here w book at _ good here) input row);
+      good = good_after w book at _ f _ good here (inr (shard_aside s t i f row).stores) (λ v others. tt)
+          (shard_owes w book at kept s t i f good here (fits_here w book at _ good here) own input row);
     }
 step_good w book at kept _ _ _ _ good here input (router_step r q i f own row) =
     record {
       book = _;
-      good = good_after w book at _ f _ good here (inr (router_aside r q i f row))
+      good = good_after w book at _ f _ good here (inr (router_aside r q i f row)) (router_hears w book at kept r q i f good here input row)
           (router_owes w book at kept r q i f good here (fits_here w book at _ good here) input row);
     }
 step_good w book at kept _ _ _ _ good here input (other_step s m other) =
@@ -178,7 +201,8 @@ step_good w book at kept _ _ _ _ good here input (begin_step r q i f nb before r
     let owes = router_owes w book at kept r (begins r) opened_input first good here (fits_here w book at old good here) tt (router_begin r nb) in
     let begun : Book = with_news book owes.news owes.cursors in
     let good_v : Good (after w at old first (router_state (begins r))) (with_news book owes.news owes.cursors) =
-    good_after w book at old first (router_state (begins r)) good here (inr (tt, tt)) owes in
+    good_after w book at old first (router_state (begins r)) good here (inr (tt, tt))
+    (router_hears w book at kept r (begins r) opened_input first good here tt (router_begin r nb)) owes in
     let here_v = get_set w.nodes at old (with_more old first.written (router_state (begins r))) here in
     let later = views_later w.nodes at old first.written (router_state (begins r)) book owes.news owes.cursors here owes.rises
     (fits_here w book at old good here).within in
@@ -189,15 +213,19 @@ step_good w book at kept _ _ _ _ good here input (begin_step r q i f nb before r
     (record {
       book = _;
       good = good_after (after w at old first (router_state (begins r))) begun at (with_more old first.written (router_state (begins r))) f (router_state q)
-          good_v here_v (inr (router_aside (begins r) q i f row)) next;
+          good_v here_v (inr (router_aside (begins r) q i f row))
+          (router_hears (after w at old first (router_state (begins r))) begun at (kept ++ kept_life r.life ∷ []) (begins r) q i f good_v here_v
+          (fits_later w book at old first (router_state (begins r)) begun i before later input) row) next;
     })
 
 pub tick_good : (w : World) (book : Book) → Good w book → Good (tick w) book
 tick_good w book good = record {
   order = good.order;
   dated = good.dated;
+  beside = good.beside;
   nodes = good.nodes;
   letters = good.letters;
+  heard = good.heard;
   answers = good.answers;
   decided = good.decided;
   came = all_weaken (λ (a : Asked). a.came < w.now + 1) (λ (a : Asked). a.came < w.now + 1 + 1) w.asked (λ a l. omega arith) good.came;

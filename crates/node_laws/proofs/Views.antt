@@ -45,11 +45,11 @@ changes_in v = changes_kept (v.journal 0)
 
 -- SHARDS AND THE HISTORY
 
--- the node at this place is a shard: currently it is the first
+-- The node at this place is the first shard. Nothing moves yet, so that only this one has entries.
 abbrev pub IsShardAt : ℕ → Type 0
 IsShardAt at = at ≡ first_shard
 
--- the entries of all shards
+-- the entries of all shards, which are the first shard's
 abbrev pub history_in : View → List Entry
 history_in v = entries_in v first_shard
 
@@ -84,9 +84,9 @@ MovesNothing (create_change c) = Unit {0}
 MovesNothing (split_change s) = Unit {0}
 MovesNothing (commit_change c) = ⊥
 
--- An entry and a change of the catalogue come after a time, and the entry is of the shard at this place.
+-- An entry and a change of the catalogue come after a time, and the entry is of the shard at this place, which is the first.
 abbrev pub IsAbove : (at time : ℕ) → Kept → Type 0
-IsAbove at time (kept_entry e) = (e.shard ≡ at) × (time < e.time)
+IsAbove at time (kept_entry e) = (e.shard ≡ at) × (time < e.time) × IsShardAt at
 IsAbove at time (kept_change x) = (time < time_of x) × MovesNothing x
 IsAbove at time (kept_table t) = Unit {0}
 IsAbove at time (kept_life n) = Unit {0}

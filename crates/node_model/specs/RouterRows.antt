@@ -1,6 +1,6 @@
 -- What a router may do in a step.
-use Rattle.std.specs.Prelude.{◌≡◌, ◌≢◌, ◌<◌, ◌≤◌, ◌⊎◌, ℕ, ℤ, pos, ◌+◌, ◌*◌, max, List, [], ◌∷◌, ◌++◌, length, drop, Bool, true, false, ◌==◌, ◌&&◌, ◌||◌, codes, Option, Some, None, Result, Ok, Err, nat_lt, if◌then◌else◌}
-use Rattle.std.specs.List.{flat_map}
+use Rattle.std.specs.Prelude.{◌≡◌, ◌≢◌, ◌<◌, ◌≤◌, ◌⊎◌, ℕ, zero, suc, ℤ, pos, ◌+◌, ◌*◌, max, List, [], ◌∷◌, ◌++◌, length, drop, map, filter, not, Bool, true, false, ◌==◌, ◌&&◌, ◌||◌, codes, Option, Some, None, Result, Ok, Err, nat_lt, if◌then◌else◌}
+use Rattle.std.specs.List.{flat_map, list_any}
 use Rattle.std.specs.Str.{bytes_eq}
 use Rattle.std.specs.Option.{unwrap_or}
 use Rattle.reply_model.specs.Tree.{Datum, null_value, Fields}
@@ -143,9 +143,22 @@ enough_of (Some t) work = if is_enough t work then Some t else None
 abbrev pub table_for : List Table → (namespace : List ℕ) → Work → Option Table
 table_for tables namespace work = enough_of (table_of namespace tables) work
 
--- requests the time of every shard: currently there is one
-abbrev pub asks_times : Router → ℕ → RequestId → List Letter
-asks_times r time id = says r first_shard time (time_ask id) ∷ []
+-- so many places, from this one on
+abbrev pub places_from : (first count : ℕ) → List ℕ
+places_from first zero = []
+places_from first (suc count) = first ∷ places_from (first + 1) count
+
+-- all shards
+abbrev pub shards_of : Router → List ℕ
+shards_of r = places_from first_shard r.shards
+
+-- the shards of these that have not returned their time
+abbrev pub untold : (told shards : List ℕ) → List ℕ
+untold told shards = filter (λ s. not (list_any (λ t. t == s) told)) shards
+
+-- requests the time of each shard that has not returned it
+abbrev pub asks_times : Router → ℕ → RequestId → (told : List ℕ) → List Letter
+asks_times r time id told = map (λ s. says r s time (time_ask id)) (untold told (shards_of r))
 
 -- it reads at a time that is not reached
 abbrev pub is_ahead : ℕ → Work → Bool
@@ -175,12 +188,12 @@ abbrev pub wait_of : Router → ℕ → (namespace : List ℕ) → Work → Wait
 wait_of r time namespace work = if is_ahead time work then for_time else wait_by (table_for r.tables namespace work)
 
 abbrev pub asks_for : Router → ℕ → (count : ℕ) → (namespace : List ℕ) → Work → List Letter
-asks_for r time count namespace work = if is_ahead time work then asks_times r time (id_of r count) else asks_by r time count namespace work (table_for r.tables namespace work)
+asks_for r time count namespace work = if is_ahead time work then asks_times r time (id_of r count) [] else asks_by r time count namespace work (table_for r.tables namespace work)
 
 -- A REQUEST THAT COMES
 
 abbrev pub opened_request : Router → (link : ℕ) → (number : ℤ) → Request → (namespace : List ℕ) → Work → Open
-opened_request r link number request namespace work = record { count = r.count + 1; link = link; number = number; request = request; namespace = namespace; wait = wait_of r r.time namespace work; work = work }
+opened_request r link number request namespace work = record { count = r.count + 1; link = link; number = number; request = request; namespace = namespace; wait = wait_of r r.time namespace work; told = []; work = work }
 
 abbrev pub taken_now : Router → (link : ℕ) → (number : ℤ) → Request → Taken
 taken_now r link number request = record { id = id_of r (r.count + 1); link = link; number = number; time = r.time; moment = r.moment; request = request }
@@ -203,7 +216,14 @@ is_answered ordered (s ∷ statements) [] = false
 is_answered ordered (s ∷ statements) (d ∷ answers) = if ends ordered d then true else is_answered ordered statements answers
 
 abbrev pub with_work : Open → Wait → Work → Open
-with_work q wait work = record { count = q.count; link = q.link; number = q.number; request = q.request; namespace = q.namespace; wait = wait; work = work }
+with_work q wait work = record { count = q.count; link = q.link; number = q.number; request = q.request; namespace = q.namespace; wait = wait; told = q.told; work = work }
+
+-- the shards that returned their time, with one more
+abbrev pub also_told : (told : List ℕ) → (shard : ℕ) → List ℕ
+also_told told shard = if list_any (λ t. t == shard) told then told else told ++ shard ∷ []
+
+abbrev pub with_told : Open → (shard : ℕ) → Open
+with_told q shard = record { count = q.count; link = q.link; number = q.number; request = q.request; namespace = q.namespace; wait = q.wait; told = also_told q.told shard; work = q.work }
 
 -- an open request proceeds with this work at a time of the router
 abbrev pub going_on : Router → ℕ → Open → Work → Open
@@ -272,14 +292,14 @@ adopted (Some t) tables = with_table t tables
 
 -- the router after a table arrived
 abbrev pub knows : Router → ℕ → List Table → List Open → Router
-knows r time tables requests = record { me = r.me; time = time; life = r.life; begun = r.begun; moment = r.moment; count = r.count; tables = tables; requests = requests; cursors = r.cursors; blocks = r.blocks; gave = r.gave }
+knows r time tables requests = record { me = r.me; shards = r.shards; time = time; life = r.life; begun = r.begun; moment = r.moment; count = r.count; tables = tables; requests = requests; cursors = r.cursors; blocks = r.blocks; gave = r.gave }
 
 -- AT A MOMENT
 
 -- what an open request waits for is requested again
 abbrev pub asks_again : Router → ℕ → Open → List Letter
 asks_again r time q = elim q.wait [
-  | for_time ↦ asks_times r time (id_of r q.count)
+  | for_time ↦ asks_times r time (id_of r q.count) q.told
   | for_catalogue ↦ asks_catalogue r time q.count q.namespace q.work ∷ []
   | for_shards ↦ elim (table_of q.namespace r.tables) [ None ↦ [] | Some t ↦ asks_shards r time q.count q.namespace t q.work ]
 ]
@@ -331,11 +351,11 @@ IsLate r body = ⊥
 
 -- the router in its life
 abbrev pub begins : Router → Router
-begins r = record { me = r.me; time = r.time; life = r.life; begun = true; moment = r.moment; count = 0; tables = r.tables; requests = r.requests; cursors = r.cursors; blocks = r.blocks; gave = r.gave }
+begins r = record { me = r.me; shards = r.shards; time = r.time; life = r.life; begun = true; moment = r.moment; count = 0; tables = r.tables; requests = r.requests; cursors = r.cursors; blocks = r.blocks; gave = r.gave }
 
 -- the router after it took one more request
 abbrev pub takes : Router → List Open → Router
-takes r more = record { me = r.me; time = r.time; life = r.life; begun = r.begun; moment = r.moment; count = r.count + 1; tables = r.tables; requests = r.requests ++ more; cursors = r.cursors; blocks = r.blocks; gave = r.gave }
+takes r more = record { me = r.me; shards = r.shards; time = r.time; life = r.life; begun = r.begun; moment = r.moment; count = r.count + 1; tables = r.tables; requests = r.requests ++ more; cursors = r.cursors; blocks = r.blocks; gave = r.gave }
 
 abbrev pub answers_at_once : Router → (link : ℕ) → (number : ℤ) → Request → Answer → Effect
 answers_at_once r link number request answer = record {
@@ -346,7 +366,7 @@ answers_at_once r link number request answer = record {
 }
 
 abbrev pub with_cursors : List Cursor → Router → Router
-with_cursors cursors r = record { me = r.me; time = r.time; life = r.life; begun = r.begun; moment = r.moment; count = r.count; tables = r.tables; requests = r.requests; cursors = cursors; blocks = r.blocks; gave = r.gave }
+with_cursors cursors r = record { me = r.me; shards = r.shards; time = r.time; life = r.life; begun = r.begun; moment = r.moment; count = r.count; tables = r.tables; requests = r.requests; cursors = cursors; blocks = r.blocks; gave = r.gave }
 
 abbrev pub answers_now : Reply → Effect
 answers_now reply = record { written = []; mail = []; taken = []; replies = reply ∷ [] }
@@ -362,7 +382,7 @@ pub record Opened : Type 0 where
   pub gave : ℕ
 
 abbrev pub opens : Opened → Router → Router
-opens f r = record { me = r.me; time = r.time; life = r.life; begun = r.begun; moment = r.moment; count = r.count; tables = r.tables; requests = r.requests; cursors = f.cursors; blocks = f.blocks; gave = f.gave }
+opens f r = record { me = r.me; shards = r.shards; time = r.time; life = r.life; begun = r.begun; moment = r.moment; count = r.count; tables = r.tables; requests = r.requests; cursors = f.cursors; blocks = f.blocks; gave = f.gave }
 
 abbrev pub as_before : Router → Opened
 as_before r = record { written = []; cursors = r.cursors; blocks = r.blocks; gave = r.gave }
@@ -454,9 +474,15 @@ pub data RouterRow : Router → Input → Effect → Router → Type 0 where
       → open_of r id ≡ Some q → q.work ≡ reading named at stages telling → q.wait ≡ for_time → at ≤ heard r m
       → RouterRow r (letter_input m) (sends (asks_for r (heard r m) q.count q.namespace (reached (heard r m) q.work)))
       (knows r (heard r m) r.tables (replaced (going_on r (heard r m) q (reached (heard r m) q.work)) r.requests))
+  -- a shard returned its time, the time of the read is ahead, and other shards have not returned theirs
+  router_hear : (r : Router) (m : Letter) (id : RequestId) (q : Open) (named : Bool) (at : ℕ) (stages : List Stage) (telling : Telling) → m.body ≡ time_told id
+      → open_of r id ≡ Some q → q.work ≡ reading named at stages telling → q.wait ≡ for_time → heard r m < at
+      → untold (also_told q.told m.sender) (shards_of r) ≢ []
+      → RouterRow r (letter_input m) nothing (knows r (heard r m) r.tables (replaced (with_told q m.sender) r.requests))
   -- every shard returned its time, and the time of the read is ahead
   router_ahead : (r : Router) (m : Letter) (id : RequestId) (q : Open) (named : Bool) (at : ℕ) (stages : List Stage) (telling : Telling) → m.body ≡ time_told id
       → open_of r id ≡ Some q → q.work ≡ reading named at stages telling → q.wait ≡ for_time → heard r m < at
+      → untold (also_told q.told m.sender) (shards_of r) ≡ []
       → RouterRow r (letter_input m) (answers_now (reply_to r (heard r m) q (refusal_answer (time_ahead (heard r m)))))
       (knows r (heard r m) r.tables (without q.count r.requests))
   -- some statements are answered, and the next are requested
@@ -488,4 +514,4 @@ pub data RouterRow : Router → Input → Effect → Router → Type 0 where
   router_skip : (r : Router) (m : Letter) → TellsNothing m.body → RouterRow r (letter_input m) nothing r
   router_moment : (r : Router) (moment : ℕ) → r.begun ≡ true
       → RouterRow r (moment_input moment) (sends (flat_map (λ q. asks_again r (max r.time (time_of_moment moment)) q) r.requests))
-      (record { me = r.me; time = max r.time (time_of_moment moment); life = r.life; begun = r.begun; moment = moment; count = r.count; tables = r.tables; requests = r.requests; cursors = r.cursors; blocks = r.blocks; gave = r.gave })
+      (record { me = r.me; shards = r.shards; time = max r.time (time_of_moment moment); life = r.life; begun = r.begun; moment = moment; count = r.count; tables = r.tables; requests = r.requests; cursors = r.cursors; blocks = r.blocks; gave = r.gave })

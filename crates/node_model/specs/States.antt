@@ -49,7 +49,7 @@ pub data Wait : Type 0 where
   for_catalogue : Wait
   for_shards : Wait
 
--- a request that is not answered yet
+-- a request that is not answered yet; `told`: the shards that returned their time to it, in order
 pub record Open : Type 0 where
   pub count : ℕ
   pub link : ℕ
@@ -57,13 +57,16 @@ pub record Open : Type 0 where
   pub request : Request
   pub namespace : List ℕ
   pub wait : Wait
+  pub told : List ℕ
   pub work : Work
 
 -- `life` is the one that the router is in, or will begin where `begun` is false; `moment` is the last that it was given; `count` counts
 -- the requests that it took in this life; `cursors` are those that it opened in it. Cursors have numbers from 1 on, in blocks of 64: so many
--- `blocks` it has written in all its lives, and the last number that it `gave`: a life begins with the last of the blocks before it.
+-- `blocks` it has written in all its lives, and the last number that it `gave`: a life begins with the last of the blocks before it. There are so many
+-- `shards`, from node 1 on.
 pub record Router : Type 0 where
   pub me : ℕ
+  pub shards : ℕ
   pub time : ℕ
   pub life : ℕ
   pub begun : Bool
@@ -106,5 +109,5 @@ new_catalogue me = record { me = me; time = 0; changes = [] }
 abbrev pub new_shard : ℕ → Shard
 new_shard me = record { me = me; time = 0; tables = []; entries = []; ceiling = 0; parked = [] }
 
-abbrev pub new_router : ℕ → Router
-new_router me = record { me = me; time = 0; life = 1; begun = false; moment = 0; count = 0; tables = []; requests = []; cursors = []; blocks = 0; gave = 0 }
+abbrev pub new_router : (me shards : ℕ) → Router
+new_router me shards = record { me = me; shards = shards; time = 0; life = 1; begun = false; moment = 0; count = 0; tables = []; requests = []; cursors = []; blocks = 0; gave = 0 }

@@ -3,6 +3,7 @@ use Rattle.std.specs.Prelude.{◌≡◌, ℕ, ℤ, zero, suc, ◌+◌, List, [],
 use Rattle.std.specs.List.{slice_get, slice_set}
 use Rattle.chunk_model.specs.Tables.{first_shard}
 use Rattle.history_model.specs.History.{Entry}
+use Rattle.history_laws.specs.Merged.{merged}
 use Rattle.reply_model.specs.Requests.{Request}
 use Rattle.reply_model.specs.Exchanges.{Asked, Answered}
 use Rattle.reply_model.specs.Accounts.{Dated, Given, nothing_stored, Account}
@@ -101,15 +102,23 @@ pub data Run : World → List Event → World → Type 0 where
   stands : (w : World) → Run w [] w
   goes : (u v w : World) (e : Event) (es : List Event) → Happens u e v → Run v es w → Run u (e ∷ es) w
 
--- routers from this number on, shards before them and the catalogue first, with nothing kept
-abbrev pub routers_from : ℕ → ℕ → List Held
-routers_from at zero = []
-routers_from at (suc n) = record { state = router_state (new_router at); kept = [] } ∷ routers_from (at + 1) n
+-- so many shards from this number on, with nothing kept
+abbrev pub shards_from : (at n : ℕ) → List Held
+shards_from at zero = []
+shards_from at (suc n) = record { state = shard_state (new_shard at); kept = [] } ∷ shards_from (at + 1) n
 
--- currently there is one shard, and any number of routers
-abbrev pub start : (routers : ℕ) → World
-start routers = record {
-  nodes = record { state = catalogue_state (new_catalogue 0); kept = [] } ∷ record { state = shard_state (new_shard 1); kept = [] } ∷ routers_from 2 routers;
+-- so many routers from this number on, which know of so many shards, with nothing kept
+abbrev pub routers_from : (at shards n : ℕ) → List Held
+routers_from at shards zero = []
+routers_from at shards (suc n) = record { state = router_state (new_router at shards); kept = [] } ∷ routers_from (at + 1) shards n
+
+-- the catalogue, the first shard, so many others, and then so many routers
+abbrev pub start : (others routers : ℕ) → World
+start others routers = record {
+  nodes =
+      record { state = catalogue_state (new_catalogue 0); kept = [] }
+      ∷ record { state = shard_state (new_shard first_shard); kept = [] }
+      ∷ shards_from (first_shard + 1) others ++ routers_from (first_shard + others + 1) (others + 1) routers;
   sent = [];
   asked = [];
   answered = [];
@@ -128,11 +137,11 @@ journal_at (h ∷ nodes) (suc at) = journal_at nodes at
 abbrev pub entries_at : List Held → ℕ → List Entry
 entries_at nodes at = entries_kept (journal_at nodes at)
 
--- The history: the entries that all shards store. Currently there is one shard, the first, and these are its journal's.
+-- The history: the entries that all journals store, in one order, by time, and at one time by shard.
 abbrev pub history_of : List Held → List Entry
-history_of nodes = entries_at nodes first_shard
+history_of nodes = merged (map (λ (h : Held). entries_kept h.kept) nodes)
 
--- what is judged of a world; currently each journal is empty at the start
+-- what is judged of a world
 abbrev pub account_of : World → Account
 account_of w = record {
   changes = changes_kept (journal_at w.nodes 0);

@@ -9,66 +9,67 @@ use Rattle.node_model.specs.States.{NodeState}
 use Rattle.node_open.specs.Faults.{IfRefused}
 
 -- those that were opened, with the node after them
-opened_next : (first : ℕ) (gone : List (List (List ℕ))) (states : List NodeState) (records : List (List ℕ)) (state : NodeState)
-    → AreOpened first gone states → IsOpened (part_at (first + length gone)) records state
-    → AreOpened first (gone ++ records ∷ []) (states ++ state ∷ [])
-opened_next first [] [] records state before next =
+opened_next : (others first : ℕ) (gone : List (List (List ℕ))) (states : List NodeState) (records : List (List ℕ)) (state : NodeState)
+    → AreOpened others first gone states → IsOpened (part_at others (first + length gone)) records state
+    → AreOpened others first (gone ++ records ∷ []) (states ++ state ∷ [])
+opened_next others first [] [] records state before next =
     let e : first + 0 ≡ first = omega arith in
-    (subst (λ n. IsOpened (part_at n) records state) e next, tt)
-opened_next first [] (s ∷ states) records state before next = absurd before
-opened_next first (r ∷ gone) [] records state before next = absurd before
-opened_next first (r ∷ gone) (s ∷ states) records state before next =
+    (subst (λ n. IsOpened (part_at others n) records state) e next, tt)
+opened_next others first [] (s ∷ states) records state before next = absurd before
+opened_next others first (r ∷ gone) [] records state before next = absurd before
+opened_next others first (r ∷ gone) (s ∷ states) records state before next =
     let e : first + suc (length gone) ≡ first + 1 + length gone = omega arith in
-    (before.0, opened_next (first + 1) gone states records state before.1 (subst (λ n. IsOpened (part_at n) records state) e next))
+    (before.0, opened_next others (first + 1) gone states records state before.1 (subst (λ n. IsOpened (part_at others n) records state) e next))
 
 -- a record that is refused behind some nodes is one of all
-refused_behind : (first : ℕ) (gone left : List (List (List ℕ))) → SomeRefused (first + length gone) left → SomeRefused first (gone ++ left)
-refused_behind first [] left some =
+refused_behind : (others first : ℕ) (gone left : List (List (List ℕ))) → SomeRefused others (first + length gone) left → SomeRefused others first (gone ++ left)
+refused_behind others first [] left some =
     let e : first + 0 ≡ first = omega arith in
-    subst (λ n. SomeRefused n left) e some
-refused_behind first (r ∷ gone) left some =
+    subst (λ n. SomeRefused others n left) e some
+refused_behind others first (r ∷ gone) left some =
     let e : first + suc (length gone) ≡ first + 1 + length gone = omega arith in
-    inr (refused_behind (first + 1) gone left (subst (λ n. SomeRefused n left) e some))
+    inr (refused_behind others (first + 1) gone left (subst (λ n. SomeRefused others n left) e some))
 
 -- the nodes before what is left are opened; `me` is the number of the next one
-pub record OpenedUpTo (all left : List (List (List ℕ))) (me : ℕ) (states : List NodeState) : Type 0 where
+pub record OpenedUpTo (others : ℕ) (all left : List (List (List ℕ))) (me : ℕ) (states : List NodeState) : Type 0 where
   pub gone : List (List (List ℕ))
   pub whole : all ≡ gone ++ left
   pub count : me ≡ length gone
-  pub opened : AreOpened 0 gone states
+  pub opened : AreOpened others 0 gone states
 
-pub up_to_start : (all : List (List (List ℕ))) → OpenedUpTo all all 0 []
-up_to_start all = record { gone = []; whole = refl; count = refl; opened = tt }
+pub up_to_start : (others : ℕ) (all : List (List (List ℕ))) → OpenedUpTo others all all 0 []
+up_to_start others all = record { gone = []; whole = refl; count = refl; opened = tt }
 
-pub up_to_next : (all left : List (List (List ℕ))) (me : ℕ) (states : List NodeState) (records : List (List ℕ)) (state : NodeState)
-    → OpenedUpTo all (records ∷ left) me states → IsOpened (part_at me) records state → OpenedUpTo all left (me + 1) (states ++ state ∷ [])
-up_to_next all left me states records state u is =
+pub up_to_next : (others : ℕ) (all left : List (List (List ℕ))) (me : ℕ) (states : List NodeState) (records : List (List ℕ)) (state : NodeState)
+    → OpenedUpTo others all (records ∷ left) me states → IsOpened (part_at others me) records state → OpenedUpTo others all left (me + 1) (states ++ state ∷ [])
+up_to_next others all left me states records state u is =
     let e : me ≡ 0 + length u.gone = omega (arith, u.count) in
     record {
       gone = u.gone ++ records ∷ [];
       whole = u.whole ∙ sym (append_assoc u.gone (records ∷ []) left);
       count = omega (arith, u.count, length-append u.gone (records ∷ []));
-      opened = opened_next 0 u.gone states records state u.opened (subst (λ n. IsOpened (part_at n) records state) e is);
+      opened = opened_next others 0 u.gone states records state u.opened (subst (λ n. IsOpened (part_at others n) records state) e is);
     }
 
-pub up_to_end : (all left : List (List (List ℕ))) (me : ℕ) (states : List NodeState) → OpenedUpTo all left me states → left ≡ [] → AreOpened 0 all states
-up_to_end all left me states u none =
+pub up_to_end : (others : ℕ) (all left : List (List (List ℕ))) (me : ℕ) (states : List NodeState) → OpenedUpTo others all left me states → left ≡ []
+    → AreOpened others 0 all states
+up_to_end others all left me states u none =
     let e : u.gone ≡ all = sym (append-nil u.gone) ∙ sym (subst (λ l. all ≡ u.gone ++ l) none u.whole) in
-    subst (λ l. AreOpened 0 l states) e u.opened
+    subst (λ l. AreOpened others 0 l states) e u.opened
 
 -- a record of the next node that is refused is one of all
-up_to_refused : (all left : List (List (List ℕ))) (me : ℕ) (states : List NodeState) (records : List (List ℕ)) (index : ℕ)
-    → OpenedUpTo all (records ∷ left) me states → IsRefused (part_at me) records index → SomeRefused 0 all
-up_to_refused all left me states records index u refused =
+up_to_refused : (others : ℕ) (all left : List (List (List ℕ))) (me : ℕ) (states : List NodeState) (records : List (List ℕ)) (index : ℕ)
+    → OpenedUpTo others all (records ∷ left) me states → IsRefused (part_at others me) records index → SomeRefused others 0 all
+up_to_refused others all left me states records index u refused =
     let e : me ≡ 0 + length u.gone = omega (arith, u.count) in
-    let here : SomeRefused (0 + length u.gone) (records ∷ left) = inl (index, subst (λ n. IsRefused (part_at n) records index) e refused) in
-    subst (λ l. SomeRefused 0 l) (sym u.whole) (refused_behind 0 u.gone (records ∷ left) here)
+    let here : SomeRefused others (0 + length u.gone) (records ∷ left) = inl (index, subst (λ n. IsRefused (part_at others n) records index) e refused) in
+    subst (λ l. SomeRefused others 0 l) (sym u.whole) (refused_behind others 0 u.gone (records ∷ left) here)
 
 -- a fault of the next node is one of all
-pub up_to_fault : (all left : List (List (List ℕ))) (me : ℕ) (states : List NodeState) (records : List (List ℕ)) (fault : OpenFault)
-    → OpenedUpTo all (records ∷ left) me states → IsFault (part_at me) records fault → IfRefused fault (SomeRefused 0 all)
-up_to_fault all left me states records (Refused index) u refused = up_to_refused all left me states records index u refused
-up_to_fault all left me states records Memory u refused = tt
+pub up_to_fault : (others : ℕ) (all left : List (List (List ℕ))) (me : ℕ) (states : List NodeState) (records : List (List ℕ)) (fault : OpenFault)
+    → OpenedUpTo others all (records ∷ left) me states → IsFault (part_at others me) records fault → IfRefused fault (SomeRefused others 0 all)
+up_to_fault others all left me states records (Refused index) u refused = up_to_refused others all left me states records index u refused
+up_to_fault others all left me states records Memory u refused = tt
 
 pub none_left : (left : List (List (List ℕ))) → length left ≡ 0 → left ≡ []
 none_left [] e = refl

@@ -45,9 +45,10 @@ shard_opened start empty part bytes records me late time ceiling tables entries 
 }
 
 -- a router before its first step
-abbrev router_at : (me life blocks : ℕ) → NodeState
-router_at me life blocks = router_state (record {
+abbrev router_at : (me shards life blocks : ℕ) → NodeState
+router_at me shards life blocks = router_state (record {
   me = me;
+  shards = shards;
   time = 0;
   life = life;
   begun = false;
@@ -60,16 +61,15 @@ router_at me life blocks = router_state (record {
   gave = 64 * blocks;
 })
 
-pub router_opened : (start empty part : DurableRouter) (bytes records : List (List ℕ)) (me life blocks time : ℕ) (state : NodeState)
+pub router_opened : (start empty part : DurableRouter) (bytes records : List (List ℕ)) (me shards life blocks time : ℕ) (state : NodeState)
     → start ≡ empty → bytes ≡ records → IsReplayed (durable_router start) bytes (durable_router part) time
-    → me ≡ part.me → life ≡ part.life → blocks ≡ part.blocks
-    → state ≡ router_at me life blocks
+    → me ≡ part.me → shards ≡ part.shards → life ≡ part.life → blocks ≡ part.blocks
+    → state ≡ router_at me shards life blocks
     → IsOpened (durable_router empty) records state
-router_opened start empty part bytes records me life blocks time state begins are replayed same_me same_life same_blocks opens =
+router_opened start empty part bytes records me shards life blocks time state begins are replayed same_me same_shards same_life same_blocks opens =
     record {
       d = durable_router part;
       time = time;
       replayed = replayed_of (durable_router start) (durable_router empty) (durable_router part) bytes records time (ap durable_router begins) are replayed;
-      is = opens ∙ ap (λ (n : ℕ). router_at n life blocks) same_me ∙ ap (λ (n : ℕ). router_at part.me n blocks) same_life
-          ∙ ap (λ (n : ℕ). router_at part.me part.life n) same_blocks;
+      is = opens ∙ (λ i. router_at (same_me i) (same_shards i) (same_life i) (same_blocks i));
     }

@@ -61,17 +61,22 @@ pub fn open_shard(alloc: Global, me: NodeId, records: RecordList) -> Result<Shar
     Ok(ShardNode::restored(alloc, me, time, tables, store, ceiling))
 }
 
-/// Returns the router of this number, opened on the records of its journal: with the life that it will begin, and the cursor numbers that are not used, before
-/// its first step. Its time is 0, and it has no table, request or cursor.
+/// Returns the router of this number, in a cluster with this number of shards, opened on the records of its journal: with the life that it will begin, and the
+/// cursor numbers that are not used, before its first step. Its time is 0, and it has no table, request or cursor.
 ///
 /// # Errors
 /// - `Refused` exactly where the record at the index is the first that is no record or may not follow, unless memory runs out.
 /// - `Memory` if memory runs out, and where lives or blocks are exhausted.
-pub fn open_router(alloc: Global, me: NodeId, records: RecordList) -> Result<RouterNode, OpenFault>
-    ensures opened { IfOk result (λ node. IsOpened (durable_router (empty_router me.0)) records (router.state_of node)) }
+pub fn open_router(
+    alloc: Global,
+    me: NodeId,
+    shards: u32,
+    records: RecordList,
+) -> Result<RouterNode, OpenFault>
+    ensures opened { IfOk result (λ node. IsOpened (durable_router (empty_router me.0 shards)) records (router.state_of node)) }
     ensures steps { IfOk result (λ node. node.steps ≡ 0) }
-    ensures fault { IfErr result (λ fault. IsFault (durable_router (empty_router me.0)) records fault) }
+    ensures fault { IfErr result (λ fault. IsFault (durable_router (empty_router me.0 shards)) records fault) }
 {
-    let part = replay(alloc, RouterPart::empty(me), records.as_slice())?;
-    Ok(RouterNode::restored(alloc, part.me(), part.life(), part.blocks()))
+    let part = replay(alloc, RouterPart::empty(me, shards), records.as_slice())?;
+    Ok(RouterNode::restored(alloc, part.me(), part.shards(), part.life(), part.blocks()))
 }

@@ -23,7 +23,7 @@ use Rattle.node_progress.specs.UnderWay.{IsLeft, IsDelivered, IsNotStale}
 use Rattle.node_progress.proofs.Versions.{IsWell}
 use Rattle.node_progress.proofs.Bags.{changes_made, Bag}
 use Rattle.node_progress.proofs.BagRuns.{run_bag}
-use Rattle.node_progress.proofs.Firsts.{first_true, first_rests}
+use Rattle.node_progress.proofs.Firsts.{first_true, first_rests, first_shards}
 use Rattle.node_progress.proofs.Lives.{TakenSince, taken_since}
 use Rattle.node_progress.proofs.Progress.{bag_under_way, all_answered, all_quiet}
 
@@ -73,7 +73,7 @@ pub delivered_runs_are_answered : (first : World) (events : List Event) (w : Wor
     → ((n : ℕ) → n < length w.sent → IsDelivered events n) → AreAnswered first w
 delivered_runs_are_answered first events w is run all =
     let good = first_true first is in
-    let b = run_bag first good (first_rests first is) events w run in
+    let b = run_bag first good (first_rests first is) (first_shards first is) events w run in
     are_answered first (IsLeft events) w b.true_there b.bag (taken_since first good events w run) (λ n below left. let d = all n below in left d.0 d.1)
 
 -- WHAT IS TRUE OF EVERY MESSAGE
@@ -82,13 +82,13 @@ pub none_is_sent_back : (first : World) (events : List Event) (w : World) → Is
     → AllByRecursion (λ (m : Letter). IsNotStale m.body) w.sent
 none_is_sent_back first events w is run =
     all_weaken (IsWell (changes_made w) (length w.nodes)) (λ (m : Letter). IsNotStale m.body) w.sent (λ m x. x.not_stale)
-    (run_bag first (first_true first is) (first_rests first is) events w run).bag.well
+    (run_bag first (first_true first is) (first_rests first is) (first_shards first is) events w run).bag.well
 
 pub messages_go_to_nodes : (first : World) (events : List Event) (w : World) → IsFirst first → Run first events w
     → AllByRecursion (λ (m : Letter). m.receiver < length w.nodes) w.sent
 messages_go_to_nodes first events w is run =
     all_weaken (IsWell (changes_made w) (length w.nodes)) (λ (m : Letter). m.receiver < length w.nodes) w.sent (λ m x. x.to)
-    (run_bag first (first_true first is) (first_rests first is) events w run).bag.well
+    (run_bag first (first_true first is) (first_rests first is) (first_shards first is) events w run).bag.well
 
 -- WHAT COMES LATER
 

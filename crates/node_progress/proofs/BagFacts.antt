@@ -1,7 +1,8 @@
 -- What is known where a message comes to a node.
-use Rattle.std.proofs.Common.{◌≡◌, ℕ, ◌<◌, List, length, sym, ap, subst, ◌∙◌, arith}
+use Rattle.std.proofs.Common.{◌≡◌, ◌≢◌, ℕ, ◌<◌, List, length, sym, ap, subst, ◌∙◌, arith}
 use Rattle.std.specs.Prelude.{Some, Bool}
 use Rattle.std.specs.List.{AllByRecursion, slice_get}
+use Rattle.std.proofs.lemmas.Option.{slice_get_within}
 use Rattle.history_model.specs.History.{IsIn}
 use Rattle.history_model.proofs.Lists.{all_at, all_weaken}
 use Rattle.chunk_model.specs.Tables.{Table}
@@ -10,8 +11,9 @@ use Rattle.reply_model.specs.Exchanges.{Asked}
 use Rattle.command_model.proofs.Taken.{operations_with_keys}
 use Rattle.node_model.specs.Journal.{Kept, changes_kept, greatest_kept}
 use Rattle.node_model.specs.Letters.{At, Body, table_ask, table_told, split_ask, split_done, write_ask, write_done, read_ask, half_ask, read_rows, stale, time_ask, time_told, Letter, Input, letter_input}
-use Rattle.node_model.specs.States.{Catalogue, Shard, Router, Work, writing, reading, sharding, splitting, Open, catalogue_state, shard_state, router_state}
-use Rattle.node_model.specs.World.{World, journal_at}
+use Rattle.node_model.specs.States.{Catalogue, Shard, Router, Work, writing, reading, sharding, splitting, Open, NodeState, catalogue_state, shard_state, router_state}
+use Rattle.node_model.specs.RouterRows.{shards_of}
+use Rattle.node_model.specs.World.{Held, World, journal_at}
 use Rattle.node_model.proofs.Journals.{journal_got}
 use Rattle.node_laws.proofs.Views.{Book, View, view_of, changes_in}
 use Rattle.node_laws.proofs.Facts.{IsKnownTable, BodyFits, WorkFits, IsOpenOf, AreMade, CatalogueFits, ShardFits, RouterFits, SentFits, Good}
@@ -22,6 +24,7 @@ use Rattle.node_progress.proofs.ShardPasses.{FitsThere}
 use Rattle.node_progress.proofs.ShardSends.{request_in}
 use Rattle.node_progress.proofs.RouterWaits.{IsWaiting}
 use Rattle.node_progress.proofs.RouterGoesOn.{IsStated, IsReady}
+use Rattle.node_progress.proofs.Shards.{IsShardIn}
 use Rattle.node_progress.proofs.Bags.{changes_made, OpenGoes, Bag}
 
 -- WHAT IS KNOWN OF AN INPUT
@@ -59,7 +62,7 @@ module _ (w : World) (book : Book) (left : ℕ → Type 0) (good : Good w book) 
       by_body (write_ask i turn ordered namespace statements sent) fits names =
           of_node fits.request fits.taken id (fits.own ∙ cc names)
       by_body (half_ask i turn namespace at half documents) fits names =
-          of_node fits.read.request fits.read.taken id (fits.read.own ∙ cc names)
+          of_node fits.0.read.request fits.0.read.taken id (fits.0.read.own ∙ cc names)
       by_body (time_ask i) fits names = of_node fits.request fits.taken id (fits.own ∙ cc names)
       by_body (read_ask i turn namespace at half sent) fits names = absurd (cc names)
       by_body (table_ask namespace create at) fits names = absurd (cc names)
@@ -81,11 +84,41 @@ module _ (w : World) (book : Book) (left : ℕ → Type 0) (good : Good w book) 
 
   -- a request that comes to the shard fits there
   pub fit_here : (s : Shard) (p : ℕ) (kept : List Kept) (m : Letter) → slice_get w.nodes p ≡ Some (record { state = shard_state s; kept = kept }) → IsIn m w.sent
-      → FitsThere s m
-  fit_here s p kept m here there a asks =
+      → m.receiver ≡ p → FitsThere s m
+  fit_here s p kept m here there to a asks =
       let fits : ShardFits (now w book) w.asked p kept s = (fits_here w book p (record { state = shard_state s; kept = kept }) good here).state in
-      fits_there (now w book) s.time (greatest_kept (journal_at w.nodes 0)) s.tables a made fits.tables
-      ((all_at (IsWell (changes_made w) (length w.nodes)) m w.sent bag.well there).knowing a asks)
+      let well = all_at (IsWell (changes_made w) (length w.nodes)) m w.sent bag.well there in (
+        fits.own ∙ (sym to ∙ well.first a asks),
+        fits_there (now w book) s.time (greatest_kept (journal_at w.nodes 0)) s.tables a made fits.tables (well.knowing a asks),
+      )
+
+  -- a node that is not the catalogue is not node 0
+  pub not_catalogue : (h : Held) (p : ℕ) → slice_get w.nodes p ≡ Some h → ((c : Catalogue) → h.state ≡ catalogue_state c → ⊥) → p ≢ 0
+  not_catalogue h p here other zero_place =
+      let c = bag.shards.first in
+      let both : Some h ≡ Some (record { state = catalogue_state c.0; kept = c.1 }) = sym here ∙ (ap (λ k. slice_get w.nodes k) zero_place ∙ c.2) in
+      let held : h ≡ record { state = catalogue_state c.0; kept = c.1 } = cc both in
+      other c.0 (ap (λ (x : Held). x.state) held)
+
+  -- and one that is not a shard is none
+  pub not_shard_here : (p : ℕ) (s : NodeState) (kept : List Kept) → slice_get w.nodes p ≡ Some (record { state = s; kept = kept })
+      → ((x : Shard) → s ≡ shard_state x → ⊥) → IsShardIn w.nodes p → ⊥
+  not_shard_here p s kept here other is =
+      let both : Some (record { state = s; kept = kept }) ≡ Some (record { state = shard_state is.0; kept = is.1 }) = sym here ∙ is.2 in
+      let held : record { state = s; kept = kept } ≡ record { state = shard_state is.0; kept = is.1 } = cc both in
+      other is.0 (ap (λ (x : Held). x.state) held)
+
+  -- shards that a router knows
+  pub known_shard : (r : Router) (p at : ℕ) (kept : List Kept) → slice_get w.nodes p ≡ Some (record { state = router_state r; kept = kept })
+      → IsIn at (shards_of r) → IsShardIn w.nodes at
+  known_shard r p at kept here among = all_at (IsShardIn w.nodes) at (shards_of r) (bag.shards.known p r kept here).each among
+
+  -- are nodes
+  pub shards_within : (r : Router) (p : ℕ) (kept : List Kept) → slice_get w.nodes p ≡ Some (record { state = router_state r; kept = kept })
+      → AllByRecursion (λ s. s < length w.nodes) (shards_of r)
+  shards_within r p kept here =
+      all_weaken (IsShardIn w.nodes) (λ s. s < length w.nodes) (shards_of r)
+      (λ s is. slice_get_within w.nodes s (record { state = shard_state is.0; kept = is.1 }) is.2) (bag.shards.known p r kept here).each
 
   -- a router may proceed
   router_fits : (r : Router) (p : ℕ) (kept : List Kept) → slice_get w.nodes p ≡ Some (record { state = router_state r; kept = kept })
@@ -109,6 +142,8 @@ module _ (w : World) (book : Book) (left : ℕ → Type 0) (good : Good w book) 
         place = λ m is. (comes m is).0 ∙ sym own;
         not_zero = λ e. omega (arith, own, place, e);
         not_one = λ e. omega (arith, own, place, e);
+        not_shard = λ among. not_shard_here p (router_state r) kept here (λ x is. cc is) (known_shard r p p kept here (subst (λ n. IsIn n (shards_of r)) own among));
+        some = (bag.shards.known p r kept here).some;
         different = fits.different;
         waiting = all_weaken (OpenGoes left w r) IsWaiting r.requests (λ q o. o.waiting) goes;
         stated = all_weaken (IsOpenOf (now w book) w.asked w.answered r) (λ (q : Open). IsStated q.work) r.requests

@@ -1,5 +1,5 @@
--- A step of the catalogue, of the shard and of a router keeps the bag.
-use Rattle.std.proofs.Common.{◌≡◌, ◌≢◌, ◌⊎◌, inl, inr, ℕ, ◌<◌, ◌≤◌, List, ◌++◌, length, refl, sym, ap, subst, ◌∙◌, arith}
+-- A step of the catalogue, of a shard and of a router keeps the bag.
+use Rattle.std.proofs.Common.{◌≡◌, ◌≢◌, ◌⊎◌, inl, inr, ℕ, ◌<◌, ◌≤◌, List, ◌++◌, length, sym, ap, subst, ◌∙◌, arith}
 use Rattle.std.specs.Prelude.{Some, None, false}
 use Rattle.std.specs.List.{AllByRecursion, slice_get, slice_set}
 use Rattle.history_model.specs.History.{IsIn}
@@ -12,14 +12,14 @@ use Rattle.node_model.specs.Letters.{no_time, Letter, Input, letter_input, Taken
 use Rattle.node_model.specs.States.{Catalogue, Shard, Router, catalogue_state, shard_state, router_state}
 use Rattle.node_model.specs.CatalogueRows.{CatalogueRow}
 use Rattle.node_model.specs.ShardRows.{ShardRow}
-use Rattle.node_model.specs.RouterRows.{RouterRow}
+use Rattle.node_model.specs.RouterRows.{places_from, shards_of, RouterRow}
 use Rattle.node_model.specs.World.{World, asked_by, after, is_given, tick}
 use Rattle.node_laws.proofs.Views.{Book}
-use Rattle.node_laws.proofs.Facts.{CatalogueFits, ParkedFits, ShardFits, RouterFits, Good}
+use Rattle.node_laws.proofs.Facts.{CatalogueFits, ShardFits, RouterFits, Good}
 use Rattle.node_laws.proofs.Lists.{all_mapped}
 use Rattle.node_laws.proofs.StepsKeep.{fits_here, get_set}
 use Rattle.node_progress.specs.UnderWay.{Thing, a_table, IsFor}
-use Rattle.node_progress.proofs.Things.{home, brings_to, ask_brings}
+use Rattle.node_progress.proofs.Things.{home, IsTimeAt, brings_to, ask_brings}
 use Rattle.node_progress.proofs.Versions.{IsTableOf, still_there, IsWell}
 use Rattle.node_progress.proofs.CataloguePasses.{IsAmong, catalogue_passes, catalogue_well}
 use Rattle.node_progress.proofs.ShardPasses.{FitsThere, shard_passes, shard_holds}
@@ -29,10 +29,11 @@ use Rattle.node_progress.proofs.RouterWaits.{WaitsAfter}
 use Rattle.node_progress.proofs.RouterGoesOn.{IsReady, router_waits}
 use Rattle.node_progress.proofs.RouterSends.{router_well}
 use Rattle.node_progress.proofs.Takings.{catalogue_takes_none, shard_takes_none, IsInLife, stays_in_life}
+use Rattle.node_progress.proofs.Shards.{IsShardIn}
 use Rattle.node_progress.proofs.Bags.{changes_made, IsHeldFor, OpenGoes, ParkedGoes, Bag, WasFor, Clears}
 use Rattle.node_progress.proofs.BagSteps.{Carries, parked_after, open_after}
-use Rattle.node_progress.proofs.BagFacts.{IsHere, now, told_had, named_request, known_to, fit_here}
-use Rattle.node_progress.proofs.BagMoves.{NoShardTable, within, from_node, others, nothing_taken, together}
+use Rattle.node_progress.proofs.BagFacts.{IsHere, now, told_had, named_request, known_to, fit_here, not_catalogue, not_shard_here, shards_within}
+use Rattle.node_progress.proofs.BagMoves.{IsElsewhere, within, from_node, others, nothing_taken, together}
 
 -- THE CATALOGUE
 
@@ -41,7 +42,7 @@ pub catalogue_keeps : (left later : ℕ → Type 0) (w : World) (book : Book) (p
     → ((n : ℕ) → length w.sent ≤ n → later n) → IsHere w p i → CatalogueRow c i f d
     → Bag later (tick (after (is_given w p i) p (record { state = catalogue_state c; kept = kept }) f (catalogue_state d)))
 catalogue_keeps left later w book p i kept c d f good bag here clears fresh comes row =
-    together left later w book p i kept (catalogue_state c) f (catalogue_state d) good bag here clears fresh comes
+    together left later w book p i kept (catalogue_state c) f (catalogue_state d) good bag here clears fresh comes tt
     (catalogue_well (changes_made w) (length w.nodes) c d i f (subst (λ n. n < length w.nodes) (sym fits.own) inside) from row)
     tt
     (others left later w book p i kept (catalogue_state c) f (catalogue_state d) good bag here clears fresh comes carries tables)
@@ -59,40 +60,53 @@ catalogue_keeps left later w book p i kept c d f good bag here clears fresh come
     changes : c.changes ≡ changes_made w
     changes = known_to w book left good bag c p kept here
 
-    passes : (t : Thing) → home t ≢ 0 → ((node : ℕ) (namespace : List ℕ) → t ≡ a_table node namespace false no_time
+    passes : (t : Thing) → home t ≢ 0 → ((at : ℕ) → IsTimeAt t at → IsShardIn w.nodes at) → ((node : ℕ) (namespace : List ℕ) → t ≡ a_table node namespace false no_time
         → known_table namespace (changes_made w) ≡ None → ⊥) → WasFor i t → IsAmong f.mail t
-    passes t away known was =
-        catalogue_passes c was.letter f d t ((comes was.letter was.is).0 ∙ fits.place) away
+    passes t away times known was =
+        let to = (comes was.letter was.is).0 in
+        catalogue_passes c was.letter f d t (to ∙ fits.place) away
+        (λ time. not_shard_here w book left good bag p (catalogue_state c) kept here (λ x e. cc e)
+        (subst (λ n. IsShardIn w.nodes n) to (times was.letter.receiver time)))
         (λ node namespace e none. known node namespace e (ap (λ l. known_table namespace l) (sym changes) ∙ none)) was.brings
         (subst (λ x. CatalogueRow c x f d) was.is row)
 
-    carries : (t : Thing) → first_shard < home t → home t ≢ p → NoShardTable t
-        → Carries left later w p i kept (catalogue_state c) f (catalogue_state d) bag here clears fresh t
-    carries t above other none = record {
-      passes = λ was. inl (passes t (λ e. omega (arith, above, e)) (λ node namespace e missing. none node namespace e) was);
-      holds = λ s is x there brings. absurd (cc is);
+    carries : (t : Thing) → IsElsewhere w.nodes p t → Carries left later w p i kept (catalogue_state c) f (catalogue_state d) bag here clears fresh t
+    carries t x = record {
+      passes = λ was. inl (passes t (let above = x.above in λ e. omega (arith, above, e)) x.times (λ node namespace e missing. x.none node namespace e) was);
+      holds = λ s is l there brings. absurd (cc is);
     }
 
-    tables : p ≢ first_shard → (s : Shard) (x : Letter) (g : ParkedGoes left w s x) → WasFor i (a_table first_shard g.ask.namespace false no_time)
+    tables : p ≢ first_shard → (j : ℕ) (s : Shard) (x : Letter) (g : ParkedGoes left w j s x) → WasFor i (a_table first_shard g.ask.namespace false no_time)
         → IsAmong f.mail (a_table first_shard g.ask.namespace false no_time)
-    tables other s x g was =
+    tables other j s x g was =
         let k = g.well.knowing g.ask g.asks in
-        passes (a_table first_shard g.ask.namespace false no_time) (λ e. cc e)
+        passes (a_table first_shard g.ask.namespace false no_time) (λ e. cc e) (λ at time. let e = time.1 in absurd (cc e))
         (λ node namespace e missing.
         let name : g.ask.namespace ≡ namespace = cc e in
         still_there (changes_made w) k.table k.had (ap (λ n. known_table n (changes_made w)) (k.name ∙ name) ∙ missing)) was
 
--- THE SHARD
+-- A SHARD
 
 module _ (left later : ℕ → Type 0) (w : World) (book : Book) (p : ℕ) (i : Input) (kept : List Kept) (s u : Shard) (f : Effect)
     (good : Good w book) (bag : Bag left w) (here : slice_get w.nodes p ≡ Some (record { state = shard_state s; kept = kept }))
     (clears : Clears left later w.sent i) (fresh : (n : ℕ) → length w.sent ≤ n → later n) (comes : IsHere w p i) (row : ShardRow s i f u)
-    (goes : AllByRecursion (ParkedGoes left w s) s.parked) where
+    (goes : AllByRecursion (ParkedGoes left w p s) s.parked) where
   shard_fits : ShardFits (now w book) w.asked p kept s
   shard_fits = (fits_here w book p (record { state = shard_state s; kept = kept }) good here).state
 
-  is_first : s.me ≡ first_shard
-  is_first = shard_fits.own ∙ shard_fits.place
+  own_place : s.me ≡ p
+  own_place = shard_fits.own
+
+  not_zero : p ≢ 0
+  not_zero = not_catalogue w book left good bag (record { state = shard_state s; kept = kept }) p here (λ c is. cc is)
+
+  fit_there : (m : Letter) → i ≡ letter_input m → FitsThere s m
+  fit_there m is = fit_here w book left good bag s p kept m here (comes m is).1 (comes m is).0
+
+  -- what is parked was sent to the first shard, which this is
+  parked_first : AllByRecursion (λ (x : Letter). x.receiver ≡ first_shard) s.parked
+  parked_first =
+      all_weaken (ParkedGoes left w p s) (λ (x : Letter). x.receiver ≡ first_shard) s.parked (λ x g. g.well.first g.ask g.asks) goes
 
   waits_at : (t : Thing) (x : Letter) → IsIn x u.parked → IsFor t x
       → IsHeldFor (slice_set w.nodes p (record { state = shard_state u; kept = kept ++ f.written })) t
@@ -106,13 +120,10 @@ module _ (left later : ℕ → Type 0) (w : World) (book : Book) (p : ℕ) (i : 
     brings = brings;
   }
 
-  shard_carries : (t : Thing) → first_shard < home t → home t ≢ p → NoShardTable t
-      → Carries left later w p i kept (shard_state s) f (shard_state u) bag here clears fresh t
-  shard_carries t above other none = record {
-    passes = λ was. by_case (shard_passes s was.letter f u t ((comes was.letter was.is).0 ∙ shard_fits.place) is_first (λ e. omega (arith, above, e))
-        (fit_here w book left good bag s p kept was.letter here (comes was.letter was.is).1)
-        (all_weaken (ParkedFits (now w book) w.asked s.time) (λ (x : Letter). x.receiver ≡ first_shard) s.parked (λ x h. h.2) shard_fits.parked)
-        was.brings (subst (λ x. ShardRow s x f u) was.is row));
+  shard_carries : (t : Thing) → IsElsewhere w.nodes p t → Carries left later w p i kept (shard_state s) f (shard_state u) bag here clears fresh t
+  shard_carries t e = record {
+    passes = λ was. by_case (shard_passes s was.letter f u t ((comes was.letter was.is).0 ∙ sym own_place) (λ z. not_zero (sym own_place ∙ z))
+        (λ h. e.away (h ∙ own_place)) (fit_there was.letter was.is) parked_first was.brings (subst (λ x. ShardRow s x f u) was.is row));
     holds = λ o is x there brings. by_parked x (subst (λ l. IsIn x l) (ap (λ (y : Shard). y.parked) (sym (same_shard o is))) there) brings;
   }
     where
@@ -127,56 +138,74 @@ module _ (left later : ℕ → Type 0) (w : World) (book : Book) (p : ℕ) (i : 
       by_parked : (x : Letter) → IsIn x s.parked → IsFor t x
           → IsAmong f.mail t ⊎ IsHeldFor (slice_set w.nodes p (record { state = shard_state u; kept = kept ++ f.written })) t
       by_parked x there brings =
-          let g = all_at (ParkedGoes left w s) x s.parked goes there in
+          let g = all_at (ParkedGoes left w p s) x s.parked goes there in
           let thing = ask_brings t x.sender x.receiver x.body g.ask g.asks brings in
-          by_held (shard_holds s i f u x g.ask is_first there g.asks row) thing
+          by_held (shard_holds s i f u x g.ask (own_place ∙ g.first) there g.asks row) thing
         where
           by_held : {y : Thing} → IsIn x u.parked ⊎ IsAmong f.mail y → t ≡ y
               → IsAmong f.mail t ⊎ IsHeldFor (slice_set w.nodes p (record { state = shard_state u; kept = kept ++ f.written })) t
           by_held (inl stays) same = inr (waits_at t x stays brings)
           by_held (inr among) same = inl (subst (λ y. IsAmong f.mail y) (sym same) among)
 
+  -- no table for the first shard comes to another
+  no_table : p ≢ first_shard → (namespace : List ℕ) → WasFor i (a_table first_shard namespace false no_time) → ⊥
+  no_table other namespace was =
+      let t : Thing = a_table first_shard namespace false no_time in
+      by_place (sym (comes was.letter was.is).0) (brings_to t was.letter.sender was.letter.receiver was.letter.body was.brings)
+    where
+      by_place : {n : ℕ} → p ≡ n → (n ≡ 0) ⊎ ((n ≡ first_shard) ⊎ ((n ≡ first_shard) ⊎ IsTimeAt (a_table first_shard namespace false no_time) n)) → ⊥
+      by_place place (inl zero_place) = not_zero (place ∙ zero_place)
+      by_place place (inr (inl one_place)) = other (place ∙ one_place)
+      by_place place (inr (inr (inl home_place))) = other (place ∙ home_place)
+      by_place place (inr (inr (inr time))) = let e = time.1 in cc e
+
   pub shard_keeps : Bag later (tick (after (is_given w p i) p (record { state = shard_state s; kept = kept }) f (shard_state u)))
   shard_keeps =
-      together left later w book p i kept (shard_state s) f (shard_state u) good bag here clears fresh comes
-      (shard_well (changes_made w) (length w.nodes) s i f u (subst (λ n. n < length w.nodes) (sym shard_fits.own) inside) (omega (arith, inside, shard_fits.place))
-      is_first (λ m is id names. named_request w book left good bag m (comes m is).1 id names) fit_there
-      (all_weaken (ParkedGoes left w s) (IsWell (changes_made w) (length w.nodes)) s.parked (λ x g. g.well) goes) row)
-      (parked_after left later w p i kept (shard_state s) f (shard_state u) bag here clears fresh s u refl is_first goes (λ x is. (comes x is).1)
-      (shard_parked s i f u is_first (λ m is. (comes m is).0 ∙ shard_fits.place)
+      together left later w book p i kept (shard_state s) f (shard_state u) good bag here clears fresh comes tt
+      (shard_well (changes_made w) (length w.nodes) s i f u (subst (λ n. n < length w.nodes) (sym own_place) inside) (omega (arith, inside))
+      (λ m is id names. named_request w book left good bag m (comes m is).1 id names) fit_there
+      (all_weaken (ParkedGoes left w p s) (λ (x : Letter). IsWell (changes_made w) (length w.nodes) x × (s.me ≡ first_shard)) s.parked
+      (λ x g. (g.well, own_place ∙ g.first)) goes) row)
+      (parked_after left later w p i kept (shard_state s) f (shard_state u) bag here clears fresh s u own_place goes (λ x is. (comes x is).1)
+      (shard_parked s i f u (λ m is e. not_zero (sym (comes m is).0 ∙ e))
       (λ m is namespace create at t says. (told_had w book left good bag m (comes m is).1 namespace create at t says).1) fit_there row))
       (others left later w book p i kept (shard_state s) f (shard_state u) good bag here clears fresh comes shard_carries
-      (λ other. absurd (other shard_fits.place)))
+      (λ other j o x g was. absurd (no_table other g.ask.namespace was)))
       (nothing_taken left later w book p i kept (shard_state s) f (shard_state u) good bag here clears fresh comes (shard_takes_none s u i f row))
     where
       inside : p < length w.nodes
       inside = within left later w book p i kept (shard_state s) f (shard_state u) good bag here clears fresh comes
-
-      fit_there : (m : Letter) → i ≡ letter_input m → FitsThere s m
-      fit_there m is = fit_here w book left good bag s p kept m here (comes m is).1
 
 -- A ROUTER
 
 pub router_keeps : (left later : ℕ → Type 0) (w : World) (book : Book) (p : ℕ) (i : Input) (kept : List Kept) (o r u : Router) (f : Effect)
     → Good w book → Bag left w → slice_get w.nodes p ≡ Some (record { state = router_state o; kept = kept }) → Clears left later w.sent i
     → ((n : ℕ) → length w.sent ≤ n → later n) → IsHere w p i → RouterRow r i f u → IsReady r i → AllByRecursion (OpenGoes left w r) r.requests
-    → AllByRecursion (IsTableOf (changes_made w)) r.tables → r.me ≡ o.me
+    → AllByRecursion (IsTableOf (changes_made w)) r.tables → r.me ≡ o.me → r.shards ≡ o.shards
     → (g : Effect) → g.mail ≡ f.mail → g.taken ≡ f.taken
     → Bag later (tick (after (is_given w p i) p (record { state = router_state o; kept = kept }) g (router_state u)))
-router_keeps left later w book p i kept o r u f good bag here clears fresh comes row ready goes tables me g mail taken =
+router_keeps left later w book p i kept o r u f good bag here clears fresh comes row ready goes tables me shards g mail taken =
     together left later w book p i kept (router_state o) g (router_state u) good bag here clears fresh comes
+    (lives.shards ∙ shards)
     (subst (λ l. AllByRecursion (IsWell (changes_made w) (length w.nodes)) l) (sym mail)
     (router_well (changes_made w) (length w.nodes) r i f u (subst (λ n. n < length w.nodes) (sym own) inside)
-    (omega (arith, inside, fits.place)) ready tables
+    (omega (arith, inside, place)) known ready tables
     (λ m is namespace create at t says. (told_had w book left good bag m (comes m is).1 namespace create at t says).0) row))
     (open_after left later w p i kept (router_state o) g (router_state u) bag here clears fresh r u (λ s is. cc is) goes
     (subst (λ l. AllByRecursion (WaitsAfter r u i l) u.requests) (sym mail) (router_waits r i f u ready row)))
     (others left later w book p i kept (router_state o) g (router_state u) good bag here clears fresh comes carries
-    (λ other s x x_goes was. absurd (away (a_table first_shard x_goes.ask.namespace false no_time) (λ e. omega (arith, e, fits.place)) was)))
+    (λ other j s x x_goes was. absurd (away (a_table first_shard x_goes.ask.namespace false no_time) (λ e. omega (arith, e, place))
+    (λ at time. let e = time.1 in absurd (cc e)) was)))
     (subst (λ l. AllByRecursion (λ (a : Asked). a.id.router < length w.nodes) (asked_by w.now l)) (sym taken) of_router)
   where
     fits : RouterFits (now w book) w.asked w.answered p o
     fits = (fits_here w book p (record { state = router_state o; kept = kept }) good here).state
+
+    place : first_shard < p
+    place = fits.place
+
+    known : AllByRecursion (λ s. s < length w.nodes) (shards_of r)
+    known = subst (λ n. AllByRecursion (λ s. s < length w.nodes) (places_from first_shard n)) (sym shards) (shards_within w book left good bag o p kept here)
 
     own : r.me ≡ p
     own = me ∙ fits.own
@@ -188,19 +217,19 @@ router_keeps left later w book p i kept o r u f good bag here clears fresh comes
     inside = within left later w book p i kept (router_state o) g (router_state u) good bag here clears fresh comes
 
     -- a message that comes is for no other node
-    away : (t : Thing) → home t ≢ p → WasFor i t → ⊥
-    away t other was =
-        let place : was.letter.receiver ≡ p = (comes was.letter was.is).0 in
-        by_place place (brings_to t was.letter.sender was.letter.receiver was.letter.body was.brings)
+    away : (t : Thing) → home t ≢ p → ((at : ℕ) → IsTimeAt t at → IsShardIn w.nodes at) → WasFor i t → ⊥
+    away t other times was =
+        by_place (comes was.letter was.is).0 (brings_to t was.letter.sender was.letter.receiver was.letter.body was.brings)
       where
-        by_place : {n : ℕ} → n ≡ p → (n ≡ 0) ⊎ ((n ≡ first_shard) ⊎ (n ≡ home t)) → ⊥
-        by_place place (inl zero_place) = omega (arith, place, zero_place, fits.place)
-        by_place place (inr (inl one_place)) = omega (arith, place, one_place, fits.place)
-        by_place place (inr (inr home_place)) = other (sym home_place ∙ place)
+        by_place : {n : ℕ} → n ≡ p → (n ≡ 0) ⊎ ((n ≡ first_shard) ⊎ ((n ≡ home t) ⊎ IsTimeAt t n)) → ⊥
+        by_place to (inl zero_place) = omega (arith, to, zero_place, place)
+        by_place to (inr (inl one_place)) = omega (arith, to, one_place, place)
+        by_place to (inr (inr (inl home_place))) = other (sym home_place ∙ to)
+        by_place {n = n} to (inr (inr (inr time))) =
+            not_shard_here w book left good bag p (router_state o) kept here (λ x e. cc e) (subst (λ k. IsShardIn w.nodes k) to (times n time))
 
-    carries : (t : Thing) → first_shard < home t → home t ≢ p → NoShardTable t
-        → Carries left later w p i kept (router_state o) g (router_state u) bag here clears fresh t
-    carries t above other none = record { passes = λ was. absurd (away t other was); holds = λ s is x there brings. absurd (cc is) }
+    carries : (t : Thing) → IsElsewhere w.nodes p t → Carries left later w p i kept (router_state o) g (router_state u) bag here clears fresh t
+    carries t e = record { passes = λ was. absurd (away t e.away e.times was); holds = λ s is x there brings. absurd (cc is) }
 
     of_router : AllByRecursion (λ (a : Asked). a.id.router < length w.nodes) (asked_by w.now f.taken)
     of_router =

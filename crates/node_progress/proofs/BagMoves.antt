@@ -1,29 +1,40 @@
 -- Each step of each node keeps the bag.
 use Rattle.std.proofs.Common.{◌≡◌, ◌≢◌, ℕ, ◌<◌, ◌≤◌, List, [], length, sym, subst, ◌∙◌, arith}
-use Rattle.std.specs.Prelude.{Some, false}
-use Rattle.std.specs.List.{AllByRecursion, slice_get}
+use Rattle.std.specs.Prelude.{Some, false, ◌==◌, not}
+use Rattle.std.specs.List.{AllByRecursion, slice_get, list_any}
 use Rattle.std.proofs.lemmas.Option.{slice_get_within}
 use Rattle.history_model.proofs.Lists.{all_at, all_weaken}
+use Rattle.history_model.specs.History.{IsIn}
 use Rattle.chunk_model.specs.Tables.{first_shard}
 use Rattle.reply_model.specs.Exchanges.{Asked}
 use Rattle.node_model.specs.Journal.{Kept}
 use Rattle.node_model.specs.Letters.{no_time, Letter, Input, letter_input, Effect}
-use Rattle.node_model.specs.States.{Shard, Router, NodeState, catalogue_state, shard_state, router_state}
+use Rattle.node_model.specs.States.{Shard, Router, Open, NodeState, catalogue_state, shard_state, router_state}
+use Rattle.node_model.specs.RouterRows.{id_of, shards_of, untold}
 use Rattle.node_model.specs.World.{Held, World, asked_by, after, is_given, tick}
 use Rattle.node_laws.proofs.Views.{Book}
 use Rattle.node_laws.proofs.Facts.{RouterFits, StateFits, HeldFits, Good}
-use Rattle.node_progress.specs.UnderWay.{Thing, a_table, thing_of}
-use Rattle.node_progress.proofs.Things.{home, home_of}
-use Rattle.node_progress.proofs.Lateness.{wants_other}
+use Rattle.node_progress.specs.UnderWay.{Thing, a_table, things_of}
+use Rattle.node_progress.proofs.Members.{in_filtered}
+use Rattle.node_progress.proofs.Things.{Awaits, awaits, home, home_of, IsTimeAt}
+use Rattle.node_progress.proofs.Lateness.{wants_other, wants_time}
 use Rattle.node_progress.proofs.Versions.{IsWell}
 use Rattle.node_progress.proofs.CataloguePasses.{IsAmong}
+use Rattle.node_progress.proofs.Shards.{IsShardIn, IsSameNode}
 use Rattle.node_progress.proofs.Bags.{changes_made, OpenGoes, ParkedGoes, NodeGoes, Bag, WasFor, Clears}
 use Rattle.node_progress.proofs.BagSteps.{Carries, still_well, open_moves, parked_moves, bag_after}
-use Rattle.node_progress.proofs.BagFacts.{IsHere, now}
+use Rattle.node_progress.proofs.BagFacts.{IsHere, now, known_shard}
 
 -- no table that a shard wants
 abbrev pub NoShardTable : Thing → Type 0
 NoShardTable t = (node : ℕ) (namespace : List ℕ) → t ≡ a_table node namespace false no_time → ⊥
+
+-- it is waited for at a router elsewhere; a time is that of a shard
+pub record IsElsewhere (nodes : List Held) (p : ℕ) (t : Thing) : Type 0 where
+  pub above : first_shard < home t
+  pub away : home t ≢ p
+  pub none : NoShardTable t
+  pub times : (at : ℕ) → IsTimeAt t at → IsShardIn nodes at
 
 module _ (left later : ℕ → Type 0) (w : World) (book : Book) (p : ℕ) (i : Input) (kept : List Kept) (old : NodeState) (f : Effect) (new : NodeState)
     (good : Good w book) (bag : Bag left w) (here : slice_get w.nodes p ≡ Some (record { state = old; kept = kept })) (clears : Clears left later w.sent i)
@@ -42,29 +53,44 @@ module _ (left later : ℕ → Type 0) (w : World) (book : Book) (p : ℕ) (i : 
 
   -- WHAT OTHER NODES HAVE
 
-  other_open : ((t : Thing) → first_shard < home t → home t ≢ p → NoShardTable t → CarriesHere t) → (j : ℕ) (r : Router) → j ≢ p
-      → RouterFits (now w book) w.asked w.answered j r → AllByRecursion (OpenGoes left w r) r.requests → AllByRecursion (OpenGoes later v r) r.requests
-  other_open carries j r other fits all =
+  elsewhere : (j : ℕ) (r : Router) (more : List Kept) (q : Open) (t : Thing) → slice_get w.nodes j ≡ Some (record { state = router_state r; kept = more })
+      → j ≢ p → RouterFits (now w book) w.asked w.answered j r → IsIn t (things_of r q) → IsElsewhere w.nodes p t
+  elsewhere j r more q t there other fits one =
       let own = fits.own in
       let place = fits.place in
-      all_weaken (OpenGoes left w r) (OpenGoes later v r) r.requests (λ q o.
-      let home_is = home_of r q in
-      open_moves left later w p i kept old f new bag here clears fresh r q
-      (carries (thing_of r q) (omega (arith, own, place, home_is)) (λ e. other (sym own ∙ (sym home_is ∙ e)))
-      (λ node namespace e. wants_other _ r.me q.namespace q.work q.wait node namespace e)) o) all
+      let home_is = home_of r q t one in
+      record {
+        above = omega (arith, own, place, home_is);
+        away = λ e. other (sym own ∙ (sym home_is ∙ e));
+        none = λ node namespace e. wants_other (id_of r q.count) r.me (untold q.told (shards_of r)) q.namespace q.work q.wait node namespace
+            (subst (λ x. Awaits r q x) e (awaits r q t one));
+        times = λ at time.
+            let among = wants_time (id_of r q.count) r.me (untold q.told (shards_of r)) q.namespace q.work q.wait time.0 at
+            (subst (λ x. Awaits r q x) time.1 (awaits r q t one)) in
+            known_shard w book left good bag r j at more there (in_filtered (λ s. not (list_any (λ x. x == s) q.told)) at (shards_of r) among).0;
+      }
 
-  pub others : ((t : Thing) → first_shard < home t → home t ≢ p → NoShardTable t → CarriesHere t)
-      → (p ≢ first_shard → (s : Shard) (x : Letter) (g : ParkedGoes left w s x) → WasFor i (a_table first_shard g.ask.namespace false no_time)
+  other_open : ((t : Thing) → IsElsewhere w.nodes p t → CarriesHere t) → (j : ℕ) (r : Router) (more : List Kept)
+      → slice_get w.nodes j ≡ Some (record { state = router_state r; kept = more }) → j ≢ p
+      → RouterFits (now w book) w.asked w.answered j r → AllByRecursion (OpenGoes left w r) r.requests → AllByRecursion (OpenGoes later v r) r.requests
+  other_open carries j r more there other fits all =
+      all_weaken (OpenGoes left w r) (OpenGoes later v r) r.requests (λ q o.
+      open_moves left later w p i kept old f new bag here clears fresh r q (λ t one. carries t (elsewhere j r more q t there other fits one)) o) all
+
+  pub others : ((t : Thing) → IsElsewhere w.nodes p t → CarriesHere t)
+      → (p ≢ first_shard → (j : ℕ) (s : Shard) (x : Letter) (g : ParkedGoes left w j s x) → WasFor i (a_table first_shard g.ask.namespace false no_time)
       → IsAmong f.mail (a_table first_shard g.ask.namespace false no_time))
-      → (j : ℕ) (h : Held) → j ≢ p → HeldFits (now w book) w.asked w.answered w.given j h → NodeGoes left w h.state → NodeGoes later v h.state
-  others carries tables j h other fits goes = by_state h.state fits.state goes
+      → (j : ℕ) (h : Held) → slice_get w.nodes j ≡ Some h → j ≢ p → HeldFits (now w book) w.asked w.answered w.given j h → NodeGoes left w j h.state
+      → NodeGoes later v j h.state
+  others carries tables j h there other fits goes = by_state h.state there fits.state goes
     where
-      by_state : (s : NodeState) → StateFits (now w book) w.asked w.answered j h.kept s → NodeGoes left w s → NodeGoes later v s
-      by_state (catalogue_state c) own goes = tt
-      by_state (shard_state s) own goes =
-          all_weaken (ParkedGoes left w s) (ParkedGoes later v s) s.parked
-          (λ x g. parked_moves left later w p i kept old f new bag here clears fresh s x g (tables (λ e. other (own.place ∙ sym e)) s x g)) goes
-      by_state (router_state r) own goes = other_open carries j r other own goes
+      by_state : (s : NodeState) → slice_get w.nodes j ≡ Some (record { state = s; kept = h.kept }) → StateFits (now w book) w.asked w.answered j h.kept s
+          → NodeGoes left w j s → NodeGoes later v j s
+      by_state (catalogue_state c) there own goes = tt
+      by_state (shard_state s) there own goes =
+          all_weaken (ParkedGoes left w j s) (ParkedGoes later v j s) s.parked
+          (λ x g. parked_moves left later w p i kept old f new bag here clears fresh j s x g (tables (λ e. other (g.first ∙ sym e)) j s x g)) goes
+      by_state (router_state r) there own goes = other_open carries j r h.kept there other own goes
 
   -- where the bag is that of a step that takes nothing
   pub nothing_taken : f.taken ≡ [] → AllByRecursion (λ (a : Asked). a.id.router < length w.nodes) (asked_by w.now f.taken)
@@ -77,8 +103,9 @@ module _ (left later : ℕ → Type 0) (w : World) (book : Book) (p : ℕ) (i : 
 
   -- THE PARTS TOGETHER
 
-  pub together : AllByRecursion (IsWell (changes_made w) (length w.nodes)) f.mail → NodeGoes later v new
-      → ((j : ℕ) (h : Held) → j ≢ p → HeldFits (now w book) w.asked w.answered w.given j h → NodeGoes left w h.state → NodeGoes later v h.state)
+  pub together : IsSameNode old new → AllByRecursion (IsWell (changes_made w) (length w.nodes)) f.mail → NodeGoes later v p new
+      → ((j : ℕ) (h : Held) → slice_get w.nodes j ≡ Some h → j ≢ p → HeldFits (now w book) w.asked w.answered w.given j h → NodeGoes left w j h.state
+      → NodeGoes later v j h.state)
       → AllByRecursion (λ (a : Asked). a.id.router < length w.nodes) (asked_by w.now f.taken) → Bag later v
-  together well node other taken =
-      bag_after left later w p i kept old f new bag here clears fresh (now w book) w.answered good.nodes (well_there well) node other taken
+  together same well node other taken =
+      bag_after left later w p i kept old f new bag here clears fresh (now w book) w.answered same good.nodes (well_there well) node other taken

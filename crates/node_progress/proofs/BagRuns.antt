@@ -18,9 +18,11 @@ use Rattle.node_laws.proofs.StepsKeep.{StaysTrue, fits_here, got_is_in, happens_
 use Rattle.node_progress.specs.Completion.{IsQuiet}
 use Rattle.node_progress.specs.Firsts.{IsAtRest}
 use Rattle.node_progress.specs.UnderWay.{IsLeft}
+use Rattle.node_progress.proofs.Places.{same_place}
+use Rattle.node_progress.proofs.Shards.{AreShards}
 use Rattle.node_progress.proofs.RouterGoesOn.{IsReady}
 use Rattle.node_progress.proofs.Versions.{IsWell}
-use Rattle.node_progress.proofs.Bags.{changes_made, OpenGoes, ParkedGoes, NodeGoes, Bag, Clears, same_place}
+use Rattle.node_progress.proofs.Bags.{changes_made, OpenGoes, ParkedGoes, NodeGoes, Bag, Clears}
 use Rattle.node_progress.proofs.BagFacts.{IsHere, now, ready_here, tables_here}
 use Rattle.node_progress.proofs.BagKinds.{catalogue_keeps, shard_keeps, router_keeps}
 
@@ -32,6 +34,8 @@ ready_begins r i x = record {
   place = x.place;
   not_zero = x.not_zero;
   not_one = x.not_one;
+  not_shard = x.not_shard;
+  some = x.some;
   different = x.different;
   waiting = x.waiting;
   stated = x.stated;
@@ -46,7 +50,7 @@ state_place w book p kept (router_state r) fits = fits.own
 
 step_bag : (left later : ℕ → Type 0) (w : World) (book : Book) (p : ℕ) (i : Input) (kept : List Kept) (old : NodeState) (f : Effect) (new : NodeState)
     → Good w book → Bag left w → slice_get w.nodes p ≡ Some (record { state = old; kept = kept }) → Clears left later w.sent i
-    → ((n : ℕ) → length w.sent ≤ n → later n) → IsHere w p i → NodeGoes left w old → Step old i f new
+    → ((n : ℕ) → length w.sent ≤ n → later n) → IsHere w p i → NodeGoes left w p old → Step old i f new
     → Bag later (tick (after (is_given w p i) p (record { state = old; kept = kept }) f new))
 step_bag left later w book p _ kept _ _ _ good bag here clears fresh arrives node (catalogue_step c d i f own row) =
     catalogue_keeps left later w book p i kept c d f good bag here clears fresh arrives row
@@ -54,12 +58,12 @@ step_bag left later w book p _ kept _ _ _ good bag here clears fresh arrives nod
     shard_keeps left later w book p i kept s u f good bag here clears fresh arrives row node
 step_bag left later w book p _ kept _ _ _ good bag here clears fresh arrives node (router_step r u i f own row) =
     router_keeps left later w book p i kept r r u f good bag here clears fresh arrives row (ready_here w book left good bag r p kept i here arrives node) node
-    (tables_here w book left good bag r p kept here) refl f refl refl
+    (tables_here w book left good bag r p kept here) refl refl f refl refl
 step_bag left later w book p _ kept _ _ _ good bag here clears fresh arrives node (begin_step r u i f early before row) =
     router_keeps left later w book p i kept r (begins r) u f good bag here clears fresh arrives row
     (ready_begins r i (ready_here w book left good bag r p kept i here arrives node))
-    (all_weaken (OpenGoes left w r) (OpenGoes left w (begins r)) r.requests (λ q o. record { waiting = o.waiting; carried = o.carried }) node)
-    (tables_here w book left good bag r p kept here) refl (both (writes (kept_life r.life ∷ []) []) f) refl refl
+    (all_weaken (OpenGoes left w r) (OpenGoes left w (begins r)) r.requests (λ q o. record { waiting = o.waiting; some = o.some; carried = o.carried }) node)
+    (tables_here w book left good bag r p kept here) refl refl (both (writes (kept_life r.life ∷ []) []) f) refl refl
 step_bag left later w book p _ kept _ _ _ good bag here clears fresh arrives node (other_step s m other) =
     absurd (other ((arrives m refl).0
     ∙ sym (state_place w book p kept s (fits_here w book p (record { state = s; kept = kept }) good here).state)))
@@ -77,7 +81,8 @@ move_bag : (left later : ℕ → Type 0) (w v : World) (book : Book) (p : ℕ) (
     → ((n : ℕ) → length w.sent ≤ n → later n) → IsHere w p i → Moves w p i v → Bag later v
 move_bag left later w v book p i good bag clears fresh arrives m =
     let from_zero : 0 + p ≡ p = omega arith in
-    let node = each_get (λ j (h : Held). NodeGoes left w h.state) 0 p w.nodes m.old bag.nodes m.here in
+    let node = subst (λ k. NodeGoes left w k m.old.state) from_zero
+    (each_get (λ j (h : Held). NodeGoes left w j h.state) 0 p w.nodes m.old bag.nodes m.here) in
     subst (λ x. Bag later x) (sym m.then)
     (step_bag left later w book p i m.old.kept m.old.state m.f m.new good bag m.here clears fresh arrives node m.step)
 
@@ -104,20 +109,21 @@ event_bag left later _ _ book _ good bag leaves fresh (was_opened w v at m) =
 -- THE FIRST WORLD
 
 -- where no request is open and none is parked, nothing is under way
-quiet_goes : (left : ℕ → Type 0) (w : World) (s : NodeState) → IsQuiet s → NodeGoes left w s
-quiet_goes left w (catalogue_state c) quiet = tt
-quiet_goes left w (shard_state s) quiet = subst (λ l. AllByRecursion (ParkedGoes left w s) l) (sym quiet) tt
-quiet_goes left w (router_state r) quiet = subst (λ l. AllByRecursion (OpenGoes left w r) l) (sym quiet) tt
+quiet_goes : (left : ℕ → Type 0) (w : World) (at : ℕ) (s : NodeState) → IsQuiet s → NodeGoes left w at s
+quiet_goes left w at (catalogue_state c) quiet = tt
+quiet_goes left w at (shard_state s) quiet = subst (λ l. AllByRecursion (ParkedGoes left w at s) l) (sym quiet) tt
+quiet_goes left w at (router_state r) quiet = subst (λ l. AllByRecursion (OpenGoes left w r) l) (sym quiet) tt
 
 all_go : (left : ℕ → Type 0) (w : World) (at : ℕ) (nodes : List Held) → AllByRecursion (λ (h : Held). IsQuiet h.state) nodes
-    → EachAt (λ j (h : Held). NodeGoes left w h.state) at nodes
+    → EachAt (λ j (h : Held). NodeGoes left w j h.state) at nodes
 all_go left w at [] quiet = tt
-all_go left w at (h ∷ nodes) quiet = (quiet_goes left w h.state quiet.0, all_go left w (at + 1) nodes quiet.1)
+all_go left w at (h ∷ nodes) quiet = (quiet_goes left w at h.state quiet.0, all_go left w (at + 1) nodes quiet.1)
 
-pub first_bag : (left : ℕ → Type 0) (w : World) → IsAtRest w → ((n : ℕ) → left n) → Bag left w
-first_bag left w rest all = record {
+pub first_bag : (left : ℕ → Type 0) (w : World) → IsAtRest w → AreShards w.nodes → ((n : ℕ) → left n) → Bag left w
+first_bag left w rest shards all = record {
   fresh = λ n le. all n;
   well = subst (λ l. AllByRecursion (IsWell (changes_made w) (length w.nodes)) l) (sym rest.none_sent) tt;
+  shards = shards;
   nodes = all_go left w 0 w.nodes rest.quiet;
   asked = rest.placed;
 }
@@ -245,10 +251,10 @@ run_more before _ _ _ b (stands w) = subst (λ l. BagOf l w) (sym (append-nil be
 run_more before _ _ _ b (goes u v w e es h run) =
     subst (λ l. BagOf l w) (append_assoc before (e ∷ []) es) (run_more (before ++ e ∷ []) v es w (event_more before u v e b h) run)
 
-pub run_bag : (first : World) → StaysTrue first → IsAtRest first → (events : List Event) (w : World) → Run first events w → BagOf events w
-run_bag first good rest events w run =
+pub run_bag : (first : World) → StaysTrue first → IsAtRest first → AreShards first.nodes → (events : List Event) (w : World) → Run first events w → BagOf events w
+run_bag first good rest shards events w run =
     run_more [] first events w (record {
       true_there = good;
-      bag = first_bag (IsLeft []) first rest (λ n at i. in_none (deliver_event at n) i);
+      bag = first_bag (IsLeft []) first rest shards (λ n at i. in_none (deliver_event at n) i);
       within = λ at n i. absurd (in_none (deliver_event at n) i);
     }) run

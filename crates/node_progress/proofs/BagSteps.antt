@@ -1,28 +1,36 @@
 -- A step of a node keeps the bag.
-use Rattle.std.proofs.Common.{◌≡◌, ◌≢◌, ◌⊎◌, inl, inr, ℕ, ◌+◌, ◌<◌, ◌≤◌, List, [], ◌∷◌, ◌++◌, length, sym, ap, subst, ◌∙◌, arith, length-append}
+use Rattle.std.proofs.Common.{◌≡◌, ◌≢◌, ◌⊎◌, inl, inr, ℕ, ◌+◌, ◌<◌, ◌≤◌, List, [], ◌∷◌, ◌++◌, length, refl, sym, ap, subst, ◌∙◌, arith, length-append}
 use Rattle.std.specs.Prelude.{Some, false}
 use Rattle.std.specs.List.{AllByRecursion, slice_get}
 use Rattle.history_model.specs.History.{IsIn}
-use Rattle.history_model.proofs.Lists.{all_at, all_weaken, all_append}
+use Rattle.history_model.proofs.Lists.{all_at, all_weaken, all_append, all_from}
 use Rattle.chunk_model.specs.Tables.{first_shard}
 use Rattle.reply_model.specs.Exchanges.{Asked, Answered}
 use Rattle.node_model.specs.Journal.{Kept}
 use Rattle.node_model.specs.Letters.{no_time, Letter, Input, letter_input, Effect}
-use Rattle.node_model.specs.States.{Shard, Router, Open, NodeState, shard_state}
+use Rattle.node_model.specs.States.{Shard, Router, Wait, Work, Open, NodeState, shard_state}
 use Rattle.node_model.specs.World.{Held, World, asked_by, after, is_given, tick}
 use Rattle.node_laws.proofs.Views.{View}
+use Rattle.node_laws.proofs.Lists.{all_within}
 use Rattle.node_laws.proofs.Places.{EachAt, each_set}
 use Rattle.node_laws.proofs.Facts.{HeldFits}
-use Rattle.node_progress.specs.UnderWay.{Thing, a_table, thing_of, IsFor, IsSent}
+use Rattle.node_progress.specs.UnderWay.{Thing, a_table, things_of, IsFor, IsSent}
+use Rattle.node_progress.proofs.Places.{get_other, length_set, same_place, each_there}
+use Rattle.node_progress.proofs.Shards.{IsSameNode, shards_stay}
 use Rattle.node_progress.proofs.Versions.{IsWell, well_later}
 use Rattle.node_progress.proofs.CataloguePasses.{IsAmong}
 use Rattle.node_progress.proofs.ShardParks.{IsParkedAfter}
+use Rattle.node_progress.proofs.Lateness.{WaitFits}
+use Rattle.node_progress.proofs.Sends.{IsGoing}
 use Rattle.node_progress.proofs.RouterWaits.{WaitsAfter}
-use Rattle.node_progress.proofs.Bags.{changes_made, IsHeldFor, IsCarried, OpenGoes, ParkedGoes, NodeGoes, Bag, get_other, length_set, same_place, WasFor, Clears, sent_moves, sent_anew, MoreMade, changes_more}
+use Rattle.node_progress.proofs.Bags.{changes_made, IsHeldFor, IsCarried, OpenGoes, ParkedGoes, NodeGoes, Bag, WasFor, Clears, sent_moves, sent_anew, MoreMade, changes_more}
 
 each_both : (P Q : ℕ → Held → Type 0) (i : ℕ) (xs : List Held) → EachAt P i xs → EachAt Q i xs → EachAt (λ j h. P j h × Q j h) i xs
 each_both P Q i [] p q = tt
 each_both P Q i (x ∷ xs) p q = ((p.0, q.0), each_both P Q (i + 1) xs p.1 q.1)
+
+still_fits : (work before : Work) (wait was : Wait) → work ≡ before → wait ≡ was → WaitFits before was → WaitFits work wait
+still_fits work before wait was same one fits = subst (λ x. WaitFits x wait) (sym same) (subst (λ x. WaitFits before x) (sym one) fits)
 
 module _ (left later : ℕ → Type 0) (w : World) (p : ℕ) (i : Input) (kept : List Kept) (old : NodeState) (f : Effect) (new : NodeState)
     (bag : Bag left w) (here : slice_get w.nodes p ≡ Some (record { state = old; kept = kept })) (clears : Clears left later w.sent i)
@@ -79,53 +87,59 @@ module _ (left later : ℕ → Type 0) (w : World) (p : ℕ) (i : Input) (kept :
         brings = h.brings;
       })
 
-  pub open_moves : (r : Router) (q : Open) → Carries (thing_of r q) → OpenGoes left w r q → OpenGoes later next_world r q
-  open_moves r q c o = record { waiting = o.waiting; carried = carried_moves (thing_of r q) c o.carried }
+  pub open_moves : (r : Router) (q : Open) → ((t : Thing) → IsIn t (things_of r q) → Carries t) → OpenGoes left w r q → OpenGoes later next_world r q
+  open_moves r q c o = record {
+    waiting = o.waiting;
+    some = o.some;
+    carried = all_within (IsCarried left w) (IsCarried later next_world) (things_of r q) (λ t there was. carried_moves t (c t there) was) o.carried;
+  }
 
   -- the table of a parked request
-  table_moves : (s : Shard) (x : Letter) → (g : ParkedGoes left w s x)
+  table_moves : (at : ℕ) (s : Shard) (x : Letter) → (g : ParkedGoes left w at s x)
       → (WasFor i (a_table first_shard g.ask.namespace false no_time) → IsAmong f.mail (a_table first_shard g.ask.namespace false no_time))
       → IsSent later (w.sent ++ f.mail) (a_table first_shard g.ask.namespace false no_time)
-  table_moves s x g passes = by_place (sent_moves left later w.sent f.mail i (a_table first_shard g.ask.namespace false no_time) clears g.table)
+  table_moves at s x g passes = by_place (sent_moves left later w.sent f.mail i (a_table first_shard g.ask.namespace false no_time) clears g.table)
     where
       by_place : IsSent later (w.sent ++ f.mail) (a_table first_shard g.ask.namespace false no_time) ⊎ WasFor i (a_table first_shard g.ask.namespace false no_time)
           → IsSent later (w.sent ++ f.mail) (a_table first_shard g.ask.namespace false no_time)
       by_place (inl still) = still
       by_place (inr was) = sent_anew left later w.sent f.mail i (a_table first_shard g.ask.namespace false no_time) fresh (passes was)
 
-  pub parked_moves : (s : Shard) (x : Letter) → (g : ParkedGoes left w s x)
+  pub parked_moves : (at : ℕ) (s : Shard) (x : Letter) → (g : ParkedGoes left w at s x)
       → (WasFor i (a_table first_shard g.ask.namespace false no_time) → IsAmong f.mail (a_table first_shard g.ask.namespace false no_time))
-      → ParkedGoes later next_world s x
-  parked_moves s x g passes =
-      record { ask = g.ask; asks = g.asks; none = g.none; well = still_well x g.well; table = table_moves s x g passes }
+      → ParkedGoes later next_world at s x
+  parked_moves at s x g passes =
+      record { first = g.first; ask = g.ask; asks = g.asks; none = g.none; well = still_well x g.well; table = table_moves at s x g passes }
 
   -- THE NODE ITSELF
 
   -- a shard's parked requests after its step
-  pub parked_after : (s u : Shard) → old ≡ shard_state s → s.me ≡ first_shard → AllByRecursion (ParkedGoes left w s) s.parked
+  pub parked_after : (s u : Shard) → s.me ≡ p → AllByRecursion (ParkedGoes left w p s) s.parked
       → ((x : Letter) → i ≡ letter_input x → IsIn x w.sent)
-      → AllByRecursion (IsParkedAfter s u i f.mail) u.parked → AllByRecursion (ParkedGoes later next_world u) u.parked
-  parked_after s u is me before came all =
-      all_weaken (IsParkedAfter s u i f.mail) (ParkedGoes later next_world u) u.parked (λ x a. by_case x a) all
+      → AllByRecursion (IsParkedAfter s u i f.mail) u.parked → AllByRecursion (ParkedGoes later next_world p u) u.parked
+  parked_after s u me before came all =
+      all_weaken (IsParkedAfter s u i f.mail) (ParkedGoes later next_world p u) u.parked (λ x a. by_case x a) all
     where
-      by_case : (x : Letter) → IsParkedAfter s u i f.mail x → ParkedGoes later next_world u x
+      by_case : (x : Letter) → IsParkedAfter s u i f.mail x → ParkedGoes later next_world p u x
       by_case x (inl still) =
-          let g = all_at (ParkedGoes left w s) x s.parked before still.there in
+          let g = all_at (ParkedGoes left w p s) x s.parked before still.there in
           record {
+            first = g.first;
             ask = g.ask;
             asks = g.asks;
             none = still.still g.ask g.asks g.none;
             well = still_well x g.well;
-            table = table_moves s x g (λ was. absurd (still.not_come g.ask g.asks g.none was.letter was.is
-                (subst (λ n. IsFor (a_table n g.ask.namespace false no_time) was.letter) (sym me) was.brings)));
+            table = table_moves p s x g (λ was. absurd (still.not_come g.ask g.asks g.none was.letter was.is
+                (subst (λ n. IsFor (a_table n g.ask.namespace false no_time) was.letter) (sym (me ∙ g.first)) was.brings)));
           }
       by_case x (inr begins) = record {
+        first = sym me ∙ begins.first;
         ask = begins.ask;
         asks = begins.asks;
         none = begins.none;
         well = still_well x (all_at (IsWell (changes_made w) (length w.nodes)) x w.sent bag.well (came x begins.came));
         table = sent_anew left later w.sent f.mail i (a_table first_shard begins.ask.namespace false no_time) fresh
-            (subst (λ n. IsAmong f.mail (a_table n begins.ask.namespace false no_time)) me begins.sent);
+            (subst (λ n. IsAmong f.mail (a_table n begins.ask.namespace false no_time)) begins.first begins.sent);
       }
 
   -- a router's open requests after its step
@@ -135,18 +149,24 @@ module _ (left later : ℕ → Type 0) (w : World) (p : ℕ) (i : Input) (kept :
     where
       by_case : (q : Open) → WaitsAfter r u i f.mail q → OpenGoes later next_world u q
       by_case q (inl still) =
-          let o = all_at (OpenGoes left w r) q r.requests before still.there in
+          let o = all_at (OpenGoes left w r) still.before r.requests before still.there in
           record {
-            waiting = o.waiting;
-            carried = subst (λ t. IsCarried later next_world t) (sym still.same)
-                (carried_moves (thing_of r q) (record {
-                  passes = λ was. absurd (still.not_come was.letter was.is was.brings);
+            waiting = record {
+              going = subst (λ x. IsGoing x) (sym still.work) o.waiting.going;
+              fits = still_fits q.work still.before.work q.wait still.before.wait still.work still.wait o.waiting.fits;
+            };
+            some = still.some o.some;
+            carried = all_from (IsCarried later next_world) (things_of u q) (λ t one.
+                carried_moves t (record {
+                  passes = λ was. absurd (still.not_come t one was.letter was.is was.brings);
                   holds = λ s is x there brings. absurd (no_shard s is);
-                }) o.carried);
+                }) (all_at (IsCarried left w) t (things_of r still.before) o.carried (still.among t one)));
           }
       by_case q (inr anew) = record {
         waiting = record { going = anew.going; fits = anew.fits };
-        carried = inl (sent_anew left later w.sent f.mail i (thing_of u q) fresh anew.sent);
+        some = anew.sent.some;
+        carried = all_weaken (IsAmong f.mail) (IsCarried later next_world) (things_of u q)
+            (λ t among. inl (sent_anew left later w.sent f.mail i t fresh among)) anew.sent.each;
       }
 
   -- THE WORLD
@@ -156,26 +176,33 @@ module _ (left later : ℕ → Type 0) (w : World) (p : ℕ) (i : Input) (kept :
   asked_stays a inside = subst (λ n. a.id.router < n) (sym (length_set w.nodes p stepped)) inside
 
   -- the bag, where its parts are known
-  pub bag_after : (v : View) (answered : List Answered) → EachAt (HeldFits v w.asked answered w.given) 0 w.nodes
+  pub bag_after : (v : View) (answered : List Answered) → IsSameNode old new → EachAt (HeldFits v w.asked answered w.given) 0 w.nodes
       → AllByRecursion (IsWell (changes_made next_world) (length next_world.nodes)) f.mail
-      → NodeGoes later next_world new
-      → ((j : ℕ) (h : Held) → j ≢ p → HeldFits v w.asked answered w.given j h → NodeGoes left w h.state → NodeGoes later next_world h.state)
+      → NodeGoes later next_world p new
+      → ((j : ℕ) (h : Held) → slice_get w.nodes j ≡ Some h → j ≢ p → HeldFits v w.asked answered w.given j h → NodeGoes left w j h.state
+      → NodeGoes later next_world j h.state)
       → AllByRecursion (λ (a : Asked). a.id.router < length w.nodes) (asked_by w.now f.taken)
       → Bag later next_world
-  bag_after v answered fit well node others taken = record {
+  bag_after v answered same fit well node others taken = record {
     fresh = λ n le. let l = length-append w.sent f.mail in fresh n (omega (arith, le, l));
     well = all_append (IsWell (changes_made next_world) (length next_world.nodes)) w.sent f.mail
         (all_weaken (IsWell (changes_made w) (length w.nodes)) (IsWell (changes_made next_world) (length next_world.nodes)) w.sent (λ m x. still_well m x) bag.well)
         well;
+    shards = shards_stay w.nodes p (record { state = old; kept = kept }) stepped here same bag.shards;
     nodes =
-        each_set (λ j (h : Held). HeldFits v w.asked answered w.given j h × NodeGoes left w h.state) (λ j (h : Held). NodeGoes later next_world h.state) 0 p
-        w.nodes stepped (λ j h other x. others j h (λ e. other (e ∙ from_zero)) x.0 x.1) node
-        (each_both (HeldFits v w.asked answered w.given) (λ j (h : Held). NodeGoes left w h.state) 0 w.nodes fit bag.nodes);
+        each_set Before (λ j (h : Held). NodeGoes later next_world j h.state) 0 p w.nodes stepped
+        (λ j h other x. others j h x.0 (λ e. other (e ∙ from_zero)) x.1.0 x.1.1) (subst (λ k. NodeGoes later next_world k new) from_zero node)
+        (each_both (λ j (h : Held). slice_get w.nodes j ≡ Some h) (λ j h. HeldFits v w.asked answered w.given j h × NodeGoes left w j h.state) 0 w.nodes
+        (each_there [] w.nodes 0 refl)
+        (each_both (HeldFits v w.asked answered w.given) (λ j (h : Held). NodeGoes left w j h.state) 0 w.nodes fit bag.nodes));
     asked = all_append (λ (a : Asked). a.id.router < length next_world.nodes) w.asked (asked_by w.now f.taken)
         (all_weaken (λ (a : Asked). a.id.router < length w.nodes) (λ (a : Asked). a.id.router < length next_world.nodes) w.asked asked_stays bag.asked)
         (all_weaken (λ (a : Asked). a.id.router < length w.nodes) (λ (a : Asked). a.id.router < length next_world.nodes) (asked_by w.now f.taken) asked_stays
         taken);
   }
     where
+      Before : ℕ → Held → Type 0
+      Before j h = (slice_get w.nodes j ≡ Some h) × (HeldFits v w.asked answered w.given j h × NodeGoes left w j h.state)
+
       from_zero : p ≡ 0 + p
       from_zero = omega arith

@@ -1,8 +1,7 @@
 -- What is under way in a world, and what of it a step leaves.
-use Rattle.std.proofs.Common.{◌≡◌, ◌≢◌, ◌⊎◌, inl, inr, ℕ, zero, suc, ◌<◌, ◌≤◌, List, [], ◌∷◌, ◌++◌, length, refl, sym, ap, subst, ◌∙◌, arith, append_assoc, length-append, Bool}
-use Rattle.std.specs.Prelude.{Some, true, false, ◌==◌, None}
+use Rattle.std.proofs.Common.{◌≡◌, ◌≢◌, ◌⊎◌, inl, inr, ℕ, ◌<◌, ◌≤◌, List, [], ◌∷◌, ◌++◌, length, sym, ap, subst, ◌∙◌, arith, append_assoc, length-append}
+use Rattle.std.specs.Prelude.{Some, false, None}
 use Rattle.std.specs.List.{AllByRecursion, slice_get, slice_set}
-use Rattle.std.proofs.lemmas.Bool.{eqb-true, eqb-false}
 use Rattle.history_model.specs.History.{IsIn}
 use Rattle.chunk_model.specs.Changes.{Change}
 use Rattle.chunk_model.specs.Tables.{first_shard, table_of}
@@ -16,7 +15,10 @@ use Rattle.node_model.proofs.Journals.{journal_here, journal_got}
 use Rattle.node_laws.proofs.Places.{EachAt}
 use Rattle.node_laws.proofs.LongerJournals.{changes_longer}
 use Rattle.node_laws.proofs.Journals.{journal_else}
-use Rattle.node_progress.specs.UnderWay.{Thing, a_table, thing_of, IsFor, IsSent}
+use Rattle.node_progress.specs.UnderWay.{Thing, a_table, things_of, IsFor, IsSent}
+use Rattle.node_progress.proofs.Places.{get_behind, get_longer}
+pub use Rattle.node_progress.proofs.Places.{get_other, length_set, same_place}
+use Rattle.node_progress.proofs.Shards.{AreShards}
 use Rattle.node_progress.proofs.Versions.{IsWell}
 use Rattle.node_progress.proofs.CataloguePasses.{IsAmong}
 use Rattle.node_progress.proofs.RouterWaits.{IsWaiting}
@@ -41,56 +43,29 @@ IsCarried left w t = IsSent left w.sent t ⊎ IsHeldFor w.nodes t
 
 pub record OpenGoes (left : ℕ → Type 0) (w : World) (r : Router) (q : Open) : Type 0 where
   pub waiting : IsWaiting q
-  pub carried : IsCarried left w (thing_of r q)
+  pub some : things_of r q ≢ []
+  pub carried : AllByRecursion (IsCarried left w) (things_of r q)
 
-pub record ParkedGoes (left : ℕ → Type 0) (w : World) (s : Shard) (p : Letter) : Type 0 where
+-- currently only the first shard is sent what it may park
+pub record ParkedGoes (left : ℕ → Type 0) (w : World) (at : ℕ) (s : Shard) (p : Letter) : Type 0 where
+  pub first : at ≡ first_shard
   pub ask : Ask
   pub asks : ask_in p.body ≡ Some ask
   pub none : table_of ask.namespace s.tables ≡ None
   pub well : IsWell (changes_made w) (length w.nodes) p
   pub table : IsSent left w.sent (a_table first_shard ask.namespace false no_time)
 
-abbrev pub NodeGoes : (left : ℕ → Type 0) → World → NodeState → Type 0
-NodeGoes left w (catalogue_state c) = Unit {0}
-NodeGoes left w (shard_state s) = AllByRecursion (ParkedGoes left w s) s.parked
-NodeGoes left w (router_state r) = AllByRecursion (OpenGoes left w r) r.requests
+abbrev pub NodeGoes : (left : ℕ → Type 0) → World → (at : ℕ) → NodeState → Type 0
+NodeGoes left w at (catalogue_state c) = Unit {0}
+NodeGoes left w at (shard_state s) = AllByRecursion (ParkedGoes left w at s) s.parked
+NodeGoes left w at (router_state r) = AllByRecursion (OpenGoes left w r) r.requests
 
 pub record Bag (left : ℕ → Type 0) (w : World) : Type 0 where
   pub fresh : (n : ℕ) → length w.sent ≤ n → left n
   pub well : AllByRecursion (IsWell (changes_made w) (length w.nodes)) w.sent
-  pub nodes : EachAt (λ j (h : Held). NodeGoes left w h.state) 0 w.nodes
+  pub shards : AreShards w.nodes
+  pub nodes : EachAt (λ j (h : Held). NodeGoes left w j h.state) 0 w.nodes
   pub asked : AllByRecursion (λ (a : Asked). a.id.router < length w.nodes) w.asked
-
--- LISTS
-
-pub get_other : {X : Type 0} (xs : List X) (k j : ℕ) (x : X) → j ≢ k → slice_get (slice_set xs k x) j ≡ slice_get xs j
-get_other [] k j x other = refl
-get_other (z ∷ xs) zero zero x other = absurd (other refl)
-get_other (z ∷ xs) zero (suc j) x other = refl
-get_other (z ∷ xs) (suc k) zero x other = refl
-get_other (z ∷ xs) (suc k) (suc j) x other = get_other xs k j x (λ e. other (ap suc e))
-
-pub get_behind : {X : Type 0} (xs : List X) (x : X) (ys : List X) → slice_get (xs ++ x ∷ ys) (length xs) ≡ Some x
-get_behind [] x ys = refl
-get_behind (y ∷ xs) x ys = get_behind xs x ys
-
-pub get_longer : {X : Type 0} (xs ys : List X) (k : ℕ) (x : X) → slice_get xs k ≡ Some x → slice_get (xs ++ ys) k ≡ Some x
-get_longer [] ys k x got = absurd (cc)
-get_longer (z ∷ xs) ys zero x got = got
-get_longer (z ∷ xs) ys (suc k) x got = get_longer xs ys k x got
-
-pub length_set : {X : Type 0} (xs : List X) (k : ℕ) (x : X) → length (slice_set xs k x) ≡ length xs
-length_set [] k x = refl
-length_set (z ∷ xs) zero x = refl
-length_set (z ∷ xs) (suc k) x = ap suc (length_set xs k x)
-
--- two places are one, or not
-pub same_place : (a b : ℕ) → (a ≡ b) ⊎ (a ≢ b)
-same_place a b = by_test (a == b) refl
-  where
-    by_test : (t : Bool) → (a == b) ≡ t → (a ≡ b) ⊎ (a ≢ b)
-    by_test true h = inl (eqb-true _ _ h)
-    by_test false h = inr (λ e. eqb-false _ _ h e)
 
 -- MESSAGES
 

@@ -13,7 +13,7 @@ use Rattle.node_model.specs.States.{Catalogue}
 use Rattle.node_model.specs.CatalogueRows.{CatalogueRow, catalogue_create, catalogue_tell, catalogue_split, catalogue_bound, catalogue_none, catalogue_skip, catalogue_moment, catalogue_opened, catalogue_client, heard, told, split_told}
 use Rattle.node_laws.proofs.CatalogueAnswers.{created_known}
 use Rattle.node_progress.specs.UnderWay.{Thing, a_table, Brings, IsFor}
-use Rattle.node_progress.proofs.Things.{home, catalogue_idle}
+use Rattle.node_progress.proofs.Things.{home, IsTimeAt, catalogue_idle}
 use Rattle.node_progress.proofs.Versions.{IsWell}
 
 -- one of these messages is for the thing
@@ -45,24 +45,24 @@ module _ (c : Catalogue) (m : Letter) (t : Thing) where
       let l = subst (λ b. Brings t m.sender m.receiver b) says is in
       only_among (split_told c m time id found) t (l.0, l.2)
 
-pub catalogue_passes : (c : Catalogue) (m : Letter) (f : Effect) (d : Catalogue) (t : Thing) → m.receiver ≡ 0 → home t ≢ 0 → IsKnownTo c.changes t → IsFor t m
-    → CatalogueRow c (letter_input m) f d → IsAmong f.mail t
-catalogue_passes _ _ _ _ t place own known is (catalogue_create c m namespace at x says new) =
+pub catalogue_passes : (c : Catalogue) (m : Letter) (f : Effect) (d : Catalogue) (t : Thing) → m.receiver ≡ 0 → home t ≢ 0 → (IsTimeAt t m.receiver → ⊥)
+    → IsKnownTo c.changes t → IsFor t m → CatalogueRow c (letter_input m) f d → IsAmong f.mail t
+catalogue_passes _ _ _ _ t place own timeless known is (catalogue_create c m namespace at x says new) =
     let l = subst (λ b. Brings t m.sender m.receiver b) says is in
     let made = created_known namespace (heard c m + 1) c.changes x new in
     only_among (told c m (heard c m + 1) namespace true at (known_table namespace (x ∷ c.changes))) t
     (l.0, λ none. subst (λ o. IsSome o) (sym made.1) refl)
-catalogue_passes _ _ _ _ t place own known is (catalogue_tell c m namespace create at says there) =
+catalogue_passes _ _ _ _ t place own timeless known is (catalogue_tell c m namespace create at says there) =
     let l = subst (λ b. Brings t m.sender m.receiver b) says is in
     only_among (told c m (heard c m) namespace create at (known_table namespace c.changes)) t (
       l.0,
       λ none. there_if create (known_table namespace c.changes) there
           (λ not_created. known m.sender namespace (l.0 ∙ (ap (λ b. a_table m.sender namespace b at) not_created ∙ ap (λ a. a_table m.sender namespace false a) none))),
     )
-catalogue_passes _ _ _ _ t place own known is (catalogue_split c m id namespace middle x says new) = splits c m t _ id namespace middle true says is
-catalogue_passes _ _ _ _ t place own known is (catalogue_bound c m id namespace middle says there) = splits c m t _ id namespace middle true says is
-catalogue_passes _ _ _ _ t place own known is (catalogue_none c m id namespace middle says none) = splits c m t _ id namespace middle false says is
-catalogue_passes _ _ _ _ t place own known is (catalogue_skip c m none) = absurd (catalogue_idle t m.sender m.receiver m.body place own none is)
+catalogue_passes _ _ _ _ t place own timeless known is (catalogue_split c m id namespace middle x says new) = splits c m t _ id namespace middle true says is
+catalogue_passes _ _ _ _ t place own timeless known is (catalogue_bound c m id namespace middle says there) = splits c m t _ id namespace middle true says is
+catalogue_passes _ _ _ _ t place own timeless known is (catalogue_none c m id namespace middle says none) = splits c m t _ id namespace middle false says is
+catalogue_passes _ _ _ _ t place own timeless known is (catalogue_skip c m none) = absurd (catalogue_idle t m.sender m.receiver m.body place own timeless none is)
 
 -- WHAT IT SENDS
 
@@ -72,11 +72,11 @@ IsFrom count i = (m : Letter) → i ≡ letter_input m → m.sender < count
 
 told_well : (changes : List Change) (count : ℕ) (c : Catalogue) (m : Letter) (time : ℕ) (namespace : List ℕ) (create : Bool) (at : At) (o : Option Table)
     → c.me < count → m.sender < count → IsWell changes count (told c m time namespace create at o)
-told_well changes count c m time namespace create at o own from = record { knowing = λ a asks. absurd (cc asks); not_stale = tt; from = own; to = from }
+told_well changes count c m time namespace create at o own from = record { knowing = λ a asks. absurd (cc asks); first = λ a asks. absurd (cc asks); not_stale = tt; from = own; to = from }
 
 split_well : (changes : List Change) (count : ℕ) (c : Catalogue) (m : Letter) (time : ℕ) (id : RequestId) (found : Bool)
     → c.me < count → m.sender < count → IsWell changes count (split_told c m time id found)
-split_well changes count c m time id found own from = record { knowing = λ a asks. absurd (cc asks); not_stale = tt; from = own; to = from }
+split_well changes count c m time id found own from = record { knowing = λ a asks. absurd (cc asks); first = λ a asks. absurd (cc asks); not_stale = tt; from = own; to = from }
 
 pub catalogue_well : (changes : List Change) (count : ℕ) (c d : Catalogue) (i : Input) (f : Effect) → c.me < count → IsFrom count i → CatalogueRow c i f d
     → AllByRecursion (IsWell changes count) f.mail

@@ -1,3 +1,5 @@
+pub mod Members
+pub mod Places
 pub mod Things
 pub mod Lateness
 pub mod Versions
@@ -5,15 +7,18 @@ pub mod CataloguePasses
 pub mod ShardPasses
 pub mod ShardParks
 pub mod ShardSends
+pub mod Takings
+pub mod Shards
 pub mod Sends
 pub mod Plans
 pub mod RouterWaits
+pub mod RouterHears
 pub mod RouterGoesOn
 pub mod RouterSends
-pub mod Takings
 pub mod Arrivals
 pub mod Bags
 pub mod Lives
+pub mod RestartedShards
 pub mod Restarted
 pub mod Firsts
 pub mod BagSteps

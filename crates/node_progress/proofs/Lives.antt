@@ -15,7 +15,7 @@ use Rattle.node_laws.proofs.Lists.{all_mapped}
 use Rattle.node_laws.proofs.StepsKeep.{StaysTrue, get_set, happens_keeps}
 use Rattle.node_progress.specs.Completion.{IsOfRouter, asked_since}
 use Rattle.node_progress.proofs.Arrivals.{me_of, own_place}
-use Rattle.node_progress.proofs.Bags.{get_other, same_place}
+use Rattle.node_progress.proofs.Places.{get_other, same_place}
 use Rattle.node_progress.proofs.Takings.{catalogue_takes_none, shard_takes_none, stays_in_life}
 
 -- A STEP

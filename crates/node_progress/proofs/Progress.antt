@@ -1,5 +1,5 @@
 -- What is under way in each world of a run; and where no message is left, every request is answered.
-use Rattle.std.proofs.Common.{◌≡◌, ◌⊎◌, inl, inr, ℕ, suc, ◌<◌, List, [], ◌∷◌, ◌++◌, length, map, refl, sym, subst, ◌∙◌}
+use Rattle.std.proofs.Common.{◌≡◌, ◌⊎◌, inl, inr, ℕ, ◌+◌, suc, ◌<◌, List, [], ◌∷◌, ◌++◌, length, map, refl, sym, subst, ◌∙◌, arith}
 use Rattle.std.specs.Prelude.{Some, false}
 use Rattle.std.specs.List.{AllByRecursion, slice_get}
 use Rattle.std.proofs.lemmas.Option.{slice_get_within}
@@ -18,12 +18,12 @@ use Rattle.node_laws.proofs.StepsKeep.{fits_here}
 use Rattle.node_progress.specs.Completion.{IsQuiet, IsAnswered, IsOfRouter, asked_since}
 use Rattle.node_progress.specs.Arrivals.{arrivals, arrival_of}
 use Rattle.node_progress.specs.Firsts.{IsFirst}
-use Rattle.node_progress.specs.UnderWay.{Thing, a_table, thing_of, things_of, IsSent, IsFetched, IsComing, IsServedNext, IsUnderWay, IsLeft}
+use Rattle.node_progress.specs.UnderWay.{Thing, a_table, things_of, IsSent, IsFetched, IsComing, AreComing, IsServedNext, IsUnderWay, IsLeft}
 use Rattle.node_progress.proofs.Arrivals.{run_takes}
 use Rattle.node_progress.proofs.Bags.{OpenGoes, ParkedGoes, NodeGoes, IsCarried, Bag}
 use Rattle.node_progress.proofs.BagFacts.{now}
 use Rattle.node_progress.proofs.BagRuns.{run_bag}
-use Rattle.node_progress.proofs.Firsts.{first_true, first_rests}
+use Rattle.node_progress.proofs.Firsts.{first_true, first_rests, first_shards}
 use Rattle.node_progress.proofs.Lives.{TakenSince, taken_since}
 
 -- FROM THE BAG
@@ -38,18 +38,20 @@ counted n (q ∷ requests) i = by_place (in_cons n q.count (counts_of requests) 
     by_place (inr there) later = let x = later there in (x.0, in_later x.0 q requests x.1, x.2)
 
 module _ (left : ℕ → Type 0) (w : World) (book : Book) (good : Good w book) (bag : Bag left w) where
-  node_goes : (at : ℕ) (h : Held) → slice_get w.nodes at ≡ Some h → NodeGoes left w h.state
-  node_goes at h here = each_get (λ j (x : Held). NodeGoes left w x.state) 0 at w.nodes h bag.nodes here
+  node_goes : (at : ℕ) (h : Held) → slice_get w.nodes at ≡ Some h → NodeGoes left w at h.state
+  node_goes at h here =
+      let from_zero : 0 + at ≡ at = omega arith in
+      subst (λ k. NodeGoes left w k h.state) from_zero (each_get (λ j (x : Held). NodeGoes left w j x.state) 0 at w.nodes h bag.nodes here)
 
   fetched : (at : ℕ) (s : Shard) (kept : List Kept) (p : Letter) → slice_get w.nodes at ≡ Some (record { state = shard_state s; kept = kept })
       → IsIn p s.parked → IsFetched left w.sent s p
   fetched at s kept p here there =
       let fits : ShardFits (now w book) w.asked at kept s = (fits_here w book at (record { state = shard_state s; kept = kept }) good here).state in
-      let g = all_at (ParkedGoes left w s) p s.parked (node_goes at (record { state = shard_state s; kept = kept }) here) there in
+      let g = all_at (ParkedGoes left w at s) p s.parked (node_goes at (record { state = shard_state s; kept = kept }) here) there in
       record {
         ask = g.ask;
         asks = g.asks;
-        table = subst (λ n. IsSent left w.sent (a_table n g.ask.namespace false no_time)) (sym (fits.own ∙ fits.place)) g.table;
+        table = subst (λ n. IsSent left w.sent (a_table n g.ask.namespace false no_time)) (sym (fits.own ∙ g.first)) g.table;
       }
 
   coming : (t : Thing) → IsCarried left w t → IsComing left w t
@@ -66,9 +68,10 @@ module _ (left : ℕ → Type 0) (w : World) (book : Book) (good : Good w book) 
   })
 
   open_coming : (at : ℕ) (r : Router) (kept : List Kept) (q : Open) → slice_get w.nodes at ≡ Some (record { state = router_state r; kept = kept })
-      → IsIn q r.requests → AllByRecursion (IsComing left w) (things_of r q)
+      → IsIn q r.requests → AreComing left w (things_of r q)
   open_coming at r kept q here there =
-      (coming (thing_of r q) (all_at (OpenGoes left w r) q r.requests (node_goes at (record { state = router_state r; kept = kept }) here) there).carried, tt)
+      let o = all_at (OpenGoes left w r) q r.requests (node_goes at (record { state = router_state r; kept = kept }) here) there in
+      record { some = o.some; each = all_weaken (IsCarried left w) (IsComing left w) (things_of r q) coming o.carried }
 
   served_next : (a : Asked) → IsIn a w.asked → IsOfRouter w.nodes a.id → IsAnswered w.answered a ⊎ IsServedNext left w a
   served_next a there o =
@@ -112,7 +115,7 @@ requests_are_of_lives first events w is run = (taken_since first (first_true fir
 
 pub run_under_way : (first : World) (events : List Event) (w : World) → IsFirst first → Run first events w → IsUnderWay first (IsLeft events) w
 run_under_way first events w is run =
-    let b = run_bag first (first_true first is) (first_rests first is) events w run in
+    let b = run_bag first (first_true first is) (first_rests first is) (first_shards first is) events w run in
     bag_under_way (IsLeft events) w b.true_there.0.book b.true_there.0.good b.bag first (taken_since first (first_true first is) events w run)
 
 -- WHERE NOTHING IS LEFT
@@ -133,6 +136,10 @@ module _ (first : World) (left : ℕ → Type 0) (w : World) (none : (n : ℕ) �
   none_comes t (inl s) = none_sent t s
   none_comes t (inr p) = none_sent (a_table p.shard.me p.fetched.ask.namespace false no_time) p.fetched.table
 
+  none_waits : (things : List Thing) → AreComing left w things → ⊥
+  none_waits [] all = all.some refl
+  none_waits (t ∷ things) all = none_comes t all.each.0
+
   -- all that was taken is answered
   pub all_answered : IsUnderWay first left w → AllByRecursion (IsAnswered w.answered) (asked_since first w)
   all_answered u =
@@ -140,7 +147,7 @@ module _ (first : World) (left : ℕ → Type 0) (w : World) (none : (n : ℕ) �
     where
       by_place : (a : Asked) → IsAnswered w.answered a ⊎ IsServedNext left w a → IsAnswered w.answered a
       by_place a (inl done) = done
-      by_place a (inr s) = absurd (none_comes (thing_of s.router s.request) s.coming.0)
+      by_place a (inr s) = absurd (none_waits (things_of s.router s.request) s.coming)
 
   -- no request is open, and none is parked
   pub all_quiet : IsUnderWay first left w → AllByRecursion (λ (h : Held). IsQuiet h.state) w.nodes
@@ -150,4 +157,4 @@ module _ (first : World) (left : ℕ → Type 0) (w : World) (none : (n : ℕ) �
       by_state k kept (catalogue_state c) here = tt
       by_state k kept (shard_state s) here =
           none_in s.parked (λ p there. let f = u.parked k s kept p here there in none_sent (a_table s.me f.ask.namespace false no_time) f.table)
-      by_state k kept (router_state r) here = none_in r.requests (λ q there. none_comes (thing_of r q) (u.waiting k r kept q here there).0)
+      by_state k kept (router_state r) here = none_in r.requests (λ q there. none_waits (things_of r q) (u.waiting k r kept q here there))

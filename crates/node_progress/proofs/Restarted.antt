@@ -25,7 +25,9 @@ use Rattle.restart_laws.proofs.Runs.{StaysWhole, occurs_keeps, runs_with_stops_s
 use Rattle.node_progress.specs.Completion.{IsQuiet}
 use Rattle.node_progress.specs.Firsts.{IsAtRest}
 use Rattle.node_progress.proofs.Arrivals.{me_of, own_place}
-use Rattle.node_progress.proofs.Bags.{get_other, length_set, same_place}
+use Rattle.node_progress.proofs.Places.{get_other, length_set, same_place}
+use Rattle.node_progress.proofs.Shards.{AreShards, start_shards}
+use Rattle.node_progress.proofs.RestartedShards.{run_shards}
 use Rattle.node_progress.proofs.Lives.{IsOfLife, step_keeps_life}
 
 -- EACH REQUEST IS OF A NODE
@@ -78,10 +80,10 @@ run_placed _ _ _ whole (proceeds u v w e events h more) placed =
     run_placed v w events (occurs_keeps u v e whole h) more (occurs_placed u v e whole.facts h placed)
 
 -- what calls lead to is a world of one run, but for messages
-reached_placed : (routers : ℕ) (w : World) → Reached routers w → ArePlaced w
-reached_placed routers w reached =
-    let one = reached_calls_are_one_run routers w reached in
-    run_placed (start routers) (with_mail one.mail w) one.events (start_whole routers) one.run tt
+reached_placed : (others routers : ℕ) (w : World) → Reached others routers w → ArePlaced w
+reached_placed others routers w reached =
+    let one = reached_calls_are_one_run others routers w reached in
+    run_placed (start others routers) (with_mail one.mail w) one.events (start_whole others routers) one.run tt
 
 -- NOTHING IS OPEN
 
@@ -141,27 +143,34 @@ each_quiet (h ∷ nodes) each = (each 0 h refl, each_quiet nodes (λ k x got. ea
 
 -- THE FIRST WORLD
 
-begins_reached : (routers : ℕ) (u first : World) → Reached routers u → BeginsOn u first → Reached routers first
-begins_reached routers u first reached b = next_call u first first [] reached b (stays first)
+begins_reached : (others routers : ℕ) (u first : World) → Reached others routers u → BeginsOn u first → Reached others routers first
+begins_reached others routers u first reached b = next_call u first first [] reached b (stays first)
 
-pub begins_at_rest : (routers : ℕ) (u first : World) → Reached routers u → BeginsOn u first → IsAtRest first
-begins_at_rest routers u first reached b =
+pub begins_at_rest : (others routers : ℕ) (u first : World) → Reached others routers u → BeginsOn u first → IsAtRest first
+begins_at_rest others routers u first reached b =
     let below : AreQuietBelow (length u.nodes) (0 + length u.nodes) b.started =
     restarts_quiet (length u.nodes) 0 (length u.nodes) u b.started (restarts_of 0 (length u.nodes)) refl b.starts
     (record { counted = refl; quiet = λ k h less got. absurd (omega (arith, less)) }) in
     let quiet = each_quiet b.started.nodes (λ k h got. below.quiet k h (omega (arith, slice_get_within b.started.nodes k h got, below.counted)) got) in
     record {
       none_sent = ap (λ (x : World). x.sent) b.then;
-      placed = reached_placed routers first (begins_reached routers u first reached b);
+      placed = reached_placed others routers first (begins_reached others routers u first reached b);
       quiet = subst (λ (x : World). AllByRecursion (λ (h : Held). IsQuiet h.state) x.nodes) (sym b.then) quiet;
     }
+
+pub begins_shards : (others routers : ℕ) (u first : World) → Reached others routers u → BeginsOn u first → AreShards first.nodes
+begins_shards others routers u first reached b =
+    let one = reached_calls_are_one_run others routers first (begins_reached others routers u first reached b) in
+    run_shards (start others routers) (with_mail one.mail first) one.events one.run (start_shards others routers)
 
 good_without : (w : World) (mail : List Letter) (book : Book) → w.sent ≡ [] → Good (with_mail mail w) book → Good w book
 good_without w mail book none g = record {
   order = g.order;
   nodes = g.nodes;
   dated = g.dated;
+  beside = g.beside;
   letters = subst (λ l. AllByRecursion (SentFits (view_of w.nodes book) w.changed w.asked w.answered w.given) l) (sym none) tt;
+  heard = g.heard;
   answers = g.answers;
   decided = g.decided;
   came = g.came;
@@ -181,8 +190,8 @@ true_without w mail none (known, moments, told, based) = (
   record { steps = based.steps; replies = based.replies },
 )
 
-pub begins_true : (routers : ℕ) (u first : World) → Reached routers u → BeginsOn u first → StaysTrue first
-begins_true routers u first reached b =
-    let one = reached_calls_are_one_run routers first (begins_reached routers u first reached b) in
+pub begins_true : (others routers : ℕ) (u first : World) → Reached others routers u → BeginsOn u first → StaysTrue first
+begins_true others routers u first reached b =
+    let one = reached_calls_are_one_run others routers first (begins_reached others routers u first reached b) in
     true_without first one.mail (ap (λ (x : World). x.sent) b.then)
-    (runs_with_stops_stay_true (start routers) (with_mail one.mail first) one.events (start_whole routers) one.run).facts
+    (runs_with_stops_stay_true (start others routers) (with_mail one.mail first) one.events (start_whole others routers) one.run).facts

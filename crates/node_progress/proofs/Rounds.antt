@@ -14,9 +14,9 @@ use Rattle.node_laws.proofs.StepsKeep.{run_keeps}
 use Rattle.node_model.proofs.Schedules.{pipes_run}
 use Rattle.node_progress.specs.Completion.{IsAnswered, IsServed, AreAnswered, asked_since}
 use Rattle.node_progress.specs.Firsts.{IsFirst}
-use Rattle.node_progress.proofs.Bags.{same_place}
+use Rattle.node_progress.proofs.Places.{same_place}
 use Rattle.node_progress.proofs.BagRuns.{BagIn, IsNoDelivery, first_bag, event_keeps, events_keep, delivery_bag}
-use Rattle.node_progress.proofs.Firsts.{first_true, first_rests}
+use Rattle.node_progress.proofs.Firsts.{first_true, first_rests, first_shards}
 use Rattle.node_progress.proofs.Lives.{TakenSince, taken_since}
 use Rattle.node_progress.proofs.Answered.{are_answered, stay_answered}
 
@@ -40,7 +40,7 @@ delivery_keeps w v next at b h =
     by_place n le (inr other) = inl (omega (arith, le, other))
 
 first_at : (first : World) → IsFirst first → BagAt first 0
-first_at first is = record { true_there = first_true first is; bag = first_bag (λ n. 0 ≤ n) first (first_rests first is) (λ n. omega arith) }
+first_at first is = record { true_there = first_true first is; bag = first_bag (λ n. 0 ≤ n) first (first_rests first is) (first_shards first is) (λ n. omega arith) }
 
 -- A ROUND
 

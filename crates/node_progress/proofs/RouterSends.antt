@@ -1,9 +1,9 @@
--- What a router sends goes to the catalogue or to the shard, with the versions of a table that the catalogue had.
+-- What a router sends goes to the catalogue or to shards, with the versions of a table that the catalogue had.
 use Rattle.std.proofs.Common.{◌≡◌, ℕ, ◌+◌, ◌<◌, List, [], ◌∷◌, length, refl, sym, ap, subst, ◌∙◌, arith, Bool}
-use Rattle.std.specs.Prelude.{Option, Some, None, true, false, ◌&&◌, if◌then◌else◌}
-use Rattle.std.specs.List.{AllByRecursion}
+use Rattle.std.specs.Prelude.{Option, Some, None, true, false, ◌&&◌, ◌==◌, not, if◌then◌else◌}
+use Rattle.std.specs.List.{AllByRecursion, list_any}
 use Rattle.std.specs.Str.{bytes_eq}
-use Rattle.history_model.proofs.Lists.{all_at}
+use Rattle.history_model.proofs.Lists.{all_at, all_weaken, all_filter}
 use Rattle.bson_model.specs.Tree.{null_value}
 use Rattle.chunk_model.specs.Changes.{Change}
 use Rattle.chunk_model.specs.Tables.{Table, table_of, first_shard, owner_at}
@@ -14,9 +14,10 @@ use Rattle.pipeline_model.specs.Split.{split}
 use Rattle.reply_model.specs.Outcomes.{Done}
 use Rattle.node_model.specs.Letters.{At, Body, Statement, time_ask, write_ask, read_ask, table_told, Letter, Input, letter_input, Effect}
 use Rattle.node_model.specs.States.{Telling, for_time, for_catalogue, for_shards, Wait, Router, Work, writing, reading, sharding, splitting, Open}
-use Rattle.node_model.specs.RouterRows.{id_of, heard, says, run_to, adopted, asks_shards, asks_catalogue, asks_times, asks_by, asks_for, asks_again, is_ahead, table_for, noted, reached, is_for, is_for_catalogue, Next, stays, is_told, was_created, next_of, next_waiting, letters_in, reply_to, empty_answer, RouterRow, router_begin, router_opened, router_plain, router_more, router_no_cursor, router_kill, router_take, router_learn, router_split, router_not_sharded, router_reach, router_ahead, router_note, router_wrote, router_read, router_excess, router_overflow, router_late, router_skip, router_moment}
+use Rattle.node_model.specs.RouterRows.{id_of, shards_of, untold, heard, says, run_to, adopted, asks_shards, asks_catalogue, asks_times, asks_by, asks_for, asks_again, is_ahead, table_for, noted, reached, is_for, is_for_catalogue, Next, stays, is_told, was_created, next_of, next_waiting, letters_in, reply_to, empty_answer, RouterRow, router_begin, router_opened, router_plain, router_more, router_no_cursor, router_kill, router_take, router_learn, router_split, router_not_sharded, router_reach, router_hear, router_ahead, router_note, router_wrote, router_read, router_excess, router_overflow, router_late, router_skip, router_moment}
 use Rattle.command_model.specs.Command.{command_of}
 use Rattle.command_model.specs.Writes.{WriteKind}
+use Rattle.node_laws.proofs.Lists.{all_mapped}
 use Rattle.node_laws.proofs.KnownTables.{table_found, all_adopted}
 use Rattle.node_laws.proofs.OpenRequests.{open_of_found}
 use Rattle.node_progress.specs.UnderWay.{IsNotStale}
@@ -26,26 +27,31 @@ use Rattle.node_progress.proofs.Plans.{plan_goes}
 use Rattle.node_progress.proofs.RouterWaits.{IsWaiting, all_flat, enough_found}
 use Rattle.node_progress.proofs.RouterGoesOn.{IsReady, IsStated, stated_of}
 
-module _ (changes : List Change) (nodes : ℕ) (r : Router) (own : r.me < nodes) (two : first_shard < nodes) where
+module _ (changes : List Change) (nodes : ℕ) (r : Router) (own : r.me < nodes) (two : first_shard < nodes)
+    (there : AllByRecursion (λ s. s < nodes) (shards_of r)) where
   abbrev Well : List Letter → Type 0
   Well mail = AllByRecursion (IsWell changes nodes) mail
 
   -- A MESSAGE
 
   to_first : (time : ℕ) (b : Body) → IsKnowing changes b → IsNotStale b → Well (says r first_shard time b ∷ [])
-  to_first time b knowing fresh = (record { knowing = knowing; not_stale = fresh; from = own; to = two }, tt)
+  to_first time b knowing fresh = (record { knowing = knowing; first = λ a asks. refl; not_stale = fresh; from = own; to = two }, tt)
 
   to_catalogue : (time count : ℕ) (namespace : List ℕ) (work : Work) → IsWell changes nodes (asks_catalogue r time count namespace work)
   to_catalogue time count namespace (writing kind ordered statements answers) =
-      record { knowing = λ a asks. absurd (cc asks); not_stale = tt; from = own; to = omega (arith, two) }
+      record { knowing = λ a asks. absurd (cc asks); first = λ a asks. absurd (cc asks); not_stale = tt; from = own; to = omega (arith, two) }
   to_catalogue time count namespace (reading named at stages telling) =
-      record { knowing = λ a asks. absurd (cc asks); not_stale = tt; from = own; to = omega (arith, two) }
-  to_catalogue time count namespace sharding = record { knowing = λ a asks. absurd (cc asks); not_stale = tt; from = own; to = omega (arith, two) }
+      record { knowing = λ a asks. absurd (cc asks); first = λ a asks. absurd (cc asks); not_stale = tt; from = own; to = omega (arith, two) }
+  to_catalogue time count namespace sharding = record { knowing = λ a asks. absurd (cc asks); first = λ a asks. absurd (cc asks); not_stale = tt; from = own; to = omega (arith, two) }
   to_catalogue time count namespace (splitting middle) =
-      record { knowing = λ a asks. absurd (cc asks); not_stale = tt; from = own; to = omega (arith, two) }
+      record { knowing = λ a asks. absurd (cc asks); first = λ a asks. absurd (cc asks); not_stale = tt; from = own; to = omega (arith, two) }
 
-  to_time : (time count : ℕ) → Well (asks_times r time (id_of r count))
-  to_time time count = to_first time (time_ask (id_of r count)) (λ a asks. absurd (cc asks)) tt
+  to_times : (time count : ℕ) (told : List ℕ) → Well (asks_times r time (id_of r count) told)
+  to_times time count told =
+      all_mapped (IsWell changes nodes) (λ s. says r s time (time_ask (id_of r count))) (untold told (shards_of r))
+      (all_weaken (λ s. s < nodes) (λ s. IsWell changes nodes (says r s time (time_ask (id_of r count)))) (untold told (shards_of r))
+      (λ s less. record { knowing = λ a asks. absurd (cc asks); first = λ a asks. absurd (cc asks); not_stale = tt; from = own; to = less })
+      (all_filter (λ s. s < nodes) (λ s. not (list_any (λ t. t == s) told)) (shards_of r) there))
 
   -- BY A TABLE
 
@@ -98,8 +104,8 @@ module _ (changes : List Change) (nodes : ℕ) (r : Router) (own : r.me < nodes)
   asks_well time count namespace work had going = by_ahead (is_ahead time work)
     where
       by_ahead : (b : Bool)
-          → Well (if b then asks_times r time (id_of r count) else asks_by r time count namespace work (table_for r.tables namespace work))
-      by_ahead true = to_time time count
+          → Well (if b then asks_times r time (id_of r count) [] else asks_by r time count namespace work (table_for r.tables namespace work))
+      by_ahead true = to_times time count []
       by_ahead false = by_table time count namespace work r.tables had going (table_for r.tables namespace work) refl
 
   again_well : (time : ℕ) (q : Open) → AllByRecursion (IsTableOf changes) r.tables → IsGoing q.work → Well (asks_again r time q)
@@ -113,11 +119,11 @@ module _ (changes : List Change) (nodes : ℕ) (r : Router) (own : r.me < nodes)
       by_known (Some t) is = by_found time q.count q.namespace q.work r.tables had going t is
 
       by_wait : (w : Wait) → Well (elim w as (λ (w : Wait). List Letter) [
-        | for_time ↦ asks_times r time (id_of r q.count)
+        | for_time ↦ asks_times r time (id_of r q.count) q.told
         | for_catalogue ↦ asks_catalogue r time q.count q.namespace q.work ∷ []
         | for_shards ↦ elim (table_of q.namespace r.tables) [ None ↦ [] | Some t ↦ asks_shards r time q.count q.namespace t q.work ]
       ])
-      by_wait for_time = to_time time q.count
+      by_wait for_time = to_times time q.count q.told
       by_wait for_catalogue = (to_catalogue time q.count q.namespace q.work, tt)
       by_wait for_shards = by_known (table_of q.namespace r.tables) refl
 
@@ -160,38 +166,40 @@ abbrev pub ToldTables : List Change → Input → Type 0
 ToldTables changes i = (m : Letter) → i ≡ letter_input m → (namespace : List ℕ) (create : Bool) (at : At) (t : Table)
     → m.body ≡ table_told namespace create at (Some t) → IsTableOf changes t
 
-pub router_well : (changes : List Change) (nodes : ℕ) (r : Router) (i : Input) (f : Effect) (u : Router) → r.me < nodes → first_shard < nodes → IsReady r i
-    → AllByRecursion (IsTableOf changes) r.tables → ToldTables changes i → RouterRow r i f u → AllByRecursion (IsWell changes nodes) f.mail
-router_well changes nodes _ _ _ _ own two ready had told (router_begin r early) = tt
-router_well changes nodes _ _ _ _ own two ready had told (router_opened r begun) = tt
-router_well changes nodes _ _ _ _ own two ready had told (router_plain r link number request answer begun plan) = tt
-router_well changes nodes _ _ _ _ own two ready had told (router_more r link number request get c batch next begun plan found shows) = tt
-router_well changes nodes _ _ _ _ own two ready had told (router_no_cursor r link number request get begun plan none) = tt
-router_well changes nodes _ _ _ _ own two ready had told (router_kill r link number request kill killed missing next begun plan ends) = tt
-router_well changes nodes _ _ _ _ own two ready had told (router_take r link number request namespace work begun plan) =
-    asks_well changes nodes r own two r.time (r.count + 1) namespace work had
+pub router_well : (changes : List Change) (nodes : ℕ) (r : Router) (i : Input) (f : Effect) (u : Router) → r.me < nodes → first_shard < nodes
+    → AllByRecursion (λ s. s < nodes) (shards_of r) → IsReady r i → AllByRecursion (IsTableOf changes) r.tables → ToldTables changes i → RouterRow r i f u
+    → AllByRecursion (IsWell changes nodes) f.mail
+router_well changes nodes _ _ _ _ own two there ready had told (router_begin r early) = tt
+router_well changes nodes _ _ _ _ own two there ready had told (router_opened r begun) = tt
+router_well changes nodes _ _ _ _ own two there ready had told (router_plain r link number request answer begun plan) = tt
+router_well changes nodes _ _ _ _ own two there ready had told (router_more r link number request get c batch next begun plan found shows) = tt
+router_well changes nodes _ _ _ _ own two there ready had told (router_no_cursor r link number request get begun plan none) = tt
+router_well changes nodes _ _ _ _ own two there ready had told (router_kill r link number request kill killed missing next begun plan ends) = tt
+router_well changes nodes _ _ _ _ own two there ready had told (router_take r link number request namespace work begun plan) =
+    asks_well changes nodes r own two there r.time (r.count + 1) namespace work had
     (plan_goes r (id_of r (r.count + 1)) request.more request namespace work (command_of request) refl plan)
-router_well changes nodes _ _ _ _ own two ready had told (router_learn r m namespace create at table says) =
+router_well changes nodes _ _ _ _ own two there ready had told (router_learn r m namespace create at table says) =
     all_flat (IsWell changes nodes) (λ q. letters_in (next_of r (heard r m) (adopted table r.tables) namespace (was_created create table) at q)) r.requests
-    (λ q there. next_well changes nodes r own two (heard r m) (adopted table r.tables) namespace (was_created create table) at q
+    (λ q one. next_well changes nodes r own two there (heard r m) (adopted table r.tables) namespace (was_created create table) at q
     (all_adopted (IsTableOf changes) table r.tables (λ t is. told m refl namespace create at t (says ∙ ap (λ o. table_told namespace create at o) is)) had)
-    (all_at IsWaiting q r.requests ready.waiting there).going)
-router_well changes nodes _ _ _ _ own two ready had told (router_split r m id q middle says found work) = tt
-router_well changes nodes _ _ _ _ own two ready had told (router_not_sharded r m id q middle says found work) = tt
-router_well changes nodes _ _ _ _ own two ready had told (router_reach r m id q named at stages telling says found work waits le) =
-    asks_well changes nodes r own two (heard r m) q.count q.namespace (reached (heard r m) q.work) had (subst (λ w. IsGoing (reached (heard r m) w)) (sym work) tt)
-router_well changes nodes _ _ _ _ own two ready had told (router_ahead r m id q named at stages telling says found work waits ahead) = tt
-router_well changes nodes _ _ _ _ own two ready had told (router_note r m id dones q kind ordered statements answers says found work news more) =
+    (all_at IsWaiting q r.requests ready.waiting one).going)
+router_well changes nodes _ _ _ _ own two there ready had told (router_split r m id q middle says found work) = tt
+router_well changes nodes _ _ _ _ own two there ready had told (router_not_sharded r m id q middle says found work) = tt
+router_well changes nodes _ _ _ _ own two there ready had told (router_reach r m id q named at stages telling says found work waits le) =
+    asks_well changes nodes r own two there (heard r m) q.count q.namespace (reached (heard r m) q.work) had (subst (λ w. IsGoing (reached (heard r m) w)) (sym work) tt)
+router_well changes nodes _ _ _ _ own two there ready had told (router_hear r m id q named at stages telling says found work waits ahead others) = tt
+router_well changes nodes _ _ _ _ own two there ready had told (router_ahead r m id q named at stages telling says found work waits ahead all) = tt
+router_well changes nodes _ _ _ _ own two there ready had told (router_note r m id dones q kind ordered statements answers says found work news more) =
     let o = open_of_found r id q found in
-    asks_well changes nodes r own two (heard r m) q.count q.namespace (writing kind ordered statements (noted answers dones)) had
+    asks_well changes nodes r own two there (heard r m) q.count q.namespace (writing kind ordered statements (noted answers dones)) had
     (going_of ordered statements (noted answers dones)
     (stated_of q kind ordered statements answers work (all_at (λ (x : Open). IsStated x.work) q r.requests ready.stated o.stands)) more)
-router_well changes nodes _ _ _ _ own two ready had told (router_wrote r m id dones q kind ordered statements answers says found work news all) = tt
-router_well changes nodes _ _ _ _ own two ready had told (router_read r m id rows q named at stages telling out answer f says found work merged tells) = tt
-router_well changes nodes _ _ _ _ own two ready had told (router_excess r m id n q named at stages telling says found work) = tt
-router_well changes nodes _ _ _ _ own two ready had told (router_overflow r m id q named at stages telling says found work) = tt
-router_well changes nodes _ _ _ _ own two ready had told (router_late r m late) = tt
-router_well changes nodes _ _ _ _ own two ready had told (router_skip r m none) = tt
-router_well changes nodes _ _ _ _ own two ready had told (router_moment r moment begun) =
+router_well changes nodes _ _ _ _ own two there ready had told (router_wrote r m id dones q kind ordered statements answers says found work news all) = tt
+router_well changes nodes _ _ _ _ own two there ready had told (router_read r m id rows q named at stages telling out answer f says found work merged tells) = tt
+router_well changes nodes _ _ _ _ own two there ready had told (router_excess r m id n q named at stages telling says found work) = tt
+router_well changes nodes _ _ _ _ own two there ready had told (router_overflow r m id q named at stages telling says found work) = tt
+router_well changes nodes _ _ _ _ own two there ready had told (router_late r m late) = tt
+router_well changes nodes _ _ _ _ own two there ready had told (router_skip r m none) = tt
+router_well changes nodes _ _ _ _ own two there ready had told (router_moment r moment begun) =
     all_flat (IsWell changes nodes) (λ q. asks_again r _ q) r.requests
-    (λ q there. again_well changes nodes r own two _ q had (all_at IsWaiting q r.requests ready.waiting there).going)
+    (λ q one. again_well changes nodes r own two there _ q had (all_at IsWaiting q r.requests ready.waiting one).going)

@@ -7,36 +7,55 @@ use Rattle.std.proofs.lemmas.Bool.{eqb-false}
 use Rattle.std.proofs.lemmas.Bool.Decides.{Decides-eqb}
 use Rattle.std.proofs.lemmas.Slice.Eq.{bytes_eq-Decides}
 use Rattle.history_model.specs.History.{IsIn}
-use Rattle.history_model.proofs.Lists.{all_at, all_append, all_from, in_first, in_later, in_prefix, in_back, in_cons, in_none}
+use Rattle.history_model.proofs.Lists.{all_at, all_weaken, all_append, all_from, in_first, in_later, in_prefix, in_back, in_cons, in_none}
 use Rattle.chunk_model.specs.Tables.{Table, table_of}
 use Rattle.base_model.specs.Identities.{RequestId}
 use Rattle.command_model.specs.Answers.{sharded_answer}
 use Rattle.node_model.specs.Letters.{At, no_time, table_told, Letter, Input, letter_input}
 use Rattle.node_model.specs.States.{for_catalogue, for_shards, Router, Work, writing, reading, sharding, splitting, Open, without, replaced}
-use Rattle.node_model.specs.RouterRows.{id_of, with_work, asks_shards, is_enough, enough_of, table_for, adopted, is_for, is_for_catalogue, Next, stays, is_told, was_created, next_of, next_waiting, stay_in, letters_in, reply_to, empty_answer}
+use Rattle.node_model.specs.RouterRows.{id_of, shards_of, untold, with_work, asks_shards, is_enough, enough_of, table_for, adopted, is_for, is_for_catalogue, Next, stays, is_told, was_created, next_of, next_waiting, stay_in, letters_in, reply_to, empty_answer}
 use Rattle.node_laws.proofs.KnownTables.{table_found, table_there}
 use Rattle.node_laws.proofs.OpenRequests.{all_replaced}
-use Rattle.node_progress.specs.UnderWay.{Thing, a_table, thing_by, thing_of, Brings, IsFor}
-use Rattle.node_progress.proofs.Things.{same_things}
+use Rattle.node_progress.specs.UnderWay.{Thing, things_of, Brings, IsFor}
+use Rattle.node_progress.proofs.Things.{Awaits, awaits, InSameLife, same_things}
 use Rattle.node_progress.proofs.Lateness.{WaitFits, WantsTable, named_in, names_own, wants_table}
 use Rattle.node_progress.proofs.Versions.{IsFirst}
 use Rattle.node_progress.proofs.CataloguePasses.{IsAmong}
-use Rattle.node_progress.proofs.Sends.{IsGoing, Sends, shards_send}
+use Rattle.node_progress.proofs.Sends.{IsGoing, AreSent, shards_send}
 
--- it was open before, and what it waits for did not come
+-- it was open before, and what it waits for it waited for then, and did not come
 pub record StillWaits (r u : Router) (i : Input) (q : Open) : Type 0 where
-  pub there : IsIn q r.requests
-  pub same : thing_of u q ≡ thing_of r q
-  pub not_come : (m : Letter) → i ≡ letter_input m → IsFor (thing_of r q) m → ⊥
+  pub before : Open
+  pub there : IsIn before r.requests
+  pub work : q.work ≡ before.work
+  pub wait : q.wait ≡ before.wait
+  pub some : things_of r before ≢ [] → things_of u q ≢ []
+  pub among : (t : Thing) → IsIn t (things_of u q) → IsIn t (things_of r before)
+  pub not_come : (t : Thing) → IsIn t (things_of u q) → (m : Letter) → i ≡ letter_input m → IsFor t m → ⊥
 
 -- it is requested now
 pub record WaitsAnew (u : Router) (mail : List Letter) (q : Open) : Type 0 where
   pub going : IsGoing q.work
   pub fits : WaitFits q.work q.wait
-  pub sent : IsAmong mail (thing_of u q)
+  pub sent : AreSent mail (things_of u q)
 
 abbrev pub WaitsAfter : (r u : Router) → Input → List Letter → Open → Type 0
 WaitsAfter r u i mail q = StillWaits r u i q ⊎ WaitsAnew u mail q
+
+-- nothing of it changes
+unchanged : (r u : Router) (i : Input) (q : Open) → InSameLife r u → IsIn q r.requests
+    → ((t : Thing) → IsIn t (things_of r q) → (m : Letter) → i ≡ letter_input m → IsFor t m → ⊥) → StillWaits r u i q
+unchanged r u i q same there none =
+    let things = same_things r u q same in
+    record {
+      before = q;
+      there = there;
+      work = refl;
+      wait = refl;
+      some = λ some e. some (sym things ∙ e);
+      among = λ t one. subst (λ l. IsIn t l) things one;
+      not_come = λ t one. none t (subst (λ l. IsIn t l) things one);
+    }
 
 -- what is known of an open request before
 pub record IsWaiting (q : Open) : Type 0 where
@@ -71,35 +90,33 @@ in_flat {X = X} g (z ∷ xs) x y i j = by_place (in_cons x z xs i) (λ k. in_fla
 
 module _ (r u : Router) (i : Input) where
   -- where no open request changes
-  pub all_wait : (mail : List Letter) → u.me ≡ r.me → u.life ≡ r.life
-      → ((q : Open) → IsIn q r.requests → (m : Letter) → i ≡ letter_input m → IsFor (thing_of r q) m → ⊥)
+  pub all_wait : (mail : List Letter) → InSameLife r u
+      → ((q : Open) → IsIn q r.requests → (t : Thing) → IsIn t (things_of r q) → (m : Letter) → i ≡ letter_input m → IsFor t m → ⊥)
       → AllByRecursion (WaitsAfter r u i mail) r.requests
-  all_wait mail me life none = all_from (WaitsAfter r u i mail) r.requests (λ q there. inl (record { there = there; same = same_things r u q me life; not_come = none q there }))
+  all_wait mail same none = all_from (WaitsAfter r u i mail) r.requests (λ q there. inl (unchanged r u i q same there (none q there)))
 
 -- the message names one request
-module _ (r u : Router) (m : Letter) (mail : List Letter) (q : Open) (id : RequestId) (me : u.me ≡ r.me) (life : u.life ≡ r.life) (own : id ≡ id_of r q.count)
+module _ (r u : Router) (m : Letter) (mail : List Letter) (q : Open) (id : RequestId) (same : InSameLife r u) (own : id ≡ id_of r q.count)
     (names : (t : Thing) → IsFor t m → named_in t ≡ Some id) where
   others_wait : (p : Open) → IsIn p r.requests → p.count ≢ q.count → WaitsAfter r u (letter_input m) mail p
-  others_wait p there other = inl (record {
-    there = there;
-    same = same_things r u p me life;
-    not_come = λ n is brings.
-        let same : m ≡ n = cc is in
-        let named = names (thing_of r p) (subst (λ x. IsFor (thing_of r p) x) (sym same) brings) in
-        let mine : id ≡ id_of r p.count = names_own (id_of r p.count) r.me p.namespace p.work p.wait (thing_of r p) id refl named in
-        other (ap (λ (x : RequestId). x.count) (sym mine ∙ own));
-  })
+  others_wait p there other = inl (unchanged r u (letter_input m) p same there (λ t one n is brings.
+      let letter : m ≡ n = cc is in
+      let named = names t (subst (λ x. IsFor t x) (sym letter) brings) in
+      let mine : id ≡ id_of r p.count =
+      names_own (id_of r p.count) r.me (untold p.told (shards_of r)) p.namespace p.work p.wait t id (awaits r p t one) named in
+      other (ap (λ (x : RequestId). x.count) (sym mine ∙ own))))
 
   -- it is answered
   pub answered_wait : AllByRecursion (WaitsAfter r u (letter_input m) mail) (without q.count r.requests)
   answered_wait = all_others (WaitsAfter r u (letter_input m) mail) q.count r.requests others_wait
 
   -- it proceeds
-  pub replaced_wait : (p : Open) → p.count ≡ q.count → WaitsAnew u mail p → AllByRecursion (WaitsAfter r u (letter_input m) mail) (replaced p r.requests)
-  replaced_wait p same anew =
-      all_replaced (WaitsAfter r u (letter_input m) mail) p r.requests (inr anew)
+  pub replaced_wait : (p : Open) → p.count ≡ q.count → WaitsAfter r u (letter_input m) mail p
+      → AllByRecursion (WaitsAfter r u (letter_input m) mail) (replaced p r.requests)
+  replaced_wait p count waits =
+      all_replaced (WaitsAfter r u (letter_input m) mail) p r.requests waits
       (all_from (λ (x : Open). x.count ≢ p.count → WaitsAfter r u (letter_input m) mail x) r.requests
-      (λ x there other. others_wait x there (λ e. other (e ∙ sym same))))
+      (λ x there other. others_wait x there (λ e. other (e ∙ sym count))))
 
 -- A TABLE ARRIVES
 
@@ -115,25 +132,20 @@ enough_found (Some x) work t got = by_enough (is_enough x work) refl got
 
 -- what becomes of a request, by what is next of it
 abbrev NextWaits : (r u : Router) → Input → Next → Type 0
-NextWaits r u i (stays p letters) = StillWaits r u i p ⊎ (IsGoing p.work × WaitFits p.work p.wait × Sends letters (IsFor (thing_of u p)))
+NextWaits r u i (stays p letters) = StillWaits r u i p ⊎ (IsGoing p.work × WaitFits p.work p.wait × AreSent letters (things_of u p))
 NextWaits r u i (is_told reply) = Unit {0}
+
+all_among : (letters mail : List Letter) (things : List Thing) → ((x : Letter) → IsIn x letters → IsIn x mail) → AreSent letters things → AreSent mail things
+all_among letters mail things among sent = record {
+  some = sent.some;
+  each = all_weaken (IsAmong letters) (IsAmong mail) things (λ t a. record { letter = a.letter; sent = among a.letter a.sent; brings = a.brings }) sent.each;
+}
 
 next_after : (r u : Router) (i : Input) (mail : List Letter) (next : Next) → ((x : Letter) → IsIn x (letters_in next) → IsIn x mail) → NextWaits r u i next
     → AllByRecursion (WaitsAfter r u i mail) (stay_in next)
 next_after r u i mail (stays p letters) among (inl still) = (inl still, tt)
 next_after r u i mail (stays p letters) among (inr anew) =
-    let s = anew.2 in (
-      inr (record {
-        going = anew.0;
-        fits = anew.1;
-        sent = record {
-          letter = s.letter;
-          sent = among s.letter (subst (λ l. IsIn s.letter l) (sym s.is) (in_first s.letter []));
-          brings = s.leads;
-        };
-      }),
-      tt,
-    )
+    (inr (record { going = anew.0; fits = anew.1; sent = all_among letters mail (things_of u p) among anew.2 }), tt)
 next_after r u i mail (is_told reply) among next = tt
 
 shards_fit : (t : Table) (work : Work) → is_enough t work ≡ true → WaitFits work for_shards
@@ -151,21 +163,18 @@ some_there namespace (Some t) tables some named none =
     cc (is, none)
 
 module _ (r u : Router) (m : Letter) (time : ℕ) (namespace : List ℕ) (create : Bool) (at : At) (table : Option Table) (says : m.body ≡ table_told namespace create at table)
-    (named : (t : Table) → table ≡ Some t → t.namespace ≡ namespace) (me : u.me ≡ r.me) (life : u.life ≡ r.life)
+    (named : (t : Table) → table ≡ Some t → t.namespace ≡ namespace) (alive : InSameLife r u)
     (firsts : AllByRecursion IsFirst (adopted table r.tables)) (q : Open) (there : IsIn q r.requests) (waiting : IsWaiting q) where
   -- it stays where the message does not bring what it waits for
-  kept : ((t : Thing) → thing_of r q ≡ a_table m.receiver namespace create at → (at ≡ no_time → IsSome table) → (namespace ≡ q.namespace)
-      → (q.wait ≡ for_catalogue) → WantsTable q.work create at → ⊥) → StillWaits r u (letter_input m) q
-  kept none = record {
-    there = there;
-    same = same_things r u q me life;
-    not_come = λ n is brings.
-        let same : m ≡ n = cc is in
-        let own : IsFor (thing_of r q) m = subst (λ x. IsFor (thing_of r q) x) (sym same) brings in
-        let l = subst (λ b. Brings (thing_of r q) m.sender m.receiver b) says own in
-        let w = wants_table (id_of r q.count) r.me q.namespace q.work q.wait m.receiver namespace create at waiting.fits l.0 in
-        none (thing_of r q) l.0 l.1 w.1 w.0 w.2;
-  }
+  kept : ((at ≡ no_time → IsSome table) → namespace ≡ q.namespace → q.wait ≡ for_catalogue → WantsTable q.work create at → ⊥)
+      → StillWaits r u (letter_input m) q
+  kept none = unchanged r u (letter_input m) q alive there (λ t one n is brings.
+      let same : m ≡ n = cc is in
+      let own : IsFor t m = subst (λ x. IsFor t x) (sym same) brings in
+      let l = subst (λ b. Brings t m.sender m.receiver b) says own in
+      let w = wants_table (id_of r q.count) r.me (untold q.told (shards_of r)) q.namespace q.work q.wait m.receiver namespace create at waiting.fits
+      (subst (λ x. Awaits r q x) l.0 (awaits r q t one)) in
+      none l.1 w.1 w.0 w.2)
 
   lacks : table_for (adopted table r.tables) q.namespace q.work ≡ None → (work : Work) → q.work ≡ work → NextWaits r u (letter_input m)
       (elim work as (λ (w : Work). Next) [
@@ -175,7 +184,7 @@ module _ (r u : Router) (m : Letter) (time : ℕ) (namespace : List ℕ) (create
         | splitting middle ↦ stays q []
       ])
   lacks none (writing kind ordered statements answers) same =
-      inl (kept (λ t is some name wait wants.
+      inl (kept (λ some name wait wants.
       let w : WantsTable (writing kind ordered statements answers) create at = subst (λ x. WantsTable x create at) same wants in
       let absent : enough_of (table_of q.namespace (adopted table r.tables)) (writing kind ordered statements answers) ≡ None =
       subst (λ x. enough_of (table_of q.namespace (adopted table r.tables)) x ≡ None) same none in
@@ -191,7 +200,7 @@ module _ (r u : Router) (m : Letter) (time : ℕ) (namespace : List ℕ) (create
           → NextWaits r u (letter_input m) (if b then is_told (reply_to r time q (empty_answer q at_read telling)) else stays q [])
       by_test true h = tt
       by_test false h =
-          inl (kept (λ t is some name wait wants.
+          inl (kept (λ some name wait wants.
           let w : WantsTable (reading named_time at_read stages telling) create at = subst (λ x. WantsTable x create at) same wants in
           let yes : is_for at at_read ≡ true = ap (λ a. is_for a at_read) w.1 ∙ (Decides-eqb at_read at_read).1 refl in
           cc (yes, h)))
@@ -205,11 +214,11 @@ module _ (r u : Router) (m : Letter) (time : ℕ) (namespace : List ℕ) (create
           → NextWaits r u (letter_input m) (if b then is_told (reply_to r time q (sharded_answer q.namespace time)) else stays q [])
       by_test true h = tt
       by_test false h =
-          inl (kept (λ t is some name wait wants.
+          inl (kept (λ some name wait wants.
           let w : WantsTable sharding create at = subst (λ x. WantsTable x create at) same wants in
           let yes = made table w.0 (some w.1) in
           cc (yes, h)))
-  lacks none (splitting middle) same = inl (kept (λ t is some name wait wants. subst (λ x. WantsTable x create at) same wants))
+  lacks none (splitting middle) same = inl (kept (λ some name wait wants. subst (λ x. WantsTable x create at) same wants))
 
   by_table : (o : Option Table) → table_for (adopted table r.tables) q.namespace q.work ≡ o
       → NextWaits r u (letter_input m) (next_waiting r time (was_created create table) at q o)
@@ -217,15 +226,12 @@ module _ (r u : Router) (m : Letter) (time : ℕ) (namespace : List ℕ) (create
   by_table (Some t) is =
       let found = enough_found (table_of q.namespace (adopted table r.tables)) q.work t is in
       let first = all_at IsFirst t (adopted table r.tables) firsts (table_found q.namespace (adopted table r.tables) t found.0).stands in
-      inr (waiting.going, shards_fit t q.work found.1, by_ids (shards_send r time q.count q.namespace t first q.work waiting.going found.1))
-    where
-      by_ids : Sends (asks_shards r time q.count q.namespace t q.work) (IsFor (thing_by (id_of r q.count) r.me q.namespace q.work for_shards))
-          → Sends (asks_shards r time q.count q.namespace t q.work) (IsFor (thing_of u (with_work q for_shards q.work)))
-      by_ids s = record {
-        letter = s.letter;
-        is = s.is;
-        leads = subst (λ t. IsFor t s.letter) (sym (same_things r u (with_work q for_shards q.work) me life)) s.leads;
-      }
+      inr (
+        waiting.going,
+        shards_fit t q.work found.1,
+        subst (λ l. AreSent (asks_shards r time q.count q.namespace t q.work) l) (sym (same_things r u (with_work q for_shards q.work) alive))
+            (shards_send r time q.count q.namespace t first q.work waiting.going found.1),
+      )
 
   pub learn_waits : NextWaits r u (letter_input m) (next_of r time (adopted table r.tables) namespace (was_created create table) at q)
   learn_waits = by_test (is_for_catalogue q.wait && bytes_eq q.namespace namespace) refl
@@ -234,7 +240,7 @@ module _ (r u : Router) (m : Letter) (time : ℕ) (namespace : List ℕ) (create
           (if b then next_waiting r time (was_created create table) at q (table_for (adopted table r.tables) q.namespace q.work) else stays q [])
       by_test true h = by_table (table_for (adopted table r.tables) q.namespace q.work) refl
       by_test false h =
-          inl (kept (λ t is some name wait wants.
+          inl (kept (λ some name wait wants.
           let same : bytes_eq q.namespace namespace ≡ true = (bytes_eq-Decides q.namespace namespace).1 (sym name) in
           let yes : (is_for_catalogue q.wait && bytes_eq q.namespace namespace) ≡ true =
           ap (λ w. is_for_catalogue w && bytes_eq q.namespace namespace) wait ∙ same in
@@ -242,14 +248,14 @@ module _ (r u : Router) (m : Letter) (time : ℕ) (namespace : List ℕ) (create
 
 -- all requests after it
 pub learned_wait : (r u : Router) (m : Letter) (time : ℕ) (namespace : List ℕ) (create : Bool) (at : At) (table : Option Table)
-    → m.body ≡ table_told namespace create at table → ((t : Table) → table ≡ Some t → t.namespace ≡ namespace) → u.me ≡ r.me → u.life ≡ r.life
+    → m.body ≡ table_told namespace create at table → ((t : Table) → table ≡ Some t → t.namespace ≡ namespace) → InSameLife r u
     → AllByRecursion IsFirst (adopted table r.tables) → AllByRecursion IsWaiting r.requests
     → AllByRecursion (WaitsAfter r u (letter_input m)
     (flat_map (λ q. letters_in (next_of r time (adopted table r.tables) namespace (was_created create table) at q)) r.requests))
     (flat_map (λ q. stay_in (next_of r time (adopted table r.tables) namespace (was_created create table) at q)) r.requests)
-learned_wait r u m time namespace create at table says named me life firsts waiting =
+learned_wait r u m time namespace create at table says named alive firsts waiting =
     all_flat (WaitsAfter r u (letter_input m) (flat_map (λ q. letters_in (next_of r time (adopted table r.tables) namespace (was_created create table) at q)) r.requests))
     (λ q. stay_in (next_of r time (adopted table r.tables) namespace (was_created create table) at q)) r.requests
     (λ q there. next_after r u (letter_input m) _ (next_of r time (adopted table r.tables) namespace (was_created create table) at q)
     (λ x i. in_flat (λ q. letters_in (next_of r time (adopted table r.tables) namespace (was_created create table) at q)) r.requests q x there i)
-    (learn_waits r u m time namespace create at table says named me life firsts q there (all_at IsWaiting q r.requests waiting there)))
+    (learn_waits r u m time namespace create at table says named alive firsts q there (all_at IsWaiting q r.requests waiting there)))

@@ -1,5 +1,5 @@
 -- What a router requests is for what the request waits for.
-use Rattle.std.proofs.Common.{◌≡◌, ℕ, zero, suc, ◌+◌, List, [], ◌∷◌, length, drop, refl, sym, ap, subst, ◌∙◌, arith, Bool}
+use Rattle.std.proofs.Common.{◌≡◌, ◌≢◌, ℕ, zero, suc, ◌+◌, List, [], ◌∷◌, length, drop, map, refl, sym, ap, subst, ◌∙◌, arith, Bool}
 use Rattle.std.specs.Prelude.{Option, Some, None, true, false, if◌then◌else◌}
 use Rattle.std.specs.List.{AllByRecursion}
 use Rattle.value_model.specs.Keys.{is_key, Span}
@@ -15,14 +15,17 @@ use Rattle.reply_model.specs.Exchanges.{number_for}
 use Rattle.reply_model.specs.Outcomes.{Done}
 use Rattle.reply_model.specs.Right.{ends}
 use Rattle.node_model.specs.Letters.{Statement, write_ask, read_ask, time_ask, Letter}
-use Rattle.node_model.specs.States.{Router, Wait, for_time, for_catalogue, for_shards, Work, writing, reading, sharding, splitting}
-use Rattle.node_model.specs.RouterRows.{id_of, statements_from, owner_of_statement, is_on, run_to, says, asks_to_write, owner_of_span, asks_to_read, asks_shards, asks_catalogue, is_enough, enough_of, table_for, asks_times, is_ahead, wait_by, asks_by, wait_of, asks_for, is_answered}
+use Rattle.node_model.specs.States.{Router, for_time, Work, writing, reading, sharding, splitting}
+use Rattle.node_model.specs.RouterRows.{id_of, places_from, shards_of, untold, statements_from, owner_of_statement, is_on, run_to, says, asks_to_write, owner_of_span, asks_to_read, asks_shards, asks_catalogue, is_enough, enough_of, table_for, asks_times, is_ahead, wait_by, asks_by, wait_of, asks_for, is_answered}
+use Rattle.history_model.proofs.Lists.{all_from}
 use Rattle.command_model.proofs.Judged.{HasKey}
 use Rattle.history_model.proofs.Keyed.{written_is_key}
 use Rattle.node_laws.proofs.MadeEntries.{index_at}
-use Rattle.node_progress.specs.UnderWay.{Thing, a_time, a_run, thing_by, IsFor}
+use Rattle.node_progress.specs.UnderWay.{Thing, a_time, a_run, a_part, thing_there, thing_stored, things_by, IsFor}
+use Rattle.node_progress.proofs.Members.{in_map, in_mapped}
 use Rattle.node_progress.proofs.Versions.{IsFirst}
 use Rattle.node_progress.proofs.Lateness.{WaitFits}
+use Rattle.node_progress.proofs.CataloguePasses.{IsAmong, only_among}
 
 -- WORK
 
@@ -43,13 +46,34 @@ IsGoing (reading named at stages telling) = Unit {0}
 IsGoing sharding = Unit {0}
 IsGoing (splitting middle) = Unit {0}
 
--- one message, which has this property
-pub record Sends (mail : List Letter) (P : Letter → Type 0) : Type 0 where
-  pub letter : Letter
-  pub is : mail ≡ letter ∷ []
-  pub leads : P letter
+-- there is something that is waited for, and each of these things is requested
+pub record AreSent (mail : List Letter) (things : List Thing) : Type 0 where
+  pub some : things ≢ []
+  pub each : AllByRecursion (IsAmong mail) things
 
--- THE SHARD
+one_sent : (m : Letter) (t : Thing) → IsFor t m → AreSent (m ∷ []) (t ∷ [])
+one_sent m t is = record { some = λ e. cc e; each = (only_among m t is, tt) }
+
+-- TIMES
+
+-- each of these shards is sent a request of its time
+times_among : (r : Router) (time : ℕ) (id : RequestId) (shards : List ℕ)
+    → AllByRecursion (IsAmong (map (λ s. says r s time (time_ask id)) shards)) (map (λ s. a_time id s) shards)
+times_among r time id shards =
+    all_from (IsAmong (map (λ s. says r s time (time_ask id)) shards)) (map (λ s. a_time id s) shards) (λ t there.
+    let one = in_mapped (λ s. a_time id s) t shards there in
+    record {
+      letter = says r one.0 time (time_ask id);
+      sent = in_map (λ s. says r s time (time_ask id)) one.0 shards one.1;
+      brings = one.2;
+    })
+
+-- at first that is all shards, of which there is one at least
+some_times : (id : RequestId) (count : ℕ) → count ≢ 0 → map (λ s. a_time id s) (untold [] (places_from first_shard count)) ≢ []
+some_times id zero some = absurd (some refl)
+some_times id (suc count) some = λ e. cc e
+
+-- THE FIRST SHARD
 
 owner_of : (t : Table) (s : Statement) (key : Datum) → IsFirst t → key_written s.operation ≡ Some key → is_key key ≡ true
     → owner_of_statement t s ≡ Some first_shard
@@ -89,9 +113,6 @@ span_owner t at span first enough = by_owner (owner_of_span t at span) refl enou
     by_owner (Some shard) is enough = ap (λ n. Some n) (first.before null_value at shard refl is)
 
 module _ (r : Router) (time count : ℕ) (namespace : List ℕ) where
-  abbrev waited : Work → Wait → Thing
-  waited work wait = thing_by (id_of r count) r.me namespace work wait
-
   -- the run that is next goes to the first shard
   pub run_sends : (t : Table) (ordered : Bool) (statements : List Statement) (answers : List Done) → IsFirst t → (n : HasNext statements (length answers))
       → asks_to_write r time (id_of r count) namespace t ordered (drop (length answers) statements)
@@ -102,24 +123,23 @@ module _ (r : Router) (time count : ℕ) (namespace : List ℕ) where
 
   -- by a table, what comes next is requested of the shard
   pub shards_send : (t : Table) → IsFirst t → (work : Work) → IsGoing work → is_enough t work ≡ true
-      → Sends (asks_shards r time count namespace t work) (IsFor (waited work for_shards))
-  shards_send t first (writing kind ordered statements answers) going enough = record {
-    letter = says r first_shard time
-        (write_ask (id_of r count) 1 ordered namespace (going.first ∷ run_to t first_shard going.more) (sent_by t first_shard));
-    is = run_sends t ordered statements answers first going;
-    leads = (ap (λ n. a_run (id_of r count) n) (sym going.numbered), refl);
-  }
-  shards_send t first (reading named at stages telling) going enough = record {
-    letter = says r first_shard time (read_ask (id_of r count) 1 namespace at (split stages).0 (sent_by t first_shard));
-    is = to_read r time (id_of r count) namespace t at (split stages).0 (span_owner t at (split stages).0.span first enough);
-    leads = (refl, refl);
-  }
+      → AreSent (asks_shards r time count namespace t work) (thing_stored (id_of r count) r.me namespace work ∷ [])
+  shards_send t first (writing kind ordered statements answers) going enough =
+      subst (λ l. AreSent l (a_run (id_of r count) (length answers) ∷ [])) (sym (run_sends t ordered statements answers first going))
+      (one_sent
+      (says r first_shard time (write_ask (id_of r count) 1 ordered namespace (going.first ∷ run_to t first_shard going.more) (sent_by t first_shard)))
+      (a_run (id_of r count) (length answers)) (ap (λ n. a_run (id_of r count) n) (sym going.numbered), refl))
+  shards_send t first (reading named at stages telling) going enough =
+      subst (λ l. AreSent l (a_part (id_of r count) 1 ∷ []))
+      (sym (to_read r time (id_of r count) namespace t at (split stages).0 (span_owner t at (split stages).0.span first enough)))
+      (one_sent (says r first_shard time (read_ask (id_of r count) 1 namespace at (split stages).0 (sent_by t first_shard))) (a_part (id_of r count) 1)
+      (refl, refl))
   shards_send t first sharding going enough = absurd (cc enough)
   shards_send t first (splitting middle) going enough = absurd (cc enough)
 
   -- THE CATALOGUE
 
-  catalogue_sends : (work : Work) → IsFor (waited work for_catalogue) (asks_catalogue r time count namespace work)
+  catalogue_sends : (work : Work) → IsFor (thing_there (id_of r count) r.me namespace work) (asks_catalogue r time count namespace work)
   catalogue_sends (writing kind ordered statements answers) = (refl, refl)
   catalogue_sends (reading named at stages telling) = (refl, refl)
   catalogue_sends sharding = (refl, refl)
@@ -127,36 +147,37 @@ module _ (r : Router) (time count : ℕ) (namespace : List ℕ) where
 
   -- WHAT COMES FIRST
 
-  time_sends : (work : Work) → is_ahead time work ≡ true → a_time (id_of r count) ≡ waited work for_time
-  time_sends (writing kind ordered statements answers) is = refl
-  time_sends (reading named at stages telling) is = refl
-  time_sends sharding is = absurd (cc is)
-  time_sends (splitting middle) is = absurd (cc is)
-
-  table_sends : (work : Work) → ((t : Table) → table_of namespace r.tables ≡ Some t → IsFirst t) → IsGoing work → (o p : Option Table)
-      → table_of namespace r.tables ≡ o → enough_of o work ≡ p → Sends (asks_by r time count namespace work p) (IsFor (waited work (wait_by p)))
-  table_sends work firsts going o None is enough =
-      record { letter = asks_catalogue r time count namespace work; is = refl; leads = catalogue_sends work }
-  table_sends work firsts going None (Some t) is enough = absurd (cc enough)
-  table_sends work firsts going (Some x) (Some t) is enough = by_enough (is_enough x work) refl enough
+  table_sends : (shards : List ℕ) (work : Work) → ((t : Table) → table_of namespace r.tables ≡ Some t → IsFirst t) → IsGoing work → (o p : Option Table)
+      → table_of namespace r.tables ≡ o → enough_of o work ≡ p
+      → AreSent (asks_by r time count namespace work p) (things_by (id_of r count) r.me shards namespace work (wait_by p))
+  table_sends shards work firsts going o None is enough =
+      one_sent (asks_catalogue r time count namespace work) (thing_there (id_of r count) r.me namespace work) (catalogue_sends work)
+  table_sends shards work firsts going None (Some t) is enough = absurd (cc enough)
+  table_sends shards work firsts going (Some x) (Some t) is enough = by_enough (is_enough x work) refl enough
     where
       by_enough : (b : Bool) → is_enough x work ≡ b → (if b then Some x else None) ≡ Some t
-          → Sends (asks_shards r time count namespace t work) (IsFor (waited work for_shards))
+          → AreSent (asks_shards r time count namespace t work) (thing_stored (id_of r count) r.me namespace work ∷ [])
       by_enough false lacks got = absurd (cc got)
       by_enough true has got =
           let same : x ≡ t = cc got in
           shards_send t (firsts t (is ∙ ap (λ z. Some z) same)) work going (subst (λ z. is_enough z work ≡ true) same has)
 
-  pub asks_send : (work : Work) → ((t : Table) → table_of namespace r.tables ≡ Some t → IsFirst t) → IsGoing work
-      → Sends (asks_for r time count namespace work) (IsFor (waited work (wait_of r time namespace work)))
-  asks_send work firsts going = by_ahead (is_ahead time work) refl
+  -- where it waits for a time, no shard has returned it
+  pub asks_send : (shards : List ℕ) (work : Work) → ((t : Table) → table_of namespace r.tables ≡ Some t → IsFirst t) → r.shards ≢ 0 → IsGoing work
+      → (is_ahead time work ≡ true → shards ≡ untold [] (shards_of r))
+      → AreSent (asks_for r time count namespace work) (things_by (id_of r count) r.me shards namespace work (wait_of r time namespace work))
+  asks_send shards work firsts some going fresh = by_ahead (is_ahead time work) refl
     where
       by_ahead : (b : Bool) → is_ahead time work ≡ b
-          → Sends (if b then asks_times r time (id_of r count) else asks_by r time count namespace work (table_for r.tables namespace work))
-          (IsFor (waited work (if b then for_time else wait_by (table_for r.tables namespace work))))
-      by_ahead true is = record { letter = says r first_shard time (time_ask (id_of r count)); is = refl; leads = (sym (time_sends work is), refl) }
+          → AreSent (if b then asks_times r time (id_of r count) [] else asks_by r time count namespace work (table_for r.tables namespace work))
+          (things_by (id_of r count) r.me shards namespace work (if b then for_time else wait_by (table_for r.tables namespace work)))
+      by_ahead true is =
+          subst (λ l. AreSent (asks_times r time (id_of r count) []) (map (λ s. a_time (id_of r count) s) l)) (sym (fresh is)) (record {
+            some = some_times (id_of r count) r.shards some;
+            each = times_among r time (id_of r count) (untold [] (shards_of r));
+          })
       by_ahead false is =
-          table_sends work firsts going (table_of namespace r.tables) (table_for r.tables namespace work) refl refl
+          table_sends shards work firsts going (table_of namespace r.tables) (table_for r.tables namespace work) refl refl
 
   -- it waits as it may
   pub waits_fit : (work : Work) → WaitFits work (wait_of r time namespace work)

@@ -1,5 +1,5 @@
--- Of each request that is parked at the shard the table is under way.
-use Rattle.std.proofs.Common.{◌≡◌, ◌⊎◌, inl, inr, ℕ, List, [], ◌∷◌, refl, sym, ap, subst, ◌∙◌, Bool}
+-- Of each request that is parked at a shard the table is under way.
+use Rattle.std.proofs.Common.{◌≡◌, ◌≢◌, ◌⊎◌, inl, inr, ℕ, List, [], ◌∷◌, refl, sym, ap, subst, ◌∙◌, Bool}
 use Rattle.std.specs.Prelude.{Option, Some, None, true, false, filter, not, if◌then◌else◌}
 use Rattle.std.specs.List.{AllByRecursion}
 use Rattle.std.specs.Str.{bytes_eq}
@@ -24,9 +24,9 @@ record IsToldTable (namespace : List ℕ) (b : Body) : Type 0 where
   table : Table
   is : b ≡ table_told namespace false no_time (Some table)
 
-a_table_told : (node : ℕ) (namespace : List ℕ) (from to : ℕ) (b : Body) → to ≡ first_shard → Brings (a_table node namespace false no_time) from to b
+a_table_told : (node : ℕ) (namespace : List ℕ) (from to : ℕ) (b : Body) → to ≢ 0 → Brings (a_table node namespace false no_time) from to b
     → IsToldTable namespace b
-a_table_told node namespace from to (table_ask name create at) place is = absurd (cc (is.1, place))
+a_table_told node namespace from to (table_ask name create at) place is = absurd (place is.1)
 a_table_told node namespace from to (table_told name create at (Some t)) place is = record { table = t; is = cc is.0 }
 a_table_told node namespace from to (table_told name create at None) place is = let e : no_time ≡ at = cc is.0 in let some = is.1 (sym e) in absurd (cc some)
 a_table_told node namespace from to (split_ask id name middle) place is = absurd (cc is.0)
@@ -39,7 +39,7 @@ a_table_told node namespace from to (read_ask id turn name at half sent) place i
 a_table_told node namespace from to (half_ask id turn name at half documents) place is = absurd (cc is.0)
 a_table_told node namespace from to (read_rows id turn rows) place is = absurd (cc is.0)
 a_table_told node namespace from to (stale id turn met) place is = absurd is
-a_table_told node namespace from to (time_ask id) place is = absurd (cc is.0)
+a_table_told node namespace from to (time_ask id) place is = absurd (cc is)
 a_table_told node namespace from to (time_told id) place is = absurd (cc is.0)
 
 -- the table that a message brings is that of its collection
@@ -78,6 +78,7 @@ pub record Stays (s u : Shard) (i : Input) (p : Letter) : Type 0 where
 -- and of one that is parked now it is requested
 pub record Begins (s u : Shard) (i : Input) (mail : List Letter) (p : Letter) : Type 0 where
   pub came : i ≡ letter_input p
+  pub first : s.me ≡ first_shard
   pub ask : Ask
   pub asks : ask_in p.body ≡ Some ask
   pub none : table_of ask.namespace u.tables ≡ None
@@ -102,9 +103,9 @@ no_ask m a asks n is namespace t told =
     let none : ask_in m.body ≡ None = ap (λ b. ask_in b) (ap (λ (x : Letter). x.body) (same_letter m n is) ∙ told) in
     cc (none, asks)
 
--- what is to come to the shard
+-- what comes does not come to the catalogue
 abbrev pub IsToShard : Input → Type 0
-IsToShard i = (m : Letter) → i ≡ letter_input m → m.receiver ≡ first_shard
+IsToShard i = (m : Letter) → i ≡ letter_input m → m.receiver ≢ 0
 
 module _ (s u : Shard) (i : Input) (mail : List Letter) (place : IsToShard i) where
   all_stay : u.tables ≡ s.tables → IsNoTable i → AllByRecursion (IsParkedAfter s u i mail) s.parked
@@ -130,7 +131,7 @@ not_wanted namespace name other = by_test (bytes_eq namespace name) refl
 
 -- a table that is stored: what wanted it is tried again
 learned : (s : Shard) (m : Letter) (namespace : List ℕ) (create : Bool) (at : At) (t : Table) (u : Shard) (mail : List Letter)
-    → m.body ≡ table_told namespace create at (Some t) → m.receiver ≡ first_shard → IsNamed m → u.tables ≡ with_table t s.tables
+    → m.body ≡ table_told namespace create at (Some t) → m.receiver ≢ 0 → IsNamed m → u.tables ≡ with_table t s.tables
     → AllByRecursion (IsParkedAfter s u (letter_input m) mail) (filter (λ p. not (wants_table t.namespace p)) s.parked)
 learned s m namespace create at t u mail says place named tables =
     all_weaken (λ (p : Letter). IsIn p s.parked × (not (wants_table t.namespace p) ≡ true)) (IsParkedAfter s u (letter_input m) mail)
@@ -147,7 +148,7 @@ learned s m namespace create at t u mail says place named tables =
           ap (λ l. table_of a.namespace l) tables ∙ (other_table a.namespace t s.tables (apart p a other asks) ∙ none);
       not_come = λ a asks none n is brings.
           let same = same_letter m n is in
-          let told = a_table_told s.me a.namespace n.sender n.receiver n.body (ap (λ (x : Letter). x.receiver) (sym same) ∙ place) brings in
+          let told = a_table_told s.me a.namespace n.sender n.receiver n.body (λ e. place (ap (λ (x : Letter). x.receiver) same ∙ e)) brings in
           let body : table_told namespace create at (Some t) ≡ table_told a.namespace false no_time (Some told.table) =
           sym says ∙ (ap (λ (x : Letter). x.body) same ∙ told.is) in
           let name : namespace ≡ a.namespace = cc body in
@@ -159,7 +160,7 @@ learned s m namespace create at t u mail says place named tables =
 
 -- a table that is not new: nothing waits for it
 knew : (s : Shard) (m : Letter) (namespace : List ℕ) (create : Bool) (at : At) (table : Option Table) (u : Shard) (mail : List Letter)
-    → m.body ≡ table_told namespace create at table → m.receiver ≡ first_shard → IsNamed m → IsNoNews table s namespace → u.tables ≡ s.tables
+    → m.body ≡ table_told namespace create at table → m.receiver ≢ 0 → IsNamed m → IsNoNews table s namespace → u.tables ≡ s.tables
     → AllByRecursion (IsParkedAfter s u (letter_input m) mail) s.parked
 knew s m namespace create at table u mail says place named old tables =
     all_from (IsParkedAfter s u (letter_input m) mail) s.parked (λ p there. inl (record {
@@ -167,7 +168,7 @@ knew s m namespace create at table u mail says place named old tables =
       still = λ a asks none. ap (λ l. table_of a.namespace l) tables ∙ none;
       not_come = λ a asks none n is brings.
           let same = same_letter m n is in
-          let told = a_table_told s.me a.namespace n.sender n.receiver n.body (ap (λ (x : Letter). x.receiver) (sym same) ∙ place) brings in
+          let told = a_table_told s.me a.namespace n.sender n.receiver n.body (λ e. place (ap (λ (x : Letter). x.receiver) same ∙ e)) brings in
           let body : m.body ≡ table_told a.namespace false no_time (Some told.table) = ap (λ (x : Letter). x.body) same ∙ told.is in
           let name = named a.namespace false no_time told.table body in
           let both : table_told namespace create at table ≡ table_told a.namespace false no_time (Some told.table) = sym says ∙ body in
@@ -178,44 +179,46 @@ knew s m namespace create at table u mail says place named old tables =
           absurd (cc (news, is_new));
     }))
 
-pub shard_parked : (s : Shard) (i : Input) (f : Effect) (u : Shard) → s.me ≡ first_shard → IsToShard i → ((m : Letter) → i ≡ letter_input m → IsNamed m)
+pub shard_parked : (s : Shard) (i : Input) (f : Effect) (u : Shard) → IsToShard i → ((m : Letter) → i ≡ letter_input m → IsNamed m)
     → ((m : Letter) → i ≡ letter_input m → FitsThere s m) → ShardRow s i f u → AllByRecursion (IsParkedAfter s u i f.mail) u.parked
-shard_parked _ _ _ u me to named fit (shard_write s m id turn ordered namespace statements sent d dones made last body verdict serves) =
+shard_parked _ _ _ u to named fit (shard_write s m id turn ordered namespace statements sent d dones made last body verdict serves) =
     all_stay s u (letter_input m) _ to refl (other_body m (write_ask id turn ordered namespace statements sent) body (λ n t e. cc e))
-shard_parked _ _ _ u me to named fit (shard_repeat s m id turn ordered namespace statements sent d dones body verdict again) =
+shard_parked _ _ _ u to named fit (shard_repeat s m id turn ordered namespace statements sent d dones body verdict again) =
     all_stay s u (letter_input m) _ to refl (other_body m (write_ask id turn ordered namespace statements sent) body (λ n t e. cc e))
-shard_parked _ _ _ u me to named fit (shard_empty s m id turn ordered namespace sent body) =
+shard_parked _ _ _ u to named fit (shard_empty s m id turn ordered namespace sent body) =
     all_stay s u (letter_input m) _ to refl (other_body m (write_ask id turn ordered namespace [] sent) body (λ n t e. cc e))
-shard_parked _ _ _ u me to named fit (shard_park s m a asks unseen old not_parked) =
+shard_parked _ _ _ u to named fit (shard_park s m a asks unseen old not_parked) =
+    let there = fit m refl a asks in
     all_push (IsParkedAfter s u (letter_input m) _) s.parked m (all_stay s u (letter_input m) _ to refl (no_ask m a asks))
     (inr (record {
       came = refl;
+      first = there.0;
       ask = a;
       asks = asks;
-      none = none_where_old s.tables a (subst (λ n. verdict_of a.sent n (table_of a.namespace s.tables) ≡ shard_is_old) me old) (fit m refl a asks);
+      none = none_where_old s.tables a (subst (λ n. verdict_of a.sent n (table_of a.namespace s.tables) ≡ shard_is_old) there.0 old) there.1;
       sent = only_among (asks_table s (heard s m) a.namespace) (a_table s.me a.namespace false no_time) (refl, refl);
     }))
-shard_parked _ _ _ u me to named fit (shard_waits s m a asks unseen old waits) = all_stay s u (letter_input m) _ to refl (no_ask m a asks)
-shard_parked _ _ _ u me to named fit (shard_stale s m a met asks unseen old) = all_stay s u (letter_input m) _ to refl (no_ask m a asks)
-shard_parked _ _ _ u me to named fit (shard_read s m id turn namespace at half sent body verdict covered) =
+shard_parked _ _ _ u to named fit (shard_waits s m a asks unseen old waits) = all_stay s u (letter_input m) _ to refl (no_ask m a asks)
+shard_parked _ _ _ u to named fit (shard_stale s m a met asks unseen old) = all_stay s u (letter_input m) _ to refl (no_ask m a asks)
+shard_parked _ _ _ u to named fit (shard_read s m id turn namespace at half sent body verdict covered) =
     all_stay s u (letter_input m) _ to refl (other_body m (read_ask id turn namespace at half sent) body (λ n t e. cc e))
-shard_parked _ _ _ u me to named fit (shard_read_above s m id turn namespace at half sent body verdict above) =
+shard_parked _ _ _ u to named fit (shard_read_above s m id turn namespace at half sent body verdict above) =
     all_stay s u (letter_input m) _ to refl (other_body m (read_ask id turn namespace at half sent) body (λ n t e. cc e))
-shard_parked _ _ _ u me to named fit (shard_rows s m id turn namespace at half documents rows body makes few) =
+shard_parked _ _ _ u to named fit (shard_rows s m id turn namespace at half documents rows body makes few) =
     all_stay s u (letter_input m) _ to refl (other_body m (half_ask id turn namespace at half documents) body (λ n t e. cc e))
-shard_parked _ _ _ u me to named fit (shard_excess s m id turn namespace at half documents rows length n body makes much told) =
+shard_parked _ _ _ u to named fit (shard_excess s m id turn namespace at half documents rows length n body makes much told) =
     all_stay s u (letter_input m) _ to refl (other_body m (half_ask id turn namespace at half documents) body (λ n t e. cc e))
-shard_parked _ _ _ u me to named fit (shard_overflow s m id turn namespace at half documents body runs) =
+shard_parked _ _ _ u to named fit (shard_overflow s m id turn namespace at half documents body runs) =
     all_stay s u (letter_input m) _ to refl (other_body m (half_ask id turn namespace at half documents) body (λ n t e. cc e))
-shard_parked _ _ _ u me to named fit (shard_time s m id body) =
+shard_parked _ _ _ u to named fit (shard_time s m id body) =
     all_stay s u (letter_input m) _ to refl (other_body m (time_ask id) body (λ n t e. cc e))
-shard_parked _ _ _ u me to named fit (shard_learn s m namespace create at t body news) =
+shard_parked _ _ _ u to named fit (shard_learn s m namespace create at t body news) =
     learned s m namespace create at t u _ body (to m refl) (named m refl) refl
-shard_parked _ _ _ u me to named fit (shard_known s m namespace create at table body old) =
+shard_parked _ _ _ u to named fit (shard_known s m namespace create at table body old) =
     knew s m namespace create at table u _ body (to m refl) (named m refl) old refl
-shard_parked _ _ _ u me to named fit (shard_skip s m none) =
+shard_parked _ _ _ u to named fit (shard_skip s m none) =
     all_stay s u (letter_input m) _ to refl (λ n is namespace t told.
     subst (λ b. AsksNothing b) (ap (λ (x : Letter). x.body) (same_letter m n is) ∙ told) none)
-shard_parked _ _ _ u me to named fit (shard_moment s moment) = all_stay s u _ _ to refl (λ m is. absurd (cc is))
-shard_parked _ _ _ u me to named fit (shard_opened s) = all_stay s u _ _ to refl (λ m is. absurd (cc is))
-shard_parked _ _ _ u me to named fit (shard_client s link number request) = all_stay s u _ _ to refl (λ m is. absurd (cc is))
+shard_parked _ _ _ u to named fit (shard_moment s moment) = all_stay s u _ _ to refl (λ m is. absurd (cc is))
+shard_parked _ _ _ u to named fit (shard_opened s) = all_stay s u _ _ to refl (λ m is. absurd (cc is))
+shard_parked _ _ _ u to named fit (shard_client s link number request) = all_stay s u _ _ to refl (λ m is. absurd (cc is))

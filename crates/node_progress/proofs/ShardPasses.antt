@@ -1,9 +1,9 @@
 -- The shard passes on what is under way, or parks it.
 use Rattle.std.proofs.Common.{◌≡◌, ◌≢◌, ◌⊎◌, inl, inr, ℕ, List, [], ◌∷◌, map, refl, sym, ap, subst, ◌∙◌, Bool}
-use Rattle.std.specs.Prelude.{Option, Some, None, Result, Ok, Err, true, false, filter, not, if◌then◌else◌}
+use Rattle.std.specs.Prelude.{Option, Some, None, Result, Ok, Err, true, false, filter, not}
 use Rattle.std.specs.List.{AllByRecursion}
 use Rattle.history_model.specs.History.{StatementNumber, Entry, IsIn}
-use Rattle.history_model.proofs.Lists.{all_at, in_first, in_later, in_back, in_prefix, in_cons, in_none}
+use Rattle.history_model.proofs.Lists.{all_at, in_first, in_back, in_prefix}
 use Rattle.chunk_model.specs.Tables.{first_shard, table_of}
 use Rattle.chunk_model.specs.Verdicts.{Sent, fits, router_is_old, verdict_of}
 use Rattle.bson_model.specs.Tree.{Fields}
@@ -15,8 +15,9 @@ use Rattle.node_model.specs.States.{Shard}
 use Rattle.node_model.specs.Service.{seen_before, Serves, serves_again, serves_new, ends_again, ends_new, Repeats, repeats, ends_repeat, documents_at}
 use Rattle.node_model.specs.ShardRows.{Ask, is_ask, same_ask, ask_in, wants_table, says, heard, ShardRow, shard_write, shard_repeat, shard_empty, shard_park, shard_waits, shard_stale, shard_read, shard_read_above, shard_rows, shard_excess, shard_overflow, shard_time, shard_learn, shard_known, shard_skip, shard_moment, shard_opened, shard_client}
 use Rattle.node_laws.proofs.SeenStatements.{IsFound, found_entry, found_older, seen_found}
-use Rattle.node_progress.specs.UnderWay.{Thing, a_run, Brings, IsFor}
-use Rattle.node_progress.proofs.Things.{home, shard_idle, thing_asked, ask_brings, brings_asked, same_thing, any_found}
+use Rattle.node_progress.specs.UnderWay.{Thing, a_time, a_run, Brings, IsFor}
+use Rattle.node_progress.proofs.Members.{in_map, in_filter, any_found}
+use Rattle.node_progress.proofs.Things.{home, shard_idle, thing_asked, ask_brings, brings_asked, same_thing}
 use Rattle.node_progress.proofs.Versions.{never_stale}
 use Rattle.node_progress.proofs.CataloguePasses.{IsAmong, only_among}
 
@@ -76,75 +77,55 @@ module _ (s : Shard) (m : Letter) (t : Thing) (is : IsFor t m) where
       let own = ask_brings t m.sender m.receiver m.body a asks is in
       (p, there, subst (λ x. Brings x p.sender p.receiver p.body) (same_thing b a same ∙ sym own) (brings_asked p.sender p.receiver p.body b some to))
 
--- what a message to the shard asks for is served by its table, or there is none
+-- what a message to a shard asks for is asked of the first shard, and served by its table, or there is none
 abbrev pub FitsThere : Shard → Letter → Type 0
 FitsThere s m = (a : Ask) → ask_in m.body ≡ Some a
-    → (table_of a.namespace s.tables ≡ None) ⊎ (verdict_of a.sent first_shard (table_of a.namespace s.tables) ≡ fits)
+    → (s.me ≡ first_shard) × ((table_of a.namespace s.tables ≡ None) ⊎ (verdict_of a.sent first_shard (table_of a.namespace s.tables) ≡ fits))
 
-pub shard_passes : (s : Shard) (m : Letter) (f : Effect) (u : Shard) (t : Thing) → m.receiver ≡ first_shard → s.me ≡ first_shard → home t ≢ first_shard
+pub shard_passes : (s : Shard) (m : Letter) (f : Effect) (u : Shard) (t : Thing) → m.receiver ≡ s.me → s.me ≢ 0 → home t ≢ s.me
     → FitsThere s m → AllByRecursion (λ (p : Letter). p.receiver ≡ first_shard) s.parked → IsFor t m → ShardRow s (letter_input m) f u
     → IsAmong f.mail t ⊎ IsWaiting u.parked t
-shard_passes _ _ _ _ t place me own fit to is (shard_write s m id turn ordered namespace statements sent d dones made last body verdict serves) =
+shard_passes _ _ _ _ t place away own fit to is (shard_write s m id turn ordered namespace statements sent d dones made last body verdict serves) =
     inl (done_among s m t is last id turn ordered namespace statements sent d dones body
     (served_first s.me namespace ordered s.entries (heard s m) statements d dones made last serves))
-shard_passes _ _ _ _ t place me own fit to is (shard_repeat s m id turn ordered namespace statements sent d dones body verdict again) =
+shard_passes _ _ _ _ t place away own fit to is (shard_repeat s m id turn ordered namespace statements sent d dones body verdict again) =
     inl (done_among s m t is (heard s m) id turn ordered namespace statements sent d dones body (repeated_first ordered s.entries statements d dones again))
-shard_passes _ _ _ _ t place me own fit to is (shard_empty s m id turn ordered namespace sent body) =
+shard_passes _ _ _ _ t place away own fit to is (shard_empty s m id turn ordered namespace sent body) =
     absurd (subst (λ b. Brings t m.sender m.receiver b) body is)
-shard_passes _ _ _ _ t place me own fit to is (shard_park s m a asks unseen old not_parked) =
+shard_passes _ _ _ _ t place away own fit to is (shard_park s m a asks unseen old not_parked) =
     inr (m, in_back m s.parked (m ∷ []) (in_first m []), is)
-shard_passes _ _ _ _ t place me own fit to is (shard_waits s m a asks unseen old waits) =
+shard_passes _ _ _ _ t place away own fit to is (shard_waits s m a asks unseen old waits) =
     let found = any_found (is_ask a) s.parked waits in
     inr (waits_already s m t is a s.parked found.0 (ask_in found.0.body) asks refl (all_at (λ (p : Letter). p.receiver ≡ first_shard) found.0 s.parked to found.1)
     found.1 found.2)
-shard_passes _ _ _ _ t place me own fit to is (shard_stale s m a met asks unseen old) =
-    absurd (never_stale s.tables a met (subst (λ n. verdict_of a.sent n (table_of a.namespace s.tables) ≡ router_is_old met) me old) (fit a asks))
-shard_passes _ _ _ _ t place me own fit to is (shard_read s m id turn namespace at half sent body verdict covered) =
+shard_passes _ _ _ _ t place away own fit to is (shard_stale s m a met asks unseen old) =
+    let there = fit a asks in
+    absurd (never_stale s.tables a met (subst (λ n. verdict_of a.sent n (table_of a.namespace s.tables) ≡ router_is_old met) there.0 old) there.1)
+shard_passes _ _ _ _ t place away own fit to is (shard_read s m id turn namespace at half sent body verdict covered) =
     let l = subst (λ b. Brings t m.sender m.receiver b) body is in
-    inl (only_among (says s s.me (heard s m) (half_ask id turn namespace at half (documents_at s.entries namespace at half))) t (l.0, me))
-shard_passes _ _ _ _ t place me own fit to is (shard_read_above s m id turn namespace at half sent body verdict above) =
+    inl (only_among (says s s.me (heard s m) (half_ask id turn namespace at half (documents_at s.entries namespace at half))) t (l.0, sym place ∙ l.1))
+shard_passes _ _ _ _ t place away own fit to is (shard_read_above s m id turn namespace at half sent body verdict above) =
     let l = subst (λ b. Brings t m.sender m.receiver b) body is in
-    inl (only_among (says s s.me (heard s m) (half_ask id turn namespace at half (documents_at s.entries namespace at half))) t (l.0, me))
-shard_passes _ _ _ _ t place me own fit to is (shard_rows s m id turn namespace at half documents rows body makes few) =
+    inl (only_among (says s s.me (heard s m) (half_ask id turn namespace at half (documents_at s.entries namespace at half))) t (l.0, sym place ∙ l.1))
+shard_passes _ _ _ _ t place away own fit to is (shard_rows s m id turn namespace at half documents rows body makes few) =
     inl (rows_among s m t is (heard s m) id turn namespace at half documents (Ok rows) body)
-shard_passes _ _ _ _ t place me own fit to is (shard_excess s m id turn namespace at half documents rows length n body makes much told) =
+shard_passes _ _ _ _ t place away own fit to is (shard_excess s m id turn namespace at half documents rows length n body makes much told) =
     inl (rows_among s m t is (heard s m) id turn namespace at half documents (Err (half_excess n)) body)
-shard_passes _ _ _ _ t place me own fit to is (shard_overflow s m id turn namespace at half documents body runs) =
+shard_passes _ _ _ _ t place away own fit to is (shard_overflow s m id turn namespace at half documents body runs) =
     inl (rows_among s m t is (heard s m) id turn namespace at half documents (Err half_overflow) body)
-shard_passes _ _ _ _ t place me own fit to is (shard_time s m id body) =
+shard_passes _ _ _ _ t place away own fit to is (shard_time s m id body) =
     let l = subst (λ b. Brings t m.sender m.receiver b) body is in
-    inl (only_among (says s id.router (heard s m) (time_told id)) t (l.0, refl))
-shard_passes _ _ _ _ t place me own fit to is (shard_learn s m namespace create at table body news) =
-    let l = subst (λ b. Brings t m.sender m.receiver b) body is in
-    absurd (own (ap (λ x. home x) l.0 ∙ place))
-shard_passes _ _ _ _ t place me own fit to is (shard_known s m namespace create at table body old) =
+    inl (only_among (says s id.router (heard s m) (time_told id)) t (l ∙ ap (λ n. a_time id n) place, refl))
+shard_passes _ _ _ _ t place away own fit to is (shard_learn s m namespace create at table body news) =
     let l = subst (λ b. Brings t m.sender m.receiver b) body is in
     absurd (own (ap (λ x. home x) l.0 ∙ place))
-shard_passes _ _ _ _ t place me own fit to is (shard_skip s m none) = absurd (shard_idle t m.sender m.receiver m.body place own none is)
+shard_passes _ _ _ _ t place away own fit to is (shard_known s m namespace create at table body old) =
+    let l = subst (λ b. Brings t m.sender m.receiver b) body is in
+    absurd (own (ap (λ x. home x) l.0 ∙ place))
+shard_passes _ _ _ _ t place away own fit to is (shard_skip s m none) =
+    absurd (shard_idle t m.sender m.receiver m.body (λ e. away (sym place ∙ e)) (λ e. own (e ∙ place)) none is)
 
 -- WHAT IS PARKED
-
-in_filter : {X : Type 0} (test : X → Bool) (x : X) (xs : List X) → IsIn x xs → test x ≡ true → IsIn x (filter test xs)
-in_filter test x [] i is = absurd (in_none x i)
-in_filter {X = X} test x (y ∷ xs) i is = by_place (in_cons x y xs i) (λ j. in_filter test x xs j is)
-  where
-    by_test : (b : Bool) → IsIn x (filter test xs) → IsIn x (if b then y ∷ filter test xs else filter test xs)
-    by_test true there = in_later x y (filter test xs) there
-    by_test false there = there
-
-    by_place : (x ≡ y) ⊎ IsIn x xs → (IsIn x xs → IsIn x (filter test xs)) → IsIn x (if test y then y ∷ filter test xs else filter test xs)
-    by_place (inl same) later =
-        subst (λ b. IsIn x (if b then y ∷ filter test xs else filter test xs)) (sym (ap (λ z. test z) (sym same) ∙ is))
-        (subst (λ z. IsIn x (z ∷ filter test xs)) same (in_first x (filter test xs)))
-    by_place (inr there) later = by_test (test y) (later there)
-
-pub in_map : {X Y : Type 0} (g : X → Y) (x : X) (xs : List X) → IsIn x xs → IsIn (g x) (map g xs)
-in_map g x [] i = absurd (in_none x i)
-in_map {X = X} g x (y ∷ xs) i = by_place (in_cons x y xs i) (λ j. in_map g x xs j)
-  where
-    by_place : (x ≡ y) ⊎ IsIn x xs → (IsIn x xs → IsIn (g x) (map g xs)) → IsIn (g x) (g y ∷ map g xs)
-    by_place (inl same) later = subst (λ z. IsIn (g x) (g z ∷ map g xs)) same (in_first (g x) (map g xs))
-    by_place (inr there) later = in_later (g x) (g y) (map g xs) (later there)
 
 -- it stays parked, or is tried again
 pub shard_holds : (s : Shard) (i : Input) (f : Effect) (u : Shard) (p : Letter) (a : Ask) → s.me ≡ first_shard → IsIn p s.parked → ask_in p.body ≡ Some a

@@ -1,4 +1,4 @@
--- What the shard sends goes to nodes, and no request is sent back.
+-- What a shard sends goes to nodes, and no request is sent back.
 use Rattle.std.proofs.Common.{◌≡◌, ℕ, ◌<◌, List, [], ◌∷◌, refl, ap, subst}
 use Rattle.std.specs.Prelude.{Option, Some, None, filter}
 use Rattle.std.specs.List.{AllByRecursion}
@@ -37,8 +37,10 @@ IsOfNode count i = (m : Letter) → i ≡ letter_input m → (id : RequestId) �
 module _ (changes : List Change) (count : ℕ) (s : Shard) (own : s.me < count) where
   -- an answer
   answer_well : (to time : ℕ) (b : Body) → ask_in b ≡ None → IsNotStale b → to < count → AllByRecursion (IsWell changes count) (says s to time b ∷ [])
-  answer_well to time b none fresh goes =
-      (record { knowing = λ a asks. absurd (cc (none, asks)); not_stale = fresh; from = own; to = goes }, tt)
+  answer_well to time b none fresh goes = (
+    record { knowing = λ a asks. absurd (cc (none, asks)); first = λ a asks. absurd (cc (none, asks)); not_stale = fresh; from = own; to = goes },
+    tt,
+  )
 
   again_well : (time : ℕ) (parked : List Letter) → 0 < count → AllByRecursion (IsWell changes count) (asks_again s time parked)
   again_well time [] some = tt
@@ -48,45 +50,51 @@ module _ (changes : List Change) (count : ℕ) (s : Shard) (own : s.me < count) 
           → AllByRecursion (IsWell changes count)
           (elim o as (λ (o : Option Ask). List Letter) [ None ↦ asks_again s time parked | Some a ↦ asks_table s time a.namespace ∷ asks_again s time parked ])
       by_ask None more = more
-      by_ask (Some a) more = (record { knowing = λ b asks. absurd (cc asks); not_stale = tt; from = own; to = some }, more)
+      by_ask (Some a) more = (
+        record { knowing = λ b asks. absurd (cc asks); first = λ b asks. absurd (cc asks); not_stale = tt; from = own; to = some },
+        more,
+      )
 
-  tries_well : (time : ℕ) (namespace : List ℕ) (parked : List Letter) → AllByRecursion (IsWell changes count) parked
+  tries_well : (time : ℕ) (namespace : List ℕ) (parked : List Letter)
+      → AllByRecursion (λ (p : Letter). IsWell changes count p × (s.me ≡ first_shard)) parked
       → AllByRecursion (IsWell changes count) (tries s time (filter (wants_table namespace) parked))
   tries_well time namespace parked all =
       all_mapped (IsWell changes count) (λ (p : Letter). says s s.me time p.body) (filter (wants_table namespace) parked)
-      (all_weaken (IsWell changes count) (λ (p : Letter). IsWell changes count (says s s.me time p.body)) (filter (wants_table namespace) parked)
-      (λ p w. record { knowing = w.knowing; not_stale = w.not_stale; from = own; to = own })
-      (all_filter (IsWell changes count) (wants_table namespace) parked all))
+      (all_weaken (λ (p : Letter). IsWell changes count p × (s.me ≡ first_shard)) (λ (p : Letter). IsWell changes count (says s s.me time p.body))
+      (filter (wants_table namespace) parked)
+      (λ p w. record { knowing = w.0.knowing; first = λ a asks. w.1; not_stale = w.0.not_stale; from = own; to = own })
+      (all_filter (λ (p : Letter). IsWell changes count p × (s.me ≡ first_shard)) (wants_table namespace) parked all))
 
-pub shard_well : (changes : List Change) (count : ℕ) (s : Shard) (i : Input) (f : Effect) (u : Shard) → s.me < count → 0 < count → s.me ≡ first_shard
-    → IsOfNode count i → ((m : Letter) → i ≡ letter_input m → FitsThere s m) → AllByRecursion (IsWell changes count) s.parked → ShardRow s i f u
-    → AllByRecursion (IsWell changes count) f.mail
-shard_well changes count _ _ _ _ own some me of fit parked (shard_write s m id turn ordered namespace statements sent d dones made last body verdict serves) =
+pub shard_well : (changes : List Change) (count : ℕ) (s : Shard) (i : Input) (f : Effect) (u : Shard) → s.me < count → 0 < count
+    → IsOfNode count i → ((m : Letter) → i ≡ letter_input m → FitsThere s m)
+    → AllByRecursion (λ (p : Letter). IsWell changes count p × (s.me ≡ first_shard)) s.parked → ShardRow s i f u → AllByRecursion (IsWell changes count) f.mail
+shard_well changes count _ _ _ _ own some of fit parked (shard_write s m id turn ordered namespace statements sent d dones made last body verdict serves) =
     answer_well changes count s own id.router last _ refl tt (of m refl id (ap (λ b. request_in b) body))
-shard_well changes count _ _ _ _ own some me of fit parked (shard_repeat s m id turn ordered namespace statements sent d dones body verdict again) =
+shard_well changes count _ _ _ _ own some of fit parked (shard_repeat s m id turn ordered namespace statements sent d dones body verdict again) =
     answer_well changes count s own id.router _ _ refl tt (of m refl id (ap (λ b. request_in b) body))
-shard_well changes count _ _ _ _ own some me of fit parked (shard_empty s m id turn ordered namespace sent body) = tt
-shard_well changes count _ _ _ _ own some me of fit parked (shard_park s m a asks unseen old not_parked) =
+shard_well changes count _ _ _ _ own some of fit parked (shard_empty s m id turn ordered namespace sent body) = tt
+shard_well changes count _ _ _ _ own some of fit parked (shard_park s m a asks unseen old not_parked) =
     answer_well changes count s own 0 _ _ refl tt some
-shard_well changes count _ _ _ _ own some me of fit parked (shard_waits s m a asks unseen old waits) = tt
-shard_well changes count _ _ _ _ own some me of fit parked (shard_stale s m a met asks unseen old) =
-    absurd (never_stale s.tables a met (subst (λ n. verdict_of a.sent n (table_of a.namespace s.tables) ≡ router_is_old met) me old) (fit m refl a asks))
-shard_well changes count _ _ _ _ own some me of fit parked (shard_read s m id turn namespace at half sent body verdict covered) =
+shard_well changes count _ _ _ _ own some of fit parked (shard_waits s m a asks unseen old waits) = tt
+shard_well changes count _ _ _ _ own some of fit parked (shard_stale s m a met asks unseen old) =
+    let there = fit m refl a asks in
+    absurd (never_stale s.tables a met (subst (λ n. verdict_of a.sent n (table_of a.namespace s.tables) ≡ router_is_old met) there.0 old) there.1)
+shard_well changes count _ _ _ _ own some of fit parked (shard_read s m id turn namespace at half sent body verdict covered) =
     answer_well changes count s own s.me _ _ refl tt own
-shard_well changes count _ _ _ _ own some me of fit parked (shard_read_above s m id turn namespace at half sent body verdict above) =
+shard_well changes count _ _ _ _ own some of fit parked (shard_read_above s m id turn namespace at half sent body verdict above) =
     answer_well changes count s own s.me _ _ refl tt own
-shard_well changes count _ _ _ _ own some me of fit parked (shard_rows s m id turn namespace at half documents rows body makes few) =
+shard_well changes count _ _ _ _ own some of fit parked (shard_rows s m id turn namespace at half documents rows body makes few) =
     answer_well changes count s own id.router _ _ refl tt (of m refl id (ap (λ b. request_in b) body))
-shard_well changes count _ _ _ _ own some me of fit parked (shard_excess s m id turn namespace at half documents rows length n body makes much told) =
+shard_well changes count _ _ _ _ own some of fit parked (shard_excess s m id turn namespace at half documents rows length n body makes much told) =
     answer_well changes count s own id.router _ _ refl tt (of m refl id (ap (λ b. request_in b) body))
-shard_well changes count _ _ _ _ own some me of fit parked (shard_overflow s m id turn namespace at half documents body runs) =
+shard_well changes count _ _ _ _ own some of fit parked (shard_overflow s m id turn namespace at half documents body runs) =
     answer_well changes count s own id.router _ _ refl tt (of m refl id (ap (λ b. request_in b) body))
-shard_well changes count _ _ _ _ own some me of fit parked (shard_time s m id body) =
+shard_well changes count _ _ _ _ own some of fit parked (shard_time s m id body) =
     answer_well changes count s own id.router _ _ refl tt (of m refl id (ap (λ b. request_in b) body))
-shard_well changes count _ _ _ _ own some me of fit parked (shard_learn s m namespace create at t body news) =
+shard_well changes count _ _ _ _ own some of fit parked (shard_learn s m namespace create at t body news) =
     tries_well changes count s own _ t.namespace s.parked parked
-shard_well changes count _ _ _ _ own some me of fit parked (shard_known s m namespace create at table body old) = tt
-shard_well changes count _ _ _ _ own some me of fit parked (shard_skip s m none) = tt
-shard_well changes count _ _ _ _ own some me of fit parked (shard_moment s moment) = again_well changes count s own _ s.parked some
-shard_well changes count _ _ _ _ own some me of fit parked (shard_opened s) = tt
-shard_well changes count _ _ _ _ own some me of fit parked (shard_client s link number request) = tt
+shard_well changes count _ _ _ _ own some of fit parked (shard_known s m namespace create at table body old) = tt
+shard_well changes count _ _ _ _ own some of fit parked (shard_skip s m none) = tt
+shard_well changes count _ _ _ _ own some of fit parked (shard_moment s moment) = again_well changes count s own _ s.parked some
+shard_well changes count _ _ _ _ own some of fit parked (shard_opened s) = tt
+shard_well changes count _ _ _ _ own some of fit parked (shard_client s link number request) = tt

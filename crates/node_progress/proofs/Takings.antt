@@ -5,7 +5,7 @@ use Rattle.node_model.specs.Letters.{Input, Taken, Effect}
 use Rattle.node_model.specs.States.{Catalogue, Shard, Router}
 use Rattle.node_model.specs.CatalogueRows.{CatalogueRow, catalogue_create, catalogue_tell, catalogue_split, catalogue_bound, catalogue_none, catalogue_skip, catalogue_moment, catalogue_opened, catalogue_client}
 use Rattle.node_model.specs.ShardRows.{ShardRow, shard_write, shard_repeat, shard_empty, shard_park, shard_waits, shard_stale, shard_read, shard_read_above, shard_rows, shard_excess, shard_overflow, shard_time, shard_learn, shard_known, shard_skip, shard_moment, shard_opened, shard_client}
-use Rattle.node_model.specs.RouterRows.{RouterRow, router_begin, router_opened, router_plain, router_more, router_no_cursor, router_kill, router_take, router_learn, router_split, router_not_sharded, router_reach, router_ahead, router_note, router_wrote, router_read, router_excess, router_overflow, router_late, router_skip, router_moment}
+use Rattle.node_model.specs.RouterRows.{RouterRow, router_begin, router_opened, router_plain, router_more, router_no_cursor, router_kill, router_take, router_learn, router_split, router_not_sharded, router_reach, router_hear, router_ahead, router_note, router_wrote, router_read, router_excess, router_overflow, router_late, router_skip, router_moment}
 
 pub catalogue_takes_none : (c d : Catalogue) (i : Input) (f : Effect) → CatalogueRow c i f d → f.taken ≡ []
 catalogue_takes_none _ _ _ _ (catalogue_create c m namespace at x says new) = refl
@@ -38,29 +38,31 @@ shard_takes_none _ _ _ _ (shard_moment s moment) = refl
 shard_takes_none _ _ _ _ (shard_opened s) = refl
 shard_takes_none _ _ _ _ (shard_client s link number request) = refl
 
--- a router stays in its life, and what it takes is of that
+-- a router stays in its life, with the shards that it knows, and what it takes is of that life
 pub record IsInLife (r u : Router) (f : Effect) : Type 0 where
   pub life : u.life ≡ r.life
+  pub shards : u.shards ≡ r.shards
   pub taken : AllByRecursion (λ (x : Taken). (x.id.router ≡ r.me) × (x.id.life ≡ r.life)) f.taken
 
 pub stays_in_life : (r u : Router) (i : Input) (f : Effect) → RouterRow r i f u → IsInLife r u f
-stays_in_life _ _ _ _ (router_begin r early) = record { life = refl; taken = tt }
-stays_in_life _ _ _ _ (router_opened r begun) = record { life = refl; taken = tt }
-stays_in_life _ _ _ _ (router_plain r link number request answer begun plan) = record { life = refl; taken = ((refl, refl), tt) }
-stays_in_life _ _ _ _ (router_more r link number request get c batch next begun plan found shows) = record { life = refl; taken = ((refl, refl), tt) }
-stays_in_life _ _ _ _ (router_no_cursor r link number request get begun plan none) = record { life = refl; taken = ((refl, refl), tt) }
-stays_in_life _ _ _ _ (router_kill r link number request kill killed missing next begun plan ends) = record { life = refl; taken = ((refl, refl), tt) }
-stays_in_life _ _ _ _ (router_take r link number request namespace work begun plan) = record { life = refl; taken = ((refl, refl), tt) }
-stays_in_life _ _ _ _ (router_learn r m namespace create at table says) = record { life = refl; taken = tt }
-stays_in_life _ _ _ _ (router_split r m id q middle says found work) = record { life = refl; taken = tt }
-stays_in_life _ _ _ _ (router_not_sharded r m id q middle says found work) = record { life = refl; taken = tt }
-stays_in_life _ _ _ _ (router_reach r m id q named at stages telling says found work waits le) = record { life = refl; taken = tt }
-stays_in_life _ _ _ _ (router_ahead r m id q named at stages telling says found work waits ahead) = record { life = refl; taken = tt }
-stays_in_life _ _ _ _ (router_note r m id dones q kind ordered statements answers says found work news more) = record { life = refl; taken = tt }
-stays_in_life _ _ _ _ (router_wrote r m id dones q kind ordered statements answers says found work news all) = record { life = refl; taken = tt }
-stays_in_life _ _ _ _ (router_read r m id rows q named at stages telling out answer f says found work merged tells) = record { life = refl; taken = tt }
-stays_in_life _ _ _ _ (router_excess r m id n q named at stages telling says found work) = record { life = refl; taken = tt }
-stays_in_life _ _ _ _ (router_overflow r m id q named at stages telling says found work) = record { life = refl; taken = tt }
-stays_in_life _ _ _ _ (router_late r m late) = record { life = refl; taken = tt }
-stays_in_life _ _ _ _ (router_skip r m none) = record { life = refl; taken = tt }
-stays_in_life _ _ _ _ (router_moment r moment begun) = record { life = refl; taken = tt }
+stays_in_life _ _ _ _ (router_begin r early) = record { life = refl; shards = refl; taken = tt }
+stays_in_life _ _ _ _ (router_opened r begun) = record { life = refl; shards = refl; taken = tt }
+stays_in_life _ _ _ _ (router_plain r link number request answer begun plan) = record { life = refl; shards = refl; taken = ((refl, refl), tt) }
+stays_in_life _ _ _ _ (router_more r link number request get c batch next begun plan found shows) = record { life = refl; shards = refl; taken = ((refl, refl), tt) }
+stays_in_life _ _ _ _ (router_no_cursor r link number request get begun plan none) = record { life = refl; shards = refl; taken = ((refl, refl), tt) }
+stays_in_life _ _ _ _ (router_kill r link number request kill killed missing next begun plan ends) = record { life = refl; shards = refl; taken = ((refl, refl), tt) }
+stays_in_life _ _ _ _ (router_take r link number request namespace work begun plan) = record { life = refl; shards = refl; taken = ((refl, refl), tt) }
+stays_in_life _ _ _ _ (router_learn r m namespace create at table says) = record { life = refl; shards = refl; taken = tt }
+stays_in_life _ _ _ _ (router_split r m id q middle says found work) = record { life = refl; shards = refl; taken = tt }
+stays_in_life _ _ _ _ (router_not_sharded r m id q middle says found work) = record { life = refl; shards = refl; taken = tt }
+stays_in_life _ _ _ _ (router_reach r m id q named at stages telling says found work waits le) = record { life = refl; shards = refl; taken = tt }
+stays_in_life _ _ _ _ (router_hear r m id q named at stages telling says found work waits ahead others) = record { life = refl; shards = refl; taken = tt }
+stays_in_life _ _ _ _ (router_ahead r m id q named at stages telling says found work waits ahead all) = record { life = refl; shards = refl; taken = tt }
+stays_in_life _ _ _ _ (router_note r m id dones q kind ordered statements answers says found work news more) = record { life = refl; shards = refl; taken = tt }
+stays_in_life _ _ _ _ (router_wrote r m id dones q kind ordered statements answers says found work news all) = record { life = refl; shards = refl; taken = tt }
+stays_in_life _ _ _ _ (router_read r m id rows q named at stages telling out answer f says found work merged tells) = record { life = refl; shards = refl; taken = tt }
+stays_in_life _ _ _ _ (router_excess r m id n q named at stages telling says found work) = record { life = refl; shards = refl; taken = tt }
+stays_in_life _ _ _ _ (router_overflow r m id q named at stages telling says found work) = record { life = refl; shards = refl; taken = tt }
+stays_in_life _ _ _ _ (router_late r m late) = record { life = refl; shards = refl; taken = tt }
+stays_in_life _ _ _ _ (router_skip r m none) = record { life = refl; shards = refl; taken = tt }
+stays_in_life _ _ _ _ (router_moment r moment begun) = record { life = refl; shards = refl; taken = tt }

@@ -1,116 +1,162 @@
 -- What an open request waits for, and which messages are for it.
 use Rattle.std.proofs.Common.{◌≡◌, ◌≢◌, ◌⊎◌, inl, inr, ℕ, List, [], ◌∷◌, refl, sym, ap, ◌∙◌, Bool}
-use Rattle.std.specs.Prelude.{Option, Some, None, true, false, ◌==◌, ◌&&◌, ◌||◌}
-use Rattle.std.specs.List.{list_any}
+use Rattle.std.specs.Prelude.{Option, Some, None, true, false, ◌==◌, ◌&&◌}
 use Rattle.std.proofs.lemmas.Bool.{eqb-true}
 use Rattle.history_model.specs.History.{IsIn}
-use Rattle.history_model.proofs.Lists.{in_first, in_later}
+use Rattle.history_model.proofs.Lists.{in_cons, in_none}
 use Rattle.chunk_model.specs.Tables.{first_shard}
-use Rattle.base_model.specs.Identities.{same_request}
+use Rattle.base_model.specs.Identities.{RequestId, same_request}
 use Rattle.node_model.specs.Letters.{Body, table_ask, table_told, split_ask, split_done, write_ask, write_done, read_ask, half_ask, read_rows, stale, time_ask, time_told}
 use Rattle.node_model.specs.States.{Wait, for_time, for_catalogue, for_shards, Work, writing, reading, sharding, splitting, Open, Router}
 use Rattle.node_model.specs.CatalogueRows.{AsksNothing as AsksNoTable}
 use Rattle.node_model.specs.ShardRows.{Ask, ask_in, same_index, same_ask, AsksNothing}
-use Rattle.node_model.specs.RouterRows.{id_of, TellsNothing}
+use Rattle.node_model.specs.RouterRows.{id_of, places_from, shards_of, untold, TellsNothing}
 use Rattle.reply_facts.proofs.Requests.{same_id}
-use Rattle.node_progress.specs.UnderWay.{Thing, a_time, a_table, a_split, a_run, a_part, thing_by, thing_of, Brings}
+use Rattle.node_progress.proofs.Members.{in_mapped}
+use Rattle.node_progress.specs.UnderWay.{Thing, a_time, a_table, a_split, a_run, a_part, thing_there, thing_stored, things_by, things_of, Brings}
+
+-- ONE OF THE THINGS
+
+-- it is the time of one of these shards, or the one thing
+abbrev pub IsAwaited : RequestId → (node : ℕ) → (shards namespace : List ℕ) → Work → Wait → Thing → Type 0
+IsAwaited id node shards namespace work for_time t = (shard : ℕ) × IsIn shard shards × (t ≡ a_time id shard)
+IsAwaited id node shards namespace work for_catalogue t = t ≡ thing_there id node namespace work
+IsAwaited id node shards namespace work for_shards t = t ≡ thing_stored id node namespace work
+
+only_one : (t x : Thing) → IsIn t (x ∷ []) → t ≡ x
+only_one t x there = by_place (in_cons t x [] there)
+  where
+    by_place : (t ≡ x) ⊎ IsIn t [] → t ≡ x
+    by_place (inl same) = same
+    by_place (inr none) = absurd (in_none t none)
+
+pub awaited : (id : RequestId) (node : ℕ) (shards namespace : List ℕ) (work : Work) (wait : Wait) (t : Thing)
+    → IsIn t (things_by id node shards namespace work wait) → IsAwaited id node shards namespace work wait t
+awaited id node shards namespace work for_time t there = in_mapped (λ shard. a_time id shard) t shards there
+awaited id node shards namespace work for_catalogue t there = only_one t (thing_there id node namespace work) there
+awaited id node shards namespace work for_shards t there = only_one t (thing_stored id node namespace work) there
+
+-- of an open request
+abbrev pub Awaits : Router → Open → Thing → Type 0
+Awaits r q t = IsAwaited (id_of r q.count) r.me (untold q.told (shards_of r)) q.namespace q.work q.wait t
+
+pub awaits : (r : Router) (q : Open) (t : Thing) → IsIn t (things_of r q) → Awaits r q t
+awaits r q t there = awaited (id_of r q.count) r.me (untold q.told (shards_of r)) q.namespace q.work q.wait t there
+
+-- a router that is in the same life, and knows of the same shards
+pub record InSameLife (r u : Router) : Type 0 where
+  pub me : u.me ≡ r.me
+  pub shards : u.shards ≡ r.shards
+  pub life : u.life ≡ r.life
+
+-- waits for the same
+pub same_things : (r u : Router) (q : Open) → InSameLife r u → things_of u q ≡ things_of r q
+same_things r u q same = λ i. things_by (record { router = same.me i; life = same.life i; count = q.count }) (same.me i)
+    (untold q.told (places_from first_shard (same.shards i))) q.namespace q.work q.wait
 
 -- WHERE MESSAGES GO
 
 -- the node that waits for a thing
 abbrev pub home : Thing → ℕ
-home (a_time id) = id.router
+home (a_time id shard) = id.router
 home (a_table node namespace create at) = node
 home (a_split id) = id.router
 home (a_run id first) = id.router
 home (a_part id turn) = id.router
 
-pub home_of : (r : Router) (q : Open) → home (thing_of r q) ≡ r.me
-home_of r q = by_work q.work q.wait
+pub home_of : (r : Router) (q : Open) (t : Thing) → IsIn t (things_of r q) → home t ≡ r.me
+home_of r q t there = by_wait q.wait (awaits r q t there)
   where
-    by_work : (work : Work) (wait : Wait) → home (thing_by (id_of r q.count) r.me q.namespace work wait) ≡ r.me
-    by_work (writing kind ordered statements answers) for_time = refl
-    by_work (writing kind ordered statements answers) for_catalogue = refl
-    by_work (writing kind ordered statements answers) for_shards = refl
-    by_work (reading named at stages telling) for_time = refl
-    by_work (reading named at stages telling) for_catalogue = refl
-    by_work (reading named at stages telling) for_shards = refl
-    by_work sharding wait = refl
-    by_work (splitting middle) wait = refl
+    in_catalogue : (work : Work) → home (thing_there (id_of r q.count) r.me q.namespace work) ≡ r.me
+    in_catalogue (writing kind ordered statements answers) = refl
+    in_catalogue (reading named at stages telling) = refl
+    in_catalogue sharding = refl
+    in_catalogue (splitting middle) = refl
 
--- a router that is in the same life waits for the same
-pub same_things : (r u : Router) (q : Open) → u.me ≡ r.me → u.life ≡ r.life → thing_of u q ≡ thing_of r q
-same_things r u q me life = λ i. thing_by (record { router = me i; life = life i; count = q.count }) (me i) q.namespace q.work q.wait
+    in_shards : (work : Work) → home (thing_stored (id_of r q.count) r.me q.namespace work) ≡ r.me
+    in_shards (writing kind ordered statements answers) = refl
+    in_shards (reading named at stages telling) = refl
+    in_shards sharding = refl
+    in_shards (splitting middle) = refl
+
+    by_wait : (wait : Wait) → IsAwaited (id_of r q.count) r.me (untold q.told (shards_of r)) q.namespace q.work wait t → home t ≡ r.me
+    by_wait for_time is = ap (λ x. home x) is.2
+    by_wait for_catalogue is = ap (λ x. home x) is ∙ in_catalogue q.work
+    by_wait for_shards is = ap (λ x. home x) is ∙ in_shards q.work
+
+-- the thing is the time of the node at a place
+abbrev pub IsTimeAt : Thing → ℕ → Type 0
+IsTimeAt t at = (id : RequestId) × (t ≡ a_time id at)
 
 module _ (t : Thing) (from to : ℕ) where
   at_home : (x : Thing) → t ≡ x → to ≡ home x → to ≡ home t
   at_home x same place = place ∙ sym (ap (λ y. home y) same)
 
-  -- a message that is for a thing goes to the catalogue, to the shard or to the node that waits
-  pub brings_to : (b : Body) → Brings t from to b → (to ≡ 0) ⊎ ((to ≡ first_shard) ⊎ (to ≡ home t))
+  -- a message that is for a thing goes to the catalogue, to the first shard, to the node that waits, or to the shard whose time it is
+  pub brings_to : (b : Body) → Brings t from to b → (to ≡ 0) ⊎ ((to ≡ first_shard) ⊎ ((to ≡ home t) ⊎ IsTimeAt t to))
   brings_to (table_ask namespace create at) is = inl is.1
-  brings_to (table_told namespace create at table) is = inr (inr (at_home (a_table to namespace create at) is.0 refl))
+  brings_to (table_told namespace create at table) is = inr (inr (inl (at_home (a_table to namespace create at) is.0 refl)))
   brings_to (split_ask id namespace middle) is = inl is.1
-  brings_to (split_done id found) is = inr (inr (at_home (a_split id) is.0 is.1))
+  brings_to (split_done id found) is = inr (inr (inl (at_home (a_split id) is.0 is.1)))
   brings_to (write_ask id turn ordered namespace [] sent) is = absurd is
   brings_to (write_ask id turn ordered namespace (s ∷ more) sent) is = inr (inl is.1)
   brings_to (write_done id []) is = absurd is
-  brings_to (write_done id (d ∷ dones)) is = inr (inr (at_home (a_run id d.index) is.0 is.1))
+  brings_to (write_done id (d ∷ dones)) is = inr (inr (inl (at_home (a_run id d.index) is.0 is.1)))
   brings_to (read_ask id turn namespace at half sent) is = inr (inl is.1)
   brings_to (half_ask id turn namespace at half documents) is = inr (inl is.1)
-  brings_to (read_rows id turn rows) is = inr (inr (at_home (a_part id turn) is.0 is.1))
+  brings_to (read_rows id turn rows) is = inr (inr (inl (at_home (a_part id turn) is.0 is.1)))
   brings_to (stale id turn met) is = absurd is
-  brings_to (time_ask id) is = inr (inl is.1)
-  brings_to (time_told id) is = inr (inr (at_home (a_time id) is.0 is.1))
+  brings_to (time_ask id) is = inr (inr (inr (id, is)))
+  brings_to (time_told id) is = inr (inr (inl (at_home (a_time id from) is.0 is.1)))
 
   -- none that the catalogue passes over is for another node's thing
-  pub catalogue_idle : (b : Body) → to ≡ 0 → home t ≢ 0 → AsksNoTable b → Brings t from to b → ⊥
-  catalogue_idle (table_ask namespace create at) place own none is = none
-  catalogue_idle (table_told namespace create at table) place own none is = own (sym (at_home (a_table to namespace create at) is.0 refl) ∙ place)
-  catalogue_idle (split_ask id namespace middle) place own none is = none
-  catalogue_idle (split_done id found) place own none is = own (sym (at_home (a_split id) is.0 is.1) ∙ place)
-  catalogue_idle (write_ask id turn ordered namespace [] sent) place own none is = is
-  catalogue_idle (write_ask id turn ordered namespace (s ∷ more) sent) place own none is = cc (is.1, place)
-  catalogue_idle (write_done id []) place own none is = is
-  catalogue_idle (write_done id (d ∷ dones)) place own none is = own (sym (at_home (a_run id d.index) is.0 is.1) ∙ place)
-  catalogue_idle (read_ask id turn namespace at half sent) place own none is = cc (is.1, place)
-  catalogue_idle (half_ask id turn namespace at half documents) place own none is = cc (is.1, place)
-  catalogue_idle (read_rows id turn rows) place own none is = own (sym (at_home (a_part id turn) is.0 is.1) ∙ place)
-  catalogue_idle (stale id turn met) place own none is = is
-  catalogue_idle (time_ask id) place own none is = cc (is.1, place)
-  catalogue_idle (time_told id) place own none is = own (sym (at_home (a_time id) is.0 is.1) ∙ place)
+  pub catalogue_idle : (b : Body) → to ≡ 0 → home t ≢ 0 → (IsTimeAt t to → ⊥) → AsksNoTable b → Brings t from to b → ⊥
+  catalogue_idle (table_ask namespace create at) place own timeless none is = none
+  catalogue_idle (table_told namespace create at table) place own timeless none is = own (sym (at_home (a_table to namespace create at) is.0 refl) ∙ place)
+  catalogue_idle (split_ask id namespace middle) place own timeless none is = none
+  catalogue_idle (split_done id found) place own timeless none is = own (sym (at_home (a_split id) is.0 is.1) ∙ place)
+  catalogue_idle (write_ask id turn ordered namespace [] sent) place own timeless none is = is
+  catalogue_idle (write_ask id turn ordered namespace (s ∷ more) sent) place own timeless none is = cc (is.1, place)
+  catalogue_idle (write_done id []) place own timeless none is = is
+  catalogue_idle (write_done id (d ∷ dones)) place own timeless none is = own (sym (at_home (a_run id d.index) is.0 is.1) ∙ place)
+  catalogue_idle (read_ask id turn namespace at half sent) place own timeless none is = cc (is.1, place)
+  catalogue_idle (half_ask id turn namespace at half documents) place own timeless none is = cc (is.1, place)
+  catalogue_idle (read_rows id turn rows) place own timeless none is = own (sym (at_home (a_part id turn) is.0 is.1) ∙ place)
+  catalogue_idle (stale id turn met) place own timeless none is = is
+  catalogue_idle (time_ask id) place own timeless none is = timeless (id, is)
+  catalogue_idle (time_told id) place own timeless none is = own (sym (at_home (a_time id from) is.0 is.1) ∙ place)
 
-  -- nor one that the shard passes over
-  pub shard_idle : (b : Body) → to ≡ first_shard → home t ≢ first_shard → AsksNothing b → Brings t from to b → ⊥
-  shard_idle (table_ask namespace create at) place own none is = cc (is.1, place)
-  shard_idle (table_told namespace create at table) place own none is = none
-  shard_idle (split_ask id namespace middle) place own none is = cc (is.1, place)
-  shard_idle (split_done id found) place own none is = own (sym (at_home (a_split id) is.0 is.1) ∙ place)
-  shard_idle (write_ask id turn ordered namespace statements sent) place own none is = none
-  shard_idle (write_done id []) place own none is = is
-  shard_idle (write_done id (d ∷ dones)) place own none is = own (sym (at_home (a_run id d.index) is.0 is.1) ∙ place)
-  shard_idle (read_ask id turn namespace at half sent) place own none is = none
-  shard_idle (half_ask id turn namespace at half documents) place own none is = none
-  shard_idle (read_rows id turn rows) place own none is = own (sym (at_home (a_part id turn) is.0 is.1) ∙ place)
-  shard_idle (stale id turn met) place own none is = is
-  shard_idle (time_ask id) place own none is = none
-  shard_idle (time_told id) place own none is = own (sym (at_home (a_time id) is.0 is.1) ∙ place)
+  -- nor one that a shard passes over
+  pub shard_idle : (b : Body) → to ≢ 0 → home t ≢ to → AsksNothing b → Brings t from to b → ⊥
+  shard_idle (table_ask namespace create at) not_zero own none is = not_zero is.1
+  shard_idle (table_told namespace create at table) not_zero own none is = none
+  shard_idle (split_ask id namespace middle) not_zero own none is = not_zero is.1
+  shard_idle (split_done id found) not_zero own none is = own (sym (at_home (a_split id) is.0 is.1))
+  shard_idle (write_ask id turn ordered namespace statements sent) not_zero own none is = none
+  shard_idle (write_done id []) not_zero own none is = is
+  shard_idle (write_done id (d ∷ dones)) not_zero own none is = own (sym (at_home (a_run id d.index) is.0 is.1))
+  shard_idle (read_ask id turn namespace at half sent) not_zero own none is = none
+  shard_idle (half_ask id turn namespace at half documents) not_zero own none is = none
+  shard_idle (read_rows id turn rows) not_zero own none is = own (sym (at_home (a_part id turn) is.0 is.1))
+  shard_idle (stale id turn met) not_zero own none is = is
+  shard_idle (time_ask id) not_zero own none is = none
+  shard_idle (time_told id) not_zero own none is = own (sym (at_home (a_time id from) is.0 is.1))
 
   -- nor one that a router passes over
-  pub router_idle : (b : Body) → to ≢ 0 → to ≢ first_shard → TellsNothing b → Brings t from to b → ⊥
-  router_idle (table_ask namespace create at) not_zero not_one none is = not_zero is.1
-  router_idle (table_told namespace create at table) not_zero not_one none is = none
-  router_idle (split_ask id namespace middle) not_zero not_one none is = not_zero is.1
-  router_idle (split_done id found) not_zero not_one none is = none
-  router_idle (write_ask id turn ordered namespace [] sent) not_zero not_one none is = is
-  router_idle (write_ask id turn ordered namespace (s ∷ more) sent) not_zero not_one none is = not_one is.1
-  router_idle (write_done id dones) not_zero not_one none is = none
-  router_idle (read_ask id turn namespace at half sent) not_zero not_one none is = not_one is.1
-  router_idle (half_ask id turn namespace at half documents) not_zero not_one none is = not_one is.1
-  router_idle (read_rows id turn rows) not_zero not_one none is = none
-  router_idle (stale id turn met) not_zero not_one none is = none
-  router_idle (time_ask id) not_zero not_one none is = not_one is.1
-  router_idle (time_told id) not_zero not_one none is = none
+  pub router_idle : (b : Body) → to ≢ 0 → to ≢ first_shard → (IsTimeAt t to → ⊥) → TellsNothing b → Brings t from to b → ⊥
+  router_idle (table_ask namespace create at) not_zero not_one timeless none is = not_zero is.1
+  router_idle (table_told namespace create at table) not_zero not_one timeless none is = none
+  router_idle (split_ask id namespace middle) not_zero not_one timeless none is = not_zero is.1
+  router_idle (split_done id found) not_zero not_one timeless none is = none
+  router_idle (write_ask id turn ordered namespace [] sent) not_zero not_one timeless none is = is
+  router_idle (write_ask id turn ordered namespace (s ∷ more) sent) not_zero not_one timeless none is = not_one is.1
+  router_idle (write_done id dones) not_zero not_one timeless none is = none
+  router_idle (read_ask id turn namespace at half sent) not_zero not_one timeless none is = not_one is.1
+  router_idle (half_ask id turn namespace at half documents) not_zero not_one timeless none is = not_one is.1
+  router_idle (read_rows id turn rows) not_zero not_one timeless none is = none
+  router_idle (stale id turn met) not_zero not_one timeless none is = none
+  router_idle (time_ask id) not_zero not_one timeless none is = timeless (id, is)
+  router_idle (time_told id) not_zero not_one timeless none is = none
 
 -- REQUESTS OF DOCUMENTS
 
@@ -174,13 +220,3 @@ same_thing a b is = by_ids (same_request a.id b.id) (a.turn == b.turn) (same_ind
     by_ids true true false p q r is = absurd (cc is)
     by_ids true false z p q r is = absurd (cc is)
     by_ids false y z p q r is = absurd (cc is)
-
--- the one that is parked already
-pub any_found : {X : Type 0} (test : X → Bool) (xs : List X) → list_any test xs ≡ true → (x : X) × IsIn x xs × (test x ≡ true)
-any_found test [] is = absurd (cc is)
-any_found {X = X} test (x ∷ xs) is = by_test (test x) refl is (λ e. any_found test xs e)
-  where
-    by_test : (b : Bool) → test x ≡ b → (b || list_any test xs) ≡ true → (list_any test xs ≡ true → (y : X) × IsIn y xs × (test y ≡ true))
-        → (y : X) × IsIn y (x ∷ xs) × (test y ≡ true)
-    by_test true h is later = (x, in_first x xs, h)
-    by_test false h is later = let more = later is in (more.0, in_later more.0 x xs more.1, more.2)

@@ -92,9 +92,14 @@ pub record IsVersioned (changes : List Change) (a : Ask) : Type 0 where
 abbrev pub IsKnowing : List Change → Body → Type 0
 IsKnowing changes b = (a : Ask) → ask_in b ≡ Some a → IsVersioned changes a
 
+-- a request of documents goes to the first shard
+abbrev pub GoesFirst : (to : ℕ) → Body → Type 0
+GoesFirst to b = (a : Ask) → ask_in b ≡ Some a → to ≡ first_shard
+
 -- what is true of each message: it goes from one of so many nodes to another
 pub record IsWell (changes : List Change) (count : ℕ) (m : Letter) : Type 0 where
   pub knowing : IsKnowing changes m.body
+  pub first : GoesFirst m.receiver m.body
   pub not_stale : IsNotStale m.body
   pub from : m.sender < count
   pub to : m.receiver < count
@@ -105,6 +110,7 @@ versioned_later news changes later a is k = record { table = k.table; had = had_
 pub well_later : (news changes later : List Change) (count : ℕ) (m : Letter) → later ≡ news ++ changes → IsWell changes count m → IsWell later count m
 well_later news changes later count m is w = record {
   knowing = λ a asks. versioned_later news changes later a is (w.knowing a asks);
+  first = w.first;
   not_stale = w.not_stale;
   from = w.from;
   to = w.to;

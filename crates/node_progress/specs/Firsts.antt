@@ -14,6 +14,6 @@ pub record IsAtRest (w : World) : Type 0 where
 
 pub data IsFirst : World → Type 0 where
   -- journals are empty
-  first_start : (routers : ℕ) → IsFirst (start routers)
+  first_start : (others routers : ℕ) → IsFirst (start others routers)
   -- earlier calls left them, and all nodes were started on them
-  first_again : (routers : ℕ) (u first : World) → Reached routers u → BeginsOn u first → IsFirst first
+  first_again : (others routers : ℕ) (u first : World) → Reached others routers u → BeginsOn u first → IsFirst first

@@ -1,7 +1,7 @@
 -- What is under way for each request that is not answered yet: of each thing that it waits for, one message is not delivered yet, which requests the
 -- thing or brings it; or such a message is parked at a shard, and the table that it wants there is under way in the same manner. This speaks of no
 -- schedule: any number of requests may be open, and messages may be delivered in any order, and again.
-use Rattle.std.specs.Prelude.{◌≡◌, ◌⊎◌, ℕ, List, [], ◌∷◌, length, Bool, true, false, Some, IsSome}
+use Rattle.std.specs.Prelude.{◌≡◌, ◌≢◌, ◌⊎◌, ℕ, List, [], ◌∷◌, length, map, Bool, true, false, Some, IsSome}
 use Rattle.std.specs.List.{AllByRecursion, slice_get}
 use Rattle.base_model.specs.Identities.{RequestId}
 use Rattle.chunk_model.specs.Tables.{first_shard}
@@ -11,7 +11,7 @@ use Rattle.node_model.specs.Journal.{Kept}
 use Rattle.node_model.specs.Letters.{At, no_time, at_time, Body, table_ask, table_told, split_ask, split_done, write_ask, write_done, read_ask, half_ask, read_rows, stale, time_ask, time_told, Letter}
 use Rattle.node_model.specs.States.{Shard, Router, Wait, for_time, for_catalogue, for_shards, Work, writing, reading, sharding, splitting, Open, router_state, shard_state}
 use Rattle.node_model.specs.ShardRows.{Ask, ask_in}
-use Rattle.node_model.specs.RouterRows.{id_of}
+use Rattle.node_model.specs.RouterRows.{id_of, shards_of, untold}
 use Rattle.node_model.specs.World.{World, Event, deliver_event}
 use Rattle.node_progress.specs.Completion.{IsAnswered, asked_since}
 
@@ -20,7 +20,7 @@ use Rattle.node_progress.specs.Completion.{IsAnswered, asked_since}
 -- what a node waits for
 pub data Thing : Type 0 where
   -- the time of a shard, for a request
-  a_time : RequestId → Thing
+  a_time : RequestId → (shard : ℕ) → Thing
   -- the table of a collection, for this node, as it was requested of the catalogue
   a_table : (node : ℕ) → (namespace : List ℕ) → (create : Bool) → At → Thing
   -- that a chunk is split
@@ -30,31 +30,37 @@ pub data Thing : Type 0 where
   -- a shard's part of a read, in a turn
   a_part : RequestId → (turn : ℕ) → Thing
 
--- of a request with this left to do
-abbrev pub thing_by : RequestId → (node : ℕ) → (namespace : List ℕ) → Work → Wait → Thing
-thing_by id node namespace (writing kind ordered statements answers) for_time = a_time id
-thing_by id node namespace (writing kind ordered statements answers) for_catalogue = a_table node namespace true no_time
-thing_by id node namespace (writing kind ordered statements answers) for_shards = a_run id (length answers)
-thing_by id node namespace (reading named at stages telling) for_time = a_time id
-thing_by id node namespace (reading named at stages telling) for_catalogue = a_table node namespace false (at_time at)
-thing_by id node namespace (reading named at stages telling) for_shards = a_part id 1
-thing_by id node namespace sharding wait = a_table node namespace true no_time
-thing_by id node namespace (splitting middle) wait = a_split id
+-- what a request with this left to do waits for from the catalogue
+abbrev pub thing_there : RequestId → (node : ℕ) → (namespace : List ℕ) → Work → Thing
+thing_there id node namespace (writing kind ordered statements answers) = a_table node namespace true no_time
+thing_there id node namespace (reading named at stages telling) = a_table node namespace false (at_time at)
+thing_there id node namespace sharding = a_table node namespace true no_time
+thing_there id node namespace (splitting middle) = a_split id
 
-abbrev pub thing_of : Router → Open → Thing
-thing_of r q = thing_by (id_of r q.count) r.me q.namespace q.work q.wait
+-- and from the shards, where its collection has a table
+abbrev pub thing_stored : RequestId → (node : ℕ) → (namespace : List ℕ) → Work → Thing
+thing_stored id node namespace (writing kind ordered statements answers) = a_run id (length answers)
+thing_stored id node namespace (reading named at stages telling) = a_part id 1
+thing_stored id node namespace sharding = a_table node namespace true no_time
+thing_stored id node namespace (splitting middle) = a_split id
 
--- what an open request waits for: currently one thing
+-- what it waits for, where these shards have not returned their time to it
+abbrev pub things_by : RequestId → (node : ℕ) → (shards : List ℕ) → (namespace : List ℕ) → Work → Wait → List Thing
+things_by id node shards namespace work for_time = map (λ shard. a_time id shard) shards
+things_by id node shards namespace work for_catalogue = thing_there id node namespace work ∷ []
+things_by id node shards namespace work for_shards = thing_stored id node namespace work ∷ []
+
+-- what an open request waits for: a read may wait for the times of several shards, and all else for one thing
 abbrev pub things_of : Router → Open → List Thing
-things_of r q = thing_of r q ∷ []
+things_of r q = things_by (id_of r q.count) r.me (untold q.told (shards_of r)) q.namespace q.work q.wait
 
 -- MESSAGES
 
 -- The message requests the thing, of a node that has it, or brings it to the node that waits for it. Only a table for the time of a read may be none;
 -- any other is there when it comes.
 abbrev pub Brings : Thing → (from to : ℕ) → Body → Type 0
-Brings t from to (time_ask id) = (t ≡ a_time id) × (to ≡ first_shard)
-Brings t from to (time_told id) = (t ≡ a_time id) × (to ≡ id.router)
+Brings t from to (time_ask id) = t ≡ a_time id to
+Brings t from to (time_told id) = (t ≡ a_time id from) × (to ≡ id.router)
 Brings t from to (table_ask namespace create at) = (t ≡ a_table from namespace create at) × (to ≡ 0)
 Brings t from to (table_told namespace create at table) = (t ≡ a_table to namespace create at) × (at ≡ no_time → IsSome table)
 Brings t from to (split_ask id namespace middle) = (t ≡ a_split id) × (to ≡ 0) × (from ≡ id.router)
@@ -99,6 +105,11 @@ pub record IsParked (left : ℕ → Type 0) (w : World) (t : Thing) : Type 0 whe
 abbrev pub IsComing : (left : ℕ → Type 0) → World → Thing → Type 0
 IsComing left w t = IsSent left w.sent t ⊎ IsParked left w t
 
+-- there is something that is waited for, and each of these things is under way
+pub record AreComing (left : ℕ → Type 0) (w : World) (things : List Thing) : Type 0 where
+  pub some : things ≢ []
+  pub each : AllByRecursion (IsComing left w) things
+
 -- THE WORLD
 
 -- the request is open at its router, and each thing that it waits for is under way
@@ -109,14 +120,14 @@ pub record IsServedNext (left : ℕ → Type 0) (w : World) (a : Asked) : Type 0
   pub here : slice_get w.nodes a.id.router ≡ Some (record { state = router_state router; kept = kept })
   pub there : IsIn request router.requests
   pub own : a.id ≡ id_of router request.count
-  pub coming : AllByRecursion (IsComing left w) (things_of router request)
+  pub coming : AreComing left w (things_of router request)
 
 -- Where the messages at these places are left to deliver: each request that was taken since the first world is answered, or is open, and all that it waits
 -- for is under way; all that any open request waits for is, and so is the table of each request that is parked.
 pub record IsUnderWay (first : World) (left : ℕ → Type 0) (w : World) : Type 0 where
   pub taken : AllByRecursion (λ (a : Asked). IsAnswered w.answered a ⊎ IsServedNext left w a) (asked_since first w)
   pub waiting : (at : ℕ) (r : Router) (kept : List Kept) (q : Open) → slice_get w.nodes at ≡ Some (record { state = router_state r; kept = kept })
-      → IsIn q r.requests → AllByRecursion (IsComing left w) (things_of r q)
+      → IsIn q r.requests → AreComing left w (things_of r q)
   pub parked : (at : ℕ) (s : Shard) (kept : List Kept) (p : Letter) → slice_get w.nodes at ≡ Some (record { state = shard_state s; kept = kept })
       → IsIn p s.parked → IsFetched left w.sent s p
 

@@ -10,7 +10,7 @@ use Rattle.node_model.specs.Letters.{Effect, Input}
 use Rattle.node_model.specs.States.{NodeState}
 use Rattle.node_model.specs.Steps.{Step}
 use Rattle.node_model.specs.World.{Event, Run, World, start}
-use Rattle.node_replay.specs.Acknowledged.{KeepsJournals, KeepsWrites}
+use Rattle.node_replay.specs.Acknowledged.{KeepsJournals}
 use Rattle.node_replay.specs.Durable.{DurableCatalogue, DurableShard, durable_catalogue, durable_of, durable_shard, empty_catalogue, empty_shard}
 use Rattle.node_replay.specs.Histories.{AreChanges, HasKey, IsHistory}
 use Rattle.node_replay.specs.Holds.{Holds, HoldsOwn, MayOpen, Replays}
@@ -20,7 +20,6 @@ use Rattle.node_replay.specs.Restarts.{Gives, EventOrStop, RunWithStops}
 use Rattle.node_replay.proofs.Steps.{step_follows}
 use Rattle.node_replay.proofs.Runs.{NodeReplays, run_replays, start_replays}
 use Rattle.node_replay.proofs.Restarts.{run_with_stops_replays, run_with_stops_holds, run_with_stops_in_time}
-use Rattle.node_replay.proofs.StopStays.{run_with_stops_keeps}
 use Rattle.node_replay.proofs.JournalsStay.{run_with_stops_grows}
 use Rattle.node_replay.proofs.OnceRuns.{run_with_stops_once}
 use Rattle.node_replay.proofs.ShardHistories.{shard_history}
@@ -31,19 +30,19 @@ pub steps_store_what_may_follow : (stored : ℕ) (s t : NodeState) (i : Input) (
     × (ComesInTime i → Holds (max stored (greatest_kept f.written)) t)
 steps_store_what_may_follow stored s t i f holds step = let h = step_follows stored s t i f holds step in (h.leads, h.holds)
 
-pub runs_with_stops_hold : (routers : ℕ) (events : List EventOrStop) (w : World) → RunWithStops (start routers) events w
+pub runs_with_stops_hold : (others routers : ℕ) (events : List EventOrStop) (w : World) → RunWithStops (start others routers) events w
     → AllByRecursion HoldsOwn w.nodes × ((e : Event) (at : ℕ) (i : Input) → Gives w e at i → ComesInTime i)
 runs_with_stops_hold = run_with_stops_holds
 
-pub no_message_reads_ahead : (routers : ℕ) (events : List EventOrStop) (w : World) → RunWithStops (start routers) events w
+pub no_message_reads_ahead : (others routers : ℕ) (events : List EventOrStop) (w : World) → RunWithStops (start others routers) events w
     → AllByRecursion IsInTime w.sent
 no_message_reads_ahead = run_with_stops_in_time
 
-pub runs_replay : (routers : ℕ) (events : List Event) (w : World) → Run (start routers) events w → AllByRecursion Replays w.nodes
-runs_replay routers events w run =
-    all_weaken NodeReplays Replays w.nodes (λ h r. r.0) (run_replays (start routers) w events (start_replays routers) run).nodes
+pub runs_replay : (others routers : ℕ) (events : List Event) (w : World) → Run (start others routers) events w → AllByRecursion Replays w.nodes
+runs_replay others routers events w run =
+    all_weaken NodeReplays Replays w.nodes (λ h r. r.0) (run_replays (start others routers) w events (start_replays others routers) run).nodes
 
-pub runs_with_stops_replay : (routers : ℕ) (events : List EventOrStop) (w : World) → RunWithStops (start routers) events w
+pub runs_with_stops_replay : (others routers : ℕ) (events : List EventOrStop) (w : World) → RunWithStops (start others routers) events w
     → AllByRecursion Replays w.nodes × AllByRecursion MayOpen w.nodes
 runs_with_stops_replay = run_with_stops_replays
 
@@ -55,12 +54,9 @@ pub replayed_catalogue_has_changes : (me : ℕ) (records : List Record) (d : Dur
     → replayed (Some (durable_catalogue (empty_catalogue me))) records ≡ Some (durable_catalogue d) → AreChanges records d
 replayed_catalogue_has_changes = catalogue_changes
 
-pub runs_with_stops_keep_writes : (routers : ℕ) (events : List EventOrStop) (w : World) → RunWithStops (start routers) events w → KeepsWrites w
-runs_with_stops_keep_writes = run_with_stops_keeps
-
 pub runs_with_stops_keep_journals : (u : World) (events : List EventOrStop) (w : World) → RunWithStops u events w → KeepsJournals u w
 runs_with_stops_keep_journals u events w run = run_with_stops_grows u w events run
 
-pub runs_with_stops_answer_once : (routers : ℕ) (events : List EventOrStop) (w : World) → RunWithStops (start routers) events w
+pub runs_with_stops_answer_once : (others routers : ℕ) (events : List EventOrStop) (w : World) → RunWithStops (start others routers) events w
     → AreDifferent (ids_told w.answered)
 runs_with_stops_answer_once = run_with_stops_once

@@ -4,6 +4,7 @@ pub mod ShardFollows
 pub mod CatalogueFollows
 pub mod RouterFollows
 pub mod Steps
+pub mod Starts
 pub mod ReadTimes
 pub mod Runs
 pub mod Restarts
@@ -15,6 +16,7 @@ pub mod CatalogueStays
 pub mod RouterStays
 pub mod Noted
 pub mod RouterNext
+pub mod StoredEntries
 pub mod WorldStays
 pub mod StopStays
 pub mod OnceStays

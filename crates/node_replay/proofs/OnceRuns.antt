@@ -1,5 +1,5 @@
 -- No request is answered twice: over runs with stops.
-use Rattle.std.proofs.Common.{◌≡◌, ◌≢◌, ℕ, zero, suc, ◌+◌, List, [], ◌∷◌, ◌++◌, refl, sym, ap, subst, ◌∙◌, arith, append-nil}
+use Rattle.std.proofs.Common.{◌≡◌, ◌≢◌, ℕ, ◌+◌, List, [], ◌∷◌, ◌++◌, refl, sym, ap, subst, ◌∙◌, arith, append-nil}
 use Rattle.std.specs.Prelude.{Option, Some, None}
 use Rattle.std.specs.List.{AllByRecursion, slice_get, slice_set}
 use Rattle.std.specs.Option.{option_map}
@@ -15,7 +15,7 @@ use Rattle.node_model.specs.RouterRows.{begins}
 use Rattle.node_model.specs.ShardRows.{ShardRow, shard_write, shard_repeat, shard_empty, shard_park, shard_waits, shard_stale, shard_read, shard_read_above, shard_rows, shard_excess, shard_overflow, shard_time, shard_learn, shard_known, shard_skip, shard_moment, shard_opened, shard_client}
 use Rattle.node_model.specs.States.{Catalogue, Shard, Open, Router, NodeState, catalogue_state, shard_state, router_state}
 use Rattle.node_model.specs.Steps.{Step, catalogue_step, shard_step, router_step, begin_step, other_step}
-use Rattle.node_model.specs.World.{Held, World, Moves, Event, Happens, comes, delivers, passes, begins as was_opened, routers_from, start, asked_by, answered_by}
+use Rattle.node_model.specs.World.{Held, World, Moves, Event, Happens, comes, delivers, passes, begins as was_opened, start, history_of, asked_by, answered_by}
 use Rattle.node_laws.proofs.Lists.{map_longer}
 use Rattle.node_laws.proofs.Places.{EachAt, each_get, each_set}
 use Rattle.node_replay.specs.Durable.{DurableState, durable_catalogue, durable_shard, durable_router}
@@ -25,9 +25,10 @@ use Rattle.node_replay.proofs.OnceStays.{IsSilent, RouterOnce, StepOnce, router_
 use Rattle.node_replay.proofs.Restarts.{occurs_replays}
 use Rattle.node_replay.proofs.RouterNext.{begins_stays}
 use Rattle.node_replay.proofs.Runs.{WorldReplays, start_replays}
+use Rattle.node_replay.proofs.Starts.{starts_each}
 use Rattle.node_replay.proofs.StayFacts.{id_in, StateStays, HeldStays}
 use Rattle.node_replay.proofs.StopStays.{here_stays, occurs_stays, start_stays}
-use Rattle.node_replay.proofs.WorldStays.{stored_in, WorldStays}
+use Rattle.node_replay.proofs.WorldStays.{WorldStays}
 
 -- STEPS
 
@@ -152,7 +153,7 @@ ids_grow asked more told all =
 
 module _ (w : World) (at : ℕ) (old : Held) (stay : WorldStays w) (own : WorldOnce w) (here : slice_get w.nodes at ≡ Some old) where
   abbrev Both : ℕ → Held → Type 0
-  Both j h = HeldStays w.asked (stored_in w.nodes) j h × StateOnce w.answered h.state
+  Both j h = HeldStays w.asked (history_of w.nodes) j h × StateOnce w.answered h.state
 
   once_here : StateOnce w.answered old.state
   once_here = each_get (λ j (h : Held). StateOnce w.answered h.state) 0 at w.nodes old own.each here
@@ -161,8 +162,8 @@ module _ (w : World) (at : ℕ) (old : Held) (stay : WorldStays w) (own : WorldO
       → ListsOnce (slice_set w.nodes at new) (w.asked ++ more) (w.answered ++ news)
   once_after more news new s = record {
     each = each_set Both (λ j (h : Held). StateOnce (w.answered ++ news) h.state) 0 at w.nodes new
-        (λ j (h : Held) apart b. state_grows w.asked (stored_in w.nodes) w.answered news at j h.kept h.state (λ e. apart (e ∙ zero_more)) s.here b.0 b.1)
-        s.node (each_both (HeldStays w.asked (stored_in w.nodes)) (λ j (h : Held). StateOnce w.answered h.state) 0 w.nodes stay.each own.each);
+        (λ j (h : Held) apart b. state_grows w.asked (history_of w.nodes) w.answered news at j h.kept h.state (λ e. apart (e ∙ zero_more)) s.here b.0 b.1)
+        s.node (each_both (HeldStays w.asked (history_of w.nodes)) (λ j (h : Held). StateOnce w.answered h.state) 0 w.nodes stay.each own.each);
     told = all_append (λ (t : Answered). IsIn t.id (ids_asked (w.asked ++ more))) w.answered news (ids_grow w.asked more w.answered own.told) s.told;
     once = s.once;
   }
@@ -175,7 +176,7 @@ module _ (w : World) (at : ℕ) (old : Held) (stay : WorldStays w) (own : WorldO
 step_here : (w : World) (at : ℕ) (old : Held) (f : Effect) (new : NodeState) (i : Input) → WorldStays w → WorldOnce w → slice_get w.nodes at ≡ Some old
     → Step old.state i f new → NodeOnce (w.asked ++ asked_by w.now f.taken) w.answered (answered_by w.now f.replies) at new
 step_here w at old f new i stay own here step =
-    step_once w.asked (stored_in w.nodes) w.answered w.now at old.kept stay.one own.told own.once old.state new i f (here_stays w at old stay here)
+    step_once w.asked (history_of w.nodes) w.answered w.now at old.kept stay.one own.told own.once old.state new i f (here_stays w at old stay here)
     (once_here w at old stay own here) step
 
 move_once : (w v : World) (at : ℕ) (i : Input) → WorldStays w → WorldOnce w → Moves w at i v → WorldOnce v
@@ -218,11 +219,12 @@ run_once _ _ _ stay all own (stays w) = own
 run_once _ _ _ stay all own (proceeds u v w e events h more) =
     run_once v w events (occurs_stays u v e stay all h) (occurs_replays u v e all h) (occurs_once u v e stay own h) more
 
-routers_once : (at n : ℕ) → EachAt (λ j (h : Held). StateOnce [] h.state) at (routers_from at n)
-routers_once at zero = tt
-routers_once at (suc n) = (record { different = tt; silent = tt }, routers_once (at + 1) n)
-
-pub run_with_stops_once : (routers : ℕ) (events : List EventOrStop) (w : World) → RunWithStops (start routers) events w → AreDifferent (ids_told w.answered)
-run_with_stops_once routers events w run =
-    (run_once (start routers) w events (start_stays routers) (start_replays routers)
-    (record { each = (tt, (tt, routers_once 2 routers)); told = tt; once = tt }) run).once
+pub run_with_stops_once : (others routers : ℕ) (events : List EventOrStop) (w : World) → RunWithStops (start others routers) events w
+    → AreDifferent (ids_told w.answered)
+run_with_stops_once others routers events w run =
+    (run_once (start others routers) w events (start_stays others routers) (start_replays others routers)
+    (record {
+      each = starts_each (λ j (h : Held). StateOnce [] h.state) others routers tt (λ j. tt) (λ j later. record { different = tt; silent = tt });
+      told = tt;
+      once = tt;
+    }) run).once

@@ -1,6 +1,6 @@
 -- No message reads at a time that is later than itself, whatever stops.
-use Rattle.std.proofs.Common.{◌≡◌, ◌≢◌, ℕ, ◌+◌, ◌≤◌, List, [], ◌∷◌, ◌++◌, refl, arith, Bool}
-use Rattle.std.specs.Prelude.{max, filter, not, true, false, ◌&&◌, Option, Some, None, if◌then◌else◌}
+use Rattle.std.proofs.Common.{◌≡◌, ◌≢◌, ℕ, ◌+◌, ◌≤◌, List, [], ◌∷◌, ◌++◌, refl, sym, subst, arith, Bool}
+use Rattle.std.specs.Prelude.{max, map, filter, not, true, false, ◌&&◌, Option, Some, None, if◌then◌else◌}
 use Rattle.std.specs.List.{AllByRecursion, flat_map}
 use Rattle.std.specs.Str.{bytes_eq}
 use Rattle.std.proofs.lemmas.Bool.{ltb-false}
@@ -14,7 +14,7 @@ use Rattle.command_model.specs.Answers.{sharded_answer}
 use Rattle.node_model.specs.CatalogueRows.{CatalogueRow, catalogue_create, catalogue_tell, catalogue_split, catalogue_bound, catalogue_none, catalogue_skip, catalogue_moment, catalogue_opened, catalogue_client}
 use Rattle.node_model.specs.Letters.{At, no_time, at_time, Statement, Body, table_ask, table_told, split_ask, split_done, write_ask, write_done, read_ask, half_ask, read_rows, stale, time_ask, time_told, Letter, Input, Effect, Reply}
 use Rattle.node_model.specs.ShardRows.{heard as heard_there, Ask, ask_in, wants_table, says as says_there, asks_table, asks_again as asks_tables, ShardRow, shard_write, shard_repeat, shard_empty, shard_park, shard_waits, shard_stale, shard_read, shard_read_above, shard_rows, shard_excess, shard_overflow, shard_time, shard_learn, shard_known, shard_skip, shard_moment, shard_opened, shard_client}
-use Rattle.node_model.specs.RouterRows.{heard, id_of, says, run_to, owner_of_statement, asks_to_write, asks_to_read, asks_shards, asks_catalogue, owner_of_span, unanswered, asks_times, is_ahead, reached, table_for, wait_by, asks_by, wait_of, asks_for, opened_request, reply_to, empty_answer, noted, going_on, is_for, Next, stays, is_told, is_for_catalogue, next_waiting, next_of, adopted, was_created, asks_again, RouterRow, router_begin, router_opened, router_plain, router_more, router_no_cursor, router_kill, router_take, router_learn, router_split, router_not_sharded, router_reach, router_ahead, router_note, router_wrote, router_read, router_excess, router_overflow, router_late, router_skip, router_moment, begins}
+use Rattle.node_model.specs.RouterRows.{heard, id_of, says, run_to, owner_of_statement, asks_to_write, asks_to_read, asks_shards, asks_catalogue, owner_of_span, unanswered, shards_of, untold, asks_times, is_ahead, reached, table_for, wait_by, asks_by, wait_of, asks_for, opened_request, with_told, reply_to, empty_answer, noted, going_on, is_for, Next, stays, is_told, is_for_catalogue, next_waiting, next_of, adopted, was_created, asks_again, RouterRow, router_begin, router_opened, router_plain, router_more, router_no_cursor, router_kill, router_take, router_learn, router_split, router_not_sharded, router_reach, router_hear, router_ahead, router_note, router_wrote, router_read, router_excess, router_overflow, router_late, router_skip, router_moment, begins}
 use Rattle.node_model.specs.States.{Work, writing, reading, sharding, splitting, Wait, for_time, for_catalogue, for_shards, Open, Router, Shard, Catalogue, NodeState, without, replaced}
 use Rattle.node_model.specs.Steps.{Step, catalogue_step, shard_step, router_step, begin_step, other_step}
 use Rattle.node_laws.proofs.Lists.{all_mapped}
@@ -182,12 +182,19 @@ module _ (r : Router) (time count : ℕ) (namespace : List ℕ) where
   catalogue_asked sharding by = tt
   catalogue_asked (splitting middle) by = tt
 
+  times_in_time : (told : List ℕ) → AllByRecursion IsInTime (asks_times r time (id_of r count) told)
+  times_in_time told = each_in_time (untold told (shards_of r))
+    where
+      each_in_time : (shards : List ℕ) → AllByRecursion IsInTime (map (λ s. says r s time (time_ask (id_of r count))) shards)
+      each_in_time [] = tt
+      each_in_time (s ∷ shards) = (tt, each_in_time shards)
+
   asks_in_time : (work : Work) → AllByRecursion IsInTime (asks_for r time count namespace work)
   asks_in_time work = by_ahead (is_ahead time work) refl (table_for r.tables namespace work)
     where
       by_ahead : (b : Bool) → is_ahead time work ≡ b → (o : Option Table)
-          → AllByRecursion IsInTime (if b then asks_times r time (id_of r count) else asks_by r time count namespace work o)
-      by_ahead true is o = (tt, tt)
+          → AllByRecursion IsInTime (if b then asks_times r time (id_of r count) [] else asks_by r time count namespace work o)
+      by_ahead true is o = times_in_time []
       by_ahead false is None = (catalogue_asked work (not_ahead time work is), tt)
       by_ahead false is (Some t) = shards_in_time t work (not_ahead time work is)
 
@@ -199,22 +206,22 @@ module _ (r : Router) (time count : ℕ) (namespace : List ℕ) where
       by_ahead false is None = not_ahead time work is
       by_ahead false is (Some t) = not_ahead time work is
 
-  again_in_time : (wait : Wait) (work : Work) (o : Option Table) → WaitsBy time wait work
+  again_in_time : (told : List ℕ) (wait : Wait) (work : Work) (o : Option Table) → WaitsBy time wait work
       → AllByRecursion IsInTime (elim wait as (λ (x : Wait). List Letter) [
-        | for_time ↦ asks_times r time (id_of r count)
+        | for_time ↦ asks_times r time (id_of r count) told
         | for_catalogue ↦ asks_catalogue r time count namespace work ∷ []
         | for_shards ↦ elim o as (λ (x : Option Table). List Letter) [ None ↦ [] | Some t ↦ asks_shards r time count namespace t work ]
       ])
-  again_in_time for_time work o by = (tt, tt)
-  again_in_time for_catalogue work o by = (catalogue_asked work by, tt)
-  again_in_time for_shards work None by = tt
-  again_in_time for_shards work (Some t) by = shards_in_time t work by
+  again_in_time told for_time work o by = times_in_time told
+  again_in_time told for_catalogue work o by = (catalogue_asked work by, tt)
+  again_in_time told for_shards work None by = tt
+  again_in_time told for_shards work (Some t) by = shards_in_time t work by
 
 each_again : (r : Router) (time : ℕ) (requests : List Open) → AllByRecursion (OpensBy time) requests
     → AllByRecursion IsInTime (flat_map (λ q. asks_again r time q) requests)
 each_again r time [] all = tt
 each_again r time (q ∷ requests) all =
-    all_append IsInTime (asks_again r time q) _ (again_in_time r time q.count q.namespace q.wait q.work (table_of q.namespace r.tables) all.0)
+    all_append IsInTime (asks_again r time q) _ (again_in_time r time q.count q.namespace q.told q.wait q.work (table_of q.namespace r.tables) all.0)
     (each_again r time requests all.1)
 
 -- WHERE A TABLE ARRIVES
@@ -283,6 +290,12 @@ module _ (r : Router) (all : AllByRecursion (OpensBy r.time) r.requests) where
       all_replaced (OpensBy (heard r m)) (going_on r (heard r m) q work) r.requests (waits_in_time r (heard r m) q.count q.namespace work)
       (all_weaken (OpensBy (heard r m)) (λ (p : Open). p.count ≢ q.count → OpensBy (heard r m) p) r.requests (λ p by apart. by) (now_open m))
 
+  -- it still waits for its time
+  one_waits : (m : Letter) (q : Open) → q.wait ≡ for_time → AllByRecursion (OpensBy (heard r m)) (replaced (with_told q m.sender) r.requests)
+  one_waits m q waits =
+      all_replaced (OpensBy (heard r m)) (with_told q m.sender) r.requests (subst (λ w. WaitsBy (heard r m) w q.work) (sym waits) tt)
+      (all_weaken (OpensBy (heard r m)) (λ (p : Open). p.count ≢ q.count → OpensBy (heard r m) p) r.requests (λ p by apart. by) (now_open m))
+
   one_more : (more : List Open) → AllByRecursion (OpensBy r.time) more → AllByRecursion (OpensBy r.time) (r.requests ++ more)
   one_more more opens = all_append (OpensBy r.time) r.requests more all opens
 
@@ -312,7 +325,9 @@ router_in_time _ _ _ _ all (router_reach r m id q named at stages telling tells 
   requests = one_goes_on r all m q (reached (heard r m) q.work);
   letters = asks_in_time r (heard r m) q.count q.namespace (reached (heard r m) q.work);
 }
-router_in_time _ _ _ _ all (router_ahead r m id q named at stages telling tells found work waits ahead) =
+router_in_time _ _ _ _ all (router_hear r m id q named at stages telling tells found work waits ahead some) =
+    record { requests = one_waits r all m q waits; letters = tt }
+router_in_time _ _ _ _ all (router_ahead r m id q named at stages telling tells found work waits ahead every) =
     record { requests = one_closed r all m q; letters = tt }
 router_in_time _ _ _ _ all (router_note r m id dones q kind ordered statements answers tells found work news more) = record {
   requests = one_goes_on r all m q (writing kind ordered statements (noted answers dones));

@@ -55,9 +55,9 @@ follow_top (durable_shard d) (ceiling_record time) e same =
     (omega arith)
 follow_top (durable_shard d) r e same = absurd (cc)
 follow_top (durable_router d) (life_record n) e same =
-    subst (λ x. top_of x ≤ max 0 0) (chosen durable_router _ (record { me = d.me; life = n + 1; blocks = d.blocks }) e same) (omega arith)
+    subst (λ x. top_of x ≤ max 0 0) (chosen durable_router _ (record { me = d.me; shards = d.shards; life = n + 1; blocks = d.blocks }) e same) (omega arith)
 follow_top (durable_router d) (block_record n) e same =
-    subst (λ x. top_of x ≤ max 0 0) (chosen durable_router _ (record { me = d.me; life = d.life; blocks = n + 1 }) e same) (omega arith)
+    subst (λ x. top_of x ≤ max 0 0) (chosen durable_router _ (record { me = d.me; shards = d.shards; life = d.life; blocks = n + 1 }) e same) (omega arith)
 follow_top (durable_router d) r e same = absurd (cc)
 
 pub replay_top : (records : List Record) (d e : DurableState) → replayed (Some d) records ≡ Some e → top_of e ≤ max (top_of d) (latest_time records)
@@ -180,19 +180,19 @@ stopped_replays _ _ _ all (proceeds u v w e events h more) = stopped_replays v w
 may_open : (h : Held) → NodeReplays h → MayOpen h
 may_open h (replays, holds) = (became h, node_opens h replays)
 
-pub run_with_stops_replays : (routers : ℕ) (events : List EventOrStop) (w : World) → RunWithStops (start routers) events w
+pub run_with_stops_replays : (others routers : ℕ) (events : List EventOrStop) (w : World) → RunWithStops (start others routers) events w
     → AllByRecursion Replays w.nodes × AllByRecursion MayOpen w.nodes
-run_with_stops_replays routers events w run =
-    let all : WorldReplays w = stopped_replays (start routers) w events (start_replays routers) run in
+run_with_stops_replays others routers events w run =
+    let all : WorldReplays w = stopped_replays (start others routers) w events (start_replays others routers) run in
     (all_weaken NodeReplays Replays w.nodes (λ h r. r.0) all.nodes, all_weaken NodeReplays MayOpen w.nodes may_open all.nodes)
 
 -- what a step of such a run needs
-pub run_with_stops_holds : (routers : ℕ) (events : List EventOrStop) (w : World) → RunWithStops (start routers) events w
+pub run_with_stops_holds : (others routers : ℕ) (events : List EventOrStop) (w : World) → RunWithStops (start others routers) events w
     → AllByRecursion HoldsOwn w.nodes × ((e : Event) (at : ℕ) (i : Input) → Gives w e at i → ComesInTime i)
-run_with_stops_holds routers events w run =
-    let all : WorldReplays w = stopped_replays (start routers) w events (start_replays routers) run in
+run_with_stops_holds others routers events w run =
+    let all : WorldReplays w = stopped_replays (start others routers) w events (start_replays others routers) run in
     (all_weaken NodeReplays HoldsOwn w.nodes (λ h r. r.1) all.nodes, λ e at i gives. given_in_time w e at i all gives)
 
-pub run_with_stops_in_time : (routers : ℕ) (events : List EventOrStop) (w : World) → RunWithStops (start routers) events w
+pub run_with_stops_in_time : (others routers : ℕ) (events : List EventOrStop) (w : World) → RunWithStops (start others routers) events w
     → AllByRecursion IsInTime w.sent
-run_with_stops_in_time routers events w run = (stopped_replays (start routers) w events (start_replays routers) run).letters
+run_with_stops_in_time others routers events w run = (stopped_replays (start others routers) w events (start_replays others routers) run).letters

@@ -19,7 +19,7 @@ use Rattle.reply_model.specs.Exchanges.{Asked}
 use Rattle.reply_model.specs.OneHistory.{ids_asked, AreDifferent}
 use Rattle.reply_model.specs.Outcomes.{Done, answer_of}
 use Rattle.node_model.specs.Letters.{Statement, Input, Effect}
-use Rattle.node_model.specs.RouterRows.{heard, id_of, needs, at_once, needs_batch, needs_end, statements_from, is_answered, asks_for, noted, reply_to, going_on, reached, next_of, adopted, was_created, asks_again, open_of, begins, takes, Next, wait_of, opened_request, taken_now, too_much, RouterRow, router_begin, router_opened, router_plain, router_more, router_no_cursor, router_kill, router_take, router_learn, router_split, router_not_sharded, router_reach, router_ahead, router_note, router_wrote, router_read, router_excess, router_overflow, router_late, router_skip, router_moment}
+use Rattle.node_model.specs.RouterRows.{heard, id_of, needs, at_once, needs_batch, needs_end, statements_from, is_answered, asks_for, noted, reply_to, going_on, reached, next_of, adopted, was_created, asks_again, open_of, begins, takes, Next, wait_of, opened_request, with_told, taken_now, too_much, RouterRow, router_begin, router_opened, router_plain, router_more, router_no_cursor, router_kill, router_take, router_learn, router_split, router_not_sharded, router_reach, router_hear, router_ahead, router_note, router_wrote, router_read, router_excess, router_overflow, router_late, router_skip, router_moment}
 use Rattle.node_model.specs.States.{Telling, Work, writing, reading, splitting, Open, Router, without, replaced}
 use Rattle.node_model.specs.World.{asked_by}
 use Rattle.node_laws.proofs.Facts.{IsBy}
@@ -53,7 +53,7 @@ each_again : (asked : List Asked) (history : List Entry) (r : Router) (time : �
 each_again asked history r time [] all = tt
 each_again asked history r time (q ∷ requests) all =
     all_append (LetterStays asked history) (asks_again r time q) _
-    (again_stays asked history r time q.count q.namespace q.wait q.work (table_of q.namespace r.tables) (working asked history 0 r q all.0))
+    (again_stays asked history r time q.count q.namespace q.told q.wait q.work (table_of q.namespace r.tables) (working asked history 0 r q all.0))
     (each_again asked history r time requests all.1)
 
 one_more : (asked : List Asked) (a : Asked) → AreDifferent (ids_asked asked) → AllByRecursion (λ (b : Asked). b.id ≢ a.id) asked
@@ -123,6 +123,14 @@ module _ (asked : List Asked) (history : List Entry) (now at : ℕ) (r : Router)
           does = subst (λ x. WorkStays history (id_of r q.count) x q.namespace work) (sym o.asks) does;
         }),
   )
+
+  -- it waits for the times of other shards
+  hears : (q : Open) (shard : ℕ) → IsOwn asked history now r q
+      → AllByRecursion (IsOwn asked history now r) (replaced (with_told q shard) r.requests)
+  hears q shard o =
+      all_replaced (IsOwn asked history now r) (with_told q shard) r.requests
+      (record { request = o.request; taken = o.taken; own = o.own; asks = o.asks; work = o.work })
+      (all_weaken (IsOwn asked history now r) (λ (p : Open). p.count ≢ q.count → IsOwn asked history now r p) r.requests (λ p o apart. o) mine.requests)
 
   -- a read goes on
   read_no_write : (q : Open) (named : Bool) (time : ℕ) (stages : List Stage) (telling : Telling) → q.work ≡ reading named time stages telling
@@ -346,7 +354,10 @@ router_steps asked history now at _ _ _ _ mine one input (router_reach r m id q 
     subst (λ w. WorkStays history (id_of r q.count) q.request q.namespace (reached (heard r m) w)) (sym work) plain in
     let p = proceeds asked history now at r mine one q (heard r m) (reached (heard r m) q.work) o does in
     still asked history now at r mine one _ _ refl refl refl refl refl p.0 p.1 tt
-router_steps asked history now at _ _ _ _ mine one input (router_ahead r m id q named time stages telling tells opens_here work waits ahead) =
+router_steps asked history now at _ _ _ _ mine one input (router_hear r m id q named time stages telling tells opens_here work waits ahead some) =
+    still asked history now at r mine one _ _ refl refl refl refl refl
+    (hears asked history now at r mine one q m.sender (found asked history now at r mine one id q opens_here)) tt tt
+router_steps asked history now at _ _ _ _ mine one input (router_ahead r m id q named time stages telling tells opens_here work waits ahead all) =
     let o = found asked history now at r mine one id q opens_here in
     still asked history now at r mine one _ _ refl refl refl refl refl (closed asked history now at r mine one q) tt (
       plain_told asked history now r q (heard r m) (refusal_answer (time_ahead (heard r m)))

@@ -1,6 +1,6 @@
 -- Each transition of a router keeps the facts that stay.
 use Rattle.std.proofs.Common.{◌≡◌, ℕ, zero, suc, List, [], ◌∷◌, refl, sym, subst, ◌∙◌}
-use Rattle.std.specs.Prelude.{length, drop, Bool, true, false, ◌&&◌, Option, Some, None, Result, Ok, Err, if◌then◌else◌}
+use Rattle.std.specs.Prelude.{length, drop, map, Bool, true, false, ◌&&◌, Option, Some, None, Result, Ok, Err, if◌then◌else◌}
 use Rattle.std.specs.List.{AllByRecursion}
 use Rattle.base_model.specs.Identities.{RequestId}
 use Rattle.base_model.specs.Refusals.{Refusal}
@@ -20,8 +20,8 @@ use Rattle.pipeline_model.specs.Stages.{Stage}
 use Rattle.std.specs.Str.{bytes_eq}
 use Rattle.reply_model.specs.Exchanges.{Asked}
 use Rattle.reply_model.specs.Outcomes.{Done}
-use Rattle.node_model.specs.Letters.{At, Statement, write_ask, read_ask, Letter, Reply}
-use Rattle.node_model.specs.RouterRows.{is_on, says, id_of, RequestPlan, at_once, needs, needs_batch, needs_end, plan_of, statements_from, owner_of_statement, run_to, asks_to_write, asks_to_read, asks_shards, asks_catalogue, owner_of_span, unanswered, asks_times, is_ahead, table_for, asks_by, asks_for, reply_to, Next, stays, is_told, empty_answer, is_for_catalogue, next_waiting, next_of, is_for, with_work}
+use Rattle.node_model.specs.Letters.{At, Statement, write_ask, read_ask, time_ask, Letter, Reply}
+use Rattle.node_model.specs.RouterRows.{is_on, says, id_of, RequestPlan, at_once, needs, needs_batch, needs_end, plan_of, statements_from, owner_of_statement, run_to, asks_to_write, asks_to_read, asks_shards, asks_catalogue, owner_of_span, unanswered, shards_of, untold, asks_times, is_ahead, table_for, asks_by, asks_for, reply_to, Next, stays, is_told, empty_answer, is_for_catalogue, next_waiting, next_of, is_for, with_work}
 use Rattle.node_model.specs.States.{Telling, Work, writing, reading, sharding, splitting, Wait, for_time, for_catalogue, for_shards, Open, Router}
 use Rattle.node_laws.proofs.RouterAnswers.{as_answered}
 use Rattle.node_laws.proofs.NextRequests.{NextIs}
@@ -160,25 +160,33 @@ module _ (asked : List Asked) (history : List Entry) (r : Router) (time count : 
   catalogue_stays sharding w = tt
   catalogue_stays (splitting middle) w = middle_is_key w.request.request (record { namespace = namespace; middle = middle }) w.does
 
+  -- nothing is known of the times of shards
+  times_stay : (told : List ℕ) → Stay (asks_times r time (id_of r count) told)
+  times_stay told = each_stays (untold told (shards_of r))
+    where
+      each_stays : (shards : List ℕ) → Stay (map (λ s. says r s time (time_ask (id_of r count))) shards)
+      each_stays [] = tt
+      each_stays (s ∷ shards) = (tt, each_stays shards)
+
   pub asks_stay : (work : Work) → IsWorking asked history (id_of r count) namespace work → Stay (asks_for r time count namespace work)
   asks_stay work w = by_ahead (is_ahead time work) (table_for r.tables namespace work)
     where
-      by_ahead : (b : Bool) (o : Option Table) → Stay (if b then asks_times r time (id_of r count) else asks_by r time count namespace work o)
-      by_ahead true o = (tt, tt)
+      by_ahead : (b : Bool) (o : Option Table) → Stay (if b then asks_times r time (id_of r count) [] else asks_by r time count namespace work o)
+      by_ahead true o = times_stay []
       by_ahead false None = (catalogue_stays work w, tt)
       by_ahead false (Some t) = shards_stay t work w
 
   -- what it waits for is requested again
-  pub again_stays : (wait : Wait) (work : Work) (o : Option Table) → IsWorking asked history (id_of r count) namespace work
+  pub again_stays : (told : List ℕ) (wait : Wait) (work : Work) (o : Option Table) → IsWorking asked history (id_of r count) namespace work
       → Stay (elim wait as (λ (x : Wait). List Letter) [
-        | for_time ↦ asks_times r time (id_of r count)
+        | for_time ↦ asks_times r time (id_of r count) told
         | for_catalogue ↦ asks_catalogue r time count namespace work ∷ []
         | for_shards ↦ elim o as (λ (x : Option Table). List Letter) [ None ↦ [] | Some t ↦ asks_shards r time count namespace t work ]
       ])
-  again_stays for_time work o w = (tt, tt)
-  again_stays for_catalogue work o w = (catalogue_stays work w, tt)
-  again_stays for_shards work None w = tt
-  again_stays for_shards work (Some t) w = shards_stay t work w
+  again_stays told for_time work o w = times_stay told
+  again_stays told for_catalogue work o w = (catalogue_stays work w, tt)
+  again_stays told for_shards work None w = tt
+  again_stays told for_shards work (Some t) w = shards_stay t work w
 
 -- OPEN REQUESTS
 

@@ -1,5 +1,5 @@
 -- In every run, also one in which nodes stop and are started again, the journal of each node replays to its durable part.
-use Rattle.std.proofs.Common.{◌≡◌, inr, ℕ, zero, suc, ◌+◌, List, [], ◌∷◌, ◌++◌, refl, sym, ap, subst, ◌∙◌, arith}
+use Rattle.std.proofs.Common.{◌≡◌, inr, ℕ, zero, suc, List, [], ◌∷◌, ◌++◌, refl, sym, ap, subst, ◌∙◌, arith}
 use Rattle.std.specs.Prelude.{Some}
 use Rattle.std.specs.List.{AllByRecursion, slice_get, slice_set}
 use Rattle.history_model.proofs.Lists.{all_append}
@@ -7,7 +7,7 @@ use Rattle.node_model.specs.Journal.{greatest_kept}
 use Rattle.node_model.specs.Letters.{Input, client_input, letter_input, moment_input, opened_input, Effect}
 use Rattle.node_model.specs.States.{NodeState}
 use Rattle.node_model.specs.Steps.{Step}
-use Rattle.node_model.specs.World.{Held, World, Moves, Event, Happens, comes, delivers, passes, begins, Run, stands, goes, routers_from, start}
+use Rattle.node_model.specs.World.{Held, World, Moves, Event, Happens, comes, delivers, passes, begins, Run, stands, goes, start}
 use Rattle.node_replay.specs.Durable.{durable_of, empty_of}
 use Rattle.node_replay.specs.Replays.{replayed, records_of}
 use Rattle.node_laws.proofs.GreatestTimes.{greatest_both}
@@ -16,6 +16,7 @@ use Rattle.node_replay.specs.ReadTimes.{IsInTime, ComesInTime, ReadsInTime}
 use Rattle.node_replay.proofs.Replay.{replayed_then}
 use Rattle.node_replay.proofs.ReadTimes.{StepInTime, step_in_time}
 use Rattle.node_replay.proofs.CatalogueFollows.{stored_with}
+use Rattle.node_replay.proofs.Starts.{all_starts}
 use Rattle.node_replay.proofs.Steps.{StepFollows, step_follows}
 
 -- what is true of each node at every moment
@@ -95,17 +96,9 @@ pub run_replays : (u w : World) (events : List Event) → WorldReplays u → Run
 run_replays _ _ _ all (stands w) = all
 run_replays _ _ _ all (goes u v w e events h more) = run_replays v w events (event_replays u v e all h) more
 
-routers_replay : (at n : ℕ) → AllByRecursion NodeReplays (routers_from at n)
-routers_replay at zero = tt
-routers_replay at (suc n) = ((refl, (omega arith, inr refl)), routers_replay (at + 1) n)
-
-routers_read : (at n : ℕ) → AllByRecursion NodeReads (routers_from at n)
-routers_read at zero = tt
-routers_read at (suc n) = (tt, routers_read (at + 1) n)
-
-pub start_replays : (routers : ℕ) → WorldReplays (start routers)
-start_replays routers = record {
-  nodes = ((refl, omega arith), ((refl, omega arith), routers_replay 2 routers));
-  reads = (tt, (tt, routers_read 2 routers));
+pub start_replays : (others routers : ℕ) → WorldReplays (start others routers)
+start_replays others routers = record {
+  nodes = all_starts NodeReplays others routers (refl, omega arith) (λ at. (refl, omega arith)) (λ at. (refl, (omega arith, inr refl)));
+  reads = all_starts NodeReads others routers tt (λ at. tt) (λ at. tt);
   letters = tt;
 }

@@ -20,10 +20,10 @@ use Rattle.node_laws.proofs.Dates.{IsNoChange}
 use Rattle.node_laws.proofs.Lists.{all_mapped}
 use Rattle.node_laws.proofs.LongerJournals.{entries_longer}
 use Rattle.node_laws.proofs.MadeEntries.{statements_of}
-use Rattle.node_laws.proofs.ServedStatements.{AreUpTo, IsOf, AreOf, IsEntryOf, statement_of, serves_entries, serves_told, repeats_told}
+use Rattle.node_laws.proofs.ServedStatements.{AreUpTo, IsOf, AreOf, serves_told, repeats_told}
 use Rattle.node_laws.proofs.WriteFacts.{IsAnswerOf, by_entry, by_older, IsDoneAt}
 use Rattle.node_replay.specs.Acknowledged.{IsOutcomeOf, of_entry, of_greater, IsOutcomeAt}
-use Rattle.node_replay.proofs.StayFacts.{AreSent, AreDone, BodyStays, LetterStays, EntryStays, ShardStays, Grows, body_grows, letters_grow, entries_grow}
+use Rattle.node_replay.proofs.StayFacts.{AreSent, AreDone, BodyStays, LetterStays, ShardStays, Grows, outcomes_grow, body_grows, letters_grow}
 
 -- what is known of an input
 abbrev pub InputStays : List Asked → List Entry → Input → Type 0
@@ -74,13 +74,6 @@ own_statements asked id namespace statements s =
     all_weaken (λ x. IsIn x (statements_from s.write.number id 0 s.write.operations)) (IsOf s.write id) statements
     (λ x i. all_at (IsOf s.write id) x (statements_from s.write.number id 0 s.write.operations) (statements_of s.write id 0) i) s.each
 
--- each of them alone
-each_sent : (asked : List Asked) (id : RequestId) (namespace : List ℕ) (statements : List Statement) → AreSent asked id namespace statements
-    → AllByRecursion (λ x. AreSent asked id namespace (x ∷ [])) statements
-each_sent asked id namespace statements s =
-    all_weaken (λ x. IsIn x (statements_from s.write.number id 0 s.write.operations)) (λ x. AreSent asked id namespace (x ∷ [])) statements
-    (λ x i. record { request = s.request; write = s.write; taken = s.taken; own = s.own; asks = s.asks; name = s.name; each = (i, tt) }) s.each
-
 -- MESSAGES
 
 asks_again_stay : (asked : List Asked) (history : List Entry) (s : Shard) (time : ℕ) (parked : List Letter)
@@ -109,7 +102,6 @@ module _ (asked more : List Asked) (history longer : List Entry) (g : Grows aske
       own = mine.own;
       place = mine.place;
       entries = mine.entries ∙ ap (λ l. entries_kept l) (sym (append-nil kept)) ∙ ap (λ l. entries_kept (kept ++ l)) (sym none);
-      sent = entries_grow asked more history longer g s.entries mine.sent;
       parked = waits;
     };
     letters = letters;
@@ -126,20 +118,24 @@ module _ (asked more : List Asked) (history longer : List Entry) (g : Grows aske
       → ShardNext more longer at kept f (record { me = s.me; time = time; tables = s.tables; entries = s.entries; ceiling = s.ceiling; parked = s.parked })
   says_one f time none takes tells letters = quiet f time s.parked none takes tells parked_stay letters
 
-  done_stay : (id : RequestId) (namespace : List ℕ) (statements : List Statement) (ask : AreSent asked id namespace statements) (last : ℕ) (dones : List Done)
-      → AllByRecursion (IsDoneAt longer last ask.write id) dones → AreDone more longer id dones
-  done_stay id namespace statements ask last dones all = record {
+  -- outcomes of entries that are stored
+  done_stay : (entries : List Entry) (id : RequestId) (namespace : List ℕ) (statements : List Statement) (ask : AreSent asked id namespace statements)
+      (last : ℕ) (dones : List Done) → ((e : Entry) → IsIn e entries → IsIn e longer) → AllByRecursion (IsDoneAt entries last ask.write id) dones
+      → AreDone more longer id dones
+  done_stay entries id namespace statements ask last dones stored all = record {
     request = ask.request;
     write = ask.write;
     taken = g.taken ask.request ask.taken;
     own = ask.own;
     asks = ask.asks;
-    each = outcome_from longer last ask.write id dones all;
+    each = outcomes_grow more more entries longer (record { taken = λ a i. i; stored = stored }) ask.write id dones
+        (outcome_from entries last ask.write id dones all);
   }
 
   -- entries are made of statements
   writes_stay : (id : RequestId) (namespace : List ℕ) (ordered : Bool) (time : ℕ) (statements : List Statement) (dones : List Done) (made : List Entry)
-      (last to : ℕ) → s.time ≤ time → longer ≡ entries_kept (kept ++ map kept_entry made) → AreSent asked id namespace statements
+      (last to : ℕ) → s.time ≤ time → ((e : Entry) → IsIn e (entries_kept (kept ++ map kept_entry made)) → IsIn e longer)
+      → AreSent asked id namespace statements
       → Serves s.me namespace ordered s.entries time statements dones made last
       → ShardNext more longer at kept (writes (map kept_entry made) (says s to last (write_done id dones) ∷ []))
       (record { me = s.me; time = last; tables = s.tables; entries = s.entries ++ made; ceiling = s.ceiling; parked = s.parked })
@@ -150,22 +146,15 @@ module _ (asked more : List Asked) (history longer : List Entry) (g : Grows aske
       let up : AreUpTo time s.entries = latest_above time s.entries (omega (arith, past, le)) in
       let told : AllByRecursion (IsDoneAt (s.entries ++ made) last ask.write id) dones =
       serves_told ask.write id s.me namespace ordered s.entries time statements dones made last serves (own_statements asked id namespace statements ask) up in
-      let all : AllByRecursion (IsEntryOf s.me namespace (λ x. AreSent asked id namespace (x ∷ []))) made =
-      serves_entries (λ x. AreSent asked id namespace (x ∷ [])) s.me namespace ordered s.entries time statements dones made last serves
-      (each_sent asked id namespace statements ask) in
       record {
         node = record {
           own = mine.own;
           place = mine.place;
           entries = sym stored;
-          sent = all_append (EntryStays more) s.entries made (entries_grow asked more history longer g s.entries mine.sent)
-              (entries_grow asked more history longer g made
-              (all_weaken (IsEntryOf s.me namespace (λ x. AreSent asked id namespace (x ∷ []))) (EntryStays asked) made
-              (λ (e : Entry) h. record { id = id; sent = subst (λ n. AreSent asked id n (statement_of e ∷ [])) (sym h.1) h.2 }) all));
           parked = parked_stay;
         };
         letters = (
-          done_stay id namespace statements ask last dones (subst (λ l. AllByRecursion (IsDoneAt l last ask.write id) dones) (sym (here ∙ stored)) told),
+          done_stay (s.entries ++ made) id namespace statements ask last dones (λ e i. here e (subst (λ l. IsIn e l) (sym stored) i)) told,
           tt,
         );
         takes = refl;
@@ -175,14 +164,14 @@ module _ (asked more : List Asked) (history longer : List Entry) (g : Grows aske
 
   -- statements that were applied before
   repeats_stay : (id : RequestId) (namespace : List ℕ) (ordered : Bool) (time : ℕ) (statements : List Statement) (dones : List Done) (to : ℕ) → s.time ≤ time
-      → longer ≡ entries_kept (kept ++ []) → AreSent asked id namespace statements → Repeats ordered s.entries statements dones
+      → ((e : Entry) → IsIn e (entries_kept (kept ++ [])) → IsIn e longer) → AreSent asked id namespace statements → Repeats ordered s.entries statements dones
       → ShardNext more longer at kept (sends (says s to time (write_done id dones) ∷ [])) (at_later s time)
   repeats_stay id namespace ordered time statements dones to le here ask repeated =
       let up : AreUpTo time s.entries = latest_above time s.entries (omega (arith, past, le)) in
       let stored : entries_kept (kept ++ []) ≡ s.entries = ap (λ l. entries_kept l) (append-nil kept) ∙ sym mine.entries in
       says_one (sends (says s to time (write_done id dones) ∷ [])) time refl refl refl (
-        done_stay id namespace statements ask time dones (subst (λ l. AllByRecursion (IsDoneAt l time ask.write id) dones) (sym (here ∙ stored))
-            (repeats_told ask.write id ordered s.entries time statements dones repeated (own_statements asked id namespace statements ask) up)),
+        done_stay s.entries id namespace statements ask time dones (λ e i. here e (subst (λ l. IsIn e l) (sym stored) i))
+            (repeats_told ask.write id ordered s.entries time statements dones repeated (own_statements asked id namespace statements ask) up),
         tt,
       )
 
@@ -196,7 +185,6 @@ module _ (asked more : List Asked) (history longer : List Entry) (g : Grows aske
       own = mine.own;
       place = mine.place;
       entries = mine.entries ∙ sym (append-nil (entries_kept kept)) ∙ sym (entries_longer kept (kept_table t ∷ []));
-      sent = entries_grow asked more history longer g s.entries mine.sent;
       parked = waits;
     };
     letters = letters;
@@ -213,7 +201,6 @@ module _ (asked more : List Asked) (history longer : List Entry) (g : Grows aske
       own = mine.own;
       place = mine.place;
       entries = mine.entries ∙ sym (append-nil (entries_kept kept)) ∙ sym (entries_longer kept (kept_ceiling ceiling ∷ []));
-      sent = entries_grow asked more history longer g s.entries mine.sent;
       parked = parked_stay;
     };
     letters = letters;
@@ -223,8 +210,8 @@ module _ (asked more : List Asked) (history longer : List Entry) (g : Grows aske
   }
 
 pub shard_stays : (asked more : List Asked) (history longer : List Entry) (g : Grows asked more history longer) (at : ℕ) (kept : List Kept) (s t : Shard)
-    (i : Input) (f : Effect) → longer ≡ entries_kept (kept ++ f.written) → ShardStays asked history at kept s → greatest_entry s.entries ≤ s.time
-    → InputStays asked history i → ShardRow s i f t → ShardNext more longer at kept f t
+    (i : Input) (f : Effect) → ((e : Entry) → IsIn e (entries_kept (kept ++ f.written)) → IsIn e longer) → ShardStays asked history at kept s
+    → greatest_entry s.entries ≤ s.time → InputStays asked history i → ShardRow s i f t → ShardNext more longer at kept f t
 shard_stays asked more history longer g at kept _ _ _ _ here mine past input
     (shard_write s m id turn ordered namespace statements sent d dones made last asks agree serves) =
     writes_stay asked more history longer g at kept s mine past id namespace ordered (heard s m) statements (d ∷ dones) made last id.router (omega arith) here

@@ -1,6 +1,6 @@
 -- Facts of nodes, messages and replies that stay true where nodes stop: they speak of what is stored and of what was requested, and not of
 -- the times of nodes.
-use Rattle.std.proofs.Common.{◌≡◌, ℕ, ◌<◌, ◌≤◌, List, [], ◌∷◌}
+use Rattle.std.proofs.Common.{◌≡◌, ℕ, ◌<◌, ◌≤◌, List}
 use Rattle.std.specs.Prelude.{Ok, true}
 use Rattle.std.specs.List.{AllByRecursion}
 use Rattle.value_model.specs.Keys.{is_key}
@@ -19,7 +19,6 @@ use Rattle.node_model.specs.RouterRows.{statements_from}
 use Rattle.node_model.specs.States.{Catalogue, Shard, Router, Work, writing, reading, sharding, splitting, Open, NodeState, catalogue_state, shard_state, router_state}
 use Rattle.node_model.specs.World.{Held}
 use Rattle.node_laws.proofs.Facts.{IsBy}
-use Rattle.node_laws.proofs.ServedStatements.{statement_of}
 use Rattle.node_replay.specs.Histories.{HasKey}
 use Rattle.node_replay.specs.Replays.{records_of}
 use Rattle.node_replay.specs.Acknowledged.{AreInTurn, IsOutcomeOf, of_entry, of_greater, IsOutcomeAt, IsAcknowledged, IsStored}
@@ -91,16 +90,10 @@ pub record OpenStays (asked : List Asked) (history : List Entry) (me life : ℕ)
   pub asks : request.request ≡ q.request
   pub work : WorkStays history (id_in me life q.count) q.request q.namespace q.work
 
--- an entry is of a statement that a request sent
-pub record EntryStays (asked : List Asked) (e : Entry) : Type 0 where
-  pub id : RequestId
-  pub sent : AreSent asked id e.namespace (statement_of e ∷ [])
-
 pub record ShardStays (asked : List Asked) (history : List Entry) (at : ℕ) (kept : List Kept) (s : Shard) : Type 0 where
   pub own : s.me ≡ at
-  pub place : at ≡ first_shard
+  pub place : 0 < at
   pub entries : s.entries ≡ entries_kept kept
-  pub sent : AllByRecursion (EntryStays asked) s.entries
   pub parked : AllByRecursion (LetterStays asked history) s.parked
 
 pub record RouterStays (asked : List Asked) (history : List Entry) (at : ℕ) (r : Router) : Type 0 where
@@ -179,11 +172,6 @@ module _ (asked more : List Asked) (history longer : List Entry) (g : Grows aske
     asks = o.asks;
     work = work_grows (id_in me life q.count) q.request q.namespace q.work o.work;
   }
-
-  pub entries_grow : (entries : List Entry) → AllByRecursion (EntryStays asked) entries → AllByRecursion (EntryStays more) entries
-  entries_grow entries all =
-      all_weaken (EntryStays asked) (EntryStays more) entries
-      (λ (e : Entry) s. record { id = s.id; sent = sent_grows s.id e.namespace (statement_of e ∷ []) s.sent }) all
 
   pub stored_grows : (t : Answered) → IsStored history t → IsStored longer t
   stored_grows t s write asks =

@@ -35,12 +35,12 @@ step_follows stored _ _ _ _ holds (shard_step s t i f own row) =
     record { own = ap (λ n. durable_shard (empty_shard n)) h.own; leads = h.leads; holds = h.holds }
 step_follows stored _ _ _ _ holds (router_step r q i f own row) =
     let h = router_follows r q i f holds row in
-    record { own = ap (λ n. durable_router (empty_router n)) h.own; leads = h.leads; holds = λ input. h.holds }
+    record { own = λ j. durable_router (empty_router (h.own j) (h.shards j)); leads = h.leads; holds = λ input. h.holds }
 step_follows stored _ _ _ _ holds (begin_step r q i f not_begun before row) =
     let first : RouterFollows r (writes (kept_life r.life ∷ []) []) (begins r) = router_follows r (begins r) opened_input _ holds (router_begin r not_begun) in
     let h = router_follows (begins r) q i f (begins_holds r holds) row in
     record {
-      own = ap (λ n. durable_router (empty_router n)) h.own;
+      own = λ j. durable_router (empty_router (h.own j) (h.shards j));
       leads = replayed_then (Some (durable_router (router_part r))) (kept_life r.life ∷ []) f.written (durable_router (router_part (begins r)))
           (durable_router (router_part q)) first.leads h.leads;
       holds = λ input. h.holds;

@@ -1,28 +1,24 @@
 -- What was stored and acknowledged stays in every run with stops.
-use Rattle.std.proofs.Common.{◌≡◌, ◌⊎◌, inl, inr, ℕ, zero, suc, ◌+◌, ◌<◌, ◌≤◌, List, [], ◌∷◌, ◌++◌, refl, sym, ap, subst, ◌∙◌, arith, append-nil}
-use Rattle.std.specs.Prelude.{Bool, true, false, Option, Some, length}
+use Rattle.std.proofs.Common.{◌≡◌, inl, inr, ℕ, ◌+◌, ◌≤◌, List, [], ◌∷◌, ◌++◌, refl, sym, ap, subst, ◌∙◌, arith, append-nil}
+use Rattle.std.specs.Prelude.{Bool, true, false, Some}
 use Rattle.std.specs.List.{AllByRecursion, slice_get}
 use Rattle.std.specs.Option.{option_map}
-use Rattle.base_model.specs.Identities.{RequestId}
 use Rattle.chunk_model.specs.Placement.{AreFitting}
-use Rattle.chunk_model.specs.Tables.{first_shard}
-use Rattle.command_model.specs.Writes.{ClientNumber}
-use Rattle.history_model.proofs.Lists.{all_weaken, all_at, in_cons, in_none}
-use Rattle.history_model.specs.History.{Operation, Entry, IsIn, Legal}
-use Rattle.reply_model.specs.Exchanges.{Asked, number_for}
-use Rattle.reply_model.specs.OneHistory.{ids_asked, AreDifferent, AreNumbered}
-use Rattle.node_model.specs.Journal.{Kept, entries_kept, changes_kept, greatest_kept}
-use Rattle.node_model.specs.Letters.{Statement, Letter, Input, client_input, letter_input, moment_input, opened_input, Effect, nothing}
-use Rattle.node_model.specs.RouterRows.{statements_from}
+use Rattle.history_model.proofs.Lists.{all_weaken, all_at}
+use Rattle.history_model.specs.History.{Entry, IsIn}
+use Rattle.reply_model.specs.Exchanges.{Asked}
+use Rattle.reply_model.specs.Accounts.{changes_in}
+use Rattle.reply_model.specs.OneHistory.{ids_asked, AreDifferent}
+use Rattle.node_model.specs.Journal.{Kept, changes_kept, greatest_kept}
+use Rattle.node_model.specs.Letters.{Letter, Input, client_input, letter_input, moment_input, opened_input, Effect, nothing}
 use Rattle.node_model.specs.States.{NodeState, catalogue_state, shard_state, router_state}
 use Rattle.node_model.specs.Steps.{Step}
-use Rattle.node_model.specs.World.{Held, World, Moves, Event, Happens, comes, delivers, passes, begins, routers_from, start, journal_at, asked_by}
+use Rattle.node_model.specs.World.{Held, World, Moves, Event, Happens, comes, delivers, passes, begins, start, journal_at, history_of, asked_by}
 use Rattle.node_laws.proofs.Facts.{IsBy}
 use Rattle.node_laws.proofs.Places.{EachAt, each_get}
-use Rattle.node_laws.proofs.ServedStatements.{statement_of}
 use Rattle.node_laws.proofs.StepsKeep.{got_is_in}
-use Rattle.node_replay.specs.Acknowledged.{WasSentBy, KeepsWrites}
-use Rattle.node_replay.specs.Durable.{durable_of, next_life, catalogue_part, shard_part}
+use Rattle.node_replay.specs.Acknowledged.{IsStored}
+use Rattle.node_replay.specs.Durable.{durable_of, next_life, catalogue_part}
 use Rattle.node_replay.specs.ReadTimes.{ComesInTime}
 use Rattle.node_replay.specs.Openings.{opened, opened_on}
 use Rattle.node_replay.specs.Replays.{replayed, records_of, latest_time}
@@ -30,10 +26,10 @@ use Rattle.node_replay.specs.Restarts.{Restarts, Stops, Gives, gives_request, gi
 use Rattle.node_replay.proofs.CatalogueHistories.{catalogue_changes}
 use Rattle.node_replay.proofs.Restarts.{opened_is, given_in_time, occurs_replays}
 use Rattle.node_replay.proofs.Runs.{NodeReplays, WorldReplays, MoveShows, move_shows, all_got, step_replays, start_replays}
-use Rattle.node_replay.proofs.ShardHistories.{shard_history}
 use Rattle.node_replay.proofs.ShardStays.{InputStays}
-use Rattle.node_replay.proofs.StayFacts.{LetterStays, EntryStays, StateStays, HeldStays, Grows}
-use Rattle.node_replay.proofs.WorldStays.{StepStays, step_stays, state_grows, stored_in, WorldStays, with_step, stored_stays, stored_here, world_after}
+use Rattle.node_replay.proofs.Starts.{places_each}
+use Rattle.node_replay.proofs.StayFacts.{LetterStays, StateStays, HeldStays, Grows}
+use Rattle.node_replay.proofs.WorldStays.{StepStays, step_stays, state_grows, WorldStays, with_step, stored_stays, stored_here, world_after}
 
 -- A START
 
@@ -47,7 +43,7 @@ ended life now false P Q (inr (e, is, p)) = absurd (cc)
 opened_stays : (asked : List Asked) (history : List Entry) (at : ℕ) (kept : List Kept) (time stored : ℕ) (s : NodeState)
     → StateStays asked history at kept s → StateStays asked history at kept (opened time (durable_of stored s))
 opened_stays asked history at kept time stored (catalogue_state c) s = record { own = s.own; place = s.place; changes = s.changes; keyed = s.keyed }
-opened_stays asked history at kept time stored (shard_state x) s = record { own = s.own; place = s.place; entries = s.entries; sent = s.sent; parked = tt }
+opened_stays asked history at kept time stored (shard_state x) s = record { own = s.own; place = s.place; entries = s.entries; parked = tt }
 opened_stays asked history at kept time stored (router_state r) s = record {
   own = s.own;
   place = s.place;
@@ -61,23 +57,23 @@ opened_stays asked history at kept time stored (router_state r) s = record {
 
 -- the node at a place
 pub here_stays : (w : World) (at : ℕ) (old : Held) → WorldStays w → slice_get w.nodes at ≡ Some old
-    → StateStays w.asked (stored_in w.nodes) at old.kept old.state
+    → StateStays w.asked (history_of w.nodes) at old.kept old.state
 here_stays w at old stay here =
     let zero_at : 0 + at ≡ at = omega arith in
-    subst (λ n. HeldStays w.asked (stored_in w.nodes) n old) zero_at (each_get (HeldStays w.asked (stored_in w.nodes)) 0 at w.nodes old stay.each here)
+    subst (λ n. HeldStays w.asked (history_of w.nodes) n old) zero_at (each_get (HeldStays w.asked (history_of w.nodes)) 0 at w.nodes old stay.each here)
 
 -- a step of it, before a state that it becomes
 taken_step : (w : World) (at : ℕ) (i : Input) (old : Held) (f : Effect) (reached new : NodeState) → WorldStays w → NodeReplays old
-    → InputStays w.asked (stored_in w.nodes) i → slice_get w.nodes at ≡ Some old
+    → InputStays w.asked (history_of w.nodes) i → slice_get w.nodes at ≡ Some old
     → Step old.state i f reached
-    → StepStays w.asked (stored_in (with_step w.nodes at old f.written new)) w.now at old.kept f reached
+    → StepStays w.asked (history_of (with_step w.nodes at old f.written new)) w.now at old.kept f reached
 taken_step w at i old f reached new stay replays input here step =
-    step_stays w.asked (stored_in w.nodes) (stored_in (with_step w.nodes at old f.written new)) (stored_stays w.nodes at old f.written new here)
-    w.now at (greatest_kept old.kept) old.kept old.state reached i f stay.one (λ is. stored_here w.nodes at old f.written new here is)
+    step_stays w.asked (history_of w.nodes) (history_of (with_step w.nodes at old f.written new)) (stored_stays w.nodes at old f.written new here)
+    w.now at (greatest_kept old.kept) old.kept old.state reached i f stay.one (stored_here w.nodes at old f.written new here)
     (here_stays w at old stay here)
     replays.1 input step
 
-move_stays : (w v : World) (at : ℕ) (i : Input) → WorldStays w → WorldReplays w → InputStays w.asked (stored_in w.nodes) i → Moves w at i v
+move_stays : (w v : World) (at : ℕ) (i : Input) → WorldStays w → WorldReplays w → InputStays w.asked (history_of w.nodes) i → Moves w at i v
     → WorldStays v
 move_stays w v at i stay all input m =
     let s = taken_step w at i m.old m.f m.new m.new stay (all_got NodeReplays w.nodes at m.old all.nodes m.here) input m.here m.step in
@@ -85,8 +81,8 @@ move_stays w v at i stay all input m =
     (world_after w at m.old m.f m.new stay m.here m.f.mail m.f.replies s.changes s.node s.letters s.told s.one s.here)
 
 -- a message that was sent
-sent_stays : (w : World) (which : ℕ) (m : Letter) → WorldStays w → slice_get w.sent which ≡ Some m → LetterStays w.asked (stored_in w.nodes) m
-sent_stays w which m stay got = all_at (LetterStays w.asked (stored_in w.nodes)) m w.sent stay.letters (got_is_in w.sent which m got)
+sent_stays : (w : World) (which : ℕ) (m : Letter) → WorldStays w → slice_get w.sent which ≡ Some m → LetterStays w.asked (history_of w.nodes) m
+sent_stays w which m stay got = all_at (LetterStays w.asked (history_of w.nodes)) m w.sent stay.letters (got_is_in w.sent which m got)
 
 event_stays : (w v : World) (e : Event) → WorldStays w → WorldReplays w → Happens w e v → WorldStays v
 event_stays _ _ _ stay all (comes w v at link number request is m) = move_stays w v at (client_input link number request) stay all tt m
@@ -97,20 +93,20 @@ event_stays _ _ _ stay all (begins w v at m) = move_stays w v at opened_input st
 restart_stays : (w v : World) (at : ℕ) → WorldStays w → WorldReplays w → Restarts w at v → WorldStays v
 restart_stays w v at stay all m =
     let replays : NodeReplays m.old = all_got NodeReplays w.nodes at m.old all.nodes m.here in
-    let g : Grows w.asked (w.asked ++ []) (stored_in w.nodes) (stored_in (with_step w.nodes at m.old [] m.new)) =
+    let g : Grows w.asked (w.asked ++ []) (history_of w.nodes) (history_of (with_step w.nodes at m.old [] m.new)) =
     record { taken = λ a i. subst (λ l. IsIn a l) (sym (append-nil w.asked)) i; stored = stored_stays w.nodes at m.old [] m.new m.here } in
-    let old = state_grows w.asked [] (stored_in w.nodes) (stored_in (with_step w.nodes at m.old [] m.new)) g at m.old.kept m.old.state tt
+    let old = state_grows w.asked [] (history_of w.nodes) (history_of (with_step w.nodes at m.old [] m.new)) g at m.old.kept m.old.state tt
     (here_stays w at m.old stay m.here) in
-    let now = opened_stays (w.asked ++ []) (stored_in (with_step w.nodes at m.old [] m.new)) at m.old.kept
+    let now = opened_stays (w.asked ++ []) (history_of (with_step w.nodes at m.old [] m.new)) at m.old.kept
     (latest_time (records_of m.old.kept)) (greatest_kept m.old.kept) m.old.state old in
     subst (λ x. WorldStays x) (sym m.then)
     (world_after w at m.old nothing m.new stay m.here [] [] (inr tt)
-    (subst (λ k. StateStays (w.asked ++ []) (stored_in (with_step w.nodes at m.old [] m.new)) at k m.new) (sym (append-nil m.old.kept))
-    (subst (λ s. StateStays (w.asked ++ []) (stored_in (with_step w.nodes at m.old [] m.new)) at m.old.kept s)
+    (subst (λ k. StateStays (w.asked ++ []) (history_of (with_step w.nodes at m.old [] m.new)) at k m.new) (sym (append-nil m.old.kept))
+    (subst (λ s. StateStays (w.asked ++ []) (history_of (with_step w.nodes at m.old [] m.new)) at m.old.kept s)
     (opened_is m.old m.new replays.0 m.opens) now))
     tt tt (subst (λ l. AreDifferent (ids_asked l)) (sym (append-nil w.asked)) stay.one) tt)
 
-stop_stays : (w v : World) (at : ℕ) (i : Input) → WorldStays w → WorldReplays w → InputStays w.asked (stored_in w.nodes) i → ComesInTime i → Stops w at i v
+stop_stays : (w v : World) (at : ℕ) (i : Input) → WorldStays w → WorldReplays w → InputStays w.asked (history_of w.nodes) i → ComesInTime i → Stops w at i v
     → WorldStays v
 stop_stays w v at i stay all input in_time m =
     let replays : NodeReplays m.old = all_got NodeReplays w.nodes at m.old all.nodes m.here in
@@ -124,13 +120,13 @@ stop_stays w v at i stay all input in_time m =
     let s = taken_step w at i m.old m.f m.reached m.new stay replays input m.here m.step in
     subst (λ x. WorldStays x) (sym m.then)
     (world_after w at m.old (cut_off m.f) m.new stay m.here [] [] s.changes
-    (subst (λ x. StateStays (w.asked ++ asked_by w.now m.f.taken) (stored_in (with_step w.nodes at m.old m.f.written m.new)) at (m.old.kept ++ m.f.written) x)
+    (subst (λ x. StateStays (w.asked ++ asked_by w.now m.f.taken) (history_of (with_step w.nodes at m.old m.f.written m.new)) at (m.old.kept ++ m.f.written) x)
     (opened_is (record { state = m.reached; kept = m.old.kept ++ m.f.written }) m.new after.0 opens)
-    (opened_stays (w.asked ++ asked_by w.now m.f.taken) (stored_in (with_step w.nodes at m.old m.f.written m.new)) at (m.old.kept ++ m.f.written)
+    (opened_stays (w.asked ++ asked_by w.now m.f.taken) (history_of (with_step w.nodes at m.old m.f.written m.new)) at (m.old.kept ++ m.f.written)
     (latest_time (records_of (m.old.kept ++ m.f.written))) (greatest_kept (m.old.kept ++ m.f.written)) m.reached s.node))
     tt tt s.one s.here)
 
-given_stays : (w : World) (e : Event) (at : ℕ) (i : Input) → WorldStays w → Gives w e at i → InputStays w.asked (stored_in w.nodes) i
+given_stays : (w : World) (e : Event) (at : ℕ) (i : Input) → WorldStays w → Gives w e at i → InputStays w.asked (history_of w.nodes) i
 given_stays w _ _ _ stay (gives_request at link number request is) = tt
 given_stays w _ _ _ stay (gives_message at which m got to) = sent_stays w which m stay got
 given_stays w _ _ _ stay (gives_moment at moment) = tt
@@ -148,16 +144,12 @@ run_stays : (u w : World) (events : List EventOrStop) → WorldStays u → World
 run_stays _ _ _ stay all (stays w) = (stay, all)
 run_stays _ _ _ stay all (proceeds u v w e events h more) = run_stays v w events (occurs_stays u v e stay all h) (occurs_replays u v e all h) more
 
-routers_stay : (at n : ℕ) → first_shard < at → EachAt (HeldStays [] []) at (routers_from at n)
-routers_stay at zero less = tt
-routers_stay at (suc n) less = (record { own = refl; place = less; requests = tt; counted = tt }, routers_stay (at + 1) n (omega arith))
-
-pub start_stays : (routers : ℕ) → WorldStays (start routers)
-start_stays routers = record {
-  each = (
-    record { own = refl; place = refl; changes = refl; keyed = tt },
-    (record { own = refl; place = refl; entries = refl; sent = tt; parked = tt }, routers_stay 2 routers (omega arith)),
-  );
+pub start_stays : (others routers : ℕ) → WorldStays (start others routers)
+start_stays others routers = record {
+  each = places_each (HeldStays [] (history_of (start others routers).nodes)) others routers
+      (record { own = refl; place = refl; changes = refl; keyed = tt })
+      (λ j le less. record { own = refl; place = omega (arith, le); entries = refl; parked = tt })
+      (λ j le. record { own = refl; place = omega (arith, le); requests = tt; counted = tt });
   letters = tt;
   told = tt;
   one = tt;
@@ -165,105 +157,6 @@ start_stays routers = record {
 }
 
 -- WHAT IS KEPT
-
--- the place of a statement among those of its write
-record IsStatementAt (given : Option ClientNumber) (id : RequestId) (index : ℕ) (operations : List Operation) (s : Statement) : Type 0 where
-  pub prefix : List Operation
-  pub operation : Operation
-  pub back : List Operation
-  pub both : operations ≡ prefix ++ operation ∷ back
-  pub number : s.number ≡ number_for given id (index + length prefix)
-  pub does : s.operation ≡ operation
-
-plus_none : (n : ℕ) → n ≡ n + 0
-plus_none n = omega arith
-
-statement_at : (given : Option ClientNumber) (id : RequestId) (index : ℕ) (operations : List Operation) (s : Statement)
-    → IsIn s (statements_from given id index operations) → IsStatementAt given id index operations s
-statement_at given id index [] s i = absurd (in_none s i)
-statement_at given id index (o ∷ operations) s i =
-    by_place (in_cons s (record { number = number_for given id index; operation = o }) (statements_from given id (index + 1) operations) i)
-    (λ later. statement_at given id (index + 1) operations s later)
-  where
-    by_place : (s ≡ record { number = number_for given id index; operation = o }) ⊎ IsIn s (statements_from given id (index + 1) operations)
-        → (IsIn s (statements_from given id (index + 1) operations) → IsStatementAt given id (index + 1) operations s)
-        → IsStatementAt given id index (o ∷ operations) s
-    by_place (inl same) rest = record {
-      prefix = [];
-      operation = o;
-      back = operations;
-      both = refl;
-      number = ap (λ (x : Statement). x.number) same ∙ ap (λ n. number_for given id n) (plus_none index);
-      does = ap (λ (x : Statement). x.operation) same;
-    }
-    by_place (inr later) rest =
-        let p = rest later in
-        record {
-          prefix = o ∷ p.prefix;
-          operation = p.operation;
-          back = p.back;
-          both = ap (λ l. o ∷ l) p.both;
-          number = p.number ∙ ap (λ n. number_for given id n) (one_later p.prefix);
-          does = p.does;
-        }
-      where
-        one_later : (prefix : List Operation) → index + 1 + length prefix ≡ index + length (o ∷ prefix)
-        one_later prefix = omega arith
-
--- an entry that stays is one that a request sent
-was_sent_by : (asked : List Asked) (e : Entry) → EntryStays asked e → WasSentBy asked e
-was_sent_by asked e s =
-    let p = statement_at s.sent.write.number s.id 0 s.sent.write.operations (statement_of e) s.sent.each.0 in
-    let zero_more : 0 + length p.prefix ≡ length p.prefix = omega arith in (
-      s.sent.request,
-      s.sent.taken,
-      record {
-        write = s.sent.write;
-        index = length p.prefix;
-        asks = s.sent.asks;
-        entry = record {
-          prefix = p.prefix;
-          operation = p.operation;
-          back = p.back;
-          both = p.both;
-          at = refl;
-          statement = record {
-            same_number = p.number ∙ ap (λ n. number_for s.sent.write.number s.id n) zero_more
-                ∙ ap (λ i. number_for s.sent.write.number i (length p.prefix)) (sym s.sent.own);
-            name = s.sent.name;
-            does = p.does;
-          };
-        };
-      },
-    )
-
--- the shard's part
-record ShardKeeps (asked : List Asked) (entries : List Entry) : Type 0 where
-  pub legal : Legal entries
-  pub numbers : AreNumbered entries
-  pub sent : AllByRecursion (WasSentBy asked) entries
-
-none_keeps : (asked : List Asked) → ShardKeeps asked []
-none_keeps asked = record { legal = tt; numbers = tt; sent = tt }
-
-shard_keeps : (asked : List Asked) (history : List Entry) (kept : List Kept) (s : NodeState) → StateStays asked history 1 kept s
-    → NodeReplays (record { state = s; kept = kept }) → ShardKeeps asked (entries_kept kept)
-shard_keeps asked history kept (catalogue_state c) stay replays = let e = stay.place in absurd (omega arith)
-shard_keeps asked history kept (router_state r) stay replays = let l = stay.place in absurd (omega arith)
-shard_keeps asked history kept (shard_state x) stay replays =
-    let h = shard_history x.me (records_of kept) (shard_part x) replays.0 in
-    subst (λ l. ShardKeeps asked l) stay.entries
-    (record {
-      legal = h.legal;
-      numbers = h.numbered;
-      sent = all_weaken (EntryStays asked) (WasSentBy asked) x.entries (λ e s. was_sent_by asked e s) stay.sent;
-    })
-
-shard_of_nodes : (asked : List Asked) (history : List Entry) (nodes : List Held) → EachAt (HeldStays asked history) 0 nodes → AllByRecursion NodeReplays nodes
-    → ShardKeeps asked (stored_in nodes)
-shard_of_nodes asked history [] stay all = none_keeps asked
-shard_of_nodes asked history (c ∷ []) stay all = none_keeps asked
-shard_of_nodes asked history (c ∷ (s ∷ nodes)) stay all = shard_keeps asked history s.kept s.state stay.1.0 all.1.0
 
 -- the catalogue's part
 catalogue_keeps : (asked : List Asked) (history : List Entry) (kept : List Kept) (s : NodeState) → StateStays asked history 0 kept s
@@ -279,16 +172,19 @@ catalogue_of_nodes : (asked : List Asked) (history : List Entry) (nodes : List H
 catalogue_of_nodes asked history [] stay all = tt
 catalogue_of_nodes asked history (c ∷ nodes) stay all = catalogue_keeps asked history c.kept c.state stay.0 all.0
 
-pub run_with_stops_keeps : (routers : ℕ) (events : List EventOrStop) (w : World) → RunWithStops (start routers) events w → KeepsWrites w
-run_with_stops_keeps routers events w run =
-    let r = run_stays (start routers) w events (start_stays routers) (start_replays routers) run in
-    let s = shard_of_nodes w.asked (stored_in w.nodes) w.nodes r.0.each r.1.nodes in
+-- what is kept of writes, whichever journals store their entries
+pub record WritesStay (w : World) : Type 0 where
+  pub acknowledged : AllByRecursion (IsStored (history_of w.nodes)) w.answered
+  pub fitting : AreFitting (changes_kept (journal_at w.nodes 0))
+  pub one : AreDifferent (ids_asked w.asked)
+  pub dated : changes_in w.changed ≡ changes_kept (journal_at w.nodes 0)
+
+pub run_with_stops_stays : (others routers : ℕ) (events : List EventOrStop) (w : World) → RunWithStops (start others routers) events w → WritesStay w
+run_with_stops_stays others routers events w run =
+    let r = run_stays (start others routers) w events (start_stays others routers) (start_replays others routers) run in
     record {
-      legal = s.legal;
-      numbers = s.numbers;
-      sent = s.sent;
       acknowledged = r.0.told;
-      fitting = catalogue_of_nodes w.asked (stored_in w.nodes) w.nodes r.0.each r.1.nodes;
+      fitting = catalogue_of_nodes w.asked (history_of w.nodes) w.nodes r.0.each r.1.nodes;
       one = r.0.one;
       dated = r.0.dated;
     }

@@ -2,19 +2,17 @@
 use Rattle.std.proofs.Common.{◌≡◌, ◌≢◌, ◌⊎◌, inl, inr, ℕ, zero, suc, ◌+◌, ◌≤◌, List, [], ◌∷◌, ◌++◌, refl, sym, ap, subst, ◌∙◌, arith, append-nil}
 use Rattle.std.specs.Prelude.{Some}
 use Rattle.std.specs.List.{AllByRecursion, slice_get, slice_set}
-use Rattle.chunk_model.specs.Tables.{first_shard}
 use Rattle.history_model.proofs.Lists.{all_weaken, all_append, in_prefix}
 use Rattle.history_model.specs.History.{Entry, IsIn}
 use Rattle.reply_model.specs.Exchanges.{Asked, Answered}
 use Rattle.reply_model.specs.Accounts.{Dated, changes_in as changes_of}
 use Rattle.reply_model.specs.OneHistory.{ids_asked, AreDifferent}
-use Rattle.node_model.proofs.Journals.{journal_here}
 use Rattle.node_model.specs.Journal.{Kept, entries_kept, changes_kept}
 use Rattle.node_model.specs.Letters.{Letter, Input, client_input, letter_input, moment_input, opened_input, Effect, Reply}
 use Rattle.node_model.specs.RouterRows.{begins}
 use Rattle.node_model.specs.States.{Router, NodeState, catalogue_state, shard_state, router_state}
 use Rattle.node_model.specs.Steps.{Step, catalogue_step, shard_step, router_step, begin_step, other_step}
-use Rattle.node_model.specs.World.{Held, World, asked_by, answered_by, dated_onto, journal_at}
+use Rattle.node_model.specs.World.{Held, World, asked_by, answered_by, dated_onto, journal_at, history_of}
 use Rattle.node_laws.proofs.Causes.{router_aside}
 use Rattle.node_laws.proofs.Dates.{IsNoChange, dated_same}
 use Rattle.node_laws.proofs.LongerJournals.{entries_longer}
@@ -22,7 +20,8 @@ use Rattle.node_laws.proofs.Places.{EachAt, each_set}
 use Rattle.node_laws.proofs.RouterLater.{of_answers}
 use Rattle.node_replay.specs.Acknowledged.{IsStored}
 use Rattle.node_replay.specs.Holds.{Holds}
-use Rattle.node_replay.proofs.StayFacts.{LetterStays, StateStays, HeldStays, CatalogueStays, RouterStays, OpenStays, Grows, body_grows, letters_grow, entries_grow, open_grows, stored_grows}
+use Rattle.node_replay.proofs.StoredEntries.{of_history, in_first_journal, in_later_journals}
+use Rattle.node_replay.proofs.StayFacts.{LetterStays, StateStays, HeldStays, CatalogueStays, RouterStays, OpenStays, Grows, body_grows, letters_grow, open_grows, stored_grows}
 use Rattle.node_replay.proofs.CatalogueStays.{catalogue_stays}
 use Rattle.node_replay.proofs.ShardStays.{InputStays, shard_stays}
 use Rattle.node_replay.proofs.RouterNext.{begins_stays, RouterSteps, router_steps}
@@ -84,13 +83,13 @@ module _ (asked : List Asked) (history longer : List Entry) (stays : (e : Entry)
   }
 
   pub step_stays : (now at stored : ℕ) (kept : List Kept) (s t : NodeState) (i : Input) (f : Effect) → AreDifferent (ids_asked asked)
-      → (at ≡ first_shard → longer ≡ entries_kept (kept ++ f.written)) → StateStays asked history at kept s → Holds stored s → InputStays asked history i
-      → Step s i f t → StepStays asked longer now at kept f t
+      → ((e : Entry) → IsIn e (entries_kept (kept ++ f.written)) → IsIn e longer) → StateStays asked history at kept s → Holds stored s
+      → InputStays asked history i → Step s i f t → StepStays asked longer now at kept f t
   step_stays now at stored kept _ _ _ _ one written mine holds input (catalogue_step c d i f own row) =
       let h = catalogue_stays asked longer at kept c d i f mine (input_grows i input) row in
       silent asked longer now at kept f (catalogue_state d) one h.takes h.tells h.node h.letters (inl mine.place)
   step_stays now at stored kept _ _ _ _ one written mine holds input (shard_step s t i f own row) =
-      let h = shard_stays asked asked history longer longer_only at kept s t i f (written mine.place) mine (omega (arith, holds)) input row in
+      let h = shard_stays asked asked history longer longer_only at kept s t i f written mine (omega (arith, holds)) input row in
       silent asked longer now at kept f (shard_state t) one h.takes h.tells h.node h.letters (inr h.stores)
   step_stays now at stored kept _ _ _ _ one written mine holds input (router_step r q i f own row) =
       of_router asked longer now at kept f q (router_steps asked longer now at r q i f (router_longer at r mine) one (input_grows i input) row)
@@ -116,7 +115,6 @@ module _ (asked : List Asked) (history longer : List Entry) (stays : (e : Entry)
         own = s.own;
         place = s.place;
         entries = s.entries ∙ ap (λ l. entries_kept l) (sym (append-nil kept));
-        sent = entries_grow asked asked history longer longer_only x.entries s.sent;
         parked = letters_grow asked asked history longer longer_only x.parked s.parked;
       }
       by_state (router_state r) s = router_longer at r s
@@ -132,7 +130,6 @@ state_grows asked more history longer g j kept (shard_state x) other s = record 
   own = s.own;
   place = s.place;
   entries = s.entries;
-  sent = entries_grow asked (asked ++ more) history longer g x.entries s.sent;
   parked = letters_grow asked (asked ++ more) history longer g x.parked s.parked;
 }
 state_grows asked more history longer g j kept (router_state r) other s = record {
@@ -147,45 +144,53 @@ state_grows asked more history longer g j kept (router_state r) other s = record
 
 -- THE WORLD
 
--- the entries that the shard's journal stores
-abbrev pub stored_in : List Held → List Entry
-stored_in nodes = entries_kept (journal_at nodes first_shard)
-
 pub record ListsStay (nodes : List Held) (sent : List Letter) (asked : List Asked) (answered : List Answered) (changed : List Dated) : Type 0 where
-  pub each : EachAt (HeldStays asked (stored_in nodes)) 0 nodes
-  pub letters : AllByRecursion (LetterStays asked (stored_in nodes)) sent
-  pub told : AllByRecursion (IsStored (stored_in nodes)) answered
+  pub each : EachAt (HeldStays asked (history_of nodes)) 0 nodes
+  pub letters : AllByRecursion (LetterStays asked (history_of nodes)) sent
+  pub told : AllByRecursion (IsStored (history_of nodes)) answered
   pub one : AreDifferent (ids_asked asked)
   pub dated : changes_of changed ≡ changes_kept (journal_at nodes 0)
 
 abbrev pub WorldStays : World → Type 0
 WorldStays w = ListsStay w.nodes w.sent w.asked w.answered w.changed
 
--- the journal of the shard after a step
+-- the nodes after a step
 abbrev pub with_step : List Held → ℕ → Held → List Kept → NodeState → List Held
 with_step nodes at old written new = slice_set nodes at (record { state = new; kept = old.kept ++ written })
 
-stored_longer : (nodes : List Held) (at : ℕ) (old : Held) (written : List Kept) (new : NodeState) → slice_get nodes at ≡ Some old → (p : ℕ)
-    → (more : List Entry) × (entries_kept (journal_at (with_step nodes at old written new) p) ≡ entries_kept (journal_at nodes p) ++ more)
-stored_longer [] at old written new here p = absurd (cc)
-stored_longer (h ∷ nodes) zero old written new here zero =
-    let same : h ≡ old = cc in
-    (entries_kept written, entries_longer old.kept written ∙ ap (λ (x : Held). entries_kept x.kept ++ entries_kept written) (sym same))
-stored_longer (h ∷ nodes) zero old written new here (suc p) = ([], sym (append-nil (entries_kept (journal_at nodes p))))
-stored_longer (h ∷ nodes) (suc at) old written new here zero = ([], sym (append-nil (entries_kept h.kept)))
-stored_longer (h ∷ nodes) (suc at) old written new here (suc p) = stored_longer nodes at old written new here p
-
+-- no entry of another journal is lost
 pub stored_stays : (nodes : List Held) (at : ℕ) (old : Held) (written : List Kept) (new : NodeState) → slice_get nodes at ≡ Some old → (e : Entry)
-    → IsIn e (stored_in nodes) → IsIn e (stored_in (with_step nodes at old written new))
-stored_stays nodes at old written new here e i =
-    let m = stored_longer nodes at old written new here first_shard in
-    subst (λ l. IsIn e l) (sym m.1) (in_prefix e (stored_in nodes) m.0 i)
+    → IsIn e (history_of nodes) → IsIn e (history_of (with_step nodes at old written new))
+stored_stays [] at old written new here e i = absurd (cc)
+stored_stays (h ∷ nodes) zero old written new here e i = by_part (of_history e h nodes i)
+  where
+    same : old ≡ h
+    same = cc
 
-pub stored_here : (nodes : List Held) (at : ℕ) (old : Held) (written : List Kept) (new : NodeState) → slice_get nodes at ≡ Some old → at ≡ first_shard
-    → stored_in (with_step nodes at old written new) ≡ entries_kept (old.kept ++ written)
-stored_here nodes at old written new here is =
-    ap (λ n. entries_kept (journal_at (with_step nodes at old written new) n)) (sym is)
-    ∙ ap (λ l. entries_kept l) (journal_here nodes at old (record { state = new; kept = old.kept ++ written }) here)
+    longer : entries_kept (old.kept ++ written) ≡ entries_kept h.kept ++ entries_kept written
+    longer = entries_longer old.kept written ∙ ap (λ (x : Held). entries_kept x.kept ++ entries_kept written) same
+
+    by_part : IsIn e (entries_kept h.kept) ⊎ IsIn e (history_of nodes) → IsIn e (history_of (record { state = new; kept = old.kept ++ written } ∷ nodes))
+    by_part (inl own) =
+        in_first_journal e (record { state = new; kept = old.kept ++ written }) nodes
+        (subst (λ l. IsIn e l) (sym longer) (in_prefix e (entries_kept h.kept) (entries_kept written) own))
+    by_part (inr other) = in_later_journals e (record { state = new; kept = old.kept ++ written }) nodes other
+stored_stays (h ∷ nodes) (suc at) old written new here e i =
+    by_part (of_history e h nodes i) (λ other. stored_stays nodes at old written new here e other)
+  where
+    by_part : IsIn e (entries_kept h.kept) ⊎ IsIn e (history_of nodes)
+        → (IsIn e (history_of nodes) → IsIn e (history_of (with_step nodes at old written new)))
+        → IsIn e (history_of (h ∷ with_step nodes at old written new))
+    by_part (inl own) later = in_first_journal e h (with_step nodes at old written new) own
+    by_part (inr other) later = in_later_journals e h (with_step nodes at old written new) (later other)
+
+-- the entries of a journal are stored
+pub stored_here : (nodes : List Held) (at : ℕ) (old : Held) (written : List Kept) (new : NodeState) → slice_get nodes at ≡ Some old → (e : Entry)
+    → IsIn e (entries_kept (old.kept ++ written)) → IsIn e (history_of (with_step nodes at old written new))
+stored_here [] at old written new here e i = absurd (cc)
+stored_here (h ∷ nodes) zero old written new here e i = in_first_journal e (record { state = new; kept = old.kept ++ written }) nodes i
+stored_here (h ∷ nodes) (suc at) old written new here e i =
+    in_later_journals e h (with_step nodes at old written new) (stored_here nodes at old written new here e i)
 
 -- what the world has after a step
 module _ (w : World) (at : ℕ) (old : Held) (f : Effect) (new : NodeState) (stay : WorldStays w) (here : slice_get w.nodes at ≡ Some old) where
@@ -195,31 +200,31 @@ module _ (w : World) (at : ℕ) (old : Held) (f : Effect) (new : NodeState) (sta
   abbrev Next : List Held
   Next = with_step w.nodes at old f.written new
 
-  grown : Grows w.asked (w.asked ++ More) (stored_in w.nodes) (stored_in Next)
+  grown : Grows w.asked (w.asked ++ More) (history_of w.nodes) (history_of Next)
   grown = record { taken = λ a i. in_prefix a w.asked More i; stored = stored_stays w.nodes at old f.written new here }
 
-  nodes_after : StateStays (w.asked ++ More) (stored_in Next) at (old.kept ++ f.written) new → AllByRecursion (λ (a : Asked). a.id.router ≡ at) More
-      → EachAt (HeldStays (w.asked ++ More) (stored_in Next)) 0 Next
+  nodes_after : StateStays (w.asked ++ More) (history_of Next) at (old.kept ++ f.written) new → AllByRecursion (λ (a : Asked). a.id.router ≡ at) More
+      → EachAt (HeldStays (w.asked ++ More) (history_of Next)) 0 Next
   nodes_after node own =
       let zero_at : 0 + at ≡ at = omega arith in
-      each_set (HeldStays w.asked (stored_in w.nodes)) (HeldStays (w.asked ++ More) (stored_in Next)) 0 at w.nodes
+      each_set (HeldStays w.asked (history_of w.nodes)) (HeldStays (w.asked ++ More) (history_of Next)) 0 at w.nodes
       (record { state = new; kept = old.kept ++ f.written })
-      (λ j y apart s. state_grows w.asked More (stored_in w.nodes) (stored_in Next) grown j y.kept y.state
+      (λ j y apart s. state_grows w.asked More (history_of w.nodes) (history_of Next) grown j y.kept y.state
       (all_weaken (λ (a : Asked). a.id.router ≡ at) (λ (a : Asked). a.id.router ≢ j) More (λ a is e. apart (sym e ∙ is ∙ sym zero_at)) own) s)
-      (subst (λ n. StateStays (w.asked ++ More) (stored_in Next) n (old.kept ++ f.written) new) (sym zero_at) node) stay.each
+      (subst (λ n. StateStays (w.asked ++ More) (history_of Next) n (old.kept ++ f.written) new) (sym zero_at) node) stay.each
 
   pub world_after : (mail : List Letter) (replies : List Reply) → (at ≡ 0) ⊎ AllByRecursion IsNoChange f.written
-      → StateStays (w.asked ++ More) (stored_in Next) at (old.kept ++ f.written) new → AllByRecursion (LetterStays (w.asked ++ More) (stored_in Next)) mail
-      → AllByRecursion (IsStored (stored_in Next)) (answered_by w.now replies) → AreDifferent (ids_asked (w.asked ++ More))
+      → StateStays (w.asked ++ More) (history_of Next) at (old.kept ++ f.written) new → AllByRecursion (LetterStays (w.asked ++ More) (history_of Next)) mail
+      → AllByRecursion (IsStored (history_of Next)) (answered_by w.now replies) → AreDifferent (ids_asked (w.asked ++ More))
       → AllByRecursion (λ (a : Asked). a.id.router ≡ at) More
       → ListsStay Next (w.sent ++ mail) (w.asked ++ More) (w.answered ++ answered_by w.now replies) (dated_onto w.now w.changed f.written)
   world_after mail replies changes node letters told one own = record {
     each = nodes_after node own;
-    letters = all_append (LetterStays (w.asked ++ More) (stored_in Next)) w.sent mail
-        (letters_grow w.asked (w.asked ++ More) (stored_in w.nodes) (stored_in Next) grown w.sent stay.letters) letters;
-    told = all_append (IsStored (stored_in Next)) w.answered (answered_by w.now replies)
-        (all_weaken (IsStored (stored_in w.nodes)) (IsStored (stored_in Next)) w.answered
-        (λ t s. stored_grows w.asked (w.asked ++ More) (stored_in w.nodes) (stored_in Next) grown t s) stay.told) told;
+    letters = all_append (LetterStays (w.asked ++ More) (history_of Next)) w.sent mail
+        (letters_grow w.asked (w.asked ++ More) (history_of w.nodes) (history_of Next) grown w.sent stay.letters) letters;
+    told = all_append (IsStored (history_of Next)) w.answered (answered_by w.now replies)
+        (all_weaken (IsStored (history_of w.nodes)) (IsStored (history_of Next)) w.answered
+        (λ t s. stored_grows w.asked (w.asked ++ More) (history_of w.nodes) (history_of Next) grown t s) stay.told) told;
     one = one;
     dated = dated_same w.now w.nodes at old f.written new w.changed here stay.dated changes;
   }

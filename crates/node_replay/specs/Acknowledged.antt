@@ -7,16 +7,15 @@ use Rattle.command_model.specs.Command.{write_command, command_of}
 use Rattle.command_model.specs.Writes.{WriteCommand}
 use Rattle.base_model.specs.Identities.{RequestId}
 use Rattle.chunk_model.specs.Placement.{AreFitting}
-use Rattle.chunk_model.specs.Tables.{first_shard}
 use Rattle.history_model.specs.History.{StatementNumber, Entry, Legal, IsIn}
 use Rattle.reply_model.specs.Exchanges.{Asked, Answered, number_for}
 use Rattle.reply_model.specs.Accounts.{changes_in}
 use Rattle.reply_model.specs.OneHistory.{AreNumbered, ids_asked, AreDifferent}
 use Rattle.reply_model.specs.Outcomes.{StatementOutcome, is_older, Done, answer_by, answer_of}
 use Rattle.reply_model.specs.Right.{Sends}
-use Rattle.node_model.specs.Journal.{Kept, entries_kept, changes_kept}
+use Rattle.node_model.specs.Journal.{Kept, changes_kept}
 use Rattle.node_model.specs.RouterRows.{statements_from, is_answered}
-use Rattle.node_model.specs.World.{World, journal_at}
+use Rattle.node_model.specs.World.{World, journal_at, history_of}
 
 -- the outcome is that of a stored entry under the number, or says that a stored entry has a greater transaction of its session
 pub data IsOutcomeOf (history : List Entry) (number : StatementNumber) : StatementOutcome → Type 0 where
@@ -49,14 +48,14 @@ IsStored history t = (write : WriteCommand) → command_of t.request ≡ Ok (wri
 abbrev pub WasSentBy : List Asked → Entry → Type 0
 WasSentBy asked e = (a : Asked) × IsIn a asked × Sends a e
 
--- The shard's journal is one legal history of an unsharded collection, with each statement at most once; each entry is that of a statement
+-- What all journals store is one legal history of an unsharded collection, with each statement at most once; each entry is that of a statement
 -- that a client sent; each reply to a write is one of what is stored; the catalogue's changes fit, and are those that its journal stores;
 -- no two requests have one number.
 pub record KeepsWrites (w : World) : Type 0 where
-  pub legal : Legal (entries_kept (journal_at w.nodes first_shard))
-  pub numbers : AreNumbered (entries_kept (journal_at w.nodes first_shard))
-  pub sent : AllByRecursion (WasSentBy w.asked) (entries_kept (journal_at w.nodes first_shard))
-  pub acknowledged : AllByRecursion (IsStored (entries_kept (journal_at w.nodes first_shard))) w.answered
+  pub legal : Legal (history_of w.nodes)
+  pub numbers : AreNumbered (history_of w.nodes)
+  pub sent : AllByRecursion (WasSentBy w.asked) (history_of w.nodes)
+  pub acknowledged : AllByRecursion (IsStored (history_of w.nodes)) w.answered
   pub fitting : AreFitting (changes_kept (journal_at w.nodes 0))
   pub one : AreDifferent (ids_asked w.asked)
   pub dated : changes_in w.changed ≡ changes_kept (journal_at w.nodes 0)

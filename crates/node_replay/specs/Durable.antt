@@ -20,9 +20,11 @@ pub record DurableShard : Type 0 where
   pub tables : List Table
   pub entries : List Entry
 
--- `life`: the one that begins next, 1 at first; `blocks`: how many blocks of cursor numbers were taken
+-- `shards`: how many it knows of, which no journal stores: each start gives them again; `life`: the one that begins next, 1 at first; `blocks`:
+-- how many blocks of cursor numbers were taken
 pub record DurableRouter : Type 0 where
   pub me : ℕ
+  pub shards : ℕ
   pub life : ℕ
   pub blocks : ℕ
 
@@ -43,7 +45,7 @@ abbrev pub shard_part : Shard → DurableShard
 shard_part s = record { me = s.me; top = top s; tables = s.tables; entries = s.entries }
 
 abbrev pub router_part : Router → DurableRouter
-router_part r = record { me = r.me; life = next_life r.life r.begun; blocks = r.blocks }
+router_part r = record { me = r.me; shards = r.shards; life = next_life r.life r.begun; blocks = r.blocks }
 
 -- the durable part of a node whose journal stores no time greater than this one
 abbrev pub durable_of : (stored : ℕ) → NodeState → DurableState
@@ -58,11 +60,11 @@ empty_catalogue me = record { me = me; top = 0; changes = [] }
 abbrev pub empty_shard : ℕ → DurableShard
 empty_shard me = record { me = me; top = 0; tables = []; entries = [] }
 
-abbrev pub empty_router : ℕ → DurableRouter
-empty_router me = record { me = me; life = 1; blocks = 0 }
+abbrev pub empty_router : (me shards : ℕ) → DurableRouter
+empty_router me shards = record { me = me; shards = shards; life = 1; blocks = 0 }
 
--- a node of the kind and the number of this one, with an empty journal
+-- a node of the kind and the number of this one, with an empty journal; a router of as many shards
 abbrev pub empty_of : NodeState → DurableState
 empty_of (catalogue_state c) = durable_catalogue (empty_catalogue c.me)
 empty_of (shard_state s) = durable_shard (empty_shard s.me)
-empty_of (router_state r) = durable_router (empty_router r.me)
+empty_of (router_state r) = durable_router (empty_router r.me r.shards)

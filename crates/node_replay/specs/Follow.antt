@@ -76,6 +76,7 @@ shard_follow d r = None
 
 -- a life is the next; a block is the next, and a life began before (docs/JOURNAL.md, "Records": lives count from 1, blocks from 0)
 abbrev pub router_follow : DurableRouter → Record → Option DurableRouter
-router_follow d (life_record n) = if n == d.life then Some (record { me = d.me; life = n + 1; blocks = d.blocks }) else None
-router_follow d (block_record n) = if nat_lt 1 d.life && n == d.blocks then Some (record { me = d.me; life = d.life; blocks = n + 1 }) else None
+router_follow d (life_record n) = if n == d.life then Some (record { me = d.me; shards = d.shards; life = n + 1; blocks = d.blocks }) else None
+router_follow d (block_record n) =
+    if nat_lt 1 d.life && n == d.blocks then Some (record { me = d.me; shards = d.shards; life = d.life; blocks = n + 1 }) else None
 router_follow d r = None

@@ -16,6 +16,7 @@ opened time (durable_catalogue d) = catalogue_state (record { me = d.me; time = 
 opened time (durable_shard d) = shard_state (record { me = d.me; time = time; tables = d.tables; entries = d.entries; ceiling = d.top; parked = [] })
 opened time (durable_router d) = router_state (record {
   me = d.me;
+  shards = d.shards;
   time = 0;
   life = d.life;
   begun = false;

@@ -37,7 +37,7 @@ one_entry = table_record (first_table creation) ∷ record_of first_entry ∷ []
 
 -- a router begins a life and takes a block, begins another and takes another
 abbrev pub the_router : DurableState
-the_router = durable_router (empty_router 2)
+the_router = durable_router (empty_router 2 1)
 
 abbrev pub router_journal : List Record
 router_journal = life_record 1 ∷ block_record 0 ∷ life_record 2 ∷ block_record 1 ∷ []

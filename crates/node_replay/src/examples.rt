@@ -17,7 +17,7 @@ ghost use Rattle.node_replay.specs.SampleJournals.{Refuses, catalogue_journal, o
 pub fn journals_replay()
     ensures catalogue { replayed (Some the_catalogue) catalogue_journal ≡ Some (durable_catalogue (record { me = 0; top = timestamp 1000 2; changes = split_change split ∷ create_change creation ∷ [] })) }
     ensures shard { replayed (Some the_shard) shard_journal ≡ Some (durable_shard (record { me = 1; top = timestamp 1000 3; tables = first_table creation ∷ []; entries = first_entry ∷ second_entry ∷ [] })) }
-    ensures router { replayed (Some the_router) router_journal ≡ Some (durable_router (record { me = 2; life = 3; blocks = 2 })) }
+    ensures router { replayed (Some the_router) router_journal ≡ Some (durable_router (record { me = 2; shards = 1; life = 3; blocks = 2 })) }
 {}
 
 /// What may not be the next record of a shard: an entry whose time does not rise, under a number that is stored, with another outcome than its operation

@@ -9,7 +9,7 @@ ghost use Rattle.node_model.specs.Letters.{Effect, Input};
 ghost use Rattle.node_model.specs.States.{NodeState};
 ghost use Rattle.node_model.specs.Steps.{Step};
 ghost use Rattle.node_model.specs.World.{Event, Run, World, start};
-ghost use Rattle.node_replay.specs.Acknowledged.{KeepsJournals, KeepsWrites};
+ghost use Rattle.node_replay.specs.Acknowledged.{KeepsJournals};
 ghost use Rattle.node_replay.specs.Durable.{DurableCatalogue, DurableShard, durable_catalogue, durable_of, durable_shard, empty_catalogue, empty_shard};
 ghost use Rattle.node_replay.specs.Histories.{AreChanges, HasKey, IsHistory};
 ghost use Rattle.node_replay.specs.Holds.{Holds, HoldsOwn, MayOpen, Replays};
@@ -26,22 +26,22 @@ pub fn steps_store_what_may_follow()
 /// Where nodes stop and are started again, each node holds what nodes hold, and each input that an event may give to one reads at no time later than itself.
 /// So the law on steps is true of every step of such a run.
 pub fn runs_with_stops_hold()
-    ensures { (routers : ℕ) (events : List EventOrStop) (w : World) → RunWithStops (start routers) events w → AllByRecursion HoldsOwn w.nodes × ((e : Event) (at : ℕ) (i : Input) → Gives w e at i → ComesInTime i) }
+    ensures { (others routers : ℕ) (events : List EventOrStop) (w : World) → RunWithStops (start others routers) events w → AllByRecursion HoldsOwn w.nodes × ((e : Event) (at : ℕ) (i : Input) → Gives w e at i → ComesInTime i) }
 {}
 
 /// Where nodes stop and are started again, no message that was sent reads at a time later than itself.
 pub fn no_message_reads_ahead()
-    ensures { (routers : ℕ) (events : List EventOrStop) (w : World) → RunWithStops (start routers) events w → AllByRecursion IsInTime w.sent }
+    ensures { (others routers : ℕ) (events : List EventOrStop) (w : World) → RunWithStops (start others routers) events w → AllByRecursion IsInTime w.sent }
 {}
 
 /// In every run from empty journals the journal of each node replays to its durable part.
 pub fn runs_replay()
-    ensures { (routers : ℕ) (events : List Event) (w : World) → Run (start routers) events w → AllByRecursion Replays w.nodes }
+    ensures { (others routers : ℕ) (events : List Event) (w : World) → Run (start others routers) events w → AllByRecursion Replays w.nodes }
 {}
 
 /// The same where nodes stop between two steps, or in one, and are started again; and no start on such a journal is refused.
 pub fn runs_with_stops_replay()
-    ensures { (routers : ℕ) (events : List EventOrStop) (w : World) → RunWithStops (start routers) events w → AllByRecursion Replays w.nodes × AllByRecursion MayOpen w.nodes }
+    ensures { (others routers : ℕ) (events : List EventOrStop) (w : World) → RunWithStops (start others routers) events w → AllByRecursion Replays w.nodes × AllByRecursion MayOpen w.nodes }
 {}
 
 /// A journal of a shard that replays is one legal history, whoever wrote it.
@@ -54,11 +54,6 @@ pub fn replayed_catalogue_has_changes()
     ensures { (me : ℕ) (records : List Record) (d : DurableCatalogue) → AllByRecursion HasKey records → replayed (Some (durable_catalogue (empty_catalogue me))) records ≡ Some (durable_catalogue d) → AreChanges records d }
 {}
 
-/// Where nodes stop, in whichever step, and are started again: no write that was acknowledged is lost, and no statement is applied twice.
-pub fn runs_with_stops_keep_writes()
-    ensures { (routers : ℕ) (events : List EventOrStop) (w : World) → RunWithStops (start routers) events w → KeepsWrites w }
-{}
-
 /// Where nodes stop, no record that was stored is lost: from any world on, each journal grows at its end alone.
 pub fn runs_with_stops_keep_journals()
     ensures { (u : World) (events : List EventOrStop) (w : World) → RunWithStops u events w → KeepsJournals u w }
@@ -66,5 +61,5 @@ pub fn runs_with_stops_keep_journals()
 
 /// Where nodes stop, no request is answered twice.
 pub fn runs_with_stops_answer_once()
-    ensures { (routers : ℕ) (events : List EventOrStop) (w : World) → RunWithStops (start routers) events w → AreDifferent (ids_told w.answered) }
+    ensures { (others routers : ℕ) (events : List EventOrStop) (w : World) → RunWithStops (start others routers) events w → AreDifferent (ids_told w.answered) }
 {}

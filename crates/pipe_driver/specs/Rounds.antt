@@ -7,10 +7,6 @@ use Rattle.node_model.specs.World.{World}
 use Rattle.node_traits.specs.declared.outputs.ToLink.{ToLink}
 use Rattle.driver_steps.specs.Worlds.{puts_given}
 
--- the first router: nodes before it are the catalogue and the shard
-abbrev pub first_router : ℕ
-first_router = 2
-
 -- the link of a connection
 abbrev pub first_link : ℕ
 first_link = 0

@@ -11,6 +11,5 @@ mod streams;
 
 pub use connection::{Ending, pipe};
 pub use replies::{next_number, replied_after};
-pub use round::FIRST_ROUTER;
 pub use status::Status;
 pub use streams::{PIECE, new_piece, put_all, take_more};

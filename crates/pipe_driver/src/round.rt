@@ -17,9 +17,6 @@ use std::alloc::Global;
 use std::marker::Sync;
 use std::thread::Threads;
 
-/// The number of the first router.
-pub const FIRST_ROUTER: usize = 2;
-
 /// The number of the connection's link.
 const FIRST_LINK: u32 = 0;
 

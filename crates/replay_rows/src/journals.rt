@@ -46,7 +46,7 @@ fn outcome(alloc: Global, kind: &str, records: &[Blob]) -> Result<Result<(), Ope
     match kind {
         "catalogue" => Ok(replays(alloc, CataloguePart::empty(alloc, NodeId(0)), records)),
         "shard" => Ok(replays(alloc, ShardPart::empty(alloc, NodeId(1)), records)),
-        "router" => Ok(replays(alloc, RouterPart::empty(NodeId(2)), records)),
+        "router" => Ok(replays(alloc, RouterPart::empty(NodeId(2), 1), records)),
         _ => Err(RowFault::Form),
     }
 }

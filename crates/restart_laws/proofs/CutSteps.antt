@@ -1,9 +1,10 @@
 -- A step in which its node stops owes what it owes: its records are stored, its requests are taken, and the node is started on its journal.
-use Rattle.std.proofs.Common.{◌≡◌, ◌≢◌, ℕ, suc, List, [], ◌++◌, refl, sym, ap, subst, arith, append-nil}
+use Rattle.std.proofs.Common.{◌≡◌, ◌≢◌, ℕ, suc, ◌<◌, List, [], ◌++◌, refl, sym, ap, subst, arith, append-nil}
 use Rattle.std.specs.Prelude.{Some, filter}
 use Rattle.std.specs.List.{slice_get}
 use Rattle.chunk_model.specs.Changes.{Change}
 use Rattle.reply_model.specs.Cursors.{Cursor}
+use Rattle.reply_model.specs.Exchanges.{Asked, Answered}
 use Rattle.reply_model.specs.OneHistory.{ids_asked, ids_told, AreDifferent}
 use Rattle.node_model.specs.Journal.{changes_kept}
 use Rattle.node_model.specs.Letters.{Input, Effect, nothing}
@@ -12,11 +13,13 @@ use Rattle.node_model.specs.Steps.{Step, catalogue_step, shard_step, router_step
 use Rattle.node_model.specs.World.{Held, World, answered_by, journal_at}
 use Rattle.node_laws.proofs.Views.{Book, View, view_of, changes_in, Later}
 use Rattle.node_laws.proofs.Facts.{HeldFits, AnswersFit, no_answer, SameKind, is_of, Good}
-use Rattle.node_laws.proofs.Owes.{asked_after, answered_after, OwesIn, Owes}
+use Rattle.node_laws.proofs.Owes.{asked_after, answered_after, StaysHeard, OwesIn, Owes}
+use Rattle.node_laws.proofs.Places.{each_get}
+use Rattle.node_laws.proofs.TimeFacts.{HeardFits}
 use Rattle.node_laws.proofs.Others.{Decided, other_fits}
 use Rattle.node_laws.proofs.LongerJournals.{change_stays}
 use Rattle.node_laws.proofs.StepsKeep.{fits_here}
-use Rattle.node_replay.specs.Durable.{durable_of}
+use Rattle.node_replay.specs.Durable.{DurableState, durable_catalogue, durable_shard, durable_router, durable_of, empty_of}
 use Rattle.node_replay.specs.Holds.{HoldsOwn, Replays}
 use Rattle.node_replay.specs.Openings.{opened}
 use Rattle.node_replay.specs.Replays.{replayed, records_of}
@@ -86,6 +89,38 @@ nothing_owes w book at old good here =
           });
     }
 
+-- WHAT ROUTERS HEARD
+
+-- how many shards a router knows of; other nodes know of none
+abbrev shards_in : DurableState → ℕ
+shards_in (durable_catalogue d) = 0
+shards_in (durable_shard d) = 0
+shards_in (durable_router d) = d.shards
+
+abbrev IsSome : NodeState → Type 0
+IsSome (catalogue_state c) = Unit {0}
+IsSome (shard_state s) = Unit {0}
+IsSome (router_state r) = 0 < r.shards
+
+some_heard : (v : View) (asked : List Asked) (answered : List Answered) (s : NodeState) → HeardFits v asked answered s → IsSome s
+some_heard v asked answered (catalogue_state c) heard = tt
+some_heard v asked answered (shard_state s) heard = tt
+some_heard v asked answered (router_state r) heard = heard.some
+
+some_same : (s t : NodeState) → empty_of t ≡ empty_of s → SameKind s t → IsSome s → IsSome t
+some_same (router_state r) (router_state q) same kind some = subst (λ n. 0 < n) (sym (ap shards_in same)) some
+some_same (catalogue_state c) (router_state q) same kind some = absurd kind
+some_same (shard_state s) (router_state q) same kind some = absurd kind
+some_same s (catalogue_state d) same kind some = tt
+some_same s (shard_state t) same kind some = tt
+
+-- a router that is started has no open request
+opened_heard : (v : View) (asked : List Asked) (answered : List Answered) (time stored : ℕ) (s : NodeState) → IsSome s
+    → HeardFits v asked answered (opened time (durable_of stored s))
+opened_heard v asked answered time stored (catalogue_state c) some = tt
+opened_heard v asked answered time stored (shard_state s) some = tt
+opened_heard v asked answered time stored (router_state r) some = record { some = some; requests = tt }
+
 -- A STEP
 
 -- what is known of a node that stops in a step, with these changes of the catalogue
@@ -98,6 +133,7 @@ pub record Halts (changes : List Change) (old : Held) (f : Effect) (reached : No
       (record { state = became (record { state = reached; kept = old.kept ++ f.written }); kept = old.kept ++ f.written })
   pub tables : TablesStand changes old.kept old.state
   pub own : StoresOwn f.written reached
+  pub same : empty_of reached ≡ empty_of old.state
 
 -- what it is started as
 abbrev pub halted : Held → Effect → NodeState → NodeState
@@ -134,6 +170,13 @@ module _ (w : World) (book : Book) (at : ℕ) (old : Held) (f : Effect) (reached
         known = owed.known;
         met = tt;
       }
+
+  pub cut_heard : StaysHeard w at (cut_off f) (halted old f reached)
+  cut_heard v apart =
+      opened_heard v (asked_after w (cut_off f)) (answered_after w (cut_off f)) _ _ reached
+      (some_same old.state reached halts.same owes.kind
+      (some_heard (view_of w.nodes book) w.asked w.answered old.state
+      (each_get (λ k (x : Held). HeardFits (view_of w.nodes book) w.asked w.answered x.state) 0 at w.nodes old good.heard here)))
 
   pub cut_owes : Owes w book at old (cut_off f) (halted old f reached)
   cut_owes = record {

@@ -109,7 +109,7 @@ shard_anew : (v : View) (cursors : List Cursor) (asked : List Asked) (at time : 
     → ShardFits (in_cursors cursors v) asked at kept (shard_anew_state time s)
 shard_anew v cursors asked at time kept s le tables fits = record {
   own = fits.own;
-  place = fits.place;
+  came = tt;
   entries = fits.entries;
   tops = same_top s ∙ fits.tops;
   past = subst (λ l. AllByRecursion (λ (e : Entry). e.time ≤ time) l) (sym fits.entries)
@@ -138,6 +138,7 @@ before_next life now false P (inr (same, is, p)) = absurd (cc)
 abbrev pub router_anew_state : DurableRouter → Router
 router_anew_state d = record {
   me = d.me;
+  shards = d.shards;
   time = 0;
   life = d.life;
   begun = false;
@@ -259,7 +260,7 @@ router_again : (v : View) (cursors : List Cursor) (asked : List Asked) (answered
     → HeldFits (in_cursors cursors v) asked answered given at (record { state = became (record { state = router_state r; kept = kept }); kept = kept })
 router_again v cursors asked answered news given at first r written kept s =
     let on = (router_along (records_of written) (router_part first) (router_part r) s.leads).0 in
-    let none : greatest_kept kept ≡ 0 = router_stores_none kept (empty_router r.me) (router_part r) s.replays in
+    let none : greatest_kept kept ≡ 0 = router_stores_none kept (empty_router r.me r.shards) (router_part r) s.replays in
     record {
       state = router_anew v (in_cursors cursors v) asked answered news at r s.fits.state;
       met = inl refl;

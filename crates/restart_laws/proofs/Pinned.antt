@@ -26,7 +26,7 @@ creates_later namespace at (commit_change c) b = tt
 
 body_pinned : (nodes : List Held) (book : Book) (asked : List Asked) (sender receiver time : ℕ) (b : Body)
     → BodyFits (view_of nodes book) asked sender receiver time b → IsPinnedBy nodes sender b
-body_pinned nodes book asked sender receiver time (half_ask id turn namespace at half documents) f = (f.documents_are, f.settled)
+body_pinned nodes book asked sender receiver time (half_ask id turn namespace at half documents) f = (f.0.documents_are, f.0.settled)
 body_pinned nodes book asked sender receiver time (table_told namespace create (at_time at) None) f = (
   all_weaken (BeginsAfter namespace at) (CreatesLater namespace at) (changes_kept (journal_at nodes 0)) (λ x b. creates_later namespace at x b) f.1,
   f.0,
@@ -49,21 +49,21 @@ true_pinned w (known, moments, told, based) =
     all_weaken (SentFits (view_of w.nodes known.book) w.changed w.asked w.answered w.given) (IsPinned w) w.sent
     (λ (m : Letter) f. body_pinned w.nodes known.book w.asked m.sender m.receiver m.time m.body f.0) known.good.letters
 
-pub reads_are_pinned : (routers : ℕ) (events : List EventOrStop) (w : World) → RunWithStops (start routers) events w
+pub reads_are_pinned : (others routers : ℕ) (events : List EventOrStop) (w : World) → RunWithStops (start others routers) events w
     → AllByRecursion (IsPinned w) w.sent
-reads_are_pinned routers events w run =
-    true_pinned w (runs_with_stops_stay_true (start routers) w events (start_whole routers) run).facts
+reads_are_pinned others routers events w run =
+    true_pinned w (runs_with_stops_stay_true (start others routers) w events (start_whole others routers) run).facts
 
 -- also over later calls
-pub what_was_read_stays : (routers : ℕ) (u w : World) → Reached routers u → Calls u w → AllByRecursion (IsPinned w) u.sent
-what_was_read_stays routers u w r calls =
-    let before = calls_are_one_run (start routers) u r in
+pub what_was_read_stays : (others routers : ℕ) (u w : World) → Reached others routers u → Calls u w → AllByRecursion (IsPinned w) u.sent
+what_was_read_stays others routers u w r calls =
+    let before = calls_are_one_run (start others routers) u r in
     let o = calls_are_one_run u w calls in
-    let run : RunWithStops (start routers) (before.events ++ all_later (length before.mail) o.events) (with_mail before.mail (with_mail o.mail w)) =
-    run_then (start routers) (with_mail before.mail u) (with_mail before.mail (with_mail o.mail w)) before.events
+    let run : RunWithStops (start others routers) (before.events ++ all_later (length before.mail) o.events) (with_mail before.mail (with_mail o.mail w)) =
+    run_then (start others routers) (with_mail before.mail u) (with_mail before.mail (with_mail o.mail w)) before.events
     (all_later (length before.mail) o.events) before.run (mail_runs before.mail u (with_mail o.mail w) o.events o.run) in
     let all : AllByRecursion (IsPinned w) (before.mail ++ (o.mail ++ w.sent)) =
-    reads_are_pinned routers (before.events ++ all_later (length before.mail) o.events) (with_mail before.mail (with_mail o.mail w)) run in
+    reads_are_pinned others routers (before.events ++ all_later (length before.mail) o.events) (with_mail before.mail (with_mail o.mail w)) run in
     let more = run_sends u (with_mail o.mail w) o.events o.run in
     all_prefix (IsPinned w) u.sent more.0
     (subst (λ l. AllByRecursion (IsPinned w) l) more.1 (all_behind (IsPinned w) before.mail (o.mail ++ w.sent) all))

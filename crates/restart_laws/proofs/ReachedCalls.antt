@@ -16,10 +16,9 @@ use Rattle.node_replay.proofs.JournalsStay.{run_with_stops_grows}
 use Rattle.node_replay.proofs.OnceRuns.{run_with_stops_once}
 use Rattle.node_replay.proofs.Restarts.{became, node_opens, occurs_replays, stopped_replays, run_with_stops_replays, run_with_stops_holds}
 use Rattle.node_replay.proofs.Runs.{NodeReplays, WorldReplays, all_got, start_replays}
-use Rattle.node_replay.proofs.StopStays.{run_with_stops_keeps}
-use Rattle.restart_laws.proofs.Runs.{runs_with_stops_make_one_history, runs_with_stops_keep_changes}
+use Rattle.restart_laws.proofs.Runs.{runs_with_stops_make_one_history, runs_with_stops_keep_changes, runs_with_stops_keep_writes, runs_with_stops_own_journals}
 use Rattle.restart_laws.proofs.Mail.{later_event, mail_gives, calls_are_one_run}
-use Rattle.restart_laws.specs.Calls.{restarts_of, without_mail, with_mail, BeginsOn, Calls, Reached, IsOfRun}
+use Rattle.restart_laws.specs.Calls.{restarts_of, without_mail, with_mail, BeginsOn, Calls, Reached, IsOfRun, HaveOwnEntries}
 
 -- A CALL MAY BEGIN
 
@@ -51,36 +50,41 @@ starts_from w at (suc n) all same =
 -- LAWS
 
 -- calls, one after another, are one run, some messages of which are not delivered any more
-pub reached_calls_are_one_run : (routers : ℕ) (w : World) → Reached routers w → IsOfRun (start routers) w
-reached_calls_are_one_run routers w r = calls_are_one_run (start routers) w r
+pub reached_calls_are_one_run : (others routers : ℕ) (w : World) → Reached others routers w → IsOfRun (start others routers) w
+reached_calls_are_one_run others routers w r = calls_are_one_run (start others routers) w r
 
-pub reached_calls_make_one_history : (routers : ℕ) (w : World) → Reached routers w → OneHistory (account_of w)
-reached_calls_make_one_history routers w r =
-    let o = calls_are_one_run (start routers) w r in
-    runs_with_stops_make_one_history routers o.events (with_mail o.mail w) o.run
+pub reached_calls_make_one_history : (others routers : ℕ) (w : World) → Reached others routers w → OneHistory (account_of w)
+reached_calls_make_one_history others routers w r =
+    let o = calls_are_one_run (start others routers) w r in
+    runs_with_stops_make_one_history others routers o.events (with_mail o.mail w) o.run
 
-pub reached_calls_keep_changes : (routers : ℕ) (w : World) → Reached routers w → changes_of w.changed ≡ changes_kept (journal_at w.nodes 0)
-reached_calls_keep_changes routers w r =
-    let o = calls_are_one_run (start routers) w r in
-    runs_with_stops_keep_changes routers o.events (with_mail o.mail w) o.run
+pub reached_calls_keep_changes : (others routers : ℕ) (w : World) → Reached others routers w → changes_of w.changed ≡ changes_kept (journal_at w.nodes 0)
+reached_calls_keep_changes others routers w r =
+    let o = calls_are_one_run (start others routers) w r in
+    runs_with_stops_keep_changes others routers o.events (with_mail o.mail w) o.run
 
-pub reached_calls_replay : (routers : ℕ) (w : World) → Reached routers w → AllByRecursion Replays w.nodes × AllByRecursion MayOpen w.nodes
-reached_calls_replay routers w r =
-    let o = calls_are_one_run (start routers) w r in
-    run_with_stops_replays routers o.events (with_mail o.mail w) o.run
+pub reached_calls_own_journals : (others routers : ℕ) (w : World) → Reached others routers w → HaveOwnEntries w.nodes
+reached_calls_own_journals others routers w r =
+    let o = calls_are_one_run (start others routers) w r in
+    runs_with_stops_own_journals others routers o.events (with_mail o.mail w) o.run
+
+pub reached_calls_replay : (others routers : ℕ) (w : World) → Reached others routers w → AllByRecursion Replays w.nodes × AllByRecursion MayOpen w.nodes
+reached_calls_replay others routers w r =
+    let o = calls_are_one_run (start others routers) w r in
+    run_with_stops_replays others routers o.events (with_mail o.mail w) o.run
 
 -- what a step of a call needs
-pub reached_calls_hold : (routers : ℕ) (w : World) → Reached routers w
+pub reached_calls_hold : (others routers : ℕ) (w : World) → Reached others routers w
     → AllByRecursion HoldsOwn w.nodes × ((e : Event) (at : ℕ) (i : Input) → Gives w e at i → ComesInTime i)
-reached_calls_hold routers w r =
-    let o = calls_are_one_run (start routers) w r in
-    let h = run_with_stops_holds routers o.events (with_mail o.mail w) o.run in
+reached_calls_hold others routers w r =
+    let o = calls_are_one_run (start others routers) w r in
+    let h = run_with_stops_holds others routers o.events (with_mail o.mail w) o.run in
     (h.0, λ e at i gives. h.1 (later_event (length o.mail) e) at i (mail_gives o.mail w e at i gives))
 
-pub reached_calls_keep_writes : (routers : ℕ) (w : World) → Reached routers w → KeepsWrites w
-reached_calls_keep_writes routers w r =
-    let o = calls_are_one_run (start routers) w r in
-    let k : KeepsWrites (with_mail o.mail w) = run_with_stops_keeps routers o.events (with_mail o.mail w) o.run in
+pub reached_calls_keep_writes : (others routers : ℕ) (w : World) → Reached others routers w → KeepsWrites w
+reached_calls_keep_writes others routers w r =
+    let o = calls_are_one_run (start others routers) w r in
+    let k : KeepsWrites (with_mail o.mail w) = runs_with_stops_keep_writes others routers o.events (with_mail o.mail w) o.run in
     record {
       legal = k.legal;
       numbers = k.numbers;
@@ -91,10 +95,10 @@ reached_calls_keep_writes routers w r =
       dated = k.dated;
     }
 
-pub reached_calls_answer_once : (routers : ℕ) (w : World) → Reached routers w → AreDifferent (ids_told w.answered)
-reached_calls_answer_once routers w r =
-    let o = calls_are_one_run (start routers) w r in
-    run_with_stops_once routers o.events (with_mail o.mail w) o.run
+pub reached_calls_answer_once : (others routers : ℕ) (w : World) → Reached others routers w → AreDifferent (ids_told w.answered)
+reached_calls_answer_once others routers w r =
+    let o = calls_are_one_run (start others routers) w r in
+    run_with_stops_once others routers o.events (with_mail o.mail w) o.run
 
 pub calls_keep_journals : (u w : World) → Calls u w → KeepsJournals u w
 calls_keep_journals u w calls p =
@@ -104,10 +108,10 @@ calls_keep_journals u w calls p =
 replays_without : (mail : List Letter) (w : World) → WorldReplays (with_mail mail w) → WorldReplays w
 replays_without mail w all = record { nodes = all.nodes; reads = all.reads; letters = all_behind IsInTime mail w.sent all.letters }
 
-pub reached_calls_may_go_on : (routers : ℕ) (u : World) → Reached routers u → (first : World) × BeginsOn u first
-reached_calls_may_go_on routers u r =
-    let o = calls_are_one_run (start routers) u r in
+pub reached_calls_may_go_on : (others routers : ℕ) (u : World) → Reached others routers u → (first : World) × BeginsOn u first
+reached_calls_may_go_on others routers u r =
+    let o = calls_are_one_run (start others routers) u r in
     let all : WorldReplays u =
-    replays_without o.mail u (stopped_replays (start routers) (with_mail o.mail u) o.events (start_replays routers) o.run) in
+    replays_without o.mail u (stopped_replays (start others routers) (with_mail o.mail u) o.events (start_replays others routers) o.run) in
     let s = starts_from u 0 (length u.nodes) all (omega arith) in
     (without_mail s.0, record { started = s.0; starts = s.1; then = refl })

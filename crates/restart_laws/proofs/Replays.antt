@@ -58,7 +58,7 @@ router_step first (durable_shard d) e r after any same = absurd after
 router_step first (durable_router d) e (life_record n) after any same = by_test (n == d.life) refl same
   where
     next : DurableRouter
-    next = record { me = d.me; life = n + 1; blocks = d.blocks }
+    next = record { me = d.me; shards = d.shards; life = n + 1; blocks = d.blocks }
 
     by_test : (t : Bool) → (n == d.life) ≡ t → option_map durable_router (if t then Some next else None) ≡ Some e
         → IsAfter first e × IsRouterRecord (life_record n)
@@ -70,7 +70,7 @@ router_step first (durable_router d) e (life_record n) after any same = by_test 
 router_step first (durable_router d) e (block_record n) after any same = by_test (nat_lt 1 d.life) (n == d.blocks) refl same
   where
     next : DurableRouter
-    next = record { me = d.me; life = d.life; blocks = n + 1 }
+    next = record { me = d.me; shards = d.shards; life = d.life; blocks = n + 1 }
 
     by_test : (a b : Bool) → (n == d.blocks) ≡ b → option_map durable_router (if a && b then Some next else None) ≡ Some e
         → IsAfter first e × IsRouterRecord (block_record n)

@@ -1,5 +1,5 @@
 -- Every run in which nodes stop and are started again keeps all facts, and so makes one history.
-use Rattle.std.proofs.Common.{◌≡◌, ℕ, zero, suc, ◌+◌, ◌<◌, List, [], ◌∷◌, ◌++◌, refl, sym, ap, subst, ◌∙◌, append-nil}
+use Rattle.std.proofs.Common.{◌≡◌, ℕ, ◌+◌, ◌<◌, List, [], ◌∷◌, ◌++◌, refl, sym, ap, subst, ◌∙◌, append-nil}
 use Rattle.std.specs.Prelude.{Some}
 use Rattle.std.specs.List.{AllByRecursion, slice_get, slice_set}
 use Rattle.std.specs.Option.{option_map}
@@ -7,18 +7,21 @@ use Rattle.history_model.proofs.Lists.{all_weaken, in_back}
 use Rattle.history_model.specs.History.{IsIn}
 use Rattle.chunk_model.specs.Changes.{Change}
 use Rattle.reply_model.specs.Accounts.{changes_in as changes_of}
-use Rattle.reply_model.specs.OneHistory.{OneHistory}
+use Rattle.reply_model.specs.OneHistory.{WasSent, OneHistory}
 use Rattle.node_model.specs.Journal.{Kept, changes_kept, greatest_kept}
 use Rattle.node_model.specs.Letters.{Input, client_input, letter_input, moment_input, opened_input, Effect, nothing}
 use Rattle.node_model.specs.States.{NodeState}
-use Rattle.node_model.specs.World.{Held, World, asked_by, after, moment_in, is_given, tick, Moves, Event, Happens, comes, delivers, passes, begins, routers_from, start, journal_at, account_of}
+use Rattle.node_model.specs.World.{Held, World, asked_by, after, moment_in, is_given, tick, Moves, Event, Happens, comes, delivers, passes, begins, start, journal_at, history_of, account_of}
 use Rattle.node_laws.proofs.Views.{Book, view_of}
 use Rattle.node_laws.proofs.Facts.{SameKind, Good}
 use Rattle.node_laws.proofs.Causes.{all_still_true}
 use Rattle.node_laws.proofs.LongerJournals.{changes_longer}
 use Rattle.node_laws.proofs.StepsKeep.{HasBook, StaysTrue, WasPosted, happens_keeps, given_good, tick_good, input_fits, fits_here, get_set, got_is_in}
 use Rattle.node_laws.proofs.Moments.{HadMoment}
+use Rattle.node_laws.proofs.OneJournal.{journals_are_own}
 use Rattle.node_laws.proofs.Runs.{start_true, makes_one_history}
+use Rattle.restart_laws.specs.Calls.{HaveOwnEntries}
+use Rattle.node_replay.specs.Acknowledged.{KeepsWrites, WasSentBy}
 use Rattle.node_replay.specs.Holds.{HoldsOwn}
 use Rattle.node_replay.specs.Openings.{opened, opened_on}
 use Rattle.node_replay.specs.ReadTimes.{ComesInTime}
@@ -26,7 +29,9 @@ use Rattle.node_replay.specs.Replays.{replayed, records_of, latest_time}
 use Rattle.node_replay.specs.Restarts.{Restarts, Stops, cut_off, Gives, gives_request, gives_message, gives_moment, gives_opening, EventOrStop, whole_event, restart_event, stop_event, Occurs, occurs, restarts, stops, RunWithStops, stays, proceeds}
 use Rattle.node_replay.proofs.JournalsStay.{run_with_stops_grows}
 use Rattle.node_replay.proofs.Restarts.{became, node_opens, opened_is, opened_replays, given_in_time, occurs_replays}
+use Rattle.node_replay.proofs.Starts.{all_starts}
 use Rattle.node_replay.proofs.Steps.{StepFollows}
+use Rattle.node_replay.proofs.StopStays.{run_with_stops_stays}
 use Rattle.node_replay.proofs.Runs.{NodeReplays, WorldReplays, move_shows, step_replays, all_got, all_set, start_replays}
 use Rattle.restart_laws.proofs.CutSteps.{kind_self, kind_step, kind_opened, Halts, halted}
 use Rattle.restart_laws.proofs.Givens.{stopped, moment_anew, taken_moments, moments_stop, based_stop}
@@ -129,6 +134,7 @@ restart_facts w v at whole m =
       holds = holds_again (record { state = m.old.state; kept = m.old.kept ++ [] }) replays;
       tables = all_got (HasTables w) w.nodes at m.old whole.tables m.here;
       own = none_owned m.old.state;
+      same = refl;
     } in
     let same : halted m.old nothing m.old.state ≡ m.new = opened_is (record { state = m.old.state; kept = m.old.kept ++ [] }) m.new replays.0
     (subst (λ k. opened_on m.old.state k ≡ Some m.new) (sym none) m.opens) in
@@ -178,6 +184,7 @@ stop_facts w v at i whole posted input m =
       holds = holds_again (record { state = m.reached; kept = kept }) replays;
       tables = all_got (HasTables w) w.nodes at m.old whole.tables m.here;
       own = step_owns m.old.state m.reached i m.f m.step;
+      same = follows.own;
     } in
     let book : Book = whole.facts.0.book in
     let good : Good w whole.facts.0.book = whole.facts.0.good in
@@ -226,22 +233,43 @@ runs_with_stops_stay_true _ _ _ whole (proceeds u v w e events h more) = runs_wi
 
 -- THE START
 
-routers_tables : (changes : List Change) (at n : ℕ) → AllByRecursion (λ (h : Held). TablesStand changes h.kept h.state) (routers_from at n)
-routers_tables changes at zero = tt
-routers_tables changes at (suc n) = (tt, routers_tables changes (at + 1) n)
-
-pub start_whole : (routers : ℕ) → StaysWhole (start routers)
-start_whole routers = record { facts = start_true routers; replays = start_replays routers; tables = (tt, (tt, routers_tables [] 2 routers)) }
+pub start_whole : (others routers : ℕ) → StaysWhole (start others routers)
+start_whole others routers = record {
+  facts = start_true others routers;
+  replays = start_replays others routers;
+  tables = all_starts (HasTables (start others routers)) others routers tt (λ at. tt) (λ at. tt);
+}
 
 -- LAWS
 
-pub runs_with_stops_make_one_history : (routers : ℕ) (events : List EventOrStop) (w : World) → RunWithStops (start routers) events w
+pub runs_with_stops_make_one_history : (others routers : ℕ) (events : List EventOrStop) (w : World) → RunWithStops (start others routers) events w
     → OneHistory (account_of w)
-runs_with_stops_make_one_history routers events w run =
-    makes_one_history w (runs_with_stops_stay_true (start routers) w events (start_whole routers) run).facts
+runs_with_stops_make_one_history others routers events w run =
+    makes_one_history w (runs_with_stops_stay_true (start others routers) w events (start_whole others routers) run).facts
 
 -- the changes that were made, newest first, are those that the catalogue's journal stores
-pub runs_with_stops_keep_changes : (routers : ℕ) (events : List EventOrStop) (w : World) → RunWithStops (start routers) events w
+pub runs_with_stops_keep_changes : (others routers : ℕ) (events : List EventOrStop) (w : World) → RunWithStops (start others routers) events w
     → changes_of w.changed ≡ changes_kept (journal_at w.nodes 0)
-runs_with_stops_keep_changes routers events w run =
-    (runs_with_stops_stay_true (start routers) w events (start_whole routers) run).facts.0.good.dated
+runs_with_stops_keep_changes others routers events w run =
+    (runs_with_stops_stay_true (start others routers) w events (start_whole others routers) run).facts.0.good.dated
+
+-- each journal has the entries of its own shard, and they rise
+pub runs_with_stops_own_journals : (others routers : ℕ) (events : List EventOrStop) (w : World) → RunWithStops (start others routers) events w → HaveOwnEntries w.nodes
+runs_with_stops_own_journals others routers events w run at =
+    let g = (runs_with_stops_stay_true (start others routers) w events (start_whole others routers) run).facts.0 in
+    journals_are_own w g.book g.good at
+
+-- no write that was acknowledged is lost
+pub runs_with_stops_keep_writes : (others routers : ℕ) (events : List EventOrStop) (w : World) → RunWithStops (start others routers) events w → KeepsWrites w
+runs_with_stops_keep_writes others routers events w run =
+    let h : OneHistory (account_of w) = runs_with_stops_make_one_history others routers events w run in
+    let s = run_with_stops_stays others routers events w run in
+    record {
+      legal = h.legal;
+      numbers = h.numbers;
+      sent = all_weaken (WasSent (account_of w)) (WasSentBy w.asked) (history_of w.nodes) (λ e x. (x.request, x.taken, x.sends)) h.sent;
+      acknowledged = s.acknowledged;
+      fitting = s.fitting;
+      one = s.one;
+      dated = s.dated;
+    }

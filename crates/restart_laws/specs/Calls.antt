@@ -1,8 +1,9 @@
 -- Calls of the program that begin on the journals that earlier calls left: each node is started on its own (docs/JOURNAL.md, "The program's journals"), and
 -- no message of one call is delivered in another (docs/NODES.md, "Messages"). That a node receives `Opened` is an event of the call itself.
 use Rattle.std.specs.Prelude.{◌≡◌, ℕ, zero, suc, ◌+◌, List, [], ◌∷◌, ◌++◌, length}
+use Rattle.history_laws.specs.Merged.{IsJournalOf}
 use Rattle.node_model.specs.Letters.{Letter}
-use Rattle.node_model.specs.World.{World, start}
+use Rattle.node_model.specs.World.{Held, World, entries_at, start}
 use Rattle.node_replay.specs.Restarts.{EventOrStop, restart_event, RunWithStops}
 
 -- so many nodes are started, from this place on, in order
@@ -46,11 +47,15 @@ pub data Calls (u : World) : World → Type 0 where
   next_call : (v first w : World) (events : List EventOrStop) → Calls u v → BeginsOn v first → RunWithStops first events w → Calls u w
 
 -- what calls lead to of which the first begins on empty journals
-abbrev pub Reached : (routers : ℕ) → World → Type 0
-Reached routers w = Calls (start routers) w
+abbrev pub Reached : (others routers : ℕ) → World → Type 0
+Reached others routers w = Calls (start others routers) w
 
 -- with these messages, sent before the others, it is a world of one run
 pub record IsOfRun (u w : World) : Type 0 where
   pub mail : List Letter
   pub events : List EventOrStop
   pub run : RunWithStops u events (with_mail mail w)
+
+-- each journal has the entries of its own shard, with rising times
+abbrev pub HaveOwnEntries : List Held → Type 0
+HaveOwnEntries nodes = (at : ℕ) → IsJournalOf at (entries_at nodes at)

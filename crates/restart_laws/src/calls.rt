@@ -11,52 +11,58 @@ ghost use Rattle.node_replay.specs.Acknowledged.{KeepsJournals, KeepsWrites};
 ghost use Rattle.node_replay.specs.Holds.{HoldsOwn, MayOpen, Replays};
 ghost use Rattle.node_replay.specs.ReadTimes.{ComesInTime};
 ghost use Rattle.node_replay.specs.Restarts.{Gives};
-ghost use Rattle.restart_laws.specs.Calls.{BeginsOn, Calls, IsOfRun, Reached};
+ghost use Rattle.restart_laws.specs.Calls.{BeginsOn, Calls, HaveOwnEntries, IsOfRun, Reached};
 ghost use Rattle.restart_laws.specs.Pinned.{IsPinned};
 
 /// Calls, one after another, lead to a world of one run of nodes that stop and are started again: in that run the messages of earlier calls were sent too, before
 /// those of the last.
 #[tactic(auto, using(crate::proofs::ReachedCalls::reached_calls_are_one_run))]
 pub fn reached_calls_are_one_run()
-    ensures { (routers : ℕ) (w : World) → Reached routers w → IsOfRun (start routers) w }
+    ensures { (others routers : ℕ) (w : World) → Reached others routers w → IsOfRun (start others routers) w }
 {}
 
-/// However many calls there were, each on the journals that the one before it left: the changes of the catalogue and what the shard's journal keeps, of all
+/// However many calls there were, each on the journals that the one before it left: the changes of the catalogue and what all journals keep, of all
 /// calls, are one legal history of an unsharded collection with each statement at most once, and each answer that was given in any of them is right by it.
 #[tactic(auto, using(crate::proofs::ReachedCalls::reached_calls_make_one_history))]
 pub fn reached_calls_make_one_history()
-    ensures { (routers : ℕ) (w : World) → Reached routers w → OneHistory (account_of w) }
+    ensures { (others routers : ℕ) (w : World) → Reached others routers w → OneHistory (account_of w) }
 {}
 
 /// The changes of the catalogue in all calls, newest first, are those that its journal keeps, in the order in which it stored them.
 #[tactic(auto, using(crate::proofs::ReachedCalls::reached_calls_keep_changes))]
 pub fn reached_calls_keep_changes()
-    ensures { (routers : ℕ) (w : World) → Reached routers w → changes_in w.changed ≡ changes_kept (journal_at w.nodes 0) }
+    ensures { (others routers : ℕ) (w : World) → Reached others routers w → changes_in w.changed ≡ changes_kept (journal_at w.nodes 0) }
+{}
+
+/// Each journal has the entries of its own shard, with rising times: so the history is these journals, in one order.
+#[tactic(auto, using(crate::proofs::ReachedCalls::reached_calls_own_journals))]
+pub fn reached_calls_own_journals()
+    ensures { (others routers : ℕ) (w : World) → Reached others routers w → HaveOwnEntries w.nodes }
 {}
 
 /// The journal of each node replays to its durable part, and no start on it is refused.
 #[tactic(auto, using(crate::proofs::ReachedCalls::reached_calls_replay))]
 pub fn reached_calls_replay()
-    ensures { (routers : ℕ) (w : World) → Reached routers w → AllByRecursion Replays w.nodes × AllByRecursion MayOpen w.nodes }
+    ensures { (others routers : ℕ) (w : World) → Reached others routers w → AllByRecursion Replays w.nodes × AllByRecursion MayOpen w.nodes }
 {}
 
 /// Each node holds what nodes hold, and each input that an event may give to one reads at no time later than itself: so the records of each step of a call
 /// may follow those that its journal has, also those of earlier calls (law `steps_store_what_may_follow` of `node_replay`).
 #[tactic(auto, using(crate::proofs::ReachedCalls::reached_calls_hold))]
 pub fn reached_calls_hold()
-    ensures { (routers : ℕ) (w : World) → Reached routers w → AllByRecursion HoldsOwn w.nodes × ((e : Event) (at : ℕ) (i : Input) → Gives w e at i → ComesInTime i) }
+    ensures { (others routers : ℕ) (w : World) → Reached others routers w → AllByRecursion HoldsOwn w.nodes × ((e : Event) (at : ℕ) (i : Input) → Gives w e at i → ComesInTime i) }
 {}
 
 /// No write that was acknowledged in any call is lost, and no statement is applied twice, also where it was sent in two calls.
 #[tactic(auto, using(crate::proofs::ReachedCalls::reached_calls_keep_writes))]
 pub fn reached_calls_keep_writes()
-    ensures { (routers : ℕ) (w : World) → Reached routers w → KeepsWrites w }
+    ensures { (others routers : ℕ) (w : World) → Reached others routers w → KeepsWrites w }
 {}
 
 /// No request is answered twice, also not in a later call.
 #[tactic(auto, using(crate::proofs::ReachedCalls::reached_calls_answer_once))]
 pub fn reached_calls_answer_once()
-    ensures { (routers : ℕ) (w : World) → Reached routers w → AreDifferent (ids_told w.answered) }
+    ensures { (others routers : ℕ) (w : World) → Reached others routers w → AreDifferent (ids_told w.answered) }
 {}
 
 /// No record that was stored is lost in a later call: from any world on, each journal grows at its end alone.
@@ -68,12 +74,12 @@ pub fn calls_keep_journals()
 /// Wherever calls led to, a next one may begin.
 #[tactic(auto, using(crate::proofs::ReachedCalls::reached_calls_may_go_on))]
 pub fn reached_calls_may_go_on()
-    ensures { (routers : ℕ) (u : World) → Reached routers u → (first : World) × BeginsOn u first }
+    ensures { (others routers : ℕ) (u : World) → Reached others routers u → (first : World) × BeginsOn u first }
 {}
 
 /// Documents that a shard took for a read stay those that its journal has at the time of the read, and that there was no collection at the time of a read
 /// stays so by the catalogue's journal: of each message that was sent, now and in all later calls.
 #[tactic(auto, using(crate::proofs::Pinned::what_was_read_stays))]
 pub fn what_was_read_stays()
-    ensures { (routers : ℕ) (u : World) (w : World) → Reached routers u → Calls u w → AllByRecursion (IsPinned w) u.sent }
+    ensures { (others routers : ℕ) (u : World) (w : World) → Reached others routers u → Calls u w → AllByRecursion (IsPinned w) u.sent }
 {}

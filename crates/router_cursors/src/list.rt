@@ -40,21 +40,6 @@ impl CursorList {
     ghost use Rattle.router_cursors.specs.Marks.{is_left};
     ghost use Rattle.router_cursors.specs.Numbers.{block_given, blocks_then, number_given};
 
-    /// Returns an empty list, where no number was used yet.
-    pub fn new(alloc: Global) -> CursorList
-        ensures cursors { (router life : ℕ) → cursors_of router life result ≡ [] }
-        ensures blocks { blocks_of result ≡ 0 }
-        ensures gave { gave_of result ≡ 0 }
-    {
-        CursorList {
-            alloc,
-            shelf: Shelf::new(alloc),
-            blocks: 0,
-            gave: 0,
-            opened: GhostList::new(),
-        }
-    }
-
     /// Returns the number of the next cursor, or none where the numbers are exhausted.
     pub fn next_number(&self) -> Option<NewNumber>
         ensures number { IfSome result (λ n. n.number ≡ number_given (blocks_of self.now) (gave_of self.now)) }

@@ -10,7 +10,7 @@ pub shards_again : (r : Router) (time : ℕ) (q : Open) (t : Table) → q.wait �
     → asks_again r time q ≡ asks_shards r time q.count q.namespace t q.work
 shards_again r time q t waits known =
     ap (λ (w : Wait). elim w [
-      | for_time ↦ asks_times r time (id_of r q.count)
+      | for_time ↦ asks_times r time (id_of r q.count) q.told
       | for_catalogue ↦ asks_catalogue r time q.count q.namespace q.work ∷ []
       | for_shards ↦ elim (table_of q.namespace r.tables) [ None ↦ [] | Some t ↦ asks_shards r time q.count q.namespace t q.work ]
     ]) waits
@@ -20,7 +20,16 @@ shards_again r time q t waits known =
 pub catalogue_again : (r : Router) (time : ℕ) (q : Open) → q.wait ≡ for_catalogue → asks_again r time q ≡ asks_catalogue r time q.count q.namespace q.work ∷ []
 catalogue_again r time q waits =
     ap (λ (w : Wait). elim w [
-      | for_time ↦ asks_times r time (id_of r q.count)
+      | for_time ↦ asks_times r time (id_of r q.count) q.told
+      | for_catalogue ↦ asks_catalogue r time q.count q.namespace q.work ∷ []
+      | for_shards ↦ elim (table_of q.namespace r.tables) [ None ↦ [] | Some t ↦ asks_shards r time q.count q.namespace t q.work ]
+    ]) waits
+
+-- one that waits for its time sends its messages to the shards that have not returned it
+pub times_again : (r : Router) (time : ℕ) (q : Open) → q.wait ≡ for_time → asks_again r time q ≡ asks_times r time (id_of r q.count) q.told
+times_again r time q waits =
+    ap (λ (w : Wait). elim w [
+      | for_time ↦ asks_times r time (id_of r q.count) q.told
       | for_catalogue ↦ asks_catalogue r time q.count q.namespace q.work ∷ []
       | for_shards ↦ elim (table_of q.namespace r.tables) [ None ↦ [] | Some t ↦ asks_shards r time q.count q.namespace t q.work ]
     ]) waits

@@ -9,24 +9,30 @@ use Rattle.node_model.specs.RouterRows.{reached, with_work}
 use Rattle.node_model.specs.States.{Open, Router, Work, writing, reading, sharding, splitting, open_with, replaced}
 use Rattle.chunk_model.specs.Tables.{Table}
 use Rattle.command_model.specs.Writes.{WriteKind}
-use Rattle.router_requests.specs.Works.{wait_view}
+use Rattle.cluster_base.specs.declared.identity.NodeId.{NodeId}
+use Rattle.router_requests.specs.Works.{numbers_of, told_by, wait_view}
 use Rattle.router_requests.specs.declared.work.Wait.{Wait}
 use Rattle.protocol_model.specs.Statements.{done_view}
 use Rattle.protocol_model.specs.declared.statement.Done.{Done as StatementDone}
 use Rattle.router_node.specs.StepPlans.{opens_then}
-use Rattle.router_node.specs.declared.step_plan.Change.TheVariants.{Reaches, Notes}
+use Rattle.router_node.specs.declared.step_plan.Change.TheVariants.{Reaches, Told, Notes}
 
 -- by its parts
-pub becomes : (me time life : ℕ) (begun : Bool) (moment a b : ℕ) (s t : List Table) (p q : List Open) (x y : List Cursor) (j k g h : ℕ) → a ≡ b → s ≡ t → p ≡ q → x ≡ y → j ≡ k → g ≡ h
-    → ◌≡◌ {A = Router} (record { me = me; time = time; life = life; begun = begun; moment = moment; count = a; tables = s; requests = p; cursors = x; blocks = j; gave = g })
-    (record { me = me; time = time; life = life; begun = begun; moment = moment; count = b; tables = t; requests = q; cursors = y; blocks = k; gave = h })
-becomes me time life begun moment a b s t p q x y j k g h count tables requests cursors blocks gave = rw (count, tables, requests, cursors, blocks, gave) refl
+pub becomes : (me shards time life : ℕ) (begun : Bool) (moment a b : ℕ) (s t : List Table) (p q : List Open) (x y : List Cursor) (j k g h : ℕ) → a ≡ b → s ≡ t → p ≡ q → x ≡ y → j ≡ k → g ≡ h
+    → ◌≡◌ {A = Router} (record { me = me; shards = shards; time = time; life = life; begun = begun; moment = moment; count = a; tables = s; requests = p; cursors = x; blocks = j; gave = g })
+    (record { me = me; shards = shards; time = time; life = life; begun = begun; moment = moment; count = b; tables = t; requests = q; cursors = y; blocks = k; gave = h })
+becomes me shards time life begun moment a b s t p q x y j k g h count tables requests cursors blocks gave = rw (count, tables, requests, cursors, blocks, gave) refl
 
 module _ (r : Router) (time count : ℕ) (q : Open) (found : open_with count r.requests ≡ Some q) where
   pub opens_reaches : (wait : Wait) → replaced (with_work q (wait_view wait) (reached time q.work)) r.requests ≡ opens_then r time (Reaches count wait)
   opens_reaches wait =
       subst (λ (o : Option Open). replaced (with_work q (wait_view wait) (reached time q.work)) r.requests
       ≡ elim o as (λ _. List Open) [ None ↦ r.requests | Some x ↦ replaced (with_work x (wait_view wait) (reached time x.work)) r.requests ]) (sym found) refl
+
+  pub opens_told : (told : Vec NodeId Global) → replaced (told_by q (numbers_of told.items)) r.requests ≡ opens_then r time (Told count told)
+  opens_told told =
+      subst (λ (o : Option Open). replaced (told_by q (numbers_of told.items)) r.requests
+      ≡ elim o as (λ _. List Open) [ None ↦ r.requests | Some x ↦ replaced (told_by x (numbers_of told.items)) r.requests ]) (sym found) refl
 
   pub opens_notes : (wait : Wait) (answers : Vec StatementDone Global) (kind : WriteKind) (ordered : Bool) (statements : List Statement) (before : List Done) → q.work ≡ writing kind ordered statements before
       → replaced (with_work q (wait_view wait) (writing kind ordered statements (map done_view answers.items))) r.requests ≡ opens_then r time (Notes count wait answers)

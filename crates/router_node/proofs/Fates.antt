@@ -6,10 +6,10 @@ use Rattle.command_model.specs.Answers.{changed_answer, refusal_answer}
 use Rattle.base_model.specs.Errors.{namespace_not_sharded}
 use Rattle.base_model.specs.Identities.{RequestId}
 use Rattle.node_model.specs.Letters as letters
-use Rattle.node_model.specs.Letters.{Letter, HalfFault, letter_input, split_done, write_done, read_rows, time_told, sends}
+use Rattle.node_model.specs.Letters.{Letter, HalfFault, letter_input, split_done, write_done, read_rows, time_told, nothing, sends}
 use Rattle.reply_model.specs.Outcomes.{Done, answer_of}
 use Rattle.base_model.specs.Refusals.{time_ahead, without_evidence}
-use Rattle.node_model.specs.RouterRows.{router_split, router_not_sharded, router_reach, router_ahead, router_note, router_wrote, heard, knows, open_of, reply_to, noted, is_answered, reached, asks_for, going_on, answers_now, with_work, IsLate, IsNoRead, IsNotAwaited, IsNoSplit, AreNoNews}
+use Rattle.node_model.specs.RouterRows.{router_split, router_not_sharded, router_reach, router_hear, router_ahead, router_note, router_wrote, heard, knows, open_of, reply_to, noted, is_answered, reached, asks_for, going_on, answers_now, with_work, IsLate, IsNoRead, IsNotAwaited, IsNoSplit, AreNoNews, also_told, shards_of, untold, with_told}
 use Rattle.node_model.specs.States.{Telling, Open, Router, Work, for_time, reading, writing, splitting, without, replaced}
 use Rattle.pipeline_model.specs.Halves.{Rows}
 use Rattle.pipeline_model.specs.Stages.{Stage}
@@ -85,15 +85,29 @@ module _ (r : Router) (m : Letter) (id : RequestId) (q : Open) (opened : open_of
   time_not_awaited named at stages telling is work other = time_late (reading named at stages telling) is work other
 
   pub time_ahead_told : (named : Bool) (at : ℕ) (stages : List Stage) (telling : Telling) (replies : List ToLink) → m.body ≡ time_told id → q.work ≡ reading named at stages telling → q.wait ≡ for_time → heard r m < at
+      → untold (also_told q.told m.sender) (shards_of r) ≡ []
       → replies ≡ puts_of (reply_to r (heard r m) q (refusal_answer (time_ahead (heard r m))) ∷ [])
       → TookRow r (letter_input m) [] replies (knows r (heard r m) r.tables (without q.count r.requests))
-  time_ahead_told named at stages telling replies is work waits ahead told = record {
+  time_ahead_told named at stages telling replies is work waits ahead all told = record {
     effect = answers_now (reply_to r (heard r m) q (refusal_answer (time_ahead (heard r m))));
-    row = router_ahead r m id q named at stages telling is opened work waits ahead;
+    row = router_ahead r m id q named at stages telling is opened work waits ahead all;
     written = refl;
     sent = refl;
     told = told;
   }
+
+  -- others have not returned their time
+  pub time_heard : (named : Bool) (at : ℕ) (stages : List Stage) (telling : Telling) (next : Open) → m.body ≡ time_told id → q.work ≡ reading named at stages telling → q.wait ≡ for_time → heard r m < at
+      → untold (also_told q.told m.sender) (shards_of r) ≢ [] → next ≡ with_told q m.sender
+      → TookRow r (letter_input m) [] [] (knows r (heard r m) r.tables (replaced next r.requests))
+  time_heard named at stages telling next is work waits ahead some goes =
+      subst (λ n. TookRow r (letter_input m) [] [] (knows r (heard r m) r.tables (replaced n r.requests))) (sym goes) (record {
+        effect = nothing;
+        row = router_hear r m id q named at stages telling is opened work waits ahead some;
+        written = refl;
+        sent = refl;
+        told = refl;
+      })
 
   pub time_reached : (named : Bool) (at : ℕ) (stages : List Stage) (telling : Telling) (mail : List Letter) (next : Open) → m.body ≡ time_told id → q.work ≡ reading named at stages telling → q.wait ≡ for_time → at ≤ heard r m
       → mail ≡ asks_for r (heard r m) q.count q.namespace (reached (heard r m) q.work) → next ≡ going_on r (heard r m) q (reached (heard r m) q.work)

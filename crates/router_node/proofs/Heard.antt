@@ -10,7 +10,8 @@ use Rattle.node_model.specs.States.{Open, Router, Work, writing, reading, shardi
 use Rattle.command_model.specs.Writes.{WriteKind}
 use Rattle.node_traits.specs.Effects.{AreReadable, puts_of, spellings}
 use Rattle.node_traits.specs.declared.outputs.ToLink.{ToLink}
-use Rattle.router_requests.specs.Works.{wait_view}
+use Rattle.cluster_base.specs.declared.identity.NodeId.{NodeId}
+use Rattle.router_requests.specs.Works.{numbers_of, told_by, wait_view}
 use Rattle.router_requests.specs.declared.work.Wait.{Wait}
 use Rattle.protocol_model.specs.Statements.{done_view}
 use Rattle.protocol_model.specs.declared.statement.Done.{Done as Done_told}
@@ -18,7 +19,7 @@ use Rattle.std.specs.declared.vec.Vec.{Vec}
 use Rattle.router_node.specs.Rows.{TookRow}
 use Rattle.router_node.specs.StepPlans.{Follows, FollowsBy, Hears, HearsKeeping, IsHeard, changed}
 use Rattle.router_node.specs.declared.step_plan.Change.{Change}
-use Rattle.router_node.specs.declared.step_plan.Change.TheVariants.{Stays, Reaches, Notes}
+use Rattle.router_node.specs.declared.step_plan.Change.TheVariants.{Stays, Reaches, Told, Notes}
 use Rattle.router_node.specs.declared.step_plan.StepPlan.{StepPlan}
 
 -- the change that was planned may follow
@@ -70,6 +71,7 @@ module _ (r : Router) (id : RequestId) (q : Open) (opened : open_of r id ≡ Som
   reaches_so i ls rs time wait took =
       subst (λ (o : Option Open). TookRow r i ls rs (record {
         me = r.me;
+        shards = r.shards;
         time = time;
         life = r.life;
         begun = r.begun;
@@ -77,6 +79,26 @@ module _ (r : Router) (id : RequestId) (q : Open) (opened : open_of r id ≡ Som
         count = r.count;
         tables = r.tables;
         requests = elim o as (λ _. List Open) [ None ↦ r.requests | Some x ↦ replaced (with_work x (wait_view wait) (reached time x.work)) r.requests ];
+        cursors = r.cursors;
+        blocks = r.blocks;
+        gave = r.gave;
+      })) (sym found) took
+
+  -- these shards returned their time
+  pub told_so : (i : Input) (ls : List Letter) (rs : List ToLink) (time : ℕ) (told : Vec NodeId Global)
+      → TookRow r i ls rs (knows r time r.tables (replaced (told_by q (numbers_of told.items)) r.requests))
+      → TookRow r i ls rs (changed r time r.begun r.moment (Told id.count told))
+  told_so i ls rs time told took =
+      subst (λ (o : Option Open). TookRow r i ls rs (record {
+        me = r.me;
+        shards = r.shards;
+        time = time;
+        life = r.life;
+        begun = r.begun;
+        moment = r.moment;
+        count = r.count;
+        tables = r.tables;
+        requests = elim o as (λ _. List Open) [ None ↦ r.requests | Some x ↦ replaced (told_by x (numbers_of told.items)) r.requests ];
         cursors = r.cursors;
         blocks = r.blocks;
         gave = r.gave;
@@ -90,6 +112,7 @@ module _ (r : Router) (id : RequestId) (q : Open) (opened : open_of r id ≡ Som
   notes_so i ls rs time wait answers kind ordered statements before work took =
       subst (λ (o : Option Open). TookRow r i ls rs (record {
         me = r.me;
+        shards = r.shards;
         time = time;
         life = r.life;
         begun = r.begun;
@@ -110,6 +133,7 @@ module _ (r : Router) (id : RequestId) (q : Open) (opened : open_of r id ≡ Som
         gave = r.gave;
       })) (sym found) (subst (λ (w : Work). TookRow r i ls rs (record {
         me = r.me;
+        shards = r.shards;
         time = time;
         life = r.life;
         begun = r.begun;

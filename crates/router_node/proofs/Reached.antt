@@ -1,5 +1,5 @@
 -- What a read requests at a time that is reached.
-use Rattle.std.proofs.Common.{◌≡◌, ap, sym, subst, ◌∙◌, ℕ, ◌≤◌, List, Bool, true, false, arith, if◌then◌else◌}
+use Rattle.std.proofs.Common.{◌≡◌, ap, sym, subst, ◌∙◌, ℕ, ◌≤◌, List, [], Bool, true, false, arith, if◌then◌else◌}
 use Rattle.std.specs.Prelude.{Option, nat_lt}
 use Rattle.std.proofs.lemmas.Bool.{le-ltb}
 use Rattle.cluster_base.specs.declared.time.Time.{Time}
@@ -23,11 +23,11 @@ module _ (r : Router) (time : ℕ) where
     abbrev work : Work
     work = reached time (read_view read)
 
-    pub asked_reached : (letters : List Letter) → letters ≡ asks_by (asking r.me r.life) time count namespace (read_at read at.0) known → letters ≡ asks_for r time count namespace (reached time (read_view read))
+    pub asked_reached : (letters : List Letter) → letters ≡ asks_by (asking r.me r.shards r.life) time count namespace (read_at read at.0) known → letters ≡ asks_for r time count namespace (reached time (read_view read))
     asked_reached letters asked =
         subst (λ (w : Work). letters ≡ asks_by r time count namespace w (table_for r.tables namespace w)) same
         (asked ∙ asked_alike r time count namespace (read_at read at.0) known ∙ ap (λ (o : Option Table). asks_by r time count namespace (read_at read at.0) o) is)
-        ∙ sym (ap (λ (b : Bool). if b then asks_times r time (id_of r count) else asks_by r time count namespace work (table_for r.tables namespace work)) (not_ahead read.named read.at.0 come))
+        ∙ sym (ap (λ (b : Bool). if b then asks_times r time (id_of r count) [] else asks_by r time count namespace work (table_for r.tables namespace work)) (not_ahead read.named read.at.0 come))
 
     pub waits_reached : (wait : Wait) → wait ≡ wait_by known → wait ≡ wait_of r time namespace (reached time (read_view read))
     waits_reached wait waits =

@@ -18,7 +18,7 @@ module _ (r : Router) (time count : ℕ) (namespace : List ℕ) (kind : WriteKin
   enough (Some t) = refl
 
   pub rest_asked : (letters : List Letter) (known : Option Table) → known ≡ table_of namespace r.tables
-      → letters ≡ asks_by (asking r.me r.life) time count namespace (writing kind ordered statements answers) known
+      → letters ≡ asks_by (asking r.me r.shards r.life) time count namespace (writing kind ordered statements answers) known
       → letters ≡ asks_for r time count namespace (writing kind ordered statements answers)
   rest_asked letters known is asked =
       asked ∙ asked_alike r time count namespace (writing kind ordered statements answers) known

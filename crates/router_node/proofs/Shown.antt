@@ -34,6 +34,7 @@ use Rattle.router_node.proofs.Heard.{heard_by, heard_keeping}
 abbrev counted : Router → List Open → List Cursor → Router
 counted r requests cursors = record {
   me = r.me;
+  shards = r.shards;
   time = r.time;
   life = r.life;
   begun = true;

@@ -14,14 +14,14 @@ use Rattle.base_model.specs.Times.{time_of_moment}
 use Rattle.node_traits.specs.Effects.{AreReadable, puts_of, spellings}
 use Rattle.node_traits.specs.declared.outputs.ToLink.{ToLink}
 use Rattle.router_requests.proofs.Askers.{asked_alike}
-use Rattle.router_requests.specs.Works.{open_view, wait_view, work_view}
+use Rattle.router_requests.specs.Works.{numbers_of, open_view, wait_view, work_view}
 use Rattle.router_requests.specs.declared.work.OpenRequest.{OpenRequest}
 use Rattle.protocol_model.specs.Heads.{head_request}
 use Rattle.router_node.specs.Rows.{TookRow, started, life_kept}
 use Rattle.router_node.proofs.Heard.{follows_so}
 use Rattle.router_node.specs.StepPlans.{FollowsBy, Hears, IsHeard, IsPlanned, Starts, changed, count_then, router_then}
 use Rattle.router_node.specs.declared.step_plan.Change.{Change}
-use Rattle.router_node.specs.declared.step_plan.Change.TheVariants.{Stays, Counts, Opens, Closes, Reaches, Notes, Learns, Shelves, Advances, Ends}
+use Rattle.router_node.specs.declared.step_plan.Change.TheVariants.{Stays, Counts, Opens, Closes, Reaches, Told, Notes, Learns, Shelves, Advances, Ends}
 use Rattle.router_node.specs.declared.step_plan.StepPlan.{StepPlan}
 
 -- the effect with the record of a life that begins
@@ -30,11 +30,11 @@ with_life r f = record { written = life_kept r ++ f.written; mail = f.mail; take
 
 -- a router in its life
 in_life : (r : Router) → r.begun ≡ true → started r ≡ r
-in_life r is = ap (λ (b : Bool). record { me = r.me; time = r.time; life = r.life; begun = b; moment = r.moment; count = r.count; tables = r.tables; requests = r.requests; cursors = r.cursors; blocks = r.blocks; gave = r.gave }) (sym is)
+in_life r is = ap (λ (b : Bool). record { me = r.me; shards = r.shards; time = r.time; life = r.life; begun = b; moment = r.moment; count = r.count; tables = r.tables; requests = r.requests; cursors = r.cursors; blocks = r.blocks; gave = r.gave }) (sym is)
 
 -- one whose life begins
 not_yet : (r : Router) → r.count ≡ 0 → started r ≡ begins r
-not_yet r is = ap (λ (n : ℕ). record { me = r.me; time = r.time; life = r.life; begun = true; moment = r.moment; count = n; tables = r.tables; requests = r.requests; cursors = r.cursors; blocks = r.blocks; gave = r.gave }) is
+not_yet r is = ap (λ (n : ℕ). record { me = r.me; shards = r.shards; time = r.time; life = r.life; begun = true; moment = r.moment; count = n; tables = r.tables; requests = r.requests; cursors = r.cursors; blocks = r.blocks; gave = r.gave }) is
 
 started_step : (r q : Router) (i : Input) (f : Effect) → (r.begun ≡ false → r.count ≡ 0) → IsFor r.me i → BeginsBefore i → RouterRow (started r) i f q
     → Step (router_state r) i (with_life r f) (router_state q)
@@ -138,7 +138,7 @@ module _ (r : Router) (link : ℕ) (number : ℤ) (request : Request) (answer : 
   took_plain replies plan told = record {
     effect = answered;
     row = subst (λ (l : List Open). RouterRow (started r) (client_input link number request) answered
-        (record { me = r.me; time = r.time; life = r.life; begun = true; moment = r.moment; count = r.count + 1; tables = r.tables; requests = l; cursors = r.cursors; blocks = r.blocks; gave = r.gave }))
+        (record { me = r.me; shards = r.shards; time = r.time; life = r.life; begun = true; moment = r.moment; count = r.count + 1; tables = r.tables; requests = l; cursors = r.cursors; blocks = r.blocks; gave = r.gave }))
         (append-nil r.requests) (router_plain (started r) link number request answer refl plan);
     written = refl;
     sent = refl;
@@ -147,7 +147,7 @@ module _ (r : Router) (link : ℕ) (number : ℤ) (request : Request) (answer : 
 
 asked_started : (r : Router) (time count : ℕ) (namespace : List ℕ) (work : Work) → asks_for (started r) time count namespace work ≡ asks_for r time count namespace work
 asked_started r time count namespace work =
-    ap (λ (l : List Letter). if is_ahead time work then asks_times r time (id_of r count) else l)
+    ap (λ (l : List Letter). if is_ahead time work then asks_times r time (id_of r count) [] else l)
     (sym (asked_alike (started r) time count namespace work (table_for r.tables namespace work)) ∙ asked_alike r time count namespace work (table_for r.tables namespace work))
 
 module _ (r : Router) (o : OpenRequest) (next : o.count ≡ r.count + 1) where
@@ -157,10 +157,11 @@ module _ (r : Router) (o : OpenRequest) (next : o.count ≡ r.count + 1) where
   abbrev request : Request
   request = head_request o.head
 
-  opens : wait_view o.wait ≡ wait_of r r.time o.namespace work → open_view r.me r.life o ≡ opened_request (started r) o.link o.number request o.namespace work
-  opens waits =
-      ap (λ (n : ℕ). record { count = n; link = o.link; number = o.number; request = request; namespace = o.namespace; wait = wait_view o.wait; work = work }) next
-      ∙ ap (λ (w : Wait). record { count = r.count + 1; link = o.link; number = o.number; request = request; namespace = o.namespace; wait = w; work = work }) waits
+  opens : numbers_of o.told.items ≡ [] → wait_view o.wait ≡ wait_of r r.time o.namespace work → open_view r.me r.life o ≡ opened_request (started r) o.link o.number request o.namespace work
+  opens none waits =
+      ap (λ (n : ℕ). record { count = n; link = o.link; number = o.number; request = request; namespace = o.namespace; wait = wait_view o.wait; told = numbers_of o.told.items; work = work }) next
+      ∙ ap (λ (l : List ℕ). record { count = r.count + 1; link = o.link; number = o.number; request = request; namespace = o.namespace; wait = wait_view o.wait; told = l; work = work }) none
+      ∙ ap (λ (w : Wait). record { count = r.count + 1; link = o.link; number = o.number; request = request; namespace = o.namespace; wait = w; told = []; work = work }) waits
 
   abbrev effect : Effect
   effect = record { written = []; mail = asks_for (started r) r.time (r.count + 1) o.namespace work; taken = taken_now (started r) o.link o.number request ∷ []; replies = [] }
@@ -168,11 +169,12 @@ module _ (r : Router) (o : OpenRequest) (next : o.count ≡ r.count + 1) where
   -- kept open
   pub took_open : (letters : List Letter) → plan_of (started r) (id_of r o.count) (head_request o.head).more (command_of (head_request o.head)) ≡ needs o.namespace (work_view (id_of r o.count) o.work)
       → letters ≡ asks_for r r.time o.count o.namespace (work_view (id_of r o.count) o.work)
+      → numbers_of o.told.items ≡ []
       → wait_view o.wait ≡ wait_of r r.time o.namespace (work_view (id_of r o.count) o.work)
       → TookRow (started r) (client_input o.link o.number (head_request o.head)) letters [] (changed r r.time true r.moment (Opens o))
-  took_open letters plan asked waits = record {
+  took_open letters plan asked none waits = record {
     effect = effect;
-    row = subst (λ (x : Open). RouterRow (started r) (client_input o.link o.number request) effect (takes (started r) (x ∷ []))) (sym (opens waits))
+    row = subst (λ (x : Open). RouterRow (started r) (client_input o.link o.number request) effect (takes (started r) (x ∷ []))) (sym (opens none waits))
         (router_take (started r) o.link o.number request o.namespace work refl
         (subst (λ (n : ℕ). plan_of (started r) (id_of r n) request.more (command_of request) ≡ needs o.namespace work) next plan));
     written = refl;
@@ -224,6 +226,7 @@ quiet_then r begun Counts quiet follows not_begun = absurd (cc (sym follows.0 �
 quiet_then r begun (Opens q) quiet follows not_begun = absurd (cc (sym follows.0 ∙ not_begun))
 quiet_then r begun (Closes count) quiet follows not_begun = quiet (follows not_begun)
 quiet_then r begun (Reaches count wait) quiet follows not_begun = quiet (follows.0 not_begun)
+quiet_then r begun (Told count told) quiet follows not_begun = quiet (follows.0 not_begun)
 quiet_then r begun (Notes count wait answers) quiet follows not_begun = quiet (follows.0 not_begun)
 quiet_then r begun (Learns namespace made at table) quiet follows not_begun = quiet (follows not_begun)
 quiet_then r begun (Shelves count opened) quiet follows not_begun = quiet (follows.0 not_begun)

@@ -7,6 +7,7 @@ use Rattle.router_node.specs.declared.node.RouterNode.{RouterNode}
 abbrev pub router_of : RouterNode → Router
 router_of n = record {
   me = n.me.0;
+  shards = n.shards;
   time = n.time.0;
   life = n.life;
   begun = n.begun;

@@ -19,6 +19,7 @@ pub record TookRow (old : Router) (i : Input) (mail : List Letter) (replies : Li
 abbrev pub started : Router → Router
 started r = record {
   me = r.me;
+  shards = r.shards;
   time = r.time;
   life = r.life;
   begun = true;

@@ -14,7 +14,7 @@ use Rattle.command_model.specs.Writes.{WriteKind}
 use Rattle.node_traits.specs.Effects.{AreReadable, StepPlanned, puts_of, spellings}
 use Rattle.node_traits.specs.declared.outputs.ToLink.{ToLink}
 use Rattle.router_requests.specs.Lists.{has_room}
-use Rattle.router_requests.specs.Works.{open_view, wait_view}
+use Rattle.router_requests.specs.Works.{numbers_of, open_view, told_by, wait_view}
 use Rattle.protocol_model.specs.Bodies.{at_view}
 use Rattle.protocol_model.specs.Messages.{letter_of}
 use Rattle.protocol_model.specs.Statements.{done_view}
@@ -26,7 +26,7 @@ use Rattle.router_node.specs.RouterStates.{router_of}
 use Rattle.router_node.specs.Rows.{life_kept}
 use Rattle.router_node.specs.declared.node.RouterNode.{RouterNode}
 use Rattle.router_node.specs.declared.step_plan.Change.{Change}
-use Rattle.router_node.specs.declared.step_plan.Change.TheVariants.{Stays, Counts, Opens, Closes, Reaches, Notes, Learns, Shelves, Advances, Ends}
+use Rattle.router_node.specs.declared.step_plan.Change.TheVariants.{Stays, Counts, Opens, Closes, Reaches, Told, Notes, Learns, Shelves, Advances, Ends}
 use Rattle.router_node.specs.declared.step_plan.StepPlan.{StepPlan}
 
 -- how many requests were taken afterwards
@@ -36,6 +36,7 @@ count_then Counts count = count + 1
 count_then (Opens q) count = count + 1
 count_then (Closes closed) count = count
 count_then (Reaches waiting wait) count = count
+count_then (Told waiting told) count = count
 count_then (Notes waiting wait answers) count = count
 count_then (Learns namespace made at table) count = count
 count_then (Shelves told opened) count = count
@@ -49,6 +50,7 @@ tables_then Counts tables = tables
 tables_then (Opens q) tables = tables
 tables_then (Closes closed) tables = tables
 tables_then (Reaches waiting wait) tables = tables
+tables_then (Told waiting told) tables = tables
 tables_then (Notes waiting wait answers) tables = tables
 tables_then (Learns namespace made at table) tables = adopted (option_map (λ t. arc_value t) table) tables
 tables_then (Shelves told opened) tables = tables
@@ -64,6 +66,10 @@ opens_then r time (Closes count) = without count r.requests
 opens_then r time (Reaches count wait) = elim (open_with count r.requests) [
   | None ↦ r.requests
   | Some q ↦ replaced (with_work q (wait_view wait) (reached time q.work)) r.requests
+]
+opens_then r time (Told count told) = elim (open_with count r.requests) [
+  | None ↦ r.requests
+  | Some q ↦ replaced (told_by q (numbers_of told.items)) r.requests
 ]
 opens_then r time (Notes count wait answers) = elim (open_with count r.requests) [
   | None ↦ r.requests
@@ -88,6 +94,7 @@ cursors_then r Counts = r.cursors
 cursors_then r (Opens q) = r.cursors
 cursors_then r (Closes count) = r.cursors
 cursors_then r (Reaches count wait) = r.cursors
+cursors_then r (Told count told) = r.cursors
 cursors_then r (Notes count wait answers) = r.cursors
 cursors_then r (Learns namespace made at table) = r.cursors
 cursors_then r (Shelves count opened) = r.cursors ++ record {
@@ -108,6 +115,7 @@ blocks_after r Counts = r.blocks
 blocks_after r (Opens q) = r.blocks
 blocks_after r (Closes count) = r.blocks
 blocks_after r (Reaches count wait) = r.blocks
+blocks_after r (Told count told) = r.blocks
 blocks_after r (Notes count wait answers) = r.blocks
 blocks_after r (Learns namespace made at table) = r.blocks
 blocks_after r (Shelves count opened) = blocks_then r.blocks r.gave
@@ -120,6 +128,7 @@ gave_after r Counts = r.gave
 gave_after r (Opens q) = r.gave
 gave_after r (Closes count) = r.gave
 gave_after r (Reaches count wait) = r.gave
+gave_after r (Told count told) = r.gave
 gave_after r (Notes count wait answers) = r.gave
 gave_after r (Learns namespace made at table) = r.gave
 gave_after r (Shelves count opened) = next_number r
@@ -130,6 +139,7 @@ gave_after r (Ends numbers) = r.gave
 abbrev pub changed : Router → (time : ℕ) → (begun : Bool) → (moment : ℕ) → Change → Router
 changed r time begun moment change = record {
   me = r.me;
+  shards = r.shards;
   time = time;
   life = r.life;
   begun = begun;
@@ -184,6 +194,7 @@ FollowsBy r begun Counts = (begun ≡ true) × (r.count < 2 ^ 64 - 1)
 FollowsBy r begun (Opens q) = (begun ≡ true) × (r.count < 2 ^ 64 - 1) × (q.count ≡ r.count + 1)
 FollowsBy r begun (Closes count) = begun ≡ false → r.begun ≡ false
 FollowsBy r begun (Reaches count wait) = (begun ≡ false → r.begun ≡ false) × (q : Open) × (open_with count r.requests ≡ Some q)
+FollowsBy r begun (Told count told) = (begun ≡ false → r.begun ≡ false) × (q : Open) × (open_with count r.requests ≡ Some q)
 FollowsBy r begun (Notes count wait answers) =
     (begun ≡ false → r.begun ≡ false) × (q : Open) × (kind : WriteKind) × (ordered : Bool) × (statements : List Statement) × (before : List Done)
     × (open_with count r.requests ≡ Some q) × (q.work ≡ writing kind ordered statements before)
@@ -217,6 +228,7 @@ HasRoomFor n Counts = Unit {0}
 HasRoomFor n (Opens q) = has_room n.requests ≡ true
 HasRoomFor n (Closes count) = Unit {0}
 HasRoomFor n (Reaches count wait) = Unit {0}
+HasRoomFor n (Told count told) = Unit {0}
 HasRoomFor n (Notes count wait answers) = Unit {0}
 HasRoomFor n (Learns namespace made at table) = IfSome table (λ t. 1 ≤ n.tables.room)
 HasRoomFor n (Shelves count opened) = cursors.HasRoomFor n.cursors opened.namespace opened.time.0

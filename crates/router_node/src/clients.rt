@@ -1,6 +1,5 @@
 //! Requests of clients.
 
-use crate::mail::mail_of;
 use crate::node::RouterNode;
 use crate::step_plan::{Change, StepPlan};
 use bson_values::Memory;
@@ -63,8 +62,7 @@ impl RouterNode {
             ≡ rows.needs namespace (work_view (rows.id_of (router_of self.now) count) work) }
         ensures { IfOk result (λ p. IsPlanned (router_of self.now) (client_input asked.link asked.number (head_request asked.head)) p) }
     {
-        let (wait, message) = self.asks_for(self.time, count, &namespace, &work)?;
-        let mail = mail_of(self.alloc, message);
+        let (wait, mail) = self.asks_for(self.time, count, &namespace, &work)?;
         let Asked { link, number, head } = asked;
         let opened = OpenRequest {
             count,
@@ -73,6 +71,7 @@ impl RouterNode {
             head,
             namespace,
             wait,
+            told: Vec::new(self.alloc),
             work,
         };
         self.starts(self.time, self.moment, Change::Opens(opened), mail, None)

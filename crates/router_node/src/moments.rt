@@ -5,43 +5,52 @@ use bson_values::Memory;
 use cluster_base::Time;
 use node_traits::MailList;
 use protocol_model::Message;
-use router_requests::{OpenRequest, Wait};
+use router_requests::{OpenRequest, Wait, add_all, list_of};
 
 impl RouterNode {
     ghost use Rattle.std.specs.Prelude.{◌≡◌, ◌++◌, map, IfOk, OnOk};
     ghost use Rattle.std.specs.List.{flat_map};
     ghost use Rattle.node_model.specs.RouterRows as rows;
-    ghost use Rattle.router_requests.specs.Askers.{letters_of};
     ghost use Rattle.router_requests.specs.Lists.{opens_of};
     ghost use Rattle.router_requests.specs.Works.{open_view};
     ghost use Rattle.protocol_model.specs.Messages.{letter_of};
     ghost use Rattle.router_node.specs.RouterStates.{router_of};
     ghost use Rattle.router_node.specs.Rows.{started};
 
-    // Returns the message that an open request sends again for what it waits for, if it sends one. Returns `Memory` if memory runs out.
+    // Returns the messages that an open request sends again for what it waits for. Returns `Memory` if memory runs out.
     #[tactic(auto, using(router_requests::proofs::Askers::shards_alike, router_requests::proofs::Askers::table_alike))]
-    fn asks_again(&self, time: Time, request: &OpenRequest) -> Result<Option<Message>, Memory>
-        ensures { IfOk result (λ m. letters_of m ≡ rows.asks_again (started (router_of self.now)) time.0 (open_view self.now.me.0 self.now.life request.now)) }
+    fn asks_again(&self, time: Time, request: &OpenRequest) -> Result<Vec<Message>, Memory>
+        ensures { IfOk result (λ asks. map (λ m. letter_of m) asks.items ≡ rows.asks_again (started (router_of self.now)) time.0 (open_view self.now.me.0 self.now.life request.now)) }
     {
         let asker = self.asker();
         let count = request.count;
         let namespace = &request.namespace;
         match request.wait {
-            Wait::ForTime => Ok(Some(asker.asks_times(time, count))),
+            Wait::ForTime => asker.asks_times(self.alloc, time, count, &request.told),
             Wait::ForCatalogue => {
                 let letter = asker.asks_catalogue(time, count, namespace, &request.work)?;
-                Ok(Some(letter))
+                let asks = list_of(self.alloc, Some(letter))?;
+                Ok(asks)
             }
             Wait::ForShards => match self.table_of(namespace) {
                 Some(table) => {
-                    asker.asks_shards(self.alloc, time, count, namespace, table, &request.work)
+                    let letter = asker.asks_shards(
+                        self.alloc,
+                        time,
+                        count,
+                        namespace,
+                        table,
+                        &request.work,
+                    )?;
+                    let asks = list_of(self.alloc, letter)?;
+                    Ok(asks)
                 }
-                None => Ok(None),
+                None => Ok(Vec::new(self.alloc)),
             },
         }
     }
 
-    // Appends the message that an open request sends again for what it waits for, if it sends one. Returns `Memory` if memory runs out.
+    // Appends the messages that an open request sends again for what it waits for. Returns `Memory` if memory runs out.
     fn add_asked(
         &self,
         mail: &mut MailList<Message>,
@@ -51,10 +60,9 @@ impl RouterNode {
         ensures { OnOk result (map (λ m. letter_of m) mail.new
             ≡ map (λ m. letter_of m) mail.old ++ rows.asks_again (started (router_of self.now)) time.0 (open_view self.now.me.0 self.now.life request.now)) }
     {
-        match self.asks_again(time, request)? {
-            Some(message) => mail.push(message),
-            None => Ok(()),
-        }
+        let asks = self.asks_again(time, request)?;
+        add_all(mail, asks)?;
+        Ok(())
     }
 
     // Returns the messages that these open requests send again for what they wait for, or `Memory` if memory runs out.

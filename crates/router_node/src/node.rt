@@ -7,15 +7,16 @@ ghost use Rattle.node_model.specs.RouterRows as rows;
 ghost use Rattle.router_requests.specs.Lists.{taken_of};
 ghost use Rattle.router_requests.specs.Works.{wait_view};
 
+use crate::mail::mail_of;
 use bson_values::Memory;
 use chunk_table::Table;
 use cluster_base::{Namespace, NodeId, RequestId, Time};
 use known_tables::TableList;
-use node_traits::StepCount;
+use node_traits::{MailList, StepCount};
 use protocol_model::Message;
 use router_cursors::CursorList;
 use router_replies::known_in;
-use router_requests::{Asker, OpenList, OpenRead, OpenRequest, Wait, Work, is_enough};
+use router_requests::{Asker, OpenList, OpenRead, OpenRequest, Wait, Work, add_all, is_enough};
 use std::alloc::Global;
 
 /// Returns what a request waits for, given its table, if there is one: for the shards, or else for the catalogue.
@@ -33,6 +34,8 @@ pub(crate) fn wait_by(table: Option<&Table>) -> Wait
 pub struct RouterNode {
     pub(crate) alloc: Global,
     pub(crate) me: NodeId,
+    // How many shards there are, from node 1 on.
+    pub(crate) shards: u32,
     pub(crate) time: Time,
     // The life that it is in, or will begin where `begun` is false.
     pub(crate) life: u64,
@@ -47,42 +50,24 @@ pub struct RouterNode {
 }
 
 impl RouterNode {
-    ghost use Rattle.std.specs.Prelude.{◌≡◌, IfOk, Some, false};
+    ghost use Rattle.std.specs.Prelude.{◌≡◌, IfOk, Some, false, map};
     ghost use Rattle.std.specs.Option.{option_map};
     ghost use Rattle.chunk_model.specs.Tables.{table_of};
     ghost use Rattle.base_model.specs.Identities as identities;
     ghost use Rattle.node_model.specs.RouterRows as rows;
-    ghost use Rattle.node_model.specs.States.{new_router};
     ghost use Rattle.node_traits.specs.Ids.{id_view};
-    ghost use Rattle.router_requests.specs.Askers.{asker_view, letters_of};
+    ghost use Rattle.protocol_model.specs.Messages.{letter_of};
+    ghost use Rattle.router_requests.specs.Askers.{asker_view};
     ghost use Rattle.router_requests.specs.Works.{open_view, read_at, wait_view, work_view};
     ghost use Rattle.router_node.specs.RouterStates.{router_of};
 
-    /// Returns the router of this number, before its first step, without records.
-    pub fn open(alloc: Global, me: NodeId) -> RouterNode
-        ensures state { router_of result ≡ new_router me.0 }
-        ensures steps { result.steps ≡ 0 }
-    {
-        RouterNode {
-            alloc,
-            me,
-            time: Time(0),
-            life: 1,
-            begun: false,
-            moment: 0,
-            tables: TableList::new(alloc),
-            requests: OpenList::new(alloc),
-            cursors: CursorList::new(alloc),
-            steps: StepCount::new(),
-        }
-    }
-
     // Returns itself, as the sender of requests.
     pub(crate) fn asker(&self) -> Asker
-        ensures { asker_view result ≡ asker_view (record { me = self.now.me; life = self.now.life }) }
+        ensures { asker_view result ≡ asker_view (record { me = self.now.me; shards = self.now.shards; life = self.now.life }) }
     {
         Asker {
             me: self.me,
+            shards: self.shards,
             life: self.life,
         }
     }
@@ -147,26 +132,29 @@ impl RouterNode {
         }
     }
 
-    // Returns what work waits for at a time, and the message that it sends. Returns `Memory` if memory runs out.
+    // Returns what work waits for at a time, and the messages that it sends. Returns `Memory` if memory runs out.
     pub(crate) fn asks_for(
         &self,
         time: Time,
         count: u64,
         namespace: &Namespace,
         work: &Work,
-    ) -> Result<(Wait, Option<Message>), Memory>
+    ) -> Result<(Wait, MailList<Message>), Memory>
         ensures wait { (id : identities.RequestId) → IfOk result (λ asked. wait_view asked.0
             ≡ rows.wait_of (router_of self.now) time.0 namespace.now (work_view id work.now)) }
-        ensures letters { IfOk result (λ asked. letters_of asked.1
+        ensures letters { IfOk result (λ asked. map (λ m. letter_of m) asked.1
             ≡ rows.asks_for (router_of self.now) time.0 count namespace.now (work_view (rows.id_of (router_of self.now) count) work.now)) }
     {
         let asker = self.asker();
         if RouterNode::is_ahead(time, work) {
-            return Ok((Wait::ForTime, Some(asker.asks_times(time, count))));
+            let mut mail = MailList::new(self.alloc);
+            let asks = asker.asks_times(self.alloc, time, count, &[])?;
+            add_all(&mut mail, asks)?;
+            return Ok((Wait::ForTime, mail));
         }
         let table = self.table_for(namespace, work);
         let wait = wait_by(table);
         let letter = asker.asks_by(self.alloc, time, count, namespace, work, table)?;
-        Ok((wait, letter))
+        Ok((wait, mail_of(self.alloc, letter)))
     }
 }

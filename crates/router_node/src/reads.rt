@@ -5,11 +5,11 @@ ghost use Rattle.std.specs.Prelude.{◌≡◌, ◌≢◌, ◌≤◌, ◌<◌, tr
 use crate::node::{RouterNode, wait_by};
 use crate::step_plan::{Change, StepPlan};
 use bson_values::Memory;
-use cluster_base::{RequestId, Time};
+use cluster_base::{NodeId, RequestId, Time};
 use command_replies::Answer;
 use protocol_model::{ReadRows, TimeTold};
 use router_replies::{reply_to, time_ahead};
-use router_requests::{OpenRead, OpenRequest, Wait, Work};
+use router_requests::{OpenRead, OpenRequest, Wait, Work, also_told};
 
 /// Returns whether a turn is the first, which is currently the only one.
 fn is_first(turn: u32) -> bool
@@ -28,7 +28,7 @@ fn has_come(at: Time, time: Time) -> bool
 }
 
 impl RouterNode {
-    ghost use Rattle.std.specs.Prelude.{◌≡◌, ◌≤◌, ◌<◌, IfOk, Some};
+    ghost use Rattle.std.specs.Prelude.{◌≡◌, ◌≤◌, ◌<◌, [], IfOk, Some};
     ghost use Rattle.node_model.specs.Letters.{Letter, time_told};
     ghost use Rattle.node_model.specs.States.{for_time};
     ghost use Rattle.router_requests.specs.Works.{open_view, read_view};
@@ -84,9 +84,10 @@ impl RouterNode {
         Ok(self.hears(time, Change::Reaches(id.count, wait), message, None))
     }
 
-    // Returns the plan to refuse an open read of a time that is ahead, at a time of the router. Returns `Memory` if memory runs out.
+    // Returns the plan to refuse an open read of a time that is ahead of every shard, at a time of the router. Returns `Memory` if memory runs out.
     fn plan_ahead(
         &self,
+        sender: NodeId,
         time: Time,
         id: RequestId,
         request: &OpenRequest,
@@ -96,7 +97,8 @@ impl RouterNode {
         requires waits { (open_view self.now.me.0 self.now.life request.now).wait ≡ for_time }
         requires work { (open_view self.now.me.0 self.now.life request.now).work ≡ read_view read.now }
         requires ahead { time.0 < read.now.at.0 }
-        ensures { (m : Letter) → m.body ≡ time_told (id_view id) → time.0 ≡ rows.heard (router_of self.now) m →
+        requires all { rows.untold (rows.also_told (open_view self.now.me.0 self.now.life request.now).told sender.0) (rows.shards_of (router_of self.now)) ≡ [] }
+        ensures { (m : Letter) → m.sender ≡ sender.0 → m.body ≡ time_told (id_view id) → time.0 ≡ rows.heard (router_of self.now) m →
             IfOk result (λ p. IsHeard (router_of self.now) m p) }
     {
         let answer = Answer::Refused(time_ahead(time));
@@ -110,10 +112,11 @@ impl RouterNode {
         Ok(self.hears(time, Change::Closes(request.count), None, reply))
     }
 
-    // Returns the plan for an open read that waits for its time, after every shard returned its time, at a time of the router. Returns `Memory` if memory
-    // runs out.
-    fn plan_reached(
+    // Returns the plan for an open read of a time that is ahead, after a shard returned its time, at a time of the router. Returns `Memory` if memory runs
+    // out.
+    fn plan_hear(
         &self,
+        sender: NodeId,
         time: Time,
         id: RequestId,
         request: &OpenRequest,
@@ -122,19 +125,48 @@ impl RouterNode {
         requires open { rows.open_of (router_of self.now) (id_view id) ≡ Some (open_view self.now.me.0 self.now.life request.now) }
         requires waits { (open_view self.now.me.0 self.now.life request.now).wait ≡ for_time }
         requires work { (open_view self.now.me.0 self.now.life request.now).work ≡ read_view read.now }
-        ensures { (m : Letter) → m.body ≡ time_told (id_view id) → time.0 ≡ rows.heard (router_of self.now) m →
+        requires ahead { time.0 < read.now.at.0 }
+        ensures { (m : Letter) → m.sender ≡ sender.0 → m.body ≡ time_told (id_view id) → time.0 ≡ rows.heard (router_of self.now) m →
+            IfOk result (λ p. IsHeard (router_of self.now) m p) }
+    {
+        let told = also_told(self.alloc, &request.told, sender)?;
+        if self.asker().have_all_told(&told) {
+            return self.plan_ahead(sender, time, id, request, read);
+        }
+        Ok(self.hears(time, Change::Told(id.count, told), None, None))
+    }
+
+    // Returns the plan for an open read that waits for its time, after a shard returned its time, at a time of the router. Returns `Memory` if memory runs
+    // out.
+    fn plan_reached(
+        &self,
+        sender: NodeId,
+        time: Time,
+        id: RequestId,
+        request: &OpenRequest,
+        read: &OpenRead,
+    ) -> Result<StepPlan, Memory>
+        requires open { rows.open_of (router_of self.now) (id_view id) ≡ Some (open_view self.now.me.0 self.now.life request.now) }
+        requires waits { (open_view self.now.me.0 self.now.life request.now).wait ≡ for_time }
+        requires work { (open_view self.now.me.0 self.now.life request.now).work ≡ read_view read.now }
+        ensures { (m : Letter) → m.sender ≡ sender.0 → m.body ≡ time_told (id_view id) → time.0 ≡ rows.heard (router_of self.now) m →
             IfOk result (λ p. IsHeard (router_of self.now) m p) }
     {
         if has_come(read.at, time) {
             self.plan_go(time, id, request, read)
         } else {
-            self.plan_ahead(time, id, request, read)
+            self.plan_hear(sender, time, id, request, read)
         }
     }
 
-    // Returns the plan for a read after every shard returned its time, at a time of the router. Returns `Memory` if memory runs out.
-    pub(crate) fn plan_time(&self, time: Time, told: &TimeTold) -> Result<StepPlan, Memory>
-        ensures { (m : Letter) → m.body ≡ time_told_view told.now → time.0 ≡ rows.heard (router_of self.now) m →
+    // Returns the plan for a read after a shard returned its time, at a time of the router. Returns `Memory` if memory runs out.
+    pub(crate) fn plan_time(
+        &self,
+        sender: NodeId,
+        time: Time,
+        told: &TimeTold,
+    ) -> Result<StepPlan, Memory>
+        ensures { (m : Letter) → m.sender ≡ sender.0 → m.body ≡ time_told_view told.now → time.0 ≡ rows.heard (router_of self.now) m →
             IfOk result (λ p. IsHeard (router_of self.now) m p) }
     {
         match self.open_of(told.id) {
@@ -146,7 +178,7 @@ impl RouterNode {
                 Work::Reading(read) => match request.wait {
                     Wait::ForCatalogue => Ok(self.late(time)),
                     Wait::ForShards => Ok(self.late(time)),
-                    Wait::ForTime => self.plan_reached(time, told.id, request, read),
+                    Wait::ForTime => self.plan_reached(sender, time, told.id, request, read),
                 },
             },
         }

@@ -12,12 +12,13 @@ use router_requests::OpenList;
 use std::alloc::Global;
 
 impl RouterNode {
-    /// Returns the router of this number, before its first step in this life, which it will begin, where it wrote this number of blocks of cursor numbers in
-    /// earlier ones.
-    pub fn restored(alloc: Global, me: NodeId, life: u64, blocks: u64) -> RouterNode
+    /// Returns the router of this number, in a cluster with this number of shards, before its first step in this life, which it will begin, where it wrote
+    /// this number of blocks of cursor numbers in earlier ones.
+    pub fn restored(alloc: Global, me: NodeId, shards: u32, life: u64, blocks: u64) -> RouterNode
         requires { blocks ≤ 2 ^ 56 }
         ensures state { router_of result ≡ record {
           me = me.0;
+          shards = shards;
           time = 0;
           life = life;
           begun = false;
@@ -34,6 +35,7 @@ impl RouterNode {
         RouterNode {
             alloc,
             me,
+            shards,
             time: Time(0),
             life,
             begun: false,

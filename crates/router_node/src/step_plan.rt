@@ -7,7 +7,7 @@ use crate::mail::mail_of;
 use crate::node::RouterNode;
 use bson_values::{Blob, Document, Memory};
 use chunk_table::Table;
-use cluster_base::{Namespace, Time};
+use cluster_base::{Namespace, NodeId, Time};
 use node_traits::{MailList, ReplyList, ToLink};
 use protocol_model::{At, DoneList, Message};
 use router_requests::{OpenRequest, Wait};
@@ -28,6 +28,8 @@ pub(crate) enum Change {
     Closes(u64),
     /// The read with this count reads at the time that is reached, unless it named one, and waits for this.
     Reaches(u64, Wait),
+    /// These shards have returned their time to the read with this count.
+    Told(u64, Vec<NodeId>),
     /// The write with this count has these answers, and waits for this.
     Notes(u64, Wait, DoneList),
     /// Those that wait for the table of this collection proceed with it, or are answered: that nothing exists, where it was requested for their time, or that

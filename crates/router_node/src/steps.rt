@@ -3,7 +3,7 @@
 use crate::node::RouterNode;
 use crate::step_plan::{Change, StepPlan};
 use bson_values::Memory;
-use cluster_base::{Time, moment_time};
+use cluster_base::{NodeId, Time, moment_time};
 use node_traits::MailList;
 use protocol_model::{Body, Input, Message};
 
@@ -19,16 +19,16 @@ impl RouterNode {
     ghost use Rattle.router_node.specs.RouterStates.{router_of};
     ghost use Rattle.router_node.specs.StepPlans.{HasRoomFor, IsHeard, IsPlanned, IsReady, router_then};
 
-    // Returns the plan for a message to this router, at the time that it carries. Returns `Memory` if memory runs out.
-    fn plan_body(&self, time: Time, body: Body) -> Result<StepPlan, Memory>
-        ensures { (m : Letter) → m.body ≡ body_view body → time.0 ≡ rows.heard (router_of self.now) m → IfOk result (λ p. IsHeard (router_of self.now) m p) }
+    // Returns the plan for a message from a node to this router, at the time that it carries. Returns `Memory` if memory runs out.
+    fn plan_body(&self, sender: NodeId, time: Time, body: Body) -> Result<StepPlan, Memory>
+        ensures { (m : Letter) → m.sender ≡ sender.0 → m.body ≡ body_view body → time.0 ≡ rows.heard (router_of self.now) m → IfOk result (λ p. IsHeard (router_of self.now) m p) }
     {
         match body {
             Body::TableTold(told) => self.plan_table(time, told),
             Body::SplitDone(told) => self.plan_split_done(time, told),
             Body::WriteDone(told) => self.plan_dones(time, &told),
             Body::ReadRows(told) => self.plan_rows(time, told),
-            Body::TimeTold(told) => self.plan_time(time, &told),
+            Body::TimeTold(told) => self.plan_time(sender, time, &told),
             Body::Stale(_) => Ok(self.late(time)),
             Body::TableAsk(_) => Ok(self.late(self.time)),
             Body::SplitAsk(_) => Ok(self.late(self.time)),
@@ -46,7 +46,7 @@ impl RouterNode {
         if message.receiver != self.me {
             return Ok(self.late(self.time));
         }
-        self.plan_body(self.time.max(message.time), message.body)
+        self.plan_body(message.sender, self.time.max(message.time), message.body)
     }
 
     // Returns the plan for a moment, or `Memory` if memory runs out.
@@ -95,6 +95,7 @@ impl RouterNode {
             Change::Opens(_) => self.requests.reserve()?,
             Change::Closes(_) => {}
             Change::Reaches(..) => {}
+            Change::Told(..) => {}
             Change::Notes(..) => {}
             Change::Learns(..) => self.tables.reserve()?,
             Change::Shelves(_, opened) => self.cursors.make_room(&opened.namespace, opened.time)?,

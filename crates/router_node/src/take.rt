@@ -28,6 +28,7 @@ impl RouterNode {
             Change::Opens(request) => self.requests.push(request),
             Change::Closes(count) => self.requests.remove(count),
             Change::Reaches(count, wait) => self.requests.reach(count, time, wait),
+            Change::Told(count, told) => self.requests.hear(count, told),
             Change::Notes(count, wait, answers) => self.requests.set_answers(count, wait, answers),
             Change::Learns(namespace, made, at, table) => learn(
                 &mut self.tables,

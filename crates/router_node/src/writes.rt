@@ -113,7 +113,7 @@ impl RouterNode {
         noted: &DoneList,
     ) -> Result<Option<Message>, Memory>
         ensures { (kind : writes.WriteKind) → IfOk result (λ m. letters_of m
-            ≡ rows.asks_by (asking self.now.me.0 self.now.life) time.0 request.now.count request.now.namespace
+            ≡ rows.asks_by (asking self.now.me.0 self.now.shards self.now.life) time.0 request.now.count request.now.namespace
             (states.writing kind ordered
             (map (λ s. statement_view (given_view number) (rows.id_of (router_of self.now) request.now.count) s) statements.now.items)
             (map done_view noted.now.items))

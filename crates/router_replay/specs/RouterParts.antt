@@ -8,7 +8,7 @@ use Rattle.router_replay.specs.declared.kind.RouterRecord.{RouterRecord}
 use Rattle.router_replay.specs.declared.kind.RouterRecord.TheVariants.{Life, Block, Other}
 
 abbrev pub part_of : RouterPart → DurableRouter
-part_of p = record { me = p.me.0; life = p.life; blocks = p.blocks }
+part_of p = record { me = p.me.0; shards = p.shards; life = p.life; blocks = p.blocks }
 
 -- whether a record followed, and what it led to
 abbrev pub Leads : Option DurableRouter → DurableRouter → Bool → Type 0

@@ -18,6 +18,8 @@ const MOST_BLOCKS: u64 = 1 << 56;
 #[derive(Clone, Copy, Debug)]
 pub struct RouterPart {
     me: NodeId,
+    // How many shards it knows of; no record says it.
+    shards: u32,
     // The life that it will begin.
     life: u64,
     // How many blocks of cursor numbers it wrote.
@@ -35,12 +37,13 @@ fn without<T: Drop>(_read: T, outcome: Result<bool, Memory>) -> Result<bool, Mem
 impl RouterPart {
     ghost use Rattle.router_replay.specs.RouterParts.{Leads, part_of};
 
-    /// Returns what an empty journal says of the router of this number.
-    pub fn empty(me: NodeId) -> RouterPart
-        ensures { part_of result ≡ empty_router me.0 }
+    /// Returns what an empty journal says of the router of this number, in a cluster with this number of shards.
+    pub fn empty(me: NodeId, shards: u32) -> RouterPart
+        ensures { part_of result ≡ empty_router me.0 shards }
     {
         RouterPart {
             me,
+            shards,
             life: 1,
             blocks: 0,
         }
@@ -51,6 +54,13 @@ impl RouterPart {
         ensures { result.0 ≡ (part_of self.now).me }
     {
         self.me
+    }
+
+    /// Returns how many shards the router knows of.
+    pub fn shards(&self) -> u32
+        ensures { result ≡ (part_of self.now).shards }
+    {
+        self.shards
     }
 
     /// Returns the life that the router will begin.

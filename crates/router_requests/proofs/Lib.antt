@@ -5,4 +5,5 @@ mod Runs
 mod Waits
 pub mod Askers
 pub mod Nexts
+mod Told
 mod Turns

@@ -6,13 +6,14 @@ use Rattle.protocol_model.specs.Messages.{letter_of}
 use Rattle.protocol_model.specs.declared.message.Message.{Message}
 use Rattle.router_requests.specs.declared.asker.Asker.{Asker}
 
--- a router of this number, in this of its lives, that knows nothing: what it requests by a table does not depend on what it knows
-abbrev pub asking : (router life : ℕ) → Router
-asking router life =
-    record { me = router; time = 0; life = life; begun = true; moment = 0; count = 0; tables = []; requests = []; cursors = []; blocks = 0; gave = 0 }
+-- a router of this number, one of a cluster with so many shards, in this of its lives, that knows nothing: what it requests by a table does not depend on
+-- what it knows
+abbrev pub asking : (router shards life : ℕ) → Router
+asking router shards life =
+    record { me = router; shards = shards; time = 0; life = life; begun = true; moment = 0; count = 0; tables = []; requests = []; cursors = []; blocks = 0; gave = 0 }
 
 abbrev pub asker_view : Asker → Router
-asker_view a = asking a.me.0 a.life
+asker_view a = asking a.me.0 a.shards a.life
 
 -- the message, if there is one
 abbrev pub letters_of : Option Message → List Letter

@@ -2,6 +2,7 @@
 use Rattle.std.specs.Prelude.{ℕ, List, map}
 use Rattle.pipeline_model.specs.Stages.{Stage}
 use Rattle.base_model.specs.Identities as identities
+use Rattle.cluster_base.specs.declared.identity.NodeId.{NodeId}
 use Rattle.node_model.specs.States as states
 use Rattle.node_model.specs.States.{in_batches, as_number, writing, reading, sharding, splitting, for_time, for_catalogue, for_shards}
 use Rattle.command_replies.specs.Kinds.{given_view, kind_view}
@@ -45,6 +46,10 @@ wait_view ForTime = for_time
 wait_view ForCatalogue = for_catalogue
 wait_view ForShards = for_shards
 
+-- the numbers of nodes
+abbrev pub numbers_of : List NodeId → List ℕ
+numbers_of nodes = map (λ n. n.0) nodes
+
 -- an open request of this router, in this of its lives
 abbrev pub open_view : (router life : ℕ) → OpenRequest → states.Open
 open_view router life q = record {
@@ -54,5 +59,11 @@ open_view router life q = record {
   request = head_request q.head;
   namespace = q.namespace;
   wait = wait_view q.wait;
+  told = numbers_of q.told.items;
   work = work_view (record { router = router; life = life; count = q.count }) q.work;
 }
+
+-- the open request, to which these shards returned their time
+abbrev pub told_by : states.Open → (told : List ℕ) → states.Open
+told_by q told =
+    record { count = q.count; link = q.link; number = q.number; request = q.request; namespace = q.namespace; wait = q.wait; told = told; work = q.work }

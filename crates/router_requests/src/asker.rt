@@ -2,24 +2,22 @@
 
 use bson_values::Memory;
 use cluster_base::{Namespace, NodeId, RequestId, Time};
-use protocol_model::{At, Body, Message, SplitAsk, TableAsk, TimeAsk};
+use protocol_model::{At, Body, Message, SplitAsk, TableAsk};
 use value_compare::Key;
-
-/// The first shard.
-const FIRST_SHARD: NodeId = NodeId(1);
 
 /// The catalogue.
 const CATALOGUE: NodeId = NodeId(0);
 
-/// A router, in one of its lives.
+/// A router, in one of its lives, and how many shards there are.
 #[derive(Clone, Copy, Debug, PartialEq, Eq)]
 pub struct Asker {
     pub me: NodeId,
+    pub shards: u32,
     pub life: u64,
 }
 
 impl Asker {
-    ghost use Rattle.std.specs.Prelude.{◌≡◌, ◌∷◌, [], IfOk, true, false};
+    ghost use Rattle.std.specs.Prelude.{◌≡◌, IfOk, true, false};
     ghost use Rattle.node_model.specs.Letters.{no_time, at_time, split_ask, table_ask};
     ghost use Rattle.node_model.specs.RouterRows as rows;
     ghost use Rattle.node_traits.specs.Ids.{id_view};
@@ -97,13 +95,5 @@ impl Asker {
             middle: middle.copy()?,
         };
         Ok(self.says(CATALOGUE, time, Body::SplitAsk(ask)))
-    }
-
-    /// Returns what a read of a time that is ahead requests of every shard: its time. Currently there is one.
-    pub fn asks_times(self, time: Time, count: u64) -> Message
-        ensures { letter_of result ∷ [] ≡ rows.asks_times (asker_view self) time.0 (rows.id_of (asker_view self) count) }
-    {
-        let ask = TimeAsk { id: self.id(count) };
-        self.says(FIRST_SHARD, time, Body::TimeAsk(ask))
     }
 }

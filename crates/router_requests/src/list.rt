@@ -7,7 +7,7 @@ use crate::tables::{Next, next_of};
 use crate::work::{OpenRequest, Wait};
 use bson_values::Memory;
 use chunk_table::Table;
-use cluster_base::{Namespace, Time};
+use cluster_base::{Namespace, NodeId, Time};
 use protocol_model::{At, DoneList};
 use std::alloc::Global;
 
@@ -34,7 +34,7 @@ impl OpenList {
     ghost use Rattle.protocol_model.specs.Statements.{done_view};
     ghost use Rattle.router_requests.specs.Lists.{has_room, opens_of, taken_of};
     ghost use Rattle.router_requests.specs.Turns.{settled};
-    ghost use Rattle.router_requests.specs.Works.{open_view, wait_view};
+    ghost use Rattle.router_requests.specs.Works.{numbers_of, open_view, told_by, wait_view};
 
     /// Returns the list before a request was taken.
     pub fn new(alloc: Global) -> OpenList
@@ -140,6 +140,18 @@ impl OpenList {
         let place = self.place(count);
         if place < self.requests.len() {
             self.requests[place].reach(time, wait);
+        }
+    }
+
+    /// These shards have returned their time to the request with this count now.
+    pub fn hear(&mut self, count: u64, told: Vec<NodeId>)
+        ensures taken { taken_of self.new ≡ taken_of self.old }
+        ensures opens { (router life : ℕ) (q : states.Open) → states.open_with count (opens_of router life self.old) ≡ Some q →
+            opens_of router life self.new ≡ states.replaced (told_by q (numbers_of told.items)) (opens_of router life self.old) }
+    {
+        let place = self.place(count);
+        if place < self.requests.len() {
+            self.requests[place].hear(told);
         }
     }
 

@@ -1,7 +1,7 @@
 //! Open requests.
 
 use crate::read::OpenRead;
-use cluster_base::{Namespace, Time};
+use cluster_base::{Namespace, NodeId, Time};
 use command_replies::{ClientNumber, WriteKind};
 use protocol_model::{DoneList, Head, StatementList};
 use value_compare::Key;
@@ -51,6 +51,8 @@ pub struct OpenRequest {
     /// The collection that it is of.
     pub namespace: Namespace,
     pub wait: Wait,
+    /// The shards that returned their time, in the order in which they did.
+    pub told: Vec<NodeId>,
     pub work: Work,
 }
 
@@ -62,7 +64,7 @@ impl OpenRequest {
     ghost use Rattle.node_model.specs.States as states;
     ghost use Rattle.command_model.specs.Writes as writes;
     ghost use Rattle.protocol_model.specs.Statements.{done_view};
-    ghost use Rattle.router_requests.specs.Works.{open_view, wait_view};
+    ghost use Rattle.router_requests.specs.Works.{numbers_of, open_view, told_by, wait_view};
 
     // A write has these answers now, and waits for this.
     pub(crate) fn answer(&mut self, wait: Wait, answers: DoneList)
@@ -82,6 +84,14 @@ impl OpenRequest {
             Work::Sharding => {}
             Work::Splitting(_) => {}
         }
+    }
+
+    // These shards have returned their time now.
+    pub(crate) fn hear(&mut self, told: Vec<NodeId>)
+        ensures count { self.new.count ≡ self.old.count }
+        ensures told { (router life : ℕ) → open_view router life self.new ≡ told_by (open_view router life self.old) (numbers_of told.items) }
+    {
+        self.told = told;
     }
 
     // A read is of this time now, unless one is named, and waits for this.

@@ -24,25 +24,27 @@ use Rattle.sim_driver.specs.Simulations.{line_refused, line_unended, too_long, I
 use Rattle.sim_driver.specs.Progress.{Playing, StopsAt, at_refused_line, at_write_fault, at_disk_fault, at_no_memory, Stopped, HasStoppedIn}
 use Rattle.sim_driver.proofs.Settled.{ends_answered}
 
-module _ {S : Type 0} (view : S → SeatView) (seats : List S) (source : SourceCall) (sink : SinkCall) (noted : List Noted) (first : World) (limit : ℕ)
+module _ {S : Type 0} (view : S → SeatView) (seats : List S) (source : SourceCall) (sink : SinkCall) (noted : List Noted) (first_router : ℕ) (first : World)
+    (limit : ℕ)
     (status : Status) (consumed left : List ℕ) where
   -- what the journals owed before bytes were put
   abbrev pub Owed : World → List ℕ → Type 0
-  Owed last put = IsTrue sink.tells → AreCovered (all_printed first) first noted sink.held_before put last
+  Owed last put = IsTrue sink.tells → AreCovered (all_printed first_router first) first noted sink.held_before put last
 
   as_cause : (known : Status) → status ≡ known → (lines : List (List ℕ)) (put : List ℕ) (end : World)
-      → Cause first limit (IsTrue source.tells → source.left_after ≡ []) (consumed ++ left) lines left put end known
-      → Cause first limit (IsTrue source.tells → source.left_after ≡ []) (consumed ++ left) lines left put end status
+      → Cause first_router first limit (IsTrue source.tells → source.left_after ≡ []) (consumed ++ left) lines left put end known
+      → Cause first_router first limit (IsTrue source.tells → source.left_after ≡ []) (consumed ++ left) lines left put end status
   as_cause known is lines put end cause =
-      subst (λ (n : Status). Cause first limit (IsTrue source.tells → source.left_after ≡ []) (consumed ++ left) lines left put end n) (sym is) cause
+      subst (λ (n : Status). Cause first_router first limit (IsTrue source.tells → source.left_after ≡ []) (consumed ++ left) lines left put end n)
+      (sym is) cause
 
   -- all whole lines were played
   ended : (network : NetworkView) (s : ScriptView) (known : Status) → status ≡ known
-      → (p : Playing view seats network first sink.tells noted sink.held_before sink.held_after s consumed)
+      → (p : Playing view seats network first_router first sink.tells noted sink.held_before sink.held_after s consumed)
       → Took source.tells source.left_before (consumed ++ left) source.left_after → length consumed + length left ≤ limit
-      → (AllPlayed first p.lines p.out p.world
-      → Cause first limit (IsTrue source.tells → source.left_after ≡ []) (consumed ++ left) p.lines left p.out p.world known)
-      → IsSimulated source sink (AreKept view seats) (LeaveKept view seats) Owed first limit status
+      → (AllPlayed first_router first p.lines p.out p.world
+      → Cause first_router first limit (IsTrue source.tells → source.left_after ≡ []) (consumed ++ left) p.lines left p.out p.world known)
+      → IsSimulated source sink first_router (AreKept view seats) (LeaveKept view seats) Owed first limit status
   ended network s known is p took most cause = record {
     taken = consumed ++ left;
     put = p.out;
@@ -58,7 +60,7 @@ module _ {S : Type 0} (view : S → SeatView) (seats : List S) (source : SourceC
       events = p.events;
       script = s;
       played = p.plays;
-      answered = ends_answered first p.begins p.lines p.events p.world s p.out p.plays;
+      answered = ends_answered first_router first p.begins p.lines p.events p.world s p.out p.plays;
     }));
     files = held_kept view seats p.world.nodes p.stands.nodes;
     last = p.world;
@@ -69,9 +71,9 @@ module _ {S : Type 0} (view : S → SeatView) (seats : List S) (source : SourceC
 
   -- the script stopped at the line that is next, or before it
   pub ended_stopped : (told : Status) → status ≡ told
-      → Stopped view seats first sink.tells noted sink.held_before sink.held_after consumed left told
+      → Stopped view seats first_router first sink.tells noted sink.held_before sink.held_after consumed left told
       → Took source.tells source.left_before (consumed ++ left) source.left_after → length consumed + length left ≤ limit
-      → IsSimulated source sink (AreKept view seats) (LeaveKept view seats) Owed first limit status
+      → IsSimulated source sink first_router (AreKept view seats) (LeaveKept view seats) Owed first limit status
   ended_stopped told is s took most = record {
     taken = consumed ++ left;
     put = s.out;
@@ -86,23 +88,24 @@ module _ {S : Type 0} (view : S → SeatView) (seats : List S) (source : SourceC
     cause = as_cause told is s.lines s.out s.end (by_cause told s.cause);
     files = s.kept;
     last = s.last;
-    is_last = subst (λ (n : Status). IsLast n (λ w. CameTo first s.lines left s.out w) s.end s.last) (sym is) s.is_last;
+    is_last = subst (λ (n : Status). IsLast n (λ w. CameTo first_router first s.lines left s.out w) s.end s.last) (sym is) s.is_last;
     crashes = s.crashes;
     acknowledged = s.covered;
   }
     where
-      by_cause : (n : Status) → StopsAt first s.lines left s.out s.end n
-          → Cause first limit (IsTrue source.tells → source.left_after ≡ []) (consumed ++ left) s.lines left s.out s.end n
+      by_cause : (n : Status) → StopsAt first_router first s.lines left s.out s.end n
+          → Cause first_router first limit (IsTrue source.tells → source.left_after ≡ []) (consumed ++ left) s.lines left s.out s.end n
       by_cause _ (at_refused_line bytes others next refused all) = line_refused bytes others next refused all
       by_cause _ (at_write_fault short) = write_failed short
       by_cause _ (at_disk_fault came) = disk_failed came
       by_cause _ (at_no_memory came) = no_memory came
 
-  module _ (network : NetworkView) (s : ScriptView) (p : Playing view seats network first sink.tells noted sink.held_before sink.held_after s consumed)
+  module _ (network : NetworkView) (s : ScriptView)
+      (p : Playing view seats network first_router first sink.tells noted sink.held_before sink.held_after s consumed)
       (took : Took source.tells source.left_before (consumed ++ left) source.left_after) (none : HasNone newline left) where
     -- the input is at its limit
     pub ended_at_limit : status ≡ statuses.InputTooLong → length consumed + length left ≡ limit
-        → IsSimulated source sink (AreKept view seats) (LeaveKept view seats) Owed first limit status
+        → IsSimulated source sink first_router (AreKept view seats) (LeaveKept view seats) Owed first limit status
     ended_at_limit is full =
         ended network s statuses.InputTooLong is p took (omega (arith, full))
         (λ all. too_long (omega (arith, full, length-append consumed left)) none all)
@@ -114,7 +117,7 @@ module _ {S : Type 0} (view : S → SeatView) (seats : List S) (source : SourceC
       below = omega (arith, most, length-append consumed left)
 
       at_end : (b : List ℕ) → left ≡ b → told ≡ statuses.InputEnded → (IsTrue source.tells → source.left_after ≡ [])
-          → IsSimulated source sink (AreKept view seats) (LeaveKept view seats) Owed first limit status
+          → IsSimulated source sink first_router (AreKept view seats) (LeaveKept view seats) Owed first limit status
       at_end [] is ends source_end =
           ended network s statuses.InputEnded (whole is ∙ ends) p took (omega (arith, most)) (λ all. input_ended source_end below is all)
       at_end (x ∷ b) is ends source_end =
@@ -122,33 +125,34 @@ module _ {S : Type 0} (view : S → SeatView) (seats : List S) (source : SourceC
           ended network s statuses.BadInput (begun some ends) p took (omega (arith, most)) (λ all. line_unended source_end below some none all)
 
       by_taking : (n : Status) → told ≡ n → EndsTaking source.tells source.left_after n
-          → IsSimulated source sink (AreKept view seats) (LeaveKept view seats) Owed first limit status
+          → IsSimulated source sink first_router (AreKept view seats) (LeaveKept view seats) Owed first limit status
       by_taking _ is (at_source_end source_end) = at_end left refl is source_end
       by_taking _ is at_read_fault =
           ended network s statuses.ReadFailed (other (λ e. let clash : statuses.ReadFailed ≡ statuses.InputEnded = sym is ∙ e in absurd (cc clash)) ∙ is) p took
           (omega (arith, most)) (λ all. read_failed below none all)
 
       pub ended_taking : EndsTaking source.tells source.left_after told
-          → IsSimulated source sink (AreKept view seats) (LeaveKept view seats) Owed first limit status
+          → IsSimulated source sink first_router (AreKept view seats) (LeaveKept view seats) Owed first limit status
       ended_taking taking = by_taking told refl taking
 
 -- the script stopped within a piece
-pub ended_within : {S : Type 0} (view : S → SeatView) (seats : List S) (source : SourceCall) (sink : SinkCall) (noted : List Noted) (first : World) (limit : ℕ)
-    (status : Status) (bytes : List ℕ) → HasStoppedIn view seats first sink.tells noted sink.held_before sink.held_after bytes status
+pub ended_within : {S : Type 0} (view : S → SeatView) (seats : List S) (source : SourceCall) (sink : SinkCall) (noted : List Noted) (first_router : ℕ)
+    (first : World) (limit : ℕ)
+    (status : Status) (bytes : List ℕ) → HasStoppedIn view seats first_router first sink.tells noted sink.held_before sink.held_after bytes status
     → Took source.tells source.left_before bytes source.left_after → length bytes ≤ limit
-    → IsSimulated source sink (AreKept view seats) (LeaveKept view seats)
-    (λ last put. IsTrue sink.tells → AreCovered (all_printed first) first noted sink.held_before put last) first limit status
-ended_within view seats source sink noted first limit status bytes h took most =
+    → IsSimulated source sink first_router (AreKept view seats) (LeaveKept view seats)
+    (λ last put. IsTrue sink.tells → AreCovered (all_printed first_router first) first noted sink.held_before put last) first limit status
+ended_within view seats source sink noted first_router first limit status bytes h took most =
     let size : length h.consumed + length h.left ≤ limit = omega (arith, most, ap (λ (b : List ℕ). length b) h.whole, length-append h.consumed h.left) in
-    ended_stopped view seats source sink noted first limit status h.consumed h.left status refl h.stopped
+    ended_stopped view seats source sink noted first_router first limit status h.consumed h.left status refl h.stopped
     (subst (λ (b : List ℕ). Took source.tells source.left_before b source.left_after) h.whole took) size
 
 -- what is said of the nodes' journals, said otherwise
-pub simulated_as : (source : SourceCall) (sink : SinkCall) (kept other : List Held → Type 0) (leaves leaves' : World → Type 0)
+pub simulated_as : (source : SourceCall) (sink : SinkCall) (first_router : ℕ) (kept other : List Held → Type 0) (leaves leaves' : World → Type 0)
     (owed owed' : World → List ℕ → Type 0) (first : World) (limit : ℕ) (status : Status)
     → ((nodes : List Held) → kept nodes → other nodes) → ((w : World) → leaves w → leaves' w) → ((w : World) (put : List ℕ) → leaves w → owed w put → owed' w put)
-    → IsSimulated source sink kept leaves owed first limit status → IsSimulated source sink other leaves' owed' first limit status
-simulated_as source sink kept other leaves leaves' owed owed' first limit status says weaker pays s = record {
+    → IsSimulated source sink first_router kept leaves owed first limit status → IsSimulated source sink first_router other leaves' owed' first limit status
+simulated_as source sink first_router kept other leaves leaves' owed owed' first limit status says weaker pays s = record {
   taken = s.taken;
   put = s.put;
   lines = s.lines;

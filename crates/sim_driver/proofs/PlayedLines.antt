@@ -25,7 +25,6 @@ use Rattle.sim_driver.specs.Links.{LinkView}
 use Rattle.sim_driver.specs.Plays.{IsPlayed, plays_client, closes, plays_deliver, plays_moment, plays_settle, plays_next, loses_next, events_on}
 use Rattle.sim_driver.specs.Plays.{IsPartOfLine, part_of_client, part_of_deliver, part_of_next}
 use Rattle.sim_driver.specs.Scripts.{ScriptView, marked, next_from, place_from, reopened, with_delivered, with_link}
-use Rattle.pipe_driver.specs.Rounds.{first_router}
 use Rattle.sim_driver.proofs.Deliveries.{but_run}
 use Rattle.sim_driver.proofs.Faults.{cut_as, cut_here, still}
 use Rattle.sim_driver.proofs.Places.{place_at}
@@ -49,7 +48,7 @@ stops_either view seats w line old status (inr is) cut =
 
 module _ {S : Type 0} (view : S → SeatView) (seats : List S) (network : NetworkView) (handed : List ToLink) (w : World) (s : ScriptView)
     (router : ℕ) (link : LinkView) (here : slice_get s.links router ≡ Some link) (bytes left : List ℕ) (replied : ℕ) where
-  pub client_played : HasAsked view seats network handed w (first_router + router) link.number link.replied (link.left ++ bytes) left replied false
+  pub client_played : HasAsked view seats network handed w (s.first_router + router) link.number link.replied (link.left ++ bytes) left replied false
       → HasPlayed view seats network handed w (client_line router bytes) s
       (with_link s router (record { number = link.number; left = left; replied = replied })) None
   client_played a = by_fault a.fault a.frames a.ends
@@ -59,16 +58,16 @@ module _ {S : Type 0} (view : S → SeatView) (seats : List S) (network : Networ
           (with_link s router (record { number = link.number; left = left; replied = replied })) None
       by_fault (Some fault) frames e = absurd (cc e)
       by_fault None frames e = record {
-        events = events_on router link a.requests;
+        events = events_on s.first_router router link a.requests;
         end = a.end;
         run = a.run;
-        played = subst (λ (n : ℕ). IsPlayed w s (client_line router bytes) (events_on router link a.requests) a.end
+        played = subst (λ (n : ℕ). IsPlayed w s (client_line router bytes) (events_on s.first_router router link a.requests) a.end
             (with_link s router (record { number = link.number; left = left; replied = n })) None) (sym a.count)
             (plays_client router link bytes left a.requests a.end here frames a.run);
         stands = a.stands;
       }
 
-  pub client_closed : HasAsked view seats network handed w (first_router + router) link.number link.replied (link.left ++ bytes) left replied true
+  pub client_closed : HasAsked view seats network handed w (s.first_router + router) link.number link.replied (link.left ++ bytes) left replied true
       → HasPlayed view seats network handed w (client_line router bytes) s (reopened s router) (Some router)
   client_closed a = by_fault a.fault a.frames a.ends
     where
@@ -76,7 +75,7 @@ module _ {S : Type 0} (view : S → SeatView) (seats : List S) (network : Networ
           → HasPlayed view seats network handed w (client_line router bytes) s (reopened s router) (Some router)
       by_fault None frames e = absurd (cc e)
       by_fault (Some fault) frames e = record {
-        events = events_on router link a.requests;
+        events = events_on s.first_router router link a.requests;
         end = a.end;
         run = a.run;
         played = closes router link bytes left a.requests fault a.end here frames a.run;
@@ -84,15 +83,15 @@ module _ {S : Type 0} (view : S → SeatView) (seats : List S) (network : Networ
       }
 
   -- a link can't be numbered any more
-  pub client_full : HasAsked view seats network handed w (first_router + router) link.number link.replied (link.left ++ bytes) left replied true
+  pub client_full : HasAsked view seats network handed w (s.first_router + router) link.number link.replied (link.left ++ bytes) left replied true
       → IsCut view seats w (IsPartOfLine w s (client_line router bytes)) statuses.OutOfMemory
   client_full a =
-      cut_here view seats w (events_on router link a.requests) a.end (IsPartOfLine w s (client_line router bytes)) statuses.OutOfMemory a.run
+      cut_here view seats w (events_on s.first_router router link a.requests) a.end (IsPartOfLine w s (client_line router bytes)) statuses.OutOfMemory a.run
       (client_is_part w s router link bytes left a.requests a.fault here a.frames)
       (still view seats network handed a.end a.stands)
 
 pub client_part : (w : World) (s : ScriptView) (router : ℕ) (link : LinkView) (bytes : List ℕ) → slice_get s.links router ≡ Some link
-    → (events : List Event) → IsFirstAsked (first_router + router) link.number link.replied (link.left ++ bytes) events
+    → (events : List Event) → IsFirstAsked (s.first_router + router) link.number link.replied (link.left ++ bytes) events
     → IsPartOfLine w s (client_line router bytes) events
 client_part w s router link bytes here events f = part_of_client router link bytes f.consumed f.rest f.requests events here f.all f.asked f.first
 

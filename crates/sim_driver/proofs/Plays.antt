@@ -11,11 +11,10 @@ use Rattle.node_model.specs.Letters.{Input}
 use Rattle.node_model.specs.Requests.{Request}
 use Rattle.node_model.specs.States.{Router, new_router, router_state}
 use Rattle.node_model.specs.World.{Held, World, IsRouter, Moves, Event, deliver_event, moment_event, Happens, comes, delivers, passes, begins as was_opened}
-use Rattle.node_model.specs.World.{Run, stands, goes, routers_from, start}
+use Rattle.node_model.specs.World.{Run, stands, goes, shards_from, routers_from, start}
 use Rattle.node_model.proofs.Schedules.{run_then}
 use Rattle.node_progress.specs.Firsts.{first_start}
 use Rattle.pipe_driver.specs.Progress.{AreAsked}
-use Rattle.pipe_driver.specs.Rounds.{first_router}
 use Rattle.pipe_driver.proofs.Routers.{run_stays}
 use Rattle.script_lines.specs.Lines.{Line, client_line}
 use Rattle.sim_driver.specs.Links.{LinkView}
@@ -39,11 +38,11 @@ played_run u s _ _ _ _ _ (plays_settle except events w ds settles) = but_run exc
 played_run u s _ _ _ _ _ (plays_next kind which m w place got h) = goes u w w (deliver_event m.receiver which) [] h (stands w)
 played_run u s _ _ _ _ _ (loses_next kind which m place got none) = stands u
 
-pub plays_run : (first : World) (lines : List (List ℕ)) (events : List Event) (w : World) (s : ScriptView) (out : List ℕ)
-    → Plays first lines events w s out → Run first events w
-plays_run first _ _ _ _ _ (plays_none w run) = run
-plays_run first _ _ _ _ _ (plays_more lines before events u w s t out bytes line closed given earlier says played gave) =
-    run_then first before u events w (plays_run first lines before u s out earlier) (played_run u s line events w t closed played)
+pub plays_run : (first_router : ℕ) (first : World) (lines : List (List ℕ)) (events : List Event) (w : World) (s : ScriptView) (out : List ℕ)
+    → Plays first_router first lines events w s out → Run first events w
+plays_run first_router first _ _ _ _ _ (plays_none w run) = run
+plays_run first_router first _ _ _ _ _ (plays_more lines before events u w s t out bytes line closed given earlier says played gave) =
+    run_then first before u events w (plays_run first_router first lines before u s out earlier) (played_run u s line events w t closed played)
 
 -- NODES
 
@@ -69,42 +68,84 @@ run_count _ _ _ (goes u v w e es h run) = run_count v es w run ∙ happens_count
 -- THE ROUTERS
 
 -- each node from a place on is a router
-from_is_router : (first at count : ℕ) → at < count → (r : Router) × (kept : List Kept)
-    × (slice_get (routers_from first count) at ≡ Some (record { state = router_state r; kept = kept }))
-from_is_router first at zero below = absurd (omega (arith, below))
-from_is_router first zero (suc count) below = (new_router first, [], refl)
-from_is_router first (suc at) (suc count) below = from_is_router (first + 1) at count (omega (arith, below))
+from_is_router : (first shards at count : ℕ) → at < count → (r : Router) × (kept : List Kept)
+    × (slice_get (routers_from first shards count) at ≡ Some (record { state = router_state r; kept = kept }))
+from_is_router first shards at zero below = absurd (omega (arith, below))
+from_is_router first shards zero (suc count) below = (new_router first shards, [], refl)
+from_is_router first shards (suc at) (suc count) below = from_is_router (first + 1) shards at count (omega (arith, below))
 
-from_length : (first count : ℕ) → length (routers_from first count) ≡ count
-from_length first zero = refl
-from_length first (suc count) = omega (arith, from_length (first + 1) count)
+from_length : (first shards count : ℕ) → length (routers_from first shards count) ≡ count
+from_length first shards zero = refl
+from_length first shards (suc count) = omega (arith, from_length (first + 1) shards count)
 
-start_count : (routers : ℕ) → length (start routers).nodes ≡ first_router + routers
-start_count routers = omega (arith, from_length 2 routers)
+-- nodes after some shards
+after_shards : (first others at : ℕ) (nodes : List Held) → slice_get (shards_from first others ++ nodes) (others + at) ≡ slice_get nodes at
+after_shards first zero at nodes = let here : zero + at ≡ at = omega arith in ap (λ (n : ℕ). slice_get nodes n) here
+after_shards first (suc others) at nodes =
+    let there : suc others + at ≡ suc (others + at) = omega arith in
+    ap (λ (n : ℕ). slice_get (shards_from first (suc others) ++ nodes) n) there ∙ after_shards (first + 1) others at nodes
 
-start_router : (routers router : ℕ) → router < routers → IsRouter (start routers).nodes (first_router + router)
-start_router routers router below =
-    subst (λ (n : ℕ). IsRouter (start routers).nodes n) there (from_is_router 2 router routers below)
-  where
-    there : suc (suc router) ≡ first_router + router
-    there = omega arith
+shards_length : (first others : ℕ) (nodes : List Held) → length (shards_from first others ++ nodes) ≡ others + length nodes
+shards_length first zero nodes = omega arith
+shards_length first (suc others) nodes = omega (arith, shards_length (first + 1) others nodes)
+
+-- the routers come after the catalogue, the first shard and so many others
+pub start_count : (others routers : ℕ) → length (start others routers).nodes ≡ others + 2 + routers
+start_count others routers =
+    omega (
+      arith,
+      shards_length (1 + 1) others (routers_from (1 + others + 1) (others + 1) routers),
+      from_length (1 + others + 1) (others + 1) routers,
+    )
+
+pub start_router : (others routers router : ℕ) → router < routers → IsRouter (start others routers).nodes (others + 2 + router)
+start_router others routers router below =
+    let there : others + 2 + router ≡ suc (suc (others + router)) = omega arith in
+    let at = after_shards (1 + 1) others router (routers_from (1 + others + 1) (others + 1) routers) in
+    let is = from_is_router (1 + others + 1) (others + 1) router routers below in
+    subst (λ (n : ℕ). IsRouter (start others routers).nodes n) (sym there) (is.0, is.1, at ∙ is.2)
 
 -- a script may be played from empty journals on
-pub start_may_play : (routers : ℕ) → MayPlay (start routers)
-start_may_play routers = record {
-  begins = first_start routers;
-  routers = λ router below. start_router routers router (omega (arith, below, start_count routers));
+pub start_may_play : (others routers : ℕ) → MayPlay (others + 2) (start others routers)
+start_may_play others routers = record {
+  begins = first_start others routers;
+  routers = λ router below. start_router others routers router (omega (arith, below, start_count others routers));
 }
 
-pub plays_count : (first : World) (lines : List (List ℕ)) (events : List Event) (w : World) (s : ScriptView) (out : List ℕ)
-    → Plays first lines events w s out → length w.nodes ≡ length first.nodes
-plays_count first lines events w s out plays = run_count first events w (plays_run first lines events w s out plays)
+pub plays_count : (first_router : ℕ) (first : World) (lines : List (List ℕ)) (events : List Event) (w : World) (s : ScriptView) (out : List ℕ)
+    → Plays first_router first lines events w s out → length w.nodes ≡ length first.nodes
+plays_count first_router first lines events w s out plays = run_count first events w (plays_run first_router first lines events w s out plays)
 
-pub plays_routers : (first : World) → HasRouters first → (lines : List (List ℕ)) (events : List Event) (w : World) (s : ScriptView) (out : List ℕ)
-    → Plays first lines events w s out → HasRouters w
-plays_routers first there lines events w s out plays router below =
-    run_stays first events w (first_router + router) (plays_run first lines events w s out plays)
-    (there router (omega (arith, below, plays_count first lines events w s out plays)))
+plays_routers : (first_router : ℕ) (first : World) → HasRouters first_router first → (lines : List (List ℕ)) (events : List Event) (w : World)
+    (s : ScriptView) (out : List ℕ)
+    → Plays first_router first lines events w s out → HasRouters first_router w
+plays_routers first_router first there lines events w s out plays router below =
+    run_stays first events w (first_router + router) (plays_run first_router first lines events w s out plays)
+    (there router (omega (arith, below, plays_count first_router first lines events w s out plays)))
+
+-- their place in a script stays
+played_place : (u : World) (s : ScriptView) (line : Line) (events : List Event) (w : World) (t : ScriptView) (closed : Option ℕ)
+    → IsPlayed u s line events w t closed → t.first_router ≡ s.first_router
+played_place u s _ _ _ _ _ (plays_client router link bytes left requests w here frames run) = refl
+played_place u s _ _ _ _ _ (closes router link bytes left requests fault w here frames run) = refl
+played_place u s _ _ _ _ _ (plays_deliver node k which w place h) = refl
+played_place u s _ _ _ _ _ (plays_moment node moment w h) = refl
+played_place u s _ _ _ _ _ (plays_settle except events w ds settles) = refl
+played_place u s _ _ _ _ _ (plays_next kind which m w place got h) = refl
+played_place u s _ _ _ _ _ (loses_next kind which m place got none) = refl
+
+plays_place : (first_router : ℕ) (first : World) (lines : List (List ℕ)) (events : List Event) (w : World) (s : ScriptView) (out : List ℕ)
+    → Plays first_router first lines events w s out → s.first_router ≡ first_router
+plays_place first_router first _ _ _ _ _ (plays_none w run) = refl
+plays_place first_router first _ _ _ _ _ (plays_more lines before events u w s t out bytes line closed given earlier says played gave) =
+    played_place u s line events w t closed played ∙ plays_place first_router first lines before u s out earlier
+
+-- the routers of the script are there
+pub plays_script : (first_router : ℕ) (first : World) → HasRouters first_router first → (lines : List (List ℕ)) (events : List Event) (w : World)
+    (s : ScriptView) (out : List ℕ) → Plays first_router first lines events w s out → HasRouters s.first_router w
+plays_script first_router first there lines events w s out plays =
+    subst (λ (n : ℕ). HasRouters n w) (sym (plays_place first_router first lines events w s out plays))
+    (plays_routers first_router first there lines events w s out plays)
 
 -- MESSAGES
 
@@ -136,9 +177,9 @@ settles_marks except _ _ _ _ _ _ _ (but_lost u w ds es next later m events got n
 played_marks : (u : World) (s : ScriptView) (line : Line) (events : List Event) (w : World) (t : ScriptView) (closed : Option ℕ)
     → length s.delivered ≤ length u.sent → IsPlayed u s line events w t closed → length t.delivered ≤ length w.sent
 played_marks u s _ _ _ _ _ most (plays_client router link bytes left requests w here frames run) =
-    omega (arith, most, run_grows u (events_on router link requests) w run)
+    omega (arith, most, run_grows u (events_on s.first_router router link requests) w run)
 played_marks u s _ _ _ _ _ most (closes router link bytes left requests fault w here frames run) =
-    omega (arith, most, run_grows u (events_on router link requests) w run)
+    omega (arith, most, run_grows u (events_on s.first_router router link requests) w run)
 played_marks u s _ _ _ _ _ most (plays_deliver node k which w place h) =
     let there = place_at 0 node k u.sent which place in
     let inside : which < length u.sent = omega (arith, there.1, slice_get_within u.sent there.0 there.2 there.3) in
@@ -152,11 +193,11 @@ played_marks u s _ _ _ _ _ most (loses_next kind which m place got none) =
     marked_length which (length u.sent) s.delivered most (slice_get_within u.sent which m got)
 
 -- what was delivered was sent
-pub plays_marks : (first : World) (lines : List (List ℕ)) (events : List Event) (w : World) (s : ScriptView) (out : List ℕ)
-    → Plays first lines events w s out → length s.delivered ≤ length w.sent
-plays_marks first _ _ _ _ _ (plays_none w run) = omega arith
-plays_marks first _ _ _ _ _ (plays_more lines before events u w s t out bytes line closed given earlier says played gave) =
-    played_marks u s line events w t closed (plays_marks first lines before u s out earlier) played
+pub plays_marks : (first_router : ℕ) (first : World) (lines : List (List ℕ)) (events : List Event) (w : World) (s : ScriptView) (out : List ℕ)
+    → Plays first_router first lines events w s out → length s.delivered ≤ length w.sent
+plays_marks first_router first _ _ _ _ _ (plays_none w run) = omega arith
+plays_marks first_router first _ _ _ _ _ (plays_more lines before events u w s t out bytes line closed given earlier says played gave) =
+    played_marks u s line events w t closed (plays_marks first_router first lines before u s out earlier) played
 
 -- A LINE THAT WAS PLAYED WHOLE, AS A PART
 
@@ -173,11 +214,11 @@ frames_asked place _ _ _ _ (goes_on at bytes behind request requests left fault 
 
 pub client_is_part : (u : World) (s : ScriptView) (router : ℕ) (link : LinkView) (bytes left : List ℕ) (requests : List Request)
     (fault : Option (FrameFault × ℕ)) → slice_get s.links router ≡ Some link → FramesFrom 0 (link.left ++ bytes) requests left fault
-    → IsPartOfLine u s (client_line router bytes) (events_on router link requests)
+    → IsPartOfLine u s (client_line router bytes) (events_on s.first_router router link requests)
 client_is_part u s router link bytes left requests fault here frames =
     let r = frames_asked 0 (link.left ++ bytes) requests left fault frames in
-    part_of_client router link bytes r.0 left requests (events_on router link requests) here r.1 r.2
-    ([], sym (append-nil (events_on router link requests)))
+    part_of_client router link bytes r.0 left requests (events_on s.first_router router link requests) here r.1 r.2
+    ([], sym (append-nil (events_on s.first_router router link requests)))
 
 pub whole_is_part : (u : World) (s : ScriptView) (line : Line) (events : List Event) (w : World) (t : ScriptView) (closed : Option ℕ)
     → IsPlayed u s line events w t closed → IsPartOfLine u s line events

@@ -13,12 +13,12 @@ use Rattle.node_progress.specs.Firsts.{IsFirst}
 use Rattle.node_progress.specs.UnderWay.{IsUnderWay}
 use Rattle.node_progress.proofs.Bags.{same_place}
 use Rattle.node_progress.proofs.BagRuns.{BagIn, IsNoDelivery, first_bag, goes_to_node, delivery_bag, event_keeps, events_keep}
-use Rattle.node_progress.proofs.Firsts.{first_true, first_rests}
+use Rattle.node_progress.proofs.Firsts.{first_true, first_rests, first_shards}
 use Rattle.node_progress.proofs.Lives.{TakenSince, taken_since}
 use Rattle.node_progress.proofs.Progress.{bag_under_way}
 use Rattle.node_progress.proofs.Answered.{are_answered}
 use Rattle.node_progress.proofs.Rounds.{openings_deliver_none, sent_before}
-use Rattle.pipe_driver.specs.Rounds.{first_router, replies_after}
+use Rattle.pipe_driver.specs.Rounds.{replies_after}
 use Rattle.script_lines.specs.Lines.{Line, settle_line, Says, says_client, says_deliver, says_moment, says_settle, says_except, says_next}
 use Rattle.sim_driver.specs.Plays.{client_events, events_on, SettlesBut, but_none, but_passed, but_next, but_lost, IsPlayed, plays_client, closes, plays_deliver, plays_moment, plays_settle, plays_next, loses_next}
 use Rattle.sim_driver.specs.Scripts.{ScriptView, is_delivered, marked}
@@ -88,35 +88,41 @@ clients_deliver_none at link replied (q ∷ requests) = (tt, clients_deliver_non
 played_bag : (u : World) (s : ScriptView) (line : Line) (events : List Event) (w : World) (t : ScriptView) (closed : Option ℕ)
     → IsPlayed u s line events w t closed → BagIn (IsUndelivered s.delivered) u → BagIn (IsUndelivered t.delivered) w
 played_bag u s _ _ _ _ _ (plays_client router link bytes left requests w there frames run) b =
-    events_keep (IsUndelivered s.delivered) u (events_on router link requests) w
-    (clients_deliver_none (first_router + router) link.number link.replied requests) b run
+    events_keep (IsUndelivered s.delivered) u (events_on s.first_router router link requests) w
+    (clients_deliver_none (s.first_router + router) link.number link.replied requests) b run
 played_bag u s _ _ _ _ _ (closes router link bytes left requests fault w there frames run) b =
-    events_keep (IsUndelivered s.delivered) u (events_on router link requests) w
-    (clients_deliver_none (first_router + router) link.number link.replied requests) b run
+    events_keep (IsUndelivered s.delivered) u (events_on s.first_router router link requests) w
+    (clients_deliver_none (s.first_router + router) link.number link.replied requests) b run
 played_bag u s _ _ _ _ _ (plays_deliver node k which w place h) b = marked_bag u w s.delivered node which b h
 played_bag u s _ _ _ _ _ (plays_moment node moment w h) b = event_keeps (IsUndelivered s.delivered) u w (moment_event node moment) tt b h
 played_bag u s _ _ _ _ _ (plays_settle except events w delivered settles) b = but_bag except u s.delivered 0 events w delivered (length w.sent) settles b
 played_bag u s _ _ _ _ _ (plays_next kind which m w place got h) b = marked_bag u w s.delivered m.receiver which b h
 played_bag u s _ _ _ _ _ (loses_next kind which m place got none) b = absurd (never_lost u (IsUndelivered s.delivered) which m b got none)
 
-plays_bag : (first : World) → IsFirst first → (lines : List (List ℕ)) (events : List Event) (w : World) (s : ScriptView) (out : List ℕ)
-    → Plays first lines events w s out → BagIn (IsUndelivered s.delivered) w
-plays_bag first begins _ _ _ _ _ (plays_none w run) =
+plays_bag : (first_router : ℕ) (first : World) → IsFirst first → (lines : List (List ℕ)) (events : List Event) (w : World) (s : ScriptView) (out : List ℕ)
+    → Plays first_router first lines events w s out → BagIn (IsUndelivered s.delivered) w
+plays_bag first_router first begins _ _ _ _ _ (plays_none w run) =
     events_keep (IsUndelivered []) first (openings 0 (length first.nodes)) w (openings_deliver_none 0 (length first.nodes))
-    (record { true_there = first_true first begins; bag = first_bag (IsUndelivered []) first (first_rests first begins) (λ n. refl) }) run
-plays_bag first begins _ _ _ _ _ (plays_more lines before events u w s t out bytes line closed given played says is gives) =
-    played_bag u s line events w t closed is (plays_bag first begins lines before u s out played)
+    (record {
+      true_there = first_true first begins;
+      bag = first_bag (IsUndelivered []) first (first_rests first begins) (first_shards first begins) (λ n. refl);
+    }) run
+plays_bag first_router first begins _ _ _ _ _ (plays_more lines before events u w s t out bytes line closed given played says is gives) =
+    played_bag u s line events w t closed is (plays_bag first_router first begins lines before u s out played)
 
-plays_since : (first : World) → IsFirst first → (lines : List (List ℕ)) (events : List Event) (w : World) (s : ScriptView) (out : List ℕ)
-    → Plays first lines events w s out → TakenSince first w
-plays_since first begins lines events w s out plays = taken_since first (first_true first begins) events w (plays_run first lines events w s out plays)
+plays_since : (first_router : ℕ) (first : World) → IsFirst first → (lines : List (List ℕ)) (events : List Event) (w : World) (s : ScriptView) (out : List ℕ)
+    → Plays first_router first lines events w s out → TakenSince first w
+plays_since first_router first begins lines events w s out plays = taken_since first (first_true first begins) events w
+    (plays_run first_router first lines events w s out plays)
 
 -- after the lines of a script all that open requests wait for is under way
-pub scripts_are_under_way : (first : World) (lines : List (List ℕ)) (events : List Event) (w : World) (s : ScriptView) (out : List ℕ) → IsFirst first
-    → Plays first lines events w s out → IsUnderWay first (IsUndelivered s.delivered) w
-scripts_are_under_way first lines events w s out begins plays =
-    let b = plays_bag first begins lines events w s out plays in
-    bag_under_way (IsUndelivered s.delivered) w b.true_there.0.book b.true_there.0.good b.bag first (plays_since first begins lines events w s out plays)
+pub scripts_are_under_way : (first_router : ℕ) (first : World) (lines : List (List ℕ)) (events : List Event) (w : World) (s : ScriptView) (out : List ℕ)
+    → IsFirst first
+    → Plays first_router first lines events w s out → IsUnderWay first (IsUndelivered s.delivered) w
+scripts_are_under_way first_router first lines events w s out begins plays =
+    let b = plays_bag first_router first begins lines events w s out plays in
+    bag_under_way (IsUndelivered s.delivered) w b.true_there.0.book b.true_there.0.good b.bag first
+    (plays_since first_router first begins lines events w s out plays)
 
 -- SETTLE
 
@@ -169,12 +175,15 @@ settled_answered first u ds events w es settles b taken =
     are_answered first (IsUndelivered es) w after.true_there after.bag taken
     (λ n below left. let done = settled_between u ds 0 events w es (length w.sent) n settles (omega arith) below in cc (done, left))
 
-pub settled_scripts_are_answered : (first : World) (lines : List (List ℕ)) (before events : List Event) (u w : World) (s t : ScriptView) (out : List ℕ)
-    (closed : Option ℕ) → IsFirst first → Plays first lines before u s out → IsPlayed u s (settle_line None) events w t closed → AreAnswered first w
-settled_scripts_are_answered first lines before _ u _ s _ out _ begins plays (plays_settle _ events w delivered settles) =
-    settled_answered first u s.delivered events w delivered settles (plays_bag first begins lines before u s out plays)
+pub settled_scripts_are_answered : (first_router : ℕ) (first : World) (lines : List (List ℕ)) (before events : List Event) (u w : World) (s t : ScriptView)
+    (out : List ℕ)
+    (closed : Option ℕ) → IsFirst first → Plays first_router first lines before u s out → IsPlayed u s (settle_line None) events w t closed
+    → AreAnswered first w
+settled_scripts_are_answered first_router first lines before _ u _ s _ out _ begins plays (plays_settle _ events w delivered settles) =
+    settled_answered first u s.delivered events w delivered settles (plays_bag first_router first begins lines before u s out plays)
     (taken_since first (first_true first begins) (before ++ events) w
-    (run_then first before u events w (plays_run first lines before u s out plays) (but_run None u s.delivered 0 events w delivered (length w.sent) settles)))
+    (run_then first before u events w (plays_run first_router first lines before u s out plays)
+    (but_run None u s.delivered 0 events w delivered (length w.sent) settles)))
 
 -- THE LAST LINE
 
@@ -191,10 +200,13 @@ settles_alone _ _ (says_except kind known) is = absurd (cc is)
 settles_alone _ _ (says_next kind known) is = let other : 110 ≡ 115 = ap first_byte is in absurd (omega (arith, other))
 
 -- where the last line of a script is `settle`, every request is answered
-pub ends_answered : (first : World) → IsFirst first → (lines : List (List ℕ)) (events : List Event) (w : World) (s : ScriptView) (out : List ℕ)
-    → Plays first lines events w s out → EndInSettle lines → AreAnswered first w
-ends_answered first begins _ _ _ _ _ (plays_none w run) (before, is) =
+pub ends_answered : (first_router : ℕ) (first : World) → IsFirst first → (lines : List (List ℕ)) (events : List Event) (w : World) (s : ScriptView)
+    (out : List ℕ)
+    → Plays first_router first lines events w s out → EndInSettle lines → AreAnswered first w
+ends_answered first_router first begins _ _ _ _ _ (plays_none w run) (before, is) =
     absurd (omega (arith, length_push before (codes "settle"), ap (λ (l : List (List ℕ)). length l) is))
-ends_answered first begins _ _ _ _ _ (plays_more lines earlier events u w s t out bytes line closed given played says is_played gives) (before, is) =
+ends_answered first_router first begins _ _ _ _ _ (plays_more lines earlier events u w s t out bytes line closed given played says is_played gives)
+    (before, is) =
     let settle : line ≡ settle_line None = settles_alone bytes line says (same_from_push lines before bytes (codes "settle") is).1 in
-    settled_scripts_are_answered first lines earlier events u w s t out closed begins played (subst (λ l. IsPlayed u s l events w t closed) settle is_played)
+    settled_scripts_are_answered first_router first lines earlier events u w s t out closed begins played
+    (subst (λ l. IsPlayed u s l events w t closed) settle is_played)

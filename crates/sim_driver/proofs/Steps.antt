@@ -67,10 +67,10 @@ last_in_line status end last events P goes_on on (inr (is, e, has, h)) = inr (is
 
 -- THE START
 
-module _ {S : Type 0} (view : S → SeatView) (seats : List S) (first : World) (tells : Bool) (held : List ℕ) (count : ℕ)
+module _ {S : Type 0} (view : S → SeatView) (seats : List S) (first_router : ℕ) (first : World) (tells : Bool) (held : List ℕ) (count : ℕ)
     (as_many : count ≡ length first.nodes) where
   pub opened_playing : (network : NetworkView) → IsFirst first → HasRun view seats network (puts_given first.answered) first 0 (openings 0 count)
-      → Playing view seats network first tells [] held held (new_script (router_count first)) []
+      → Playing view seats network first_router first tells [] held held (new_script first_router (router_count first_router first)) []
   opened_playing network begins r =
       let none : r.end.answered ≡ first.answered = nothing_told first count r.end r.run in
       let run : Run first (openings 0 (length first.nodes)) r.end =
@@ -86,24 +86,25 @@ module _ {S : Type 0} (view : S → SeatView) (seats : List S) (first : World) (
         put = λ told. sym (append-nil held);
         all = refl;
         each = tt;
-        covered = λ told. covered_none (all_printed first) first held [] [] r.end refl;
+        covered = λ told. covered_none (all_printed first_router first) first held [] [] r.end refl;
       }
 
   opening_came : (left : List ℕ) (replies : List ToLink) (fault : StepFault)
-      → (s : HasStopped view seats replies (puts_given first.answered) first (λ events. BeginWith events (openings 0 count)) fault) → CameTo first [] left [] s.end
+      → (s : HasStopped view seats replies (puts_given first.answered) first (λ events. BeginWith events (openings 0 count)) fault)
+      → CameTo first_router first [] left [] s.end
   opening_came left replies fault s =
       came_opening left s.events s.end (subst (λ (n : ℕ). BeginWith s.events (openings 0 n)) as_many s.which) s.run
 
   stops_by : (fault : StepFault) (status : Status) → status ≡ status_for fault → (lines : List (List ℕ)) (left put : List ℕ) (end : World)
-      → CameTo first lines left put end → StopsAt first lines left put end status
+      → CameTo first_router first lines left put end → StopsAt first_router first lines left put end status
   stops_by (Disk faults) status is lines left put end came =
-      subst (λ (n : Status). StopsAt first lines left put end n) (sym is) (at_disk_fault came)
-  stops_by Steps status is lines left put end came = subst (λ (n : Status). StopsAt first lines left put end n) (sym is) (at_no_memory came)
-  stops_by Memory status is lines left put end came = subst (λ (n : Status). StopsAt first lines left put end n) (sym is) (at_no_memory came)
+      subst (λ (n : Status). StopsAt first_router first lines left put end n) (sym is) (at_disk_fault came)
+  stops_by Steps status is lines left put end came = subst (λ (n : Status). StopsAt first_router first lines left put end n) (sym is) (at_no_memory came)
+  stops_by Memory status is lines left put end came = subst (λ (n : Status). StopsAt first_router first lines left put end n) (sym is) (at_no_memory came)
 
   pub opening_stopped : (left : List ℕ) (replies : List ToLink) (fault : StepFault) (status : Status) → status ≡ status_for fault
       → HasStopped view seats replies (puts_given first.answered) first (λ events. BeginWith events (openings 0 count)) fault
-      → Stopped view seats first tells [] held held [] left status
+      → Stopped view seats first_router first tells [] held held [] left status
   opening_stopped left replies fault status is s = record {
     lines = [];
     end = s.end;
@@ -114,28 +115,29 @@ module _ {S : Type 0} (view : S → SeatView) (seats : List S) (first : World) (
     each = tt;
     kept = kept_at fault view seats s.end s.nodes;
     last = s.last;
-    is_last = last_by fault status is s.end s.last s.events (λ events. BeginWith events (openings 0 count)) (λ w. CameTo first [] left [] w)
+    is_last = last_by fault status is s.end s.last s.events (λ events. BeginWith events (openings 0 count)) (λ w. CameTo first_router first [] left [] w)
         (λ e begun h.
         came_opening left (s.events ++ e ∷ []) s.last (subst (λ (n : ℕ). BeginWith (s.events ++ e ∷ []) (openings 0 n)) as_many begun)
         (run_more first s.events s.end e s.last s.run h)) s.up_to;
     crashes = s.crashes;
-    covered = λ told. covered_none (all_printed first) first held [] [] s.last refl;
+    covered = λ told. covered_none (all_printed first_router first) first held [] [] s.last refl;
   }
 
 -- ONE LINE
 
-module _ {S : Type 0} (view : S → SeatView) (seats seats_after : List S) (before : NetworkView) (first : World) (tells : Bool) (noted : List Noted)
-    (held_before held consumed : List ℕ) (s : ScriptView) (p : Playing view seats before first tells noted held_before held s consumed)
+module _ {S : Type 0} (view : S → SeatView) (seats seats_after : List S) (before : NetworkView) (first_router : ℕ) (first : World) (tells : Bool)
+    (noted : List Noted)
+    (held_before held consumed : List ℕ) (s : ScriptView) (p : Playing view seats before first_router first tells noted held_before held s consumed)
     (bytes : List ℕ) (none : HasNone newline bytes) where
   came_in : (others : List ℕ) (events : List Event) (end : World) → IsPartOfBytes p.world s bytes events → Run p.world events end
-      → CameTo first p.lines (bytes ++ newline ∷ others) p.out end
+      → CameTo first_router first p.lines (bytes ++ newline ∷ others) p.out end
   came_in others events end part run =
       came_part p.lines p.events events (bytes ++ newline ∷ others) p.out bytes others p.world end s p.plays (next_line bytes others none) part run
 
   -- the script stops within the line, of which nothing was put
   stops_within : (others : List ℕ) (status : Status) → (c : IsCut view seats_after p.world (IsPartOfBytes p.world s bytes) status)
-      → StopsAt first p.lines (bytes ++ newline ∷ others) p.out c.end status
-      → Stopped view seats_after first tells noted held_before held consumed (bytes ++ newline ∷ others) status
+      → StopsAt first_router first p.lines (bytes ++ newline ∷ others) p.out c.end status
+      → Stopped view seats_after first_router first tells noted held_before held consumed (bytes ++ newline ∷ others) status
   stops_within others status c cause = record {
     lines = p.lines;
     end = c.end;
@@ -146,16 +148,18 @@ module _ {S : Type 0} (view : S → SeatView) (seats seats_after : List S) (befo
     each = p.each;
     kept = c.kept;
     last = c.last;
-    is_last = last_in_line status c.end c.last c.events (IsPartOfBytes p.world s bytes) (λ w. CameTo first p.lines (bytes ++ newline ∷ others) p.out w)
+    is_last = last_in_line status c.end c.last c.events (IsPartOfBytes p.world s bytes)
+        (λ w. CameTo first_router first p.lines (bytes ++ newline ∷ others) p.out w)
         (λ e part h. came_in others (c.events ++ e ∷ []) c.last part (run_more p.world c.events c.end e c.last c.run h)) c.is_last;
     crashes = c.crashes;
-    covered = λ told. covered_on (all_printed first) first held_before noted p.out p.world c.last (p.covered told)
+    covered = λ told. covered_on (all_printed first_router first) first held_before noted p.out p.world c.last (p.covered told)
         (leads_on p.world c.end c.last (c.events, c.run) (last_leads status c.end c.last c.events (IsPartOfBytes p.world s bytes) c.is_last));
   }
 
   -- the script stops where nothing is cut short, and of the line nothing was put
-  stops_here : (others : List ℕ) (status : Status) (end : World) → StopsAt first p.lines (bytes ++ newline ∷ others) p.out end status
-      → AreStill view seats_after end → LeadsTo p.world end → Stopped view seats_after first tells noted held_before held consumed (bytes ++ newline ∷ others) status
+  stops_here : (others : List ℕ) (status : Status) (end : World) → StopsAt first_router first p.lines (bytes ++ newline ∷ others) p.out end status
+      → AreStill view seats_after end → LeadsTo p.world end → Stopped view seats_after first_router first tells noted held_before held consumed
+      (bytes ++ newline ∷ others) status
   stops_here others status end cause are on = record {
     lines = p.lines;
     end = end;
@@ -168,18 +172,18 @@ module _ {S : Type 0} (view : S → SeatView) (seats seats_after : List S) (befo
     last = end;
     is_last = inl refl;
     crashes = are.crashes;
-    covered = λ told. covered_on (all_printed first) first held_before noted p.out p.world end (p.covered told) on;
+    covered = λ told. covered_on (all_printed first_router first) first held_before noted p.out p.world end (p.covered told) on;
   }
 
   pub line_stopped : (others : List ℕ) (status : Status) → StopsBytes view seats_after p.world bytes s status
-      → Stopped view seats_after first tells noted held_before held consumed (bytes ++ newline ∷ others) status
+      → Stopped view seats_after first_router first tells noted held_before held consumed (bytes ++ newline ∷ others) status
   line_stopped others _ (bytes_refused refused are) =
       stops_here others statuses.BadInput p.world
       (at_refused_line bytes others (next_line bytes others none) (record {
         events = p.events;
         script = s;
         played = p.plays;
-        answered = ends_answered first p.begins p.lines p.events p.world s p.out p.plays;
+        answered = ends_answered first_router first p.begins p.lines p.events p.world s p.out p.plays;
       }) refused) are (leads_nowhere p.world)
   line_stopped others _ (bytes_at_disk c) = stops_within others statuses.DiskFailed c (at_disk_fault (came_in others c.events c.end c.which c.run))
   line_stopped others _ (bytes_at_memory c) = stops_within others statuses.OutOfMemory c (at_no_memory (came_in others c.events c.end c.which c.run))
@@ -190,7 +194,8 @@ module _ {S : Type 0} (view : S → SeatView) (seats seats_after : List S) (befo
     puts_are = h.played.stands.given
 
     -- memory ran out for what it prints
-    pub line_unprinted : (others : List ℕ) → Stopped view seats_after first tells noted held_before held consumed (bytes ++ newline ∷ others) statuses.OutOfMemory
+    pub line_unprinted : (others : List ℕ) → Stopped view seats_after first_router first tells noted held_before held consumed
+        (bytes ++ newline ∷ others) statuses.OutOfMemory
     line_unprinted others =
         stops_here others statuses.OutOfMemory h.played.end
         (at_no_memory (came_in others h.played.events h.played.end
@@ -204,31 +209,32 @@ module _ {S : Type 0} (view : S → SeatView) (seats seats_after : List S) (befo
     line_on : LeadsTo p.world h.played.end
     line_on = (h.played.events, h.played.run)
 
-    played_line : Plays first (p.lines ++ bytes ∷ []) (p.events ++ h.played.events) h.played.end t (p.out ++ printed s.links old.replies.items closed)
+    played_line : Plays first_router first (p.lines ++ bytes ∷ []) (p.events ++ h.played.events) h.played.end t
+        (p.out ++ printed s.links old.replies.items closed)
     played_line =
         plays_more p.lines p.events h.played.events p.world h.played.end s t p.out bytes h.line closed old.replies.items p.plays h.says
         h.played.played puts_are
 
     pub covers_line : (moments : List ℕ) → IsTrue tells
-        → AreCovered (all_printed first) first (record { world = h.played.end; moments = moments; length = length held } ∷ noted) held_before
+        → AreCovered (all_printed first_router first) first (record { world = h.played.end; moments = moments; length = length held } ∷ noted) held_before
         (p.out ++ printed s.links old.replies.items closed) h.played.end
     covers_line moments told =
-        covered_more (all_printed first) first held_before p.world h.played.end noted moments (length held) p.out
+        covered_more (all_printed first_router first) first held_before p.world h.played.end noted moments (length held) p.out
         (printed s.links old.replies.items closed) (p.covered told) (
           p.lines ++ bytes ∷ [],
           record {
             events = p.events ++ h.played.events;
             script = t;
             played = played_line;
-            answered = ends_answered first p.begins (p.lines ++ bytes ∷ []) (p.events ++ h.played.events) h.played.end t
+            answered = ends_answered first_router first p.begins (p.lines ++ bytes ∷ []) (p.events ++ h.played.events) h.played.end t
                 (p.out ++ printed s.links old.replies.items closed) played_line;
           },
         )
-        (leads_on first p.world h.played.end (p.events, plays_run first p.lines p.events p.world s p.out p.plays) line_on) line_on (line_few told)
+        (leads_on first p.world h.played.end (p.events, plays_run first_router first p.lines p.events p.world s p.out p.plays) line_on) line_on (line_few told)
 
   module _ {M : Type 0} (letter : M → Letter) (old new : Network M) (t : ScriptView) (closed : Option ℕ) (after_view : S → SeatView) (noted_after : List Noted)
       (h : HasPlayedBytes after_view seats_after (network_view letter old) (puts_given p.world.answered) p.world bytes s t closed)
-      (covers : IsTrue tells → AreCovered (all_printed first) first noted_after held_before (p.out ++ printed s.links old.replies.items closed)
+      (covers : IsTrue tells → AreCovered (all_printed first_router first) first noted_after held_before (p.out ++ printed s.links old.replies.items closed)
       h.played.end) where
     gave : puts_given h.played.end.answered ≡ puts_given p.world.answered ++ old.replies.items
     gave = h.played.stands.given
@@ -236,7 +242,8 @@ module _ {S : Type 0} (view : S → SeatView) (seats seats_after : List S) (befo
     -- what it prints was put
     pub line_answered : (held' : List ℕ) → new.waiting.items ≡ old.waiting.items → new.replies.items ≡ []
         → Put tells held (printed s.links old.replies.items closed) held'
-        → Playing after_view seats_after (network_view letter new) first tells noted_after held_before held' t (consumed ++ (bytes ++ newline ∷ []))
+        → Playing after_view seats_after (network_view letter new) first_router first tells noted_after held_before held' t
+        (consumed ++ (bytes ++ newline ∷ []))
     line_answered held' waits silent put = record {
       lines = p.lines ++ bytes ∷ [];
       events = p.events ++ h.played.events;
@@ -255,7 +262,7 @@ module _ {S : Type 0} (view : S → SeatView) (seats seats_after : List S) (befo
 
     -- a prefix of what it prints was put
     pub line_put_short : (others held' : List ℕ) → PutInPart tells held (printed s.links old.replies.items closed) held'
-        → Stopped after_view seats_after first tells noted_after held_before held' consumed (bytes ++ newline ∷ others) statuses.WriteFailed
+        → Stopped after_view seats_after first_router first tells noted_after held_before held' consumed (bytes ++ newline ∷ others) statuses.WriteFailed
     line_put_short others held' (part, prefix, put) = record {
       lines = p.lines;
       end = h.played.end;
@@ -288,7 +295,7 @@ module _ {S : Type 0} (view : S → SeatView) (seats seats_after : List S) (befo
       last = h.played.end;
       is_last = inl refl;
       crashes = h.played.stands.crashes;
-      covered = λ told. covered_part (all_printed first) first held_before noted_after (p.out ++ part)
+      covered = λ told. covered_part (all_printed first_router first) first held_before noted_after (p.out ++ part)
           (p.out ++ printed s.links old.replies.items closed) h.played.end (
             prefix.0,
             ap (λ (b : List ℕ). p.out ++ b) prefix.1 ∙ sym (append_assoc p.out part prefix.0),
@@ -298,11 +305,12 @@ module _ {S : Type 0} (view : S → SeatView) (seats seats_after : List S) (befo
 -- BETWEEN LINES
 
 -- memory ran out for the next line
-pub playing_full : {S : Type 0} (view : S → SeatView) (seats : List S) (network : NetworkView) (first : World) (tells : Bool) (noted : List Noted)
+pub playing_full : {S : Type 0} (view : S → SeatView) (seats : List S) (network : NetworkView) (first_router : ℕ) (first : World) (tells : Bool)
+    (noted : List Noted)
     (held_before held consumed left : List ℕ)
-    (s : ScriptView) → Playing view seats network first tells noted held_before held s consumed
-    → Stopped view seats first tells noted held_before held consumed left statuses.OutOfMemory
-playing_full view seats network first tells noted held_before held consumed left s p = record {
+    (s : ScriptView) → Playing view seats network first_router first tells noted held_before held s consumed
+    → Stopped view seats first_router first tells noted held_before held consumed left statuses.OutOfMemory
+playing_full view seats network first_router first tells noted held_before held consumed left s p = record {
   lines = p.lines;
   end = p.world;
   out = p.out;
@@ -310,7 +318,7 @@ playing_full view seats network first tells noted held_before held consumed left
     events = p.events;
     script = s;
     played = p.plays;
-    answered = ends_answered first p.begins p.lines p.events p.world s p.out p.plays;
+    answered = ends_answered first_router first p.begins p.lines p.events p.world s p.out p.plays;
   }));
   put = p.put;
   all = p.all;
@@ -343,15 +351,17 @@ bytes_next all more begun rest first behind grown whole cut grows =
     ∙ ap (λ (b : List ℕ). more ++ (b ++ newline ∷ behind)) (sym grows)))
 
 -- what the script has, said otherwise
-pub playing_from : {S : Type 0} (view : S → SeatView) (seats : List S) (network : NetworkView) (first : World) (tells : Bool) (noted : List Noted) (held_before held consumed : List ℕ)
-    (s t : ScriptView) → s ≡ t → Playing view seats network first tells noted held_before held s consumed
-    → Playing view seats network first tells noted held_before held t consumed
-playing_from view seats network first tells noted held_before held consumed s t same p =
-    subst (λ (x : ScriptView). Playing view seats network first tells noted held_before held x consumed) same p
+pub playing_from : {S : Type 0} (view : S → SeatView) (seats : List S) (network : NetworkView) (first_router : ℕ) (first : World) (tells : Bool)
+    (noted : List Noted) (held_before held consumed : List ℕ)
+    (s t : ScriptView) → s ≡ t → Playing view seats network first_router first tells noted held_before held s consumed
+    → Playing view seats network first_router first tells noted held_before held t consumed
+playing_from view seats network first_router first tells noted held_before held consumed s t same p =
+    subst (λ (x : ScriptView). Playing view seats network first_router first tells noted held_before held x consumed) same p
 
 -- so many routers there are
-pub routers_are : {S : Type 0} (view : S → SeatView) (seats : List S) (network : NetworkView) (first : World) (tells : Bool) (noted : List Noted)
-    (held_before held consumed : List ℕ) (s : ScriptView) → Playing view seats network first tells noted held_before held s consumed
-    → (count : ℕ) → count ≡ length seats → router_count first ≡ count - 2
-routers_are view seats network first tells noted held_before held consumed s p count counted =
-    omega (arith, counted, held_len view seats p.world.nodes p.stands.nodes, plays_count first p.lines p.events p.world s p.out p.plays)
+pub routers_are : {S : Type 0} (view : S → SeatView) (seats : List S) (network : NetworkView) (first_router : ℕ) (first : World) (tells : Bool)
+    (noted : List Noted)
+    (held_before held consumed : List ℕ) (s : ScriptView) → Playing view seats network first_router first tells noted held_before held s consumed
+    → (count : ℕ) → count ≡ length seats → router_count first_router first ≡ count - first_router
+routers_are view seats network first_router first tells noted held_before held consumed s p count counted =
+    omega (arith, counted, held_len view seats p.world.nodes p.stands.nodes, plays_count first_router first p.lines p.events p.world s p.out p.plays)

@@ -12,7 +12,7 @@ use Rattle.driver_steps.specs.Seats.{SeatView, AreHeld, AreKept, LeaveKept}
 use Rattle.driver_steps.specs.Worlds.{NetworkView, StandsFor}
 use Rattle.driver_steps.specs.Moves.{BeginWith, DeliversOrLoses}
 use Rattle.pipe_driver.specs.Progress.{AreAsked}
-use Rattle.pipe_driver.specs.Rounds.{first_router, replies_behind}
+use Rattle.pipe_driver.specs.Rounds.{replies_behind}
 use Rattle.pipe_driver.specs.declared.status.Status.{Status}
 use Rattle.pipe_driver.specs.declared.status.Status.TheVariants as statuses
 use Rattle.sim_driver.specs.Plays.{SettlesBut, client_events, is_passed}
@@ -96,14 +96,14 @@ pub record IsFirstAsked (at link replied : ℕ) (bytes : List ℕ) (events : Lis
   pub asked : AreAsked consumed requests
   pub first : BeginWith events (client_events at link replied requests)
 
--- the nodes from the first router on are routers
-abbrev pub HasRouters : World → Type 0
-HasRouters w = (router : ℕ) → first_router + router < length w.nodes → IsRouter w.nodes (first_router + router)
+-- the nodes from this place on are routers
+abbrev pub HasRouters : (first_router : ℕ) → World → Type 0
+HasRouters first_router w = (router : ℕ) → first_router + router < length w.nodes → IsRouter w.nodes (first_router + router)
 
--- a call may begin in the world, and its nodes are a catalogue, a shard and routers
-pub record MayPlay (first : World) : Type 0 where
+-- a call may begin in the world, and its nodes from this place on are routers
+pub record MayPlay (first_router : ℕ) (first : World) : Type 0 where
   pub begins : IsFirst first
-  pub routers : HasRouters first
+  pub routers : HasRouters first_router first
 
 -- a message at a place goes to this node
 abbrev pub IsReceiverAt : List Letter → (at node : ℕ) → Type 0

@@ -8,7 +8,7 @@ use Rattle.node_model.specs.Requests.{Request}
 use Rattle.node_model.specs.World.{World, Event, client_event, deliver_event, moment_event, Happens, Run}
 use Rattle.driver_steps.specs.Moves.{BeginWith}
 use Rattle.pipe_driver.specs.Progress.{AreAsked}
-use Rattle.pipe_driver.specs.Rounds.{first_router, number_behind, replies_after, replies_behind}
+use Rattle.pipe_driver.specs.Rounds.{number_behind, replies_after, replies_behind}
 use Rattle.script_lines.specs.Lines.{Line, client_line, deliver_line, moment_line, settle_line, next_line}
 use Rattle.sim_driver.specs.Links.{LinkView}
 use Rattle.sim_driver.specs.Scripts.{ScriptView, is_delivered, is_held, marked, next_from, place_from, reopened, with_delivered, with_link}
@@ -20,8 +20,8 @@ client_events at link replied (q ∷ requests) =
     client_event at link (number_behind replied) q ∷ client_events at link (replies_after q.more replied) requests
 
 -- those of a router's link
-abbrev pub events_on : (router : ℕ) → LinkView → List Request → List Event
-events_on router link requests = client_events (first_router + router) link.number link.replied requests
+abbrev pub events_on : (first_router router : ℕ) → LinkView → List Request → List Event
+events_on first_router router link requests = client_events (first_router + router) link.number link.replied requests
 
 -- the message at a place is passed over: it was delivered before, or those of its kind are
 abbrev pub is_passed : (except : Option (List ℕ)) → (delivered : List Bool) → (place : ℕ) → Letter → Bool
@@ -45,13 +45,14 @@ pub data SettlesBut (except : Option (List ℕ)) : World → List Bool → (next
 pub data IsPlayed (u : World) (s : ScriptView) : Line → List Event → World → ScriptView → (closed : Option ℕ) → Type 0 where
   -- its whole requests come, in order
   plays_client : (router : ℕ) (link : LinkView) (bytes left : List ℕ) (requests : List Request) (w : World) → slice_get s.links router ≡ Some link
-      → FramesFrom 0 (link.left ++ bytes) requests left None → Run u (events_on router link requests) w
-      → IsPlayed u s (client_line router bytes) (events_on router link requests) w
+      → FramesFrom 0 (link.left ++ bytes) requests left None → Run u (events_on s.first_router router link requests) w
+      → IsPlayed u s (client_line router bytes) (events_on s.first_router router link requests) w
       (with_link s router (record { number = link.number; left = left; replied = replies_behind link.replied requests })) None
   -- after them comes what is no request
   closes : (router : ℕ) (link : LinkView) (bytes left : List ℕ) (requests : List Request) (fault : FrameFault × ℕ) (w : World)
-      → slice_get s.links router ≡ Some link → FramesFrom 0 (link.left ++ bytes) requests left (Some fault) → Run u (events_on router link requests) w
-      → IsPlayed u s (client_line router bytes) (events_on router link requests) w (reopened s router) (Some router)
+      → slice_get s.links router ≡ Some link → FramesFrom 0 (link.left ++ bytes) requests left (Some fault) → Run u
+      (events_on s.first_router router link requests) w
+      → IsPlayed u s (client_line router bytes) (events_on s.first_router router link requests) w (reopened s router) (Some router)
   plays_deliver : (node k which : ℕ) (w : World) → place_from 0 node k u.sent ≡ Some which → Happens u (deliver_event node which) w
       → IsPlayed u s (deliver_line node k) (deliver_event node which ∷ []) w (with_delivered s (marked which s.delivered)) None
   plays_moment : (node moment : ℕ) (w : World) → Happens u (moment_event node moment) w
@@ -82,7 +83,7 @@ pub record IsPartOfSettling (except : Option (List ℕ)) (u : World) (delivered 
 pub data IsPartOfLine (u : World) (s : ScriptView) : Line → List Event → Type 0 where
   part_of_client : (router : ℕ) (link : LinkView) (bytes consumed rest : List ℕ) (requests : List Request) (events : List Event)
       → slice_get s.links router ≡ Some link → link.left ++ bytes ≡ consumed ++ rest → AreAsked consumed requests
-      → BeginWith events (events_on router link requests) → IsPartOfLine u s (client_line router bytes) events
+      → BeginWith events (events_on s.first_router router link requests) → IsPartOfLine u s (client_line router bytes) events
   part_of_deliver : (node k which : ℕ) (events : List Event) → place_from 0 node k u.sent ≡ Some which → BeginWith events (deliver_event node which ∷ [])
       → IsPartOfLine u s (deliver_line node k) events
   part_of_moment : (node moment : ℕ) (events : List Event) → BeginWith events (moment_event node moment ∷ [])
@@ -94,7 +95,7 @@ pub data IsPartOfLine (u : World) (s : ScriptView) : Line → List Event → Typ
 
 -- the line names a router, a node or a message that does not exist
 pub data NamesNothing (u : World) (s : ScriptView) : Line → Type 0 where
-  no_router : (router : ℕ) (bytes : List ℕ) → length u.nodes ≤ first_router + router → NamesNothing u s (client_line router bytes)
+  no_router : (router : ℕ) (bytes : List ℕ) → length u.nodes ≤ s.first_router + router → NamesNothing u s (client_line router bytes)
   no_node : (node k : ℕ) → length u.nodes ≤ node → NamesNothing u s (deliver_line node k)
   no_message : (node k : ℕ) → place_from 0 node k u.sent ≡ None → NamesNothing u s (deliver_line node k)
   no_node_of_moment : (node moment : ℕ) → length u.nodes ≤ node → NamesNothing u s (moment_line node moment)

@@ -1,4 +1,4 @@
--- What a script has beside the nodes: the open links of its routers, and which messages were delivered (own).
+-- What a script has beside the nodes: where their routers begin, the open links of these, and which messages were delivered (own).
 use Rattle.std.specs.Prelude.{◌≡◌, ℕ, zero, suc, ◌+◌, ◌-◌, ◌==◌, ◌&&◌, not, List, [], ◌∷◌, ◌++◌, map, Option, Some, None, Bool, true, false, if◌then◌else◌}
 use Rattle.std.specs.List.{flat_map, slice_set}
 use Rattle.std.specs.Str.{bytes_eq}
@@ -9,15 +9,16 @@ use Rattle.script_lines.specs.Output.{closed_line, reply_line}
 use Rattle.sim_driver.specs.Links.{LinkView, new_link}
 use Rattle.sim_driver.specs.declared.script.Script.{Script}
 
--- `links` are those that are open, one of each router, in order; so many links were `opened`, which is the number of the next one; `delivered`
--- says of the messages, in order of sending, whether they were delivered: those past its end were not
+-- `first_router` is the place of router 0 among the nodes; `links` are those that are open, one of each router, in order; so many links were `opened`,
+-- which is the number of the next one; `delivered` says of the messages, in order of sending, whether they were delivered: those past its end were not
 pub record ScriptView : Type 0 where
+  pub first_router : ℕ
   pub links : List LinkView
   pub opened : ℕ
   pub delivered : List Bool
 
 abbrev pub script_view : Script → ScriptView
-script_view s = record { links = s.links.items; opened = s.opened; delivered = s.delivered }
+script_view s = record { first_router = s.first_router; links = s.links.items; opened = s.opened; delivered = s.delivered }
 
 -- LINKS
 
@@ -27,21 +28,27 @@ links_from first zero = []
 links_from first (suc count) = new_link first ∷ links_from (first + 1) count
 
 -- before the first line
-abbrev pub new_script : (routers : ℕ) → ScriptView
-new_script routers = record { links = links_from 0 routers; opened = routers; delivered = [] }
+abbrev pub new_script : (first_router routers : ℕ) → ScriptView
+new_script first_router routers = record { first_router = first_router; links = links_from 0 routers; opened = routers; delivered = [] }
 
 -- the router's link is this one
 abbrev pub with_link : ScriptView → (router : ℕ) → LinkView → ScriptView
-with_link s router link = record { links = slice_set s.links router link; opened = s.opened; delivered = s.delivered }
+with_link s router link = record { first_router = s.first_router; links = slice_set s.links router link; opened = s.opened; delivered = s.delivered }
 
 -- the router's link was closed, and a new one is open
 abbrev pub reopened : ScriptView → (router : ℕ) → ScriptView
-reopened s router = record { links = slice_set s.links router (new_link s.opened); opened = s.opened + 1; delivered = s.delivered }
+reopened s router = record {
+  first_router = s.first_router;
+  links = slice_set s.links router
+      (new_link s.opened);
+  opened = s.opened + 1;
+  delivered = s.delivered;
+}
 
 -- MESSAGES
 
 abbrev pub with_delivered : ScriptView → List Bool → ScriptView
-with_delivered s delivered = record { links = s.links; opened = s.opened; delivered = delivered }
+with_delivered s delivered = record { first_router = s.first_router; links = s.links; opened = s.opened; delivered = delivered }
 
 -- the message at a place was delivered
 abbrev pub is_delivered : List Bool → (place : ℕ) → Bool

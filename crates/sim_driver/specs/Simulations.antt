@@ -9,7 +9,6 @@ use Rattle.node_traits.specs.declared.outputs.ToLink.{ToLink}
 use Rattle.driver_steps.specs.Moves.{BeginWith}
 use Rattle.driver_steps.specs.Worlds.{puts_given}
 use Rattle.pipe_driver.specs.Pieces.{IsPrefix}
-use Rattle.pipe_driver.specs.Rounds.{first_router}
 use Rattle.pipe_driver.specs.Schedules.{IsLast}
 use Rattle.pipe_driver.specs.declared.status.Status.{Status}
 use Rattle.pipe_driver.specs.declared.status.Status.TheVariants as statuses
@@ -27,20 +26,21 @@ newline = 10
 abbrev pub bytes_of_lines : List (List ℕ) → List ℕ
 bytes_of_lines lines = flat_map (λ (l : List ℕ). l ++ newline ∷ []) lines
 
--- how many of the nodes are routers
-abbrev pub router_count : World → ℕ
-router_count w = length w.nodes - first_router
+-- how many nodes there are from this place on: the routers
+abbrev pub router_count : (first_router : ℕ) → World → ℕ
+router_count first_router w = length w.nodes - first_router
 
--- These lines were played, from the first world on: these events led to this world, the script has this, and that was printed.
-pub data Plays (first : World) : (lines : List (List ℕ)) → List Event → World → ScriptView → (out : List ℕ) → Type 0 where
+-- These lines were played, from the first world on, whose routers begin at this place: these events led to this world, the script has this, and that was
+-- printed.
+pub data Plays (first_router : ℕ) (first : World) : (lines : List (List ℕ)) → List Event → World → ScriptView → (out : List ℕ) → Type 0 where
   -- each node was opened
   plays_none : (w : World) → Run first (openings 0 (length first.nodes)) w
-      → Plays first [] (openings 0 (length first.nodes)) w (new_script (router_count first)) []
+      → Plays first_router first [] (openings 0 (length first.nodes)) w (new_script first_router (router_count first_router first)) []
   -- one line more: what its events gave is printed
   plays_more : (lines : List (List ℕ)) (before events : List Event) (u w : World) (s t : ScriptView) (out : List ℕ) (bytes : List ℕ) (line : Line)
-      (closed : Option ℕ) (given : List ToLink) → Plays first lines before u s out → Says bytes line → IsPlayed u s line events w t closed
+      (closed : Option ℕ) (given : List ToLink) → Plays first_router first lines before u s out → Says bytes line → IsPlayed u s line events w t closed
       → puts_given w.answered ≡ puts_given u.answered ++ given
-      → Plays first (lines ++ bytes ∷ []) (before ++ events) w t (out ++ printed s.links given closed)
+      → Plays first_router first (lines ++ bytes ∷ []) (before ++ events) w t (out ++ printed s.links given closed)
 
 -- the last line is `settle`, which passes over no message
 abbrev pub EndInSettle : List (List ℕ) → Type 0
@@ -48,30 +48,30 @@ EndInSettle lines = (before : List (List ℕ)) × (lines ≡ before ++ codes "se
 
 -- All these lines were played, and what they print was put, and nothing else. Where they end in `settle`, every request that was taken
 -- since the first world is answered.
-pub record AllPlayed (first : World) (lines : List (List ℕ)) (put : List ℕ) (end : World) : Type 0 where
+pub record AllPlayed (first_router : ℕ) (first : World) (lines : List (List ℕ)) (put : List ℕ) (end : World) : Type 0 where
   pub events : List Event
   pub script : ScriptView
-  pub played : Plays first lines events end script put
+  pub played : Plays first_router first lines events end script put
   pub answered : EndInSettle lines → AreAnswered first end
 
 -- all output of a script: what the lines print that were played since the first world
-abbrev pub all_printed : (first w : World) → List ℕ → Type 0
-all_printed first w out = (lines : List (List ℕ)) × AllPlayed first lines out w
+abbrev pub all_printed : (first_router : ℕ) (first w : World) → List ℕ → Type 0
+all_printed first_router first w out = (lines : List (List ℕ)) × AllPlayed first_router first lines out w
 
 -- How far the script came from the first world; what is put is what the lines print that were played whole.
-pub data CameTo (first : World) : (lines : List (List ℕ)) → (left put : List ℕ) → (end : World) → Type 0 where
+pub data CameTo (first_router : ℕ) (first : World) : (lines : List (List ℕ)) → (left put : List ℕ) → (end : World) → Type 0 where
   -- within the openings
   came_opening : (left : List ℕ) (events : List Event) (w : World) → BeginWith events (openings 0 (length first.nodes))
-      → Run first events w → CameTo first [] left [] w
+      → Run first events w → CameTo first_router first [] left [] w
   -- to an end of lines
-  came_lines : (lines : List (List ℕ)) (left put : List ℕ) (w : World) → AllPlayed first lines put w → CameTo first lines left put w
+  came_lines : (lines : List (List ℕ)) (left put : List ℕ) (w : World) → AllPlayed first_router first lines put w → CameTo first_router first lines left put w
   -- within the line that is next
   came_part : (lines : List (List ℕ)) (before events : List Event) (left put bytes others : List ℕ) (u w : World) (s : ScriptView)
-      → Plays first lines before u s put → IsCutAt newline left bytes others → IsPartOfBytes u s bytes events → Run u events w
-      → CameTo first lines left put w
+      → Plays first_router first lines before u s put → IsCutAt newline left bytes others → IsPartOfBytes u s bytes events → Run u events w
+      → CameTo first_router first lines left put w
 
 -- These lines were played, and one more; of what the last one prints a prefix was put, and all that the others print.
-pub record LastPutShort (first : World) (lines : List (List ℕ)) (left put : List ℕ) (end : World) : Type 0 where
+pub record LastPutShort (first_router : ℕ) (first : World) (lines : List (List ℕ)) (left put : List ℕ) (end : World) : Type 0 where
   pub before : List Event
   pub events : List Event
   pub earlier : World
@@ -84,7 +84,7 @@ pub record LastPutShort (first : World) (lines : List (List ℕ)) (left put : Li
   pub closed : Option ℕ
   pub given : List ToLink
   pub part : List ℕ
-  pub played : Plays first lines before earlier script out
+  pub played : Plays first_router first lines before earlier script out
   pub next : IsCutAt newline left bytes others
   pub says : Says bytes line
   pub last : IsPlayed earlier script line events end new closed
@@ -93,34 +93,36 @@ pub record LastPutShort (first : World) (lines : List (List ℕ)) (left put : Li
   pub all : put ≡ out ++ part
 
 -- The causes of a status: `lines` were played of the bytes taken, which leaves these, and `at_end` says whether the input is at its end.
-pub data Cause (first : World) (limit : ℕ) (at_end : Type 0) (taken : List ℕ) (lines : List (List ℕ)) (left put : List ℕ) (end : World) : Status → Type 0 where
+pub data Cause (first_router : ℕ) (first : World) (limit : ℕ) (at_end : Type 0) (taken : List ℕ) (lines : List (List ℕ)) (left put : List ℕ)
+    (end : World) : Status → Type 0 where
   -- the input was read to its end, and its last byte is a newline, if it has any
-  input_ended : at_end → length taken < limit → left ≡ [] → AllPlayed first lines put end
-      → Cause first limit at_end taken lines left put end statuses.InputEnded
+  input_ended : at_end → length taken < limit → left ≡ [] → AllPlayed first_router first lines put end
+      → Cause first_router first limit at_end taken lines left put end statuses.InputEnded
   -- a read failed
-  read_failed : length taken < limit → HasNone newline left → AllPlayed first lines put end
-      → Cause first limit at_end taken lines left put end statuses.ReadFailed
+  read_failed : length taken < limit → HasNone newline left → AllPlayed first_router first lines put end
+      → Cause first_router first limit at_end taken lines left put end statuses.ReadFailed
   -- a write failed
-  write_failed : LastPutShort first lines left put end → Cause first limit at_end taken lines left put end statuses.WriteFailed
+  write_failed : LastPutShort first_router first lines left put end → Cause first_router first limit at_end taken lines left put end statuses.WriteFailed
   -- a disk failed
-  disk_failed : CameTo first lines left put end → Cause first limit at_end taken lines left put end statuses.DiskFailed
+  disk_failed : CameTo first_router first lines left put end → Cause first_router first limit at_end taken lines left put end statuses.DiskFailed
   -- memory ran out
-  no_memory : CameTo first lines left put end → Cause first limit at_end taken lines left put end statuses.OutOfMemory
+  no_memory : CameTo first_router first lines left put end → Cause first_router first limit at_end taken lines left put end statuses.OutOfMemory
   -- the next line is refused
-  line_refused : (bytes others : List ℕ) → IsCutAt newline left bytes others → (played : AllPlayed first lines put end) → IsRefused end played.script bytes
-      → Cause first limit at_end taken lines left put end statuses.BadInput
+  line_refused : (bytes others : List ℕ) → IsCutAt newline left bytes others → (played : AllPlayed first_router first lines put end)
+      → IsRefused end played.script bytes
+      → Cause first_router first limit at_end taken lines left put end statuses.BadInput
   -- the input was read to its end, and its last line has no newline
-  line_unended : at_end → length taken < limit → left ≢ [] → HasNone newline left → AllPlayed first lines put end
-      → Cause first limit at_end taken lines left put end statuses.BadInput
+  line_unended : at_end → length taken < limit → left ≢ [] → HasNone newline left → AllPlayed first_router first lines put end
+      → Cause first_router first limit at_end taken lines left put end statuses.BadInput
   -- as many bytes were taken as may be
-  too_long : length taken ≡ limit → HasNone newline left → AllPlayed first lines put end
-      → Cause first limit at_end taken lines left put end statuses.InputTooLong
+  too_long : length taken ≡ limit → HasNone newline left → AllPlayed first_router first lines put end
+      → Cause first_router first limit at_end taken lines left put end statuses.InputTooLong
 
 -- A script was played, from the first world on: these bytes were taken and put, and the lines in them led to this world. `kept` says of the nodes
 -- of that world that the journals keep what they keep; and `leaves` of a world that a crash at any moment since the start left, of each log,
 -- what it might have left before, or a file in which an opening finds what that node kept in a world on the way; and `owed` of that world and the
 -- bytes that were put what the journals owed before each of these was put.
-pub record IsSimulated (source : SourceCall) (sink : SinkCall) (kept : List Held → Type 0) (leaves : World → Type 0)
+pub record IsSimulated (source : SourceCall) (sink : SinkCall) (first_router : ℕ) (kept : List Held → Type 0) (leaves : World → Type 0)
     (owed : World → (put : List ℕ) → Type 0) (first : World) (limit : ℕ) (status : Status) : Type 0 where
   pub taken : List ℕ
   pub put : List ℕ
@@ -132,9 +134,9 @@ pub record IsSimulated (source : SourceCall) (sink : SinkCall) (kept : List Held
   pub parts : taken ≡ bytes_of_lines lines ++ left
   pub each : AllByRecursion (HasNone newline) lines
   pub most : length taken ≤ limit
-  pub cause : Cause first limit (IsTrue source.tells → source.left_after ≡ []) taken lines left put end status
+  pub cause : Cause first_router first limit (IsTrue source.tells → source.left_after ≡ []) taken lines left put end status
   pub files : kept end.nodes
   pub last : World
-  pub is_last : IsLast status (λ w. CameTo first lines left put w) end last
+  pub is_last : IsLast status (λ w. CameTo first_router first lines left put w) end last
   pub crashes : leaves last
   pub acknowledged : owed last put

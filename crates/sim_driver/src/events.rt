@@ -8,7 +8,6 @@ ghost use Rattle.driver_steps.specs.Seats.{AreOpen, faults_of, places_of, seat_s
 ghost use Rattle.driver_steps.specs.Worlds.{StandsFor, network_view};
 ghost use Rattle.pipe_driver.specs.Counts.{HaveRisenWhere};
 ghost use Rattle.pipe_driver.specs.Progress.{AreAskedAsRead};
-ghost use Rattle.pipe_driver.specs.Rounds.{first_router};
 ghost use Rattle.pipe_driver.specs.declared.status.Status.TheVariants as statuses;
 ghost use Rattle.script_lines.specs.Lines.{client_line, moment_line};
 ghost use Rattle.sim_driver.specs.LineOutcomes.{HasPlayed, IsOfLine, StopsLine};
@@ -16,7 +15,7 @@ ghost use Rattle.sim_driver.specs.Moves.{HasRouters};
 ghost use Rattle.sim_driver.specs.Scripts.{script_view};
 
 use crate::link::Link;
-use crate::script::{FIRST_ROUTER, Script};
+use crate::script::Script;
 use driver_steps::{Network, Seat, give_moment};
 use node_traits::Node;
 use opmsg_frames::Request;
@@ -39,19 +38,20 @@ pub fn play_client<N: Node<Request = Request>, L: Log>(
     script: &mut Script,
 ) -> Result<Option<u64>, Status>
     requires open { AreOpen L.facts.is_open seats.old.items }
-    requires links { first_router + vec_len script.old.links ≡ vec_len seats.old }
-    ensures played { AreAskedAsRead N.asks → (since : Since L) (w : World) (handed : List ToLink) → HasRouters w →
+    requires links { script.old.first_router + vec_len script.old.links ≡ vec_len seats.old }
+    ensures played { AreAskedAsRead N.asks → (since : Since L) (w : World) (handed : List ToLink) → HasRouters script.old.first_router w →
         StandsFor (seat_since N.state L.facts since) seats.old.items (network_view
         (λ m. N.Mail.letter m) network.old) handed w 0 →
         IfOk result (λ closed. HasPlayed (seat_since N.state L.facts since) seats.new.items (network_view
         (λ m. N.Mail.letter m) network.new) handed w
         (client_line router bytes.now) (script_view script.old) (script_view script.new) closed) }
-    ensures stops { AreAskedAsRead N.asks → (since : Since L) (w : World) (handed : List ToLink) → HasRouters w →
+    ensures stops { AreAskedAsRead N.asks → (since : Since L) (w : World) (handed : List ToLink) → HasRouters script.old.first_router w →
         StandsFor (seat_since N.state L.facts since) seats.old.items (network_view
         (λ m. N.Mail.letter m) network.old) handed w 0 →
         IfErr result (StopsLine (seat_since N.state L.facts since) seats.new.items w (client_line router bytes.now)
         (script_view script.old)) }
     ensures len { vec_len seats.new ≡ vec_len seats.old }
+    ensures router { script.new.first_router ≡ script.old.first_router }
     ensures links { vec_len script.new.links ≡ vec_len script.old.links }
     ensures open { result ≢ Err statuses.DiskFailed → AreOpen L.facts.is_open seats.new.items }
     ensures other { IfErr result IsOfLine }
@@ -64,8 +64,9 @@ pub fn play_client<N: Node<Request = Request>, L: Log>(
         return Err(Status::BadInput);
     }
     let place = router as usize;
+    let at = script.first_router + place;
     let link = &mut script.links[place];
-    let malformed = match link.take(alloc, FIRST_ROUTER + place, bytes, seats, network) {
+    let malformed = match link.take(alloc, at, bytes, seats, network) {
         Ok(malformed) => malformed,
         Err(status) => return Err(status),
     };

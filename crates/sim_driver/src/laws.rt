@@ -15,12 +15,15 @@ ghost use Rattle.sim_driver.specs.Undelivered.{IsUndelivered};
 /// parked at a shard, with the table that it wants there under way.
 #[tactic(auto, using(crate::proofs::Settled::scripts_are_under_way))]
 pub fn scripts_are_under_way()
-    ensures { (first : World) (lines : List (List ℕ)) (events : List Event) (w : World) (s : ScriptView) (out : List ℕ) → IsFirst first → Plays first lines events w s out → IsUnderWay first (IsUndelivered s.delivered) w }
+    ensures { (first_router : ℕ) (first : World) (lines : List (List ℕ)) (events : List Event) (w : World) (s : ScriptView) (out : List ℕ) →
+        IsFirst first → Plays first_router first lines events w s out → IsUnderWay first (IsUndelivered s.delivered) w }
 {}
 
 /// After a line `settle` without `except` every request that was taken is answered, every write is served, no request is open and none is parked
 /// at a shard: no message is lost, whatever the lines before delivered, held or repeated.
 #[tactic(auto, using(crate::proofs::Settled::settled_scripts_are_answered))]
 pub fn settled_scripts_are_answered()
-    ensures { (first : World) (lines : List (List ℕ)) (before events : List Event) (u w : World) (s t : ScriptView) (out : List ℕ) (closed : Option ℕ) → IsFirst first → Plays first lines before u s out → IsPlayed u s (settle_line None) events w t closed → AreAnswered first w }
+    ensures { (first_router : ℕ) (first : World) (lines : List (List ℕ)) (before events : List Event) (u w : World) (s t : ScriptView) (out : List ℕ)
+        (closed : Option ℕ) → IsFirst first → Plays first_router first lines before u s out →
+        IsPlayed u s (settle_line None) events w t closed → AreAnswered first w }
 {}

@@ -8,7 +8,6 @@ ghost use Rattle.driver_steps.specs.Worlds.{network_view};
 ghost use Rattle.pipe_driver.specs.Acknowledgements.{AreNoted, WithNotes};
 ghost use Rattle.pipe_driver.specs.Counts.{HaveRisenWhere, RoseWhere};
 ghost use Rattle.pipe_driver.specs.Progress.{AreAskedAsRead};
-ghost use Rattle.pipe_driver.specs.Rounds.{first_router};
 ghost use Rattle.pipe_driver.specs.declared.status.Status.TheVariants as statuses;
 ghost use Rattle.script_lines.specs.Words.{HasNone};
 ghost use Rattle.sim_driver.specs.Moves.{MayPlay};
@@ -46,26 +45,29 @@ pub fn answer_line<R: Threads + Sync, N: Node<Request = Request>, L: Log, K: Wit
     script: &mut Script,
     out: &mut K,
 ) -> Result<(), Status>
-    requires at { first_router < vec_len seats.old }
+    requires at { script.old.first_router < vec_len seats.old }
     requires open { AreOpen L.facts.is_open seats.old.items }
-    requires links { first_router + vec_len script.old.links ≡ vec_len seats.old }
+    requires links { script.old.first_router + vec_len script.old.links ≡ vec_len seats.old }
     requires line { HasNone newline line.now }
-    ensures answered { AreAskedAsRead N.asks → (since : Since L) (first : World) → MayPlay first → (held_before consumed : List ℕ) →
+    ensures answered { AreAskedAsRead N.asks → (since : Since L) (first_router : ℕ) (first : World) → MayPlay first_router first →
+        (held_before consumed : List ℕ) →
         Playing (seat_since N.state L.facts since) seats.old.items (network_view (λ m. N.Mail.letter m) network.old)
-        first K.tells since.noted held_before (K.held out.old) (script_view script.old) consumed →
+        first_router first K.tells since.noted held_before (K.held out.old) (script_view script.old) consumed →
         AreNoted K.tells (K.noted out.old) (places_of L.facts.place seats.old.items) since.noted →
         OnOk result (WithNotes K.tells (K.noted out.new) (places_of L.facts.place seats.new.items)
         (λ noted. Playing (seat_since N.state L.facts (with_notes since noted)) seats.new.items (network_view
         (λ m. N.Mail.letter m) network.new)
-        first K.tells noted held_before (K.held out.new) (script_view script.new) (consumed ++ (line.now ++ newline ∷ [])))) }
-    ensures stopped { AreAskedAsRead N.asks → (since : Since L) (first : World) → MayPlay first → (held_before consumed others : List ℕ) →
+        first_router first K.tells noted held_before (K.held out.new) (script_view script.new) (consumed ++ (line.now ++ newline ∷ [])))) }
+    ensures stopped { AreAskedAsRead N.asks → (since : Since L) (first_router : ℕ) (first : World) → MayPlay first_router first →
+        (held_before consumed others : List ℕ) →
         Playing (seat_since N.state L.facts since) seats.old.items (network_view (λ m. N.Mail.letter m) network.old)
-        first K.tells since.noted held_before (K.held out.old) (script_view script.old) consumed →
+        first_router first K.tells since.noted held_before (K.held out.old) (script_view script.old) consumed →
         AreNoted K.tells (K.noted out.old) (places_of L.facts.place seats.old.items) since.noted →
         IfErr result (λ status. WithNotes K.tells (K.noted out.new) (places_of L.facts.place seats.new.items)
-        (λ noted. Stopped (seat_since N.state L.facts (with_notes since noted)) seats.new.items first K.tells noted held_before
+        (λ noted. Stopped (seat_since N.state L.facts (with_notes since noted)) seats.new.items first_router first K.tells noted held_before
         (K.held out.new) consumed
         (line.now ++ newline ∷ others) status)) }
+    ensures router { script.new.first_router ≡ script.old.first_router }
     ensures links { vec_len script.new.links ≡ vec_len script.old.links }
     ensures len { vec_len seats.new ≡ vec_len seats.old }
     ensures open { result ≢ Err statuses.DiskFailed → AreOpen L.facts.is_open seats.new.items }
@@ -109,27 +111,30 @@ pub fn play_piece<R: Threads + Sync, N: Node<Request = Request>, L: Log, K: Witn
     script: &mut Script,
     out: &mut K,
 ) -> Result<(), Status>
-    requires at { first_router < vec_len seats.old }
+    requires at { script.old.first_router < vec_len seats.old }
     requires open { AreOpen L.facts.is_open seats.old.items }
-    requires links { first_router + vec_len script.old.links ≡ vec_len seats.old }
+    requires links { script.old.first_router + vec_len script.old.links ≡ vec_len seats.old }
     requires begun { HasNone newline begun.old.items }
-    ensures played { AreAskedAsRead N.asks → (since : Since L) (first : World) → MayPlay first → (held_before consumed : List ℕ) →
+    ensures played { AreAskedAsRead N.asks → (since : Since L) (first_router : ℕ) (first : World) → MayPlay first_router first →
+        (held_before consumed : List ℕ) →
         Playing (seat_since N.state L.facts since) seats.old.items (network_view (λ m. N.Mail.letter m) network.old)
-        first K.tells since.noted held_before (K.held out.old) (script_view script.old) consumed →
+        first_router first K.tells since.noted held_before (K.held out.old) (script_view script.old) consumed →
         AreNoted K.tells (K.noted out.old) (places_of L.facts.place seats.old.items) since.noted →
         OnOk result (WithNotes K.tells (K.noted out.new) (places_of L.facts.place seats.new.items)
         (λ noted. HasPlayedLines (seat_since N.state L.facts (with_notes since noted)) seats.new.items (network_view
         (λ m. N.Mail.letter m) network.new)
-        first K.tells noted held_before (K.held out.new) (script_view script.new) (consumed ++ (begun.old.items ++ piece.now)) begun.new.items)) }
-    ensures stopped { AreAskedAsRead N.asks → (since : Since L) (first : World) → MayPlay first → (held_before consumed : List ℕ) →
+        first_router first K.tells noted held_before (K.held out.new) (script_view script.new) (consumed ++ (begun.old.items ++ piece.now)) begun.new.items)) }
+    ensures stopped { AreAskedAsRead N.asks → (since : Since L) (first_router : ℕ) (first : World) → MayPlay first_router first →
+        (held_before consumed : List ℕ) →
         Playing (seat_since N.state L.facts since) seats.old.items (network_view (λ m. N.Mail.letter m) network.old)
-        first K.tells since.noted held_before (K.held out.old) (script_view script.old) consumed →
+        first_router first K.tells since.noted held_before (K.held out.old) (script_view script.old) consumed →
         AreNoted K.tells (K.noted out.old) (places_of L.facts.place seats.old.items) since.noted →
         IfErr result (λ status. WithNotes K.tells (K.noted out.new) (places_of L.facts.place seats.new.items)
-        (λ noted. HasStoppedIn (seat_since N.state L.facts (with_notes since noted)) seats.new.items first K.tells noted
+        (λ noted. HasStoppedIn (seat_since N.state L.facts (with_notes since noted)) seats.new.items first_router first K.tells noted
         held_before (K.held out.new)
         (consumed ++ (begun.old.items ++ piece.now)) status)) }
     ensures begun { OnOk result (HasNone newline begun.new.items) }
+    ensures router { script.new.first_router ≡ script.old.first_router }
     ensures links { vec_len script.new.links ≡ vec_len script.old.links }
     ensures len { vec_len seats.new ≡ vec_len seats.old }
     ensures open { result ≢ Err statuses.DiskFailed → AreOpen L.facts.is_open seats.new.items }

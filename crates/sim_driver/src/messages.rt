@@ -50,6 +50,7 @@ pub fn play_deliver<R: Threads + Sync, N: Node, L: Log>(
         IfErr result (StopsLine (seat_since N.state L.facts since) seats.new.items w (deliver_line node k)
         (script_view script.old)) }
     ensures len { vec_len seats.new ≡ vec_len seats.old }
+    ensures router { script.new.first_router ≡ script.old.first_router }
     ensures links { vec_len script.new.links ≡ vec_len script.old.links }
     ensures open { result ≢ Err statuses.DiskFailed → AreOpen L.facts.is_open seats.new.items }
     ensures other { IfErr result IsOfLine }
@@ -99,6 +100,7 @@ pub fn play_settle<R: Threads + Sync, N: Node, L: Log>(
         IfErr result (StopsLine (seat_since N.state L.facts since) seats.new.items w (settle_line (option_map (λ k. k.now) except.entry))
         (script_view script.old)) }
     ensures len { vec_len seats.new ≡ vec_len seats.old }
+    ensures router { script.new.first_router ≡ script.old.first_router }
     ensures links { vec_len script.new.links ≡ vec_len script.old.links }
     ensures open { result ≢ Err statuses.DiskFailed → AreOpen L.facts.is_open seats.new.items }
     ensures other { IfErr result IsOfLine }
@@ -149,6 +151,7 @@ pub fn play_next<R: Threads + Sync, N: Node, L: Log>(
         IfErr result (StopsLine (seat_since N.state L.facts since) seats.new.items w (next_line kind.now)
         (script_view script.old)) }
     ensures len { vec_len seats.new ≡ vec_len seats.old }
+    ensures router { script.new.first_router ≡ script.old.first_router }
     ensures links { vec_len script.new.links ≡ vec_len script.old.links }
     ensures open { result ≢ Err statuses.DiskFailed → AreOpen L.facts.is_open seats.new.items }
     ensures other { IfErr result IsOfLine }

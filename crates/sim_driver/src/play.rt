@@ -8,7 +8,6 @@ ghost use Rattle.driver_steps.specs.Seats.{AreOpen, faults_of, places_of, seat_s
 ghost use Rattle.driver_steps.specs.Worlds.{StandsFor, network_view};
 ghost use Rattle.pipe_driver.specs.Counts.{HaveRisenWhere};
 ghost use Rattle.pipe_driver.specs.Progress.{AreAskedAsRead};
-ghost use Rattle.pipe_driver.specs.Rounds.{first_router};
 ghost use Rattle.pipe_driver.specs.declared.status.Status.TheVariants as statuses;
 ghost use Rattle.script_lines.specs.Meanings.{meaning_of};
 ghost use Rattle.sim_driver.specs.LineOutcomes.{HasPlayed, HasPlayedBytes, IsOfLine, StopsBytes, StopsLine};
@@ -41,21 +40,22 @@ pub fn play_said<R: Threads + Sync, N: Node<Request = Request>, L: Log>(
     script: &mut Script,
 ) -> Result<Option<u64>, Status>
     requires open { AreOpen L.facts.is_open seats.old.items }
-    requires links { first_router + vec_len script.old.links ≡ vec_len seats.old }
-    ensures played { AreAskedAsRead N.asks → (since : Since L) (w : World) (handed : List ToLink) → HasRouters w →
+    requires links { script.old.first_router + vec_len script.old.links ≡ vec_len seats.old }
+    ensures played { AreAskedAsRead N.asks → (since : Since L) (w : World) (handed : List ToLink) → HasRouters script.old.first_router w →
         length script.old.delivered ≤ length w.sent →
         StandsFor (seat_since N.state L.facts since) seats.old.items (network_view
         (λ m. N.Mail.letter m) network.old) handed w 0 →
         IfOk result (λ closed. HasPlayed (seat_since N.state L.facts since) seats.new.items (network_view
         (λ m. N.Mail.letter m) network.new) handed w
         (meaning_of line) (script_view script.old) (script_view script.new) closed) }
-    ensures stops { AreAskedAsRead N.asks → (since : Since L) (w : World) (handed : List ToLink) → HasRouters w →
+    ensures stops { AreAskedAsRead N.asks → (since : Since L) (w : World) (handed : List ToLink) → HasRouters script.old.first_router w →
         length script.old.delivered ≤ length w.sent →
         StandsFor (seat_since N.state L.facts since) seats.old.items (network_view
         (λ m. N.Mail.letter m) network.old) handed w 0 →
         IfErr result (StopsLine (seat_since N.state L.facts since) seats.new.items w (meaning_of line)
         (script_view script.old)) }
     ensures len { vec_len seats.new ≡ vec_len seats.old }
+    ensures router { script.new.first_router ≡ script.old.first_router }
     ensures links { vec_len script.new.links ≡ vec_len script.old.links }
     ensures open { result ≢ Err statuses.DiskFailed → AreOpen L.facts.is_open seats.new.items }
     ensures other { IfErr result IsOfLine }
@@ -113,21 +113,22 @@ pub fn play_line<R: Threads + Sync, N: Node<Request = Request>, L: Log>(
     script: &mut Script,
 ) -> Result<Option<u64>, Status>
     requires open { AreOpen L.facts.is_open seats.old.items }
-    requires links { first_router + vec_len script.old.links ≡ vec_len seats.old }
-    ensures played { AreAskedAsRead N.asks → (since : Since L) (w : World) (handed : List ToLink) → HasRouters w →
+    requires links { script.old.first_router + vec_len script.old.links ≡ vec_len seats.old }
+    ensures played { AreAskedAsRead N.asks → (since : Since L) (w : World) (handed : List ToLink) → HasRouters script.old.first_router w →
         length script.old.delivered ≤ length w.sent →
         StandsFor (seat_since N.state L.facts since) seats.old.items (network_view
         (λ m. N.Mail.letter m) network.old) handed w 0 →
         IfOk result (λ closed. HasPlayedBytes (seat_since N.state L.facts since) seats.new.items (network_view
         (λ m. N.Mail.letter m) network.new) handed w
         line.now (script_view script.old) (script_view script.new) closed) }
-    ensures stops { AreAskedAsRead N.asks → (since : Since L) (w : World) (handed : List ToLink) → HasRouters w →
+    ensures stops { AreAskedAsRead N.asks → (since : Since L) (w : World) (handed : List ToLink) → HasRouters script.old.first_router w →
         length script.old.delivered ≤ length w.sent →
         StandsFor (seat_since N.state L.facts since) seats.old.items (network_view
         (λ m. N.Mail.letter m) network.old) handed w 0 →
         IfErr result (StopsBytes (seat_since N.state L.facts since) seats.new.items w line.now
         (script_view script.old)) }
     ensures len { vec_len seats.new ≡ vec_len seats.old }
+    ensures router { script.new.first_router ≡ script.old.first_router }
     ensures links { vec_len script.new.links ≡ vec_len script.old.links }
     ensures open { result ≢ Err statuses.DiskFailed → AreOpen L.facts.is_open seats.new.items }
     ensures other { IfErr result IsOfLine }

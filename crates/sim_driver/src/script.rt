@@ -8,12 +8,11 @@ use crate::link::Link;
 use bson_values::Memory;
 use std::alloc::Global;
 
-/// The node of router 0; that of router r is r more.
-pub const FIRST_ROUTER: usize = 2;
-
-/// The open link of each router, in order, and which messages were delivered.
+/// Where the routers begin, the open link of each, in order, and which messages were delivered.
 #[derive(Drop)]
 pub struct Script {
+    /// The place of router 0 among the nodes; that of router r is r more.
+    pub first_router: usize,
     pub links: Vec<Link>,
     /// How many links were opened; the next one has this number.
     pub opened: u32,
@@ -32,9 +31,10 @@ fn new_links(alloc: Global, count: u32) -> Result<Vec<Link>, Memory>
 }
 
 impl Script {
-    /// Returns what a script has before its first line. Fails if out of memory, or where links can't be counted.
-    pub fn new(alloc: Global, routers: usize) -> Result<Script, Memory>
-        ensures view { IfOk result (λ script. script_view script ≡ new_script routers) }
+    /// Returns what a script of so many routers, of which the first has this place, has before its first line. Fails if out of memory, or where links can't be
+    /// counted.
+    pub fn new(alloc: Global, first_router: usize, routers: usize) -> Result<Script, Memory>
+        ensures view { IfOk result (λ script. script_view script ≡ new_script first_router routers) }
         ensures links { IfOk result (λ script. vec_len script.links ≡ routers) }
     {
         let Ok(opened) = u32::try_from(routers) else {
@@ -42,6 +42,7 @@ impl Script {
         };
         match new_links(alloc, opened) {
             Ok(links) => Ok(Script {
+                first_router,
                 links,
                 opened,
                 delivered: Delivered::new(alloc),

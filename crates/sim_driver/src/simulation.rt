@@ -9,7 +9,6 @@ ghost use Rattle.driver_steps.specs.Worlds.{network_view};
 ghost use Rattle.pipe_driver.specs.Acknowledgements.{AreAcknowledgedBy, AreCovered, AreNoted, WithNotes};
 ghost use Rattle.pipe_driver.specs.Counts.{HaveRisenWhere, RoseWhere};
 ghost use Rattle.pipe_driver.specs.Progress.{AreAskedAsRead};
-ghost use Rattle.pipe_driver.specs.Rounds.{first_router};
 ghost use Rattle.pipe_driver.specs.declared.status.Status.TheVariants as statuses;
 ghost use Rattle.sim_driver.specs.Moves.{MayPlay};
 ghost use Rattle.sim_driver.specs.Progress.{Playing};
@@ -17,7 +16,7 @@ ghost use Rattle.sim_driver.specs.Scripts.{new_script};
 ghost use Rattle.sim_driver.specs.Simulations.{IsSimulated, all_printed, router_count};
 
 use crate::lines::play_piece;
-use crate::script::{FIRST_ROUTER, Script};
+use crate::script::Script;
 use driver_steps::{Network, Seat, open_all};
 use node_traits::Node;
 use opmsg_frames::Request;
@@ -43,8 +42,8 @@ fn unended(cause: Status, begun: &[u8]) -> Status
 }
 
 /// Plays the script in `input`, of which at most `limit` bytes are taken, for the nodes in order of their numbers, whose logs are open and keep
-/// what they keep in the world that the call begins in. All nodes are opened; then each line is played, and what it prints is put into `out`,
-/// before the next.
+/// what they keep in the world that the call begins in; those from a place on are routers. All nodes are opened; then each line is played, and
+/// what it prints is put into `out`, before the next.
 ///
 /// The status is `BadInput` where the next line is refused, and `DiskFailed` where the disk of a log failed: the logs must be opened again. It
 /// is `OutOfMemory` also where a node is at its last step.
@@ -60,16 +59,17 @@ pub fn simulate<
     input: &mut S,
     out: &mut K,
     seats: &mut Vec<Seat<N, L>>,
+    first_router: usize,
     limit: u64,
 ) -> Status
     requires at { first_router < vec_len seats.old }
     requires open { AreOpen L.facts.is_open seats.old.items }
-    ensures simulated { AreAskedAsRead N.asks → (first : World) → MayPlay first →
+    ensures simulated { AreAskedAsRead N.asks → (first : World) → MayPlay first_router first →
         AreHeld (seat_view N.state L.facts) seats.old.items first.nodes →
         IsSimulated (source_call S.tells S.left S.fault_count input.old input.new) (sink_call K.tells K.held K.fault_count out.old out.new)
-        (AreKept (seat_view N.state L.facts) seats.new.items)
+        first_router (AreKept (seat_view N.state L.facts) seats.new.items)
         (LeaveKept (seat_since N.state L.facts (since_then seats.old.items first)) seats.new.items)
-        (AreAcknowledgedBy L.facts K.tells (all_printed first) first (K.noted out.new) (K.held out.old) seats.new.items)
+        (AreAcknowledgedBy L.facts K.tells (all_printed first_router first) first (K.noted out.new) (K.held out.old) seats.new.items)
         first limit result }
 
     // But where a disk failed, records can be appended to each log.
@@ -84,7 +84,7 @@ pub fn simulate<
 {
     let mut network = Network::new(alloc);
     match open_all(seats, &mut network) {
-        Ok(()) => play_all(rt, alloc, input, out, seats, network, limit),
+        Ok(()) => play_all(rt, alloc, input, out, seats, network, first_router, limit),
         Err(e) => Status::of(e),
     }
 }
@@ -97,19 +97,20 @@ fn play_all<R: Threads + Sync, N: Node<Request = Request>, L: Log, S: Source, K:
     out: &mut K,
     seats: &mut Vec<Seat<N, L>>,
     network: Network<N::Mail>,
+    first_router: usize,
     limit: u64,
 ) -> Status
     requires at { first_router < vec_len seats.old }
     requires open { AreOpen L.facts.is_open seats.old.items }
-    ensures simulated { AreAskedAsRead N.asks → (since : Since L) (first : World) → MayPlay first →
+    ensures simulated { AreAskedAsRead N.asks → (since : Since L) (first : World) → MayPlay first_router first →
         Playing (seat_since N.state L.facts since) seats.old.items (network_view (λ m. N.Mail.letter m) network)
-        first K.tells since.noted (K.held out.old) (K.held out.old) (new_script (router_count first)) [] →
+        first_router first K.tells since.noted (K.held out.old) (K.held out.old) (new_script first_router (router_count first_router first)) [] →
         AreNoted K.tells (K.noted out.old) (places_of L.facts.place seats.old.items) since.noted →
         WithNotes K.tells (K.noted out.new) (places_of L.facts.place seats.new.items)
         (λ noted. IsSimulated (source_call S.tells S.left S.fault_count input.old input.new) (sink_call K.tells K.held K.fault_count out.old out.new)
-        (AreKept (seat_since N.state L.facts (with_notes since noted)) seats.new.items)
+        first_router (AreKept (seat_since N.state L.facts (with_notes since noted)) seats.new.items)
         (LeaveKept (seat_since N.state L.facts (with_notes since noted)) seats.new.items)
-        (λ last put. IsTrue K.tells → AreCovered (all_printed first) first noted (K.held out.old) put last) first limit result) }
+        (λ last put. IsTrue K.tells → AreCovered (all_printed first_router first) first noted (K.held out.old) put last) first limit result) }
     ensures open { result ≢ statuses.DiskFailed → AreOpen L.facts.is_open seats.new.items }
     ensures len { vec_len seats.new ≡ vec_len seats.old }
     ensures read_fault { RoseWhere (result ≡ statuses.ReadFailed) (S.fault_count input.old) (S.fault_count input.new) }
@@ -118,7 +119,7 @@ fn play_all<R: Threads + Sync, N: Node<Request = Request>, L: Log, S: Source, K:
     ensures places { places_of L.facts.place seats.new.items ≡ places_of L.facts.place seats.old.items }
 {
     let mut network = network;
-    let Ok(mut script) = Script::new(alloc, seats.len() - FIRST_ROUTER) else {
+    let Ok(mut script) = Script::new(alloc, first_router, seats.len() - first_router) else {
         return Status::OutOfMemory;
     };
     let Ok(mut piece) = new_piece(alloc) else {

@@ -71,7 +71,7 @@ pub Work-send : IsSend Work.the_field.row
 Work-send = search (sendable, crosses, WriteKind-send, ClientNumber-send, Statement-send, Done-send, OpenRead-send, Key-send) depth 30
 
 pub OpenRequest-send : IsSend OpenRequest.the_field.row
-OpenRequest-send = search (sendable, crosses, Head-send, Namespace-send, Wait-send, Work-send) depth 30
+OpenRequest-send = search (sendable, crosses, Head-send, Namespace-send, NodeId-send, Wait-send, Work-send) depth 30
 
 pub OpenList-send : IsSend OpenList.the_field.row
 OpenList-send = search (sendable, crosses, OpenRequest-send) depth 30

@@ -17,18 +17,23 @@ fn started(alloc: Global, line: &str) -> Result<Option<usize>, Memory> {
 #[test]
 fn commands_start_nodes(rt: HostRuntime) -> Result<(), Fail> {
     assert!(rt; started(rt.alloc(), "pipe")? == Some(3));
-    assert!(rt; started(rt.alloc(), "sim")? == Some(3));
-    assert!(rt; started(rt.alloc(), "sim --routers 2")? == Some(4));
-    assert!(rt; started(rt.alloc(), "sim --routers=8")? == Some(10));
-    assert!(rt; started(rt.alloc(), "sim --routers +2")? == Some(4));
-    assert!(rt; started(rt.alloc(), "sim --routers=007")? == Some(9));
-    assert!(rt; started(rt.alloc(), "serve --port 27017 --sessions 8")? == Some(3));
-    assert!(rt; started(rt.alloc(), "serve --sessions=8 --port=65535")? == Some(3));
+    assert!(rt; started(rt.alloc(), "pipe --shards 2")? == Some(4));
+    assert!(rt; started(rt.alloc(), "pipe --shards=16")? == Some(18));
+    assert!(rt; started(rt.alloc(), "sim")? == Some(4));
+    assert!(rt; started(rt.alloc(), "sim --shards 1")? == Some(3));
+    assert!(rt; started(rt.alloc(), "sim --routers 2")? == Some(5));
+    assert!(rt; started(rt.alloc(), "sim --routers=8 --shards=+3")? == Some(12));
+    assert!(rt; started(rt.alloc(), "sim --shards 16 --routers 8")? == Some(25));
+    assert!(rt; started(rt.alloc(), "sim --routers +2")? == Some(5));
+    assert!(rt; started(rt.alloc(), "sim --routers=007")? == Some(10));
+    assert!(rt; started(rt.alloc(), "serve --port 27017 --sessions 8")? == Some(4));
+    assert!(rt; started(rt.alloc(), "serve --sessions=8 --port=65535")? == Some(4));
+    assert!(rt; started(rt.alloc(), "serve --shards=1 --sessions=8 --port=65535")? == Some(3));
     assert!(rt;
         started(
             rt.alloc(),
-            "serve --routers 8 --port=1 --sessions 4294967295"
-        )? == Some(10)
+            "serve --routers 8 --port=1 --shards 16 --sessions 4294967295"
+        )? == Some(25)
     );
     Ok(())
 }
@@ -41,6 +46,20 @@ fn other_words_start_none(rt: HostRuntime) -> Result<(), Fail> {
         "pipe pipe",
         "pipe --routers 1",
         "pipe --routers=1",
+        "pipe --shards",
+        "pipe --shards=",
+        "pipe --shards 0",
+        "pipe --shards 17",
+        "pipe --shards=1=1",
+        "pipe --shards 1 --shards 1",
+        "pipe --shards 1 --port 1",
+        "pipe --shards 1 --sessions 1",
+        "sim --shards two",
+        "sim --shards --routers 1",
+        "sim --shards 1 --port 1",
+        "sim --shards 1 --sessions 1",
+        "sim --Shards 1",
+        "sim --shards 18446744073709551617",
         "sim --routers",
         "sim --routers=",
         "sim --routers 0",
@@ -64,7 +83,9 @@ fn other_words_start_none(rt: HostRuntime) -> Result<(), Fail> {
         "serve --port 27017 --port=27017 --sessions 8",
         "serve --port --sessions 8",
         "serve --port 27017 --sessions",
-        "serve --port 27017 --sessions 8 --shards 2",
+        "serve --port 27017 --sessions 8 --shards 0",
+        "serve --port 27017 --sessions 8 --shards=17",
+        "serve --port 27017 --sessions 8 --shard 2",
         "serve --port 27017 --sessions 8 8",
         "--port 27017 serve --sessions 8",
     ] {

@@ -6,10 +6,10 @@
 //! - `ask` and bytes that arrive, in hexadecimal; `3*05` means `050505`;
 //! - `is` and what the framer and the commands return for them: a request, a fault with its offset, or the number of bytes left;
 //! - `gets` and bytes of replies;
-//! - `sim`, alone or with `--routers` and a number: the bytes are a script, and these words are the run's arguments, where without this line it is
-//!   `pipe`; it comes before the lines of the disks;
+//! - `pipe` or `sim`, alone or with `--shards` and a number, or `--routers` and a number, or both in this order: these words are the run's arguments, where
+//!   without this line it is `pipe`; with `sim` the bytes are a script; it comes before the lines of the disks;
 //! - `cut`: the result is the same in each cutting in two and byte by byte;
-//! - `fail` and `take`, `put` or a disk (0 the catalogue's, 1 the shard's, 2 and on the routers'), and the number of a call that fails;
+//! - `fail` and `take`, `put` or a disk (0 the catalogue's, then those of the shards and of the routers), and the number of a call that fails;
 //! - `narrow` and the greatest number of bytes that one write takes;
 //! - `file`, a disk and its bytes at the start; `keeps`, a disk and its bytes at the end: an opening of its journal finds just the records in these by their
 //!   gates and lengths, and all bytes of each are read as one record; `size`, a disk and the number of its bytes at the end; `same` and a disk: its bytes at
@@ -17,44 +17,60 @@
 //! - `untaken` and how many bytes were left to take;
 //! - `record`, a disk and a record, and `finds`, a disk and two numbers: an opening of that disk's journal finds the first of its records, at least as many
 //!   as the first number, and at most as many as the second;
-//! - `then`, and what follows `ends`: the call ends, and the row goes on with another one, of `pipe` if no line `sim` says otherwise, on the files that this
+//! - `then`, and what follows `ends`: the call ends, and the row goes on with another one, of `pipe` if no line says otherwise, on the files that this
 //!   one left;
 //! - `unserved`: the bytes are read as if they arrived in an OP_QUERY, and the row ends;
 //! - `ends`, the status of the run and how many bytes follow the last whole request, and the row ends.
 //!
-//! For each file a line says how many rows hold; a row that does not is named before it.
+//! For each file a line says how many rows hold; before that, the last line of each row that does not.
 #![tactic(auto)]
 
-mod commands;
-mod disks;
-mod faults;
-mod files;
-mod frames;
-mod numbers;
-mod pieces;
-mod plans;
-mod row;
 mod runs;
 
-use crate::faults::RowFault;
-use crate::files::check_files;
+use crate::runs::Cluster;
+use row_disks::{RowFault, check_file, exit_of};
 use std::io::Print;
 use std::process::ExitCode;
+use std::rt::Files;
+use std::sync::Wait;
+use std::thread::Threads;
+use wire_lines::Connections;
 
-/// Prints why the rows could not be checked.
-fn told<R: Print>(rt: &R, fault: RowFault) -> ExitCode {
-    let word = match fault {
-        RowFault::Memory => "no memory",
-        RowFault::BadLine => "a line is none of a row",
-        RowFault::Failed => "a file can't be read",
-    };
-    let _ = rt.println(word);
-    ExitCode::FAILURE
+/// The files, in the order in which they are checked.
+const FILES: [&str; 20] = [
+    "frames.rows",
+    "commands.rows",
+    "refusals.rows",
+    "connections.rows",
+    "writes.rows",
+    "retries.rows",
+    "reads.rows",
+    "cursors.rows",
+    "chunks.rows",
+    "drivers.rows",
+    "drivers.reads.rows",
+    "devices.rows",
+    "scripts.rows",
+    "retries.script.rows",
+    "routers.rows",
+    "chunks.script.rows",
+    "shards.rows",
+    "takings.rows",
+    "starts.rows",
+    "starts.script.rows",
+];
+
+/// Checks all files by the cluster.
+fn check_files<R: Files + AllocGlobal + Print + Threads + Wait + Sync>(
+    rt: &R,
+) -> Result<(), RowFault> {
+    let mut rows = Connections::new(rt.alloc(), &Cluster)?;
+    for name in FILES {
+        check_file(rt, name, &mut rows)?;
+    }
+    Ok(())
 }
 
 fn main(rt: HostRuntime) -> ExitCode {
-    match check_files(&rt, rt.alloc()) {
-        Ok(()) => ExitCode::SUCCESS,
-        Err(fault) => told(&rt, fault),
-    }
+    exit_of(&rt, check_files(&rt))
 }

@@ -27,6 +27,7 @@ returns-clause-disks g c =
     let count = node_count_of c.deref.result.now in
     let e = c.run-ended.ensures in
     let same : IsOkAnd c.args.words (λ given. IsSome (node_count_of given.items)) ≡ IsSome count = rw c.in-Ok.is (rw c.deref.ensures.value refl) in
+    let read : command_in c.args.words (λ given. given.items) ≡ command_of c.deref.result.now = rw c.in-Ok.is (rw c.deref.ensures.value refl) in
     let starts : IsOkAnd c.args.words (λ given. IsSome (node_count_of given.items)) → IsSome count = λ started. subst (λ (T : Type 0). T) same started in
     let back : IsSome count → IsOkAnd c.args.words (λ given. IsSome (node_count_of given.items)) = λ some. subst (λ (T : Type 0). T) (sym same) some in (
       c.run-ended.result.rest,
@@ -39,13 +40,12 @@ returns-clause-disks g c =
             let rest = e.untouched (inl two) in
             (ap (λ ds. ds.items) (e.arguments two), rest.0, rest.1, rest.2);
         untouched = λ is. (e.untouched is).0;
-        six = e.six;
-        refused = λ started told bad.
-            let done = e.refused (starts started) told bad in
-            (port_or _ _ _ _ (λ all. ap (λ ds. ds.items) all) done.0, done.1);
-        headline =
-            let read : command_in c.args.words (λ given. given.items) ≡ command_of c.deref.result.now = rw c.in-Ok.is (rw c.deref.ensures.value refl) in
-            rw read e.headline;
+        six = rw read e.six;
+        refused =
+            rw read (if_some (command_of c.deref.result.now) _ _ e.refused (λ command all told bad.
+            let done = all told bad in
+            (port_or _ _ _ _ (λ same. ap (λ ds. ds.items) same) done.0, done.1)));
+        headline = rw read e.headline;
         durable = λ started told failed. port_last _ _ _ _ _ (λ all. ap (λ ds. ds.items) all) (e.durable (starts started) told failed);
       },
     )

@@ -12,8 +12,8 @@ close_all-requires-clause-room g c =
     c.open_some.ensures in
     omega (arith, all, c.in-Ok.ensures.back.1, c.len.ensures, c.args.disks.ok, c.open_some.new.journals.ok, c.open_some.new.unopened.ok)
 
-pub put_behind-requires : goal.put_behind-requires
-put_behind-requires g c =
+pub put_after-requires : goal.put_after-requires
+put_after-requires g c =
     let all = up_to_len
     (disk_facts g.D.Disk.tells g.D.Disk.content g.D.Disk.may_leave g.D.Disk.moment g.D.Disk.left_since g.D.Disk.place g.D.Disk.fault_count)
     c.args.disks.items [] c.open_some.result c.open_some.new.journals.items c.open_some.new.found.items c.open_some.new.unopened.items
@@ -39,7 +39,7 @@ returns-in-None-clause-opened g c =
 
 pub returns-in-Some-clause-unopened : goal.returns-in-Some-clause-unopened
 returns-in-Some-clause-unopened g c =
-    rw (c.put_behind.ensures, c.close_all.ensures.disks)
+    rw (c.put_after.ensures, c.close_all.ensures.disks)
     (inr (has_stopped
     (disk_facts g.D.Disk.tells g.D.Disk.content g.D.Disk.may_leave g.D.Disk.moment g.D.Disk.left_since g.D.Disk.place g.D.Disk.fault_count)
     c.args.disks.items c.open_some.new.journals.items c.open_some.new.found.items c.open_some.new.unopened.items

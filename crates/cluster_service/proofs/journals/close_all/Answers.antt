@@ -2,7 +2,7 @@ use Rattle.std.proofs.Common.{◌≡◌, ◌∷◌, ◌∙◌, List, length, sym
 use Rattle.std.specs.Vec.Iter.{into_iter_items}
 use Rattle.journal_frames.specs.Views.{JournalView}
 use Rattle.cluster_service.specs.OpenJournals.{IsDurable, disks_of}
-use Rattle.cluster_service.proofs.Lefts.{all_behind, no_more, none_left, one_less}
+use Rattle.cluster_service.proofs.Lefts.{all_after, no_more, none_left, one_less}
 use Rattle.cluster_service.proofs.journals.close_all.Goals as goal
 
 pub loop-journal-preserved : goal.loop-journal-preserved
@@ -16,7 +16,7 @@ loop-journal-preserved g c =
       durable = λ told are_open.
           let was = at.invariant.durable told are_open in
           let left = rw first at was.1 in (
-            all_behind (IsDurable g.D.Disk.content g.D.Disk.may_leave) at.back.items c.push_reserved.new.self.items c.close_one.result c.push_reserved.ensures.items was.0
+            all_after (IsDurable g.D.Disk.content g.D.Disk.may_leave) at.back.items c.push_reserved.new.self.items c.close_one.result c.push_reserved.ensures.items was.0
                 (c.close_one.ensures.durable left.0 told),
             left.1,
           );

@@ -33,7 +33,7 @@ returns-then-is_err-clause-headline g c = λ asked first may same are disks earl
     (λ told. sym (append-nil (g.K.Sink.held c.args.out.now))) (open_files g.D.Disk.tells g.D.Disk.content c.args.journals.items first.nodes are)
     (λ told. first_leaves g.D.Disk.moment g.D.Disk.left_since first disks left (early told))
     (none_owed g.K.Sink.tells g.D.Disk.tells g.D.Disk.place g.D.Disk.moment g.D.Disk.left_since c.args.command first (g.K.Sink.noted c.args.out.now)
-    (g.K.Sink.held c.args.out.now) left first) c.args.command c.requires.driver may statuses.OutOfMemory (inr refl))
+    (g.K.Sink.held c.args.out.now) left first) c.args.command c.requires.driver may.begins statuses.OutOfMemory (inr refl))
 
 pub returns-then-is_err-clause-status : goal.returns-then-is_err-clause-status
 returns-then-is_err-clause-status g c = rw c.unserved.ensures.status (λ e. cc, λ e. cc, λ e. cc)

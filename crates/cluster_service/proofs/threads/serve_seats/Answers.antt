@@ -1,4 +1,4 @@
-use Rattle.std.proofs.Common.{◌≡◌, ◌∙◌, List, [], map, refl, sym, ap, subst, arith}
+use Rattle.std.proofs.Common.{◌≡◌, ◌∙◌, ◌+◌, List, [], map, refl, sym, ap, subst, arith}
 use Rattle.outside.proofs.Relations.{none_fell_same}
 use Rattle.journal_frames.specs.Views.{JournalView, journal_facts}
 use Rattle.driver_steps.specs.Seats.{since_then}
@@ -23,11 +23,11 @@ returns-in-Ok-clause-headline g c = λ first may held disks early.
     (λ some. c.of_server.ensures ∙ ap of_server (c.in-Ok.ensures.failed.1 some))
     (c.in-Ok.ensures.served (since_then c.args.seats.items first) first
     (opened_as (node_facts g.N.Node.state g.N.Node.steps (λ m. g.N.Mail.Mail.letter m) g.N.Node.meaning (journal_facts g.D.Disk.tells g.D.Disk.content g.D.Disk.moment g.D.Disk.left_since g.D.Disk.fault_count g.D.Disk.place))
-    first c.args.seats.items held (routers_there first may))) early
+    (1 + c.args.server.shards) first c.args.seats.items held (routers_there (1 + c.args.server.shards) first may))) early
 
 pub returns-in-Ok-clause-durable : goal.returns-in-Ok-clause-durable
 returns-in-Ok-clause-durable g c = λ told failed.
-    let s = (c.in-Ok.ensures.served (since_then c.args.seats.items (world_of c.requires.somewhere.nodes)) (world_of c.requires.somewhere.nodes) (opened_as (node_facts g.N.Node.state g.N.Node.steps (λ m. g.N.Mail.Mail.letter m) g.N.Node.meaning (journal_facts g.D.Disk.tells g.D.Disk.content g.D.Disk.moment g.D.Disk.left_since g.D.Disk.fault_count g.D.Disk.place)) (world_of c.requires.somewhere.nodes) c.args.seats.items c.requires.somewhere.held c.requires.somewhere.routers)) in
+    let s = (c.in-Ok.ensures.served (since_then c.args.seats.items (world_of c.requires.somewhere.nodes)) (world_of c.requires.somewhere.nodes) (opened_as (node_facts g.N.Node.state g.N.Node.steps (λ m. g.N.Mail.Mail.letter m) g.N.Node.meaning (journal_facts g.D.Disk.tells g.D.Disk.content g.D.Disk.moment g.D.Disk.left_since g.D.Disk.fault_count g.D.Disk.place)) (1 + c.args.server.shards) (world_of c.requires.somewhere.nodes) c.args.seats.items c.requires.somewhere.held c.requires.somewhere.routers)) in
     c.take_placed.ensures.durable told
     (served_open g.N.Node.state g.D.Disk.tells g.D.Disk.content g.D.Disk.moment g.D.Disk.left_since g.D.Disk.fault_count g.D.Disk.place (world_of c.requires.somewhere.nodes) c.args.seats.items c.requires.somewhere.held _ _ _ c.in-Ok.field-0.nodes.items s.events s.world s.run c.in-Ok.ensures.places s.nodes (omega (arith, c.in-Ok.ensures.len, c.in-Ok.field-0.nodes.ok, c.args.seats.ok)) c.take_placed.new.back.items c.take_placed.ensures.disks (λ some. failed (c.of_server.ensures ∙ ap of_server (c.in-Ok.ensures.failed.1 some))))
 
@@ -36,18 +36,18 @@ returns-in-Ok-clause-status g c = rw c.of_server.ensures (server_ends c.in-Ok.fi
 
 pub returns-in-Ok-clause-disk_fault : goal.returns-in-Ok-clause-disk_fault
 returns-in-Ok-clause-disk_fault g c =
-    let s = (c.in-Ok.ensures.served (since_then c.args.seats.items (world_of c.requires.somewhere.nodes)) (world_of c.requires.somewhere.nodes) (opened_as (node_facts g.N.Node.state g.N.Node.steps (λ m. g.N.Mail.Mail.letter m) g.N.Node.meaning (journal_facts g.D.Disk.tells g.D.Disk.content g.D.Disk.moment g.D.Disk.left_since g.D.Disk.fault_count g.D.Disk.place)) (world_of c.requires.somewhere.nodes) c.args.seats.items c.requires.somewhere.held c.requires.somewhere.routers)) in
+    let s = (c.in-Ok.ensures.served (since_then c.args.seats.items (world_of c.requires.somewhere.nodes)) (world_of c.requires.somewhere.nodes) (opened_as (node_facts g.N.Node.state g.N.Node.steps (λ m. g.N.Mail.Mail.letter m) g.N.Node.meaning (journal_facts g.D.Disk.tells g.D.Disk.content g.D.Disk.moment g.D.Disk.left_since g.D.Disk.fault_count g.D.Disk.place)) (1 + c.args.server.shards) (world_of c.requires.somewhere.nodes) c.args.seats.items c.requires.somewhere.held c.requires.somewhere.routers)) in
     served_fault g.N.Node.state g.D.Disk.tells g.D.Disk.content g.D.Disk.moment g.D.Disk.left_since g.D.Disk.fault_count g.D.Disk.place (world_of c.requires.somewhere.nodes) c.args.seats.items c.requires.somewhere.held _ _ _ c.in-Ok.field-0.nodes.items s.events s.world s.run c.in-Ok.ensures.places s.nodes (omega (arith, c.in-Ok.ensures.len, c.in-Ok.field-0.nodes.ok, c.args.seats.ok)) c.take_placed.new.back.items c.take_placed.ensures.disks (c.of_server.result ≡ statuses.DiskFailed)
     (λ is. c.in-Ok.ensures.failed.0 (by_disk c.in-Ok.field-0.end (sym c.of_server.ensures ∙ is)), λ some. c.of_server.ensures ∙ ap of_server (c.in-Ok.ensures.failed.1 some))
 
 pub returns-in-Ok-clause-later : goal.returns-in-Ok-clause-later
 returns-in-Ok-clause-later g c =
-    let s = (c.in-Ok.ensures.served (since_then c.args.seats.items (world_of c.requires.somewhere.nodes)) (world_of c.requires.somewhere.nodes) (opened_as (node_facts g.N.Node.state g.N.Node.steps (λ m. g.N.Mail.Mail.letter m) g.N.Node.meaning (journal_facts g.D.Disk.tells g.D.Disk.content g.D.Disk.moment g.D.Disk.left_since g.D.Disk.fault_count g.D.Disk.place)) (world_of c.requires.somewhere.nodes) c.args.seats.items c.requires.somewhere.held c.requires.somewhere.routers)) in
+    let s = (c.in-Ok.ensures.served (since_then c.args.seats.items (world_of c.requires.somewhere.nodes)) (world_of c.requires.somewhere.nodes) (opened_as (node_facts g.N.Node.state g.N.Node.steps (λ m. g.N.Mail.Mail.letter m) g.N.Node.meaning (journal_facts g.D.Disk.tells g.D.Disk.content g.D.Disk.moment g.D.Disk.left_since g.D.Disk.fault_count g.D.Disk.place)) (1 + c.args.server.shards) (world_of c.requires.somewhere.nodes) c.args.seats.items c.requires.somewhere.held c.requires.somewhere.routers)) in
     served_later g.N.Node.state g.D.Disk.tells g.D.Disk.content g.D.Disk.moment g.D.Disk.left_since g.D.Disk.fault_count g.D.Disk.place (world_of c.requires.somewhere.nodes) c.args.seats.items c.requires.somewhere.held _ _ _ c.in-Ok.field-0.nodes.items s.events s.world s.run c.in-Ok.ensures.places s.nodes (omega (arith, c.in-Ok.ensures.len, c.in-Ok.field-0.nodes.ok, c.args.seats.ok)) c.take_placed.new.back.items c.take_placed.ensures.disks
 
 pub returns-in-Ok-clause-places : goal.returns-in-Ok-clause-places
 returns-in-Ok-clause-places g c =
-    let s = (c.in-Ok.ensures.served (since_then c.args.seats.items (world_of c.requires.somewhere.nodes)) (world_of c.requires.somewhere.nodes) (opened_as (node_facts g.N.Node.state g.N.Node.steps (λ m. g.N.Mail.Mail.letter m) g.N.Node.meaning (journal_facts g.D.Disk.tells g.D.Disk.content g.D.Disk.moment g.D.Disk.left_since g.D.Disk.fault_count g.D.Disk.place)) (world_of c.requires.somewhere.nodes) c.args.seats.items c.requires.somewhere.held c.requires.somewhere.routers)) in
+    let s = (c.in-Ok.ensures.served (since_then c.args.seats.items (world_of c.requires.somewhere.nodes)) (world_of c.requires.somewhere.nodes) (opened_as (node_facts g.N.Node.state g.N.Node.steps (λ m. g.N.Mail.Mail.letter m) g.N.Node.meaning (journal_facts g.D.Disk.tells g.D.Disk.content g.D.Disk.moment g.D.Disk.left_since g.D.Disk.fault_count g.D.Disk.place)) (1 + c.args.server.shards) (world_of c.requires.somewhere.nodes) c.args.seats.items c.requires.somewhere.held c.requires.somewhere.routers)) in
     served_places g.N.Node.state g.D.Disk.tells g.D.Disk.content g.D.Disk.moment g.D.Disk.left_since g.D.Disk.fault_count g.D.Disk.place (world_of c.requires.somewhere.nodes) c.args.seats.items c.requires.somewhere.held _ _ _ c.in-Ok.field-0.nodes.items s.events s.world s.run c.in-Ok.ensures.places s.nodes (omega (arith, c.in-Ok.ensures.len, c.in-Ok.field-0.nodes.ok, c.args.seats.ok)) c.take_placed.new.back.items c.take_placed.ensures.disks
 
 pub returns-in-Ok-clause-accept_fault : goal.returns-in-Ok-clause-accept_fault

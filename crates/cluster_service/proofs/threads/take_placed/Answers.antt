@@ -3,7 +3,7 @@ use Rattle.std.specs.Vec.Iter.{into_iter_items}
 use Rattle.node_cell.specs.declared.view.Placed.{Placed}
 use Rattle.journal_frames.specs.Views.{JournalView}
 use Rattle.cluster_service.specs.OpenJournals.{IsDurable}
-use Rattle.cluster_service.proofs.Lefts.{all_behind, no_more, none_left, one_less}
+use Rattle.cluster_service.proofs.Lefts.{all_after, no_more, none_left, one_less}
 use Rattle.cluster_service.proofs.threads.take_placed.Goals as goal
 
 pub loop-placed-preserved : goal.loop-placed-preserved
@@ -18,7 +18,7 @@ loop-placed-preserved g c =
       durable = λ told are_open.
           let was = at.invariant.durable told are_open in
           let left = rw first at was.1 in (
-            all_behind (IsDurable g.D.Disk.content g.D.Disk.may_leave) at.back.items c.push_reserved.new.self.items c.placed_disk.result c.push_reserved.ensures.items was.0
+            all_after (IsDurable g.D.Disk.content g.D.Disk.may_leave) at.back.items c.push_reserved.new.self.items c.placed_disk.result c.push_reserved.ensures.items was.0
                 (c.placed_disk.ensures.durable left.0 told),
             left.1,
           );

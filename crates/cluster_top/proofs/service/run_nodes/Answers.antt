@@ -2,6 +2,7 @@ use Rattle.std.proofs.Common.{◌∙◌, ◌≡◌, [], refl, sym, map, append-n
 use Rattle.outside.specs.Devices.{sink_call, source_call}
 use Rattle.pipe_driver.proofs.Counts.{none_fell_after, still}
 use Rattle.journal_starts.proofs.Starts.{starts_are_stored}
+use Rattle.cluster_service.specs.Arguments.{others_of, shards_of}
 use Rattle.cluster_service.specs.Crashes.{AreDurableBefore, LeaveTheWay}
 use Rattle.cluster_service.specs.OpenJournals.{disks_of}
 use Rattle.cluster_service.specs.Openings.{disk_facts}
@@ -62,7 +63,7 @@ returns-in-Ok-clause-places g c = c.run_opened.ensures.places ∙ opened_places 
 
 pub returns-in-Err-clause-headline : goal.returns-in-Err-clause-headline
 returns-in-Err-clause-headline g c = λ first told begun.
-    let journals = starts_are_stored _ (map g.D.Disk.content c.args.disks.items) first begun in
+    let journals = starts_are_stored _ _ (map g.D.Disk.content c.args.disks.items) first begun in
     let other = unopened_undamaged (disk_facts g.D.Disk.tells g.D.Disk.content g.D.Disk.may_leave g.D.Disk.moment g.D.Disk.left_since g.D.Disk.place g.D.Disk.fault_count) c.in-Err.field-0.status c.args.disks.items c.in-Err.field-0.disks.items first.nodes c.in-Err.ensures.unopened told journals in
     rw (c.unserved.ensures.disks, c.unserved.ensures.status)
     (unopened (source_call g.S.Source.tells g.S.Source.left g.S.Source.fault_count c.args.input.now c.args.input.now) (sink_call g.K.Sink.tells g.K.Sink.held g.K.Sink.fault_count c.args.out.now c.args.out.now)
@@ -74,7 +75,7 @@ returns-in-Err-clause-headline g c = λ first told begun.
     (λ told. first_leaves g.D.Disk.moment g.D.Disk.left_since first c.args.disks.items c.in-Err.field-0.disks.items
     (unopened_leave (disk_facts g.D.Disk.tells g.D.Disk.content g.D.Disk.may_leave g.D.Disk.moment g.D.Disk.left_since g.D.Disk.place g.D.Disk.fault_count) c.in-Err.field-0.status c.args.disks.items c.in-Err.field-0.disks.items c.in-Err.ensures.unopened first.nodes told journals))
     (none_owed g.K.Sink.tells g.D.Disk.tells g.D.Disk.place g.D.Disk.moment g.D.Disk.left_since c.args.command first (g.K.Sink.noted c.args.out.now) (g.K.Sink.held c.args.out.now) _ first)
-    c.args.command c.requires.driver (first_may_play _ (map g.D.Disk.content c.args.disks.items) first begun) c.in-Err.field-0.status
+    c.args.command c.requires.driver (first_may_play (shards_of c.args.command) _ (map g.D.Disk.content c.args.disks.items) first c.requires.some_shards begun).begins c.in-Err.field-0.status
     (opening_ends c.in-Err.field-0.status (unopened_stops (disk_facts g.D.Disk.tells g.D.Disk.content g.D.Disk.may_leave g.D.Disk.moment g.D.Disk.left_since g.D.Disk.place g.D.Disk.fault_count) c.in-Err.field-0.status c.args.disks.items c.in-Err.field-0.disks.items c.in-Err.ensures.unopened) other))
 
 pub returns-in-Err-clause-durable : goal.returns-in-Err-clause-durable
@@ -95,7 +96,7 @@ returns-in-Err-clause-damaged g c = λ is. (
   c.unserved.ensures.rest,
   (λ told. refl, refl),
   (λ told. sym (append-nil (g.K.Sink.held c.args.out.now)), refl),
-  λ told. unopened_refused (disk_facts g.D.Disk.tells g.D.Disk.content g.D.Disk.may_leave g.D.Disk.moment g.D.Disk.left_since g.D.Disk.place g.D.Disk.fault_count) c.in-Err.field-0.status c.args.disks.items c.in-Err.field-0.disks.items c.in-Err.ensures.unopened (sym c.unserved.ensures.status ∙ is) told,
+  λ told. unopened_refused (disk_facts g.D.Disk.tells g.D.Disk.content g.D.Disk.may_leave g.D.Disk.moment g.D.Disk.left_since g.D.Disk.place g.D.Disk.fault_count) (others_of c.args.command) c.in-Err.field-0.status c.args.disks.items c.in-Err.field-0.disks.items c.in-Err.ensures.unopened (sym c.unserved.ensures.status ∙ is) told,
 )
 
 pub returns-in-Err-clause-refused : goal.returns-in-Err-clause-refused

@@ -5,6 +5,7 @@ use Rattle.outside.proofs.Relations.{none_fell_self}
 use Rattle.any_node.specs.Kinds.{state_of}
 use Rattle.journal_starts.specs.Records.{SomeRefused, by_record}
 use Rattle.journal_starts.proofs.Starts.{opened_are_not_refused, starts_are_not_refused, starts_are_opened, starts_are_stored}
+use Rattle.cluster_service.specs.Arguments.{others_of, shards_of}
 use Rattle.cluster_service.specs.Crashes.{AreDurableBefore, LeaveTheWay}
 use Rattle.cluster_service.specs.OpenJournals.{disks_of}
 use Rattle.cluster_service.specs.Openings.{disk_facts}
@@ -19,8 +20,11 @@ use Rattle.cluster_top.proofs.Asked.{asked_as_read}
 use Rattle.cluster_top.proofs.Refused.{memory_of, not_other, refused_of}
 use Rattle.cluster_top.proofs.service.run_opened.Goals as goal
 
-pub open_nodes-requires : goal.open_nodes-requires
-open_nodes-requires g c = omega (arith, c.requires.found, c.requires.few)
+pub open_nodes-requires-clause-some : goal.open_nodes-requires-clause-some
+open_nodes-requires-clause-some g c = omega (arith, c.shards.ensures, c.requires.some_shards)
+
+pub open_nodes-requires-clause-few : goal.open_nodes-requires-clause-few
+open_nodes-requires-clause-few g c = omega (arith, c.requires.found, c.requires.few, c.requires.few_shards)
 
 -- THE NODES ARE OPENED
 
@@ -30,10 +34,10 @@ serve-requires-clause-nodes g c = omega (arith, c.in-Ok.ensures.len, c.requires.
 pub returns-in-Ok-clause-headline : goal.returns-in-Ok-clause-headline
 returns-in-Ok-clause-headline g c = λ disks first told opened begun.
     let facts = disk_facts g.D.Disk.tells g.D.Disk.content g.D.Disk.may_leave g.D.Disk.moment g.D.Disk.left_since g.D.Disk.place g.D.Disk.fault_count in
-    let journals = starts_are_stored _ (map g.D.Disk.content disks) first begun in
-    c.serve.ensures.headline asked_as_read first (first_may_play _ (map g.D.Disk.content disks) first begun)
-    (starts_are_opened _ (map g.D.Disk.content disks) first c.args.opened.found.items (map state_of c.in-Ok.nodes.items) begun
-    (opened_records facts disks c.args.opened.journals.items c.args.opened.found.items told opened) c.in-Ok.ensures.opened)
+    let journals = starts_are_stored _ _ (map g.D.Disk.content disks) first begun in
+    c.serve.ensures.headline asked_as_read first (first_may_play (shards_of c.args.command) _ (map g.D.Disk.content disks) first c.requires.some_shards begun)
+    (starts_are_opened _ _ (map g.D.Disk.content disks) first c.args.opened.found.items (map state_of c.in-Ok.nodes.items) begun
+    (opened_records facts disks c.args.opened.journals.items c.args.opened.found.items told opened) (rw c.shards.ensures at c.in-Ok.ensures.opened))
     (opened_with facts disks c.args.opened.journals.items c.args.opened.found.items first.nodes opened journals) disks
     (λ told. opened_leave facts disks c.args.opened.journals.items c.args.opened.found.items first.nodes told opened journals)
 
@@ -46,19 +50,19 @@ returns-in-Ok-clause-damaged g c = λ is. absurd (c.serve.ensures.status.1 is)
 pub returns-in-Ok-clause-refused : goal.returns-in-Ok-clause-refused
 returns-in-Ok-clause-refused g c = λ disks told opened refused.
     let facts = disk_facts g.D.Disk.tells g.D.Disk.content g.D.Disk.may_leave g.D.Disk.moment g.D.Disk.left_since g.D.Disk.place g.D.Disk.fault_count in
-    absurd (opened_are_not_refused (map g.D.Disk.content disks) c.args.opened.found.items (map state_of c.in-Ok.nodes.items)
-    (opened_records facts disks c.args.opened.journals.items c.args.opened.found.items told opened) c.in-Ok.ensures.opened refused)
+    absurd (opened_are_not_refused (others_of c.args.command) (map g.D.Disk.content disks) c.args.opened.found.items (map state_of c.in-Ok.nodes.items)
+    (opened_records facts disks c.args.opened.journals.items c.args.opened.found.items told opened) (rw c.shards.ensures at c.in-Ok.ensures.opened) refused)
 
 -- ONE IS REFUSED, OR MEMORY RAN OUT
 
 pub returns-in-Err-clause-headline : goal.returns-in-Err-clause-headline
 returns-in-Err-clause-headline g c = λ disks first told opened begun.
     let facts = disk_facts g.D.Disk.tells g.D.Disk.content g.D.Disk.may_leave g.D.Disk.moment g.D.Disk.left_since g.D.Disk.place g.D.Disk.fault_count in
-    let journals = starts_are_stored _ (map g.D.Disk.content disks) first begun in
+    let journals = starts_are_stored _ _ (map g.D.Disk.content disks) first begun in
     let records = opened_records facts disks c.args.opened.journals.items c.args.opened.found.items told opened in
     let other : ¬ (c.status_of.result ≡ statuses.DamagedJournal) =
-    λ is. starts_are_not_refused _ (map g.D.Disk.content disks) first begun
-    (by_record c.args.opened.found.items records (refused_of c.in-Err.fault (SomeRefused 0 c.args.opened.found.items) (c.status_of.ensures.refused is) c.in-Err.ensures.fault)) in
+    λ is. starts_are_not_refused _ _ (map g.D.Disk.content disks) first begun
+    (by_record c.args.opened.found.items records (refused_of c.in-Err.fault (SomeRefused (others_of c.args.command) 0 c.args.opened.found.items) (c.status_of.ensures.refused is) (rw c.shards.ensures at c.in-Err.ensures.fault))) in
     rw (c.unserved.ensures.disks, c.close_all.ensures.disks, c.unserved.ensures.status)
     (unopened (source_call g.S.Source.tells g.S.Source.left g.S.Source.fault_count c.args.input.now c.args.input.now) (sink_call g.K.Sink.tells g.K.Sink.held g.K.Sink.fault_count c.args.out.now c.args.out.now)
     g.D.Disk.tells (map g.D.Disk.content (disks_of c.args.opened.journals.items))
@@ -69,7 +73,7 @@ returns-in-Err-clause-headline g c = λ disks first told opened begun.
     (λ told. first_leaves g.D.Disk.moment g.D.Disk.left_since first disks (disks_of c.args.opened.journals.items)
     (opened_leave facts disks c.args.opened.journals.items c.args.opened.found.items first.nodes told opened journals))
     (none_owed g.K.Sink.tells g.D.Disk.tells g.D.Disk.place g.D.Disk.moment g.D.Disk.left_since c.args.command first (g.K.Sink.noted c.args.out.now) (g.K.Sink.held c.args.out.now) _ first)
-    c.args.command c.requires.driver (first_may_play _ (map g.D.Disk.content disks) first begun) c.status_of.result (inr (memory_of c.status_of.result c.status_of.ensures.two other)))
+    c.args.command c.requires.driver (first_may_play (shards_of c.args.command) _ (map g.D.Disk.content disks) first c.requires.some_shards begun).begins c.status_of.result (inr (memory_of c.status_of.result c.status_of.ensures.two other)))
 
 pub returns-in-Err-clause-durable : goal.returns-in-Err-clause-durable
 returns-in-Err-clause-durable g c = λ told failed. rw c.unserved.ensures.disks (c.close_all.ensures.durable told c.requires.«open»)
@@ -88,7 +92,7 @@ returns-in-Err-clause-damaged g c = λ is. (
   λ disks told opened.
       by_record c.args.opened.found.items
       (opened_records (disk_facts g.D.Disk.tells g.D.Disk.content g.D.Disk.may_leave g.D.Disk.moment g.D.Disk.left_since g.D.Disk.place g.D.Disk.fault_count) disks c.args.opened.journals.items c.args.opened.found.items told opened)
-      (refused_of c.in-Err.fault (SomeRefused 0 c.args.opened.found.items) (c.status_of.ensures.refused (sym c.unserved.ensures.status ∙ is)) c.in-Err.ensures.fault),
+      (refused_of c.in-Err.fault (SomeRefused (others_of c.args.command) 0 c.args.opened.found.items) (c.status_of.ensures.refused (sym c.unserved.ensures.status ∙ is)) (rw c.shards.ensures at c.in-Err.ensures.fault)),
 )
 
 pub returns-in-Err-clause-refused : goal.returns-in-Err-clause-refused

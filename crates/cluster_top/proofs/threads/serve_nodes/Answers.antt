@@ -1,4 +1,4 @@
-use Rattle.std.proofs.Common.{◌∙◌, ◌≡◌, [], List, refl, sym, ap, map, arith, inl, inr}
+use Rattle.std.proofs.Common.{◌∙◌, ◌≡◌, ◌-◌, [], List, refl, sym, ap, map, arith, inl, inr}
 use Rattle.outside.proofs.Relations.{none_fell_self}
 use Rattle.pipe_driver.proofs.Counts.{none_fell_after}
 use Rattle.journal_starts.proofs.Starts.{starts_are_stored}
@@ -20,10 +20,10 @@ use Rattle.cluster_top.proofs.threads.serve_nodes.Goals as goal
 
 pub returns-in-Err-clause-headline : goal.returns-in-Err-clause-headline
 returns-in-Err-clause-headline g c = λ first told begun.
-    let journals = starts_are_stored _ (map g.D.Disk.content c.args.disks.items) first begun in
+    let journals = starts_are_stored _ _ (map g.D.Disk.content c.args.disks.items) first begun in
     rw (c.not_served.ensures.disks, c.not_served.ensures.links)
     (none_served _ _ first g.D.Disk.tells _ (map g.D.Disk.content c.args.disks.items) g.D.Disk.moment g.D.Disk.left_since c.args.disks.items c.args.disks.items
-    (first_may_play _ (map g.D.Disk.content c.args.disks.items) first begun).begins (λ told. journals)
+    (first_may_play c.args.server.shards _ (map g.D.Disk.content c.args.disks.items) first c.requires.some_shards begun).begins (λ told. journals)
     (λ told. first_leaves g.D.Disk.moment g.D.Disk.left_since first c.args.disks.items c.args.disks.items
     (leave_kept (disk_facts g.D.Disk.tells g.D.Disk.content g.D.Disk.may_leave g.D.Disk.moment g.D.Disk.left_since g.D.Disk.place g.D.Disk.fault_count) c.args.disks.items c.args.disks.items first.nodes told (are_alone (disk_facts g.D.Disk.tells g.D.Disk.content g.D.Disk.may_leave g.D.Disk.moment g.D.Disk.left_since g.D.Disk.place g.D.Disk.fault_count) c.args.disks.items) journals)))
 
@@ -124,10 +124,10 @@ returns-in-Ok-open_all-clause-accept_fault g c = λ is. rw c.in-Ok.ensures.calm 
 
 pub returns-in-Err-open_all-clause-headline : goal.returns-in-Err-open_all-clause-headline
 returns-in-Err-open_all-clause-headline g c = λ first told begun.
-    let journals = starts_are_stored _ (map g.D.Disk.content c.args.disks.items) first begun in
+    let journals = starts_are_stored _ _ (map g.D.Disk.content c.args.disks.items) first begun in
     rw (c.not_served-in-Err-open_all.ensures.disks, c.not_served-in-Err-open_all.ensures.links)
     (none_served _ _ first g.D.Disk.tells _ (map g.D.Disk.content c.in-Err-open_all.field-0.disks.items) g.D.Disk.moment g.D.Disk.left_since c.args.disks.items
-    c.in-Err-open_all.field-0.disks.items (first_may_play _ (map g.D.Disk.content c.args.disks.items) first begun).begins
+    c.in-Err-open_all.field-0.disks.items (first_may_play c.args.server.shards _ (map g.D.Disk.content c.args.disks.items) first c.requires.some_shards begun).begins
     (λ told. unopened_journals (disk_facts g.D.Disk.tells g.D.Disk.content g.D.Disk.may_leave g.D.Disk.moment g.D.Disk.left_since g.D.Disk.place g.D.Disk.fault_count) c.in-Err-open_all.field-0.status c.args.disks.items c.in-Err-open_all.field-0.disks.items c.in-Err-open_all.ensures.unopened first.nodes told journals)
     (λ told. first_leaves g.D.Disk.moment g.D.Disk.left_since first c.args.disks.items c.in-Err-open_all.field-0.disks.items
     (unopened_leave (disk_facts g.D.Disk.tells g.D.Disk.content g.D.Disk.may_leave g.D.Disk.moment g.D.Disk.left_since g.D.Disk.place g.D.Disk.fault_count) c.in-Err-open_all.field-0.status c.args.disks.items c.in-Err-open_all.field-0.disks.items c.in-Err-open_all.ensures.unopened first.nodes told journals)))
@@ -148,7 +148,7 @@ pub returns-in-Err-open_all-clause-damaged : goal.returns-in-Err-open_all-clause
 returns-in-Err-open_all-clause-damaged g c = λ is. (
   c.not_served-in-Err-open_all.ensures.links,
   c.listen.ensures.left,
-  λ told. unopened_refused (disk_facts g.D.Disk.tells g.D.Disk.content g.D.Disk.may_leave g.D.Disk.moment g.D.Disk.left_since g.D.Disk.place g.D.Disk.fault_count) c.in-Err-open_all.field-0.status c.args.disks.items c.in-Err-open_all.field-0.disks.items c.in-Err-open_all.ensures.unopened (sym c.not_served-in-Err-open_all.ensures.status ∙ is) told,
+  λ told. unopened_refused (disk_facts g.D.Disk.tells g.D.Disk.content g.D.Disk.may_leave g.D.Disk.moment g.D.Disk.left_since g.D.Disk.place g.D.Disk.fault_count) (c.args.server.shards - 1) c.in-Err-open_all.field-0.status c.args.disks.items c.in-Err-open_all.field-0.disks.items c.in-Err-open_all.ensures.unopened (sym c.not_served-in-Err-open_all.ensures.status ∙ is) told,
 )
 
 pub returns-in-Err-open_all-clause-refused : goal.returns-in-Err-open_all-clause-refused

@@ -1,9 +1,9 @@
 use denote.Param.Send.{sendable}
-use Rattle.std.proofs.Common.{◌∙◌, ◌≡◌, [], List, refl, sym, map, arith, inl, inr}
+use Rattle.std.proofs.Common.{◌∙◌, ◌≡◌, ◌-◌, [], List, refl, sym, map, arith, inl, inr}
 use Rattle.outside.proofs.Relations.{none_fell_self}
 use Rattle.any_node.specs.Kinds.{state_of, steps_of}
 use Rattle.journal_starts.specs.Records.{SomeRefused, by_record}
-use Rattle.journal_starts.proofs.Starts.{opened_are_not_refused, starts_are_not_refused, starts_are_opened, starts_are_stored}
+use Rattle.journal_starts.proofs.Starts.{opened_are_not_refused, starts_are_opened, starts_are_stored}
 use Rattle.cluster_service.specs.OpenJournals.{disks_of}
 use Rattle.cluster_service.specs.Openings.{disk_facts}
 use Rattle.cluster_service.specs.declared.status.Status.TheVariants as statuses
@@ -20,8 +20,8 @@ use Rattle.cluster_top.proofs.Refused.{not_other, refused_of, unopened_end}
 use Rattle.cluster_top.proofs.SomeWorld.{some_world}
 use Rattle.cluster_top.proofs.threads.serve_opened.Goals as goal
 
-pub open_nodes-requires : goal.open_nodes-requires
-open_nodes-requires g c = omega (arith, c.requires.found, c.requires.few)
+pub open_nodes-requires-clause-few : goal.open_nodes-requires-clause-few
+open_nodes-requires-clause-few g c = omega (arith, c.requires.found, c.requires.few, c.requires.few_shards)
 
 -- THE NODES ARE OPENED
 
@@ -39,7 +39,7 @@ pub serve_links-requires-send-N-Request : goal.serve_links-requires-send-N-Reque
 serve_links-requires-send-N-Request g c κs within = search (sendable, request_sends)
 
 pub serve_links-requires-clause-few : goal.serve_links-requires-clause-few
-serve_links-requires-clause-few g c = omega (arith, c.requires.journals, c.requires.few)
+serve_links-requires-clause-few g c = omega (arith, c.requires.journals, c.requires.few, c.requires.few_shards)
 
 pub serve_links-requires-clause-nodes : goal.serve_links-requires-clause-nodes
 serve_links-requires-clause-nodes g c = omega (arith, c.in-Ok.ensures.len, c.requires.found, c.requires.journals)
@@ -47,7 +47,7 @@ serve_links-requires-clause-nodes g c = omega (arith, c.in-Ok.ensures.len, c.req
 pub serve_links-requires-clause-somewhere : goal.serve_links-requires-clause-somewhere
 serve_links-requires-clause-somewhere g c κs within =
     some_world (disk_facts g.D.Disk.tells g.D.Disk.content g.D.Disk.may_leave g.D.Disk.moment g.D.Disk.left_since g.D.Disk.place g.D.Disk.fault_count)
-    c.requires.opened.0 c.args.opened.journals.items c.args.opened.found.items (map state_of c.in-Ok.nodes.items) c.requires.opened.1 c.in-Ok.ensures.opened
+    c.args.server.shards c.requires.some_shards c.requires.opened.0 c.args.opened.journals.items c.args.opened.found.items (map state_of c.in-Ok.nodes.items) c.requires.opened.1 c.in-Ok.ensures.opened
 
 pub serve_links-requires-clause-small : goal.serve_links-requires-clause-small
 serve_links-requires-clause-small g c κs within = zero_small steps_of c.in-Ok.nodes.items c.in-Ok.ensures.new
@@ -58,9 +58,9 @@ serve_links-requires-clause-room g c = omega (arith, c.requires.room, c.requires
 pub returns-in-Ok-clause-headline : goal.returns-in-Ok-clause-headline
 returns-in-Ok-clause-headline g c = λ disks first told opened begun.
     let facts = disk_facts g.D.Disk.tells g.D.Disk.content g.D.Disk.may_leave g.D.Disk.moment g.D.Disk.left_since g.D.Disk.place g.D.Disk.fault_count in
-    let journals = starts_are_stored _ (map g.D.Disk.content disks) first begun in
-    c.serve_links.ensures.headline first (first_may_play _ (map g.D.Disk.content disks) first begun)
-    (starts_are_opened _ (map g.D.Disk.content disks) first c.args.opened.found.items (map state_of c.in-Ok.nodes.items) begun
+    let journals = starts_are_stored _ _ (map g.D.Disk.content disks) first begun in
+    c.serve_links.ensures.headline first (first_may_play c.args.server.shards _ (map g.D.Disk.content disks) first c.requires.some_shards begun)
+    (starts_are_opened _ _ (map g.D.Disk.content disks) first c.args.opened.found.items (map state_of c.in-Ok.nodes.items) begun
     (opened_records facts disks c.args.opened.journals.items c.args.opened.found.items told opened) c.in-Ok.ensures.opened)
     (opened_with facts disks c.args.opened.journals.items c.args.opened.found.items first.nodes opened journals) disks
     (λ told. opened_leave facts disks c.args.opened.journals.items c.args.opened.found.items first.nodes told opened journals)
@@ -74,7 +74,7 @@ returns-in-Ok-clause-damaged g c = λ is. absurd (not_damaged c.serve_links.resu
 pub returns-in-Ok-clause-refused : goal.returns-in-Ok-clause-refused
 returns-in-Ok-clause-refused g c = λ disks told opened refused.
     let facts = disk_facts g.D.Disk.tells g.D.Disk.content g.D.Disk.may_leave g.D.Disk.moment g.D.Disk.left_since g.D.Disk.place g.D.Disk.fault_count in
-    absurd (opened_are_not_refused (map g.D.Disk.content disks) c.args.opened.found.items (map state_of c.in-Ok.nodes.items)
+    absurd (opened_are_not_refused (c.args.server.shards - 1) (map g.D.Disk.content disks) c.args.opened.found.items (map state_of c.in-Ok.nodes.items)
     (opened_records facts disks c.args.opened.journals.items c.args.opened.found.items told opened) c.in-Ok.ensures.opened refused)
 
 -- ONE IS REFUSED, OR MEMORY RAN OUT
@@ -82,11 +82,11 @@ returns-in-Ok-clause-refused g c = λ disks told opened refused.
 pub returns-in-Err-clause-headline : goal.returns-in-Err-clause-headline
 returns-in-Err-clause-headline g c = λ disks first told opened begun.
     let facts = disk_facts g.D.Disk.tells g.D.Disk.content g.D.Disk.may_leave g.D.Disk.moment g.D.Disk.left_since g.D.Disk.place g.D.Disk.fault_count in
-    let journals = starts_are_stored _ (map g.D.Disk.content disks) first begun in
+    let journals = starts_are_stored _ _ (map g.D.Disk.content disks) first begun in
     let left = disks_of c.args.opened.journals.items in
     rw (c.not_served.ensures.disks, c.not_served.ensures.links, c.close_all.ensures.disks)
     (none_served _ _ first g.D.Disk.tells _ (map g.D.Disk.content left) g.D.Disk.moment g.D.Disk.left_since disks left
-    (first_may_play _ (map g.D.Disk.content disks) first begun).begins
+    (first_may_play c.args.server.shards _ (map g.D.Disk.content disks) first c.requires.some_shards begun).begins
     (λ told. still_journals facts disks left first.nodes told (opened_as_were facts disks c.args.opened.journals.items c.args.opened.found.items opened) journals)
     (λ told. first_leaves g.D.Disk.moment g.D.Disk.left_since first disks left
     (opened_leave facts disks c.args.opened.journals.items c.args.opened.found.items first.nodes told opened journals)))
@@ -104,7 +104,7 @@ returns-in-Err-clause-damaged g c = λ is. (
   λ disks told opened.
       by_record c.args.opened.found.items
       (opened_records (disk_facts g.D.Disk.tells g.D.Disk.content g.D.Disk.may_leave g.D.Disk.moment g.D.Disk.left_since g.D.Disk.place g.D.Disk.fault_count) disks c.args.opened.journals.items c.args.opened.found.items told opened)
-      (refused_of c.in-Err.fault (SomeRefused 0 c.args.opened.found.items) (c.status_of.ensures.refused (sym c.not_served.ensures.status ∙ is)) c.in-Err.ensures.fault),
+      (refused_of c.in-Err.fault (SomeRefused (c.args.server.shards - 1) 0 c.args.opened.found.items) (c.status_of.ensures.refused (sym c.not_served.ensures.status ∙ is)) c.in-Err.ensures.fault),
 )
 
 pub returns-in-Err-clause-refused : goal.returns-in-Err-clause-refused

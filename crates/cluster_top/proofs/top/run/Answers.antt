@@ -3,13 +3,14 @@ use Rattle.std.specs.Prelude.{vec_len}
 use Rattle.outside.specs.Devices.{SinkIsUntouched, SourceIsUntouched, sink_call, source_call}
 use Rattle.outside.proofs.Relations.{none_fell_self}
 use Rattle.pipe_driver.proofs.Counts.{still}
-use Rattle.cluster_service.specs.Arguments.{routers_of}
+use Rattle.journal_starts.specs.Records.{AreRefused}
+use Rattle.cluster_service.specs.Arguments.{routers_of, shards_of}
 use Rattle.cluster_service.specs.Openings.{disk_facts}
 use Rattle.cluster_service.specs.declared.status.Status.TheVariants as statuses
 use Rattle.cluster_service.proofs.Counts.{one_rose_numbered, rose_numbered}
 use Rattle.cluster_service.proofs.NotBegun.{begun_none}
 use Rattle.cluster_service.proofs.ServedDisks.{headline_as}
-use Rattle.cluster_service.proofs.ServerEnds.{is_server, no_server, routers_are, server_no_other, sessions_are}
+use Rattle.cluster_service.proofs.ServerEnds.{is_server, no_server, others_are, routers_are, server_no_other, sessions_are, shards_are}
 use Rattle.cluster_service.proofs.Statuses.{durable_number, has_number, is_status, refused_number, refused_or_damaged}
 use Rattle.cluster_top.proofs.Refused.{by_number, server_durable, server_refused}
 use Rattle.cluster_top.proofs.top.run.Goals as goal
@@ -26,7 +27,7 @@ pub returns-in-None-clause-words : goal.returns-in-None-clause-words
 returns-in-None-clause-words g c = rw (sym c.read_command.ensures.command, c.in-None.is) (λ two. refl, λ none. c.number.ensures)
 
 pub returns-in-None-clause-refused : goal.returns-in-None-clause-refused
-returns-in-None-clause-refused g c = rw (sym c.read_command.ensures.command, c.in-None.is) (λ some. absurd (cc some))
+returns-in-None-clause-refused g c = rw (sym c.read_command.ensures.command, c.in-None.is) tt
 
 pub returns-in-None-clause-durable : goal.returns-in-None-clause-durable
 returns-in-None-clause-durable g c = rw (sym c.read_command.ensures.command, c.in-None.is) (λ some. absurd (cc some))
@@ -46,10 +47,23 @@ returns-in-None-clause-served g c = rw (sym c.read_command.ensures.command, c.in
 pub returns-in-None-clause-sessions : goal.returns-in-None-clause-sessions
 returns-in-None-clause-sessions g c = rw (sym c.read_command.ensures.command, c.in-None.is) tt
 
+pub returns-in-None-clause-none_accepted : goal.returns-in-None-clause-none_accepted
+returns-in-None-clause-none_accepted g c = rw (sym c.read_command.ensures.command, c.in-None.is) tt
+
 pub returns-in-None-clause-number : goal.returns-in-None-clause-number
 returns-in-None-clause-number g c = (statuses.BadArguments, c.number.ensures, λ e. let clash : statuses.BadArguments ≡ statuses.AcceptFailed = e in absurd (cc clash))
 
 -- A SERVER
+
+pub serve_nodes-requires-clause-some_shards : goal.serve_nodes-requires-clause-some_shards
+serve_nodes-requires-clause-some_shards g c =
+    let same : shards_of c.in-Some.command ≡ c.in-Some-server.server.shards = shards_are c.in-Some.command c.in-Some-server.server (sym c.server.ensures ∙ c.in-Some-server.is) in
+    let some = rw c.in-Some.is at c.read_command.ensures.some_shards in omega (arith, same, some)
+
+pub serve_nodes-requires-clause-few_shards : goal.serve_nodes-requires-clause-few_shards
+serve_nodes-requires-clause-few_shards g c =
+    let same : shards_of c.in-Some.command ≡ c.in-Some-server.server.shards = shards_are c.in-Some.command c.in-Some-server.server (sym c.server.ensures ∙ c.in-Some-server.is) in
+    let few = rw c.in-Some.is at c.read_command.ensures.few_shards in omega (arith, same, few)
 
 pub serve_nodes-requires-clause-few : goal.serve_nodes-requires-clause-few
 serve_nodes-requires-clause-few g c = let same : routers_of c.in-Some.command ≡ c.in-Some-server.server.routers = routers_are c.in-Some.command c.in-Some-server.server (sym c.server.ensures ∙ c.in-Some-server.is) in
@@ -57,8 +71,9 @@ serve_nodes-requires-clause-few g c = let same : routers_of c.in-Some.command �
 
 pub serve_nodes-requires-clause-disks : goal.serve_nodes-requires-clause-disks
 serve_nodes-requires-clause-disks g c =
-    let same : routers_of c.in-Some.command ≡ c.in-Some-server.server.routers = routers_are c.in-Some.command c.in-Some-server.server (sym c.server.ensures ∙ c.in-Some-server.is) in
-    let count = rw (sym c.read_command.ensures.command, c.in-Some.is) at c.requires in omega (arith, same, count)
+    let shards : shards_of c.in-Some.command ≡ c.in-Some-server.server.shards = shards_are c.in-Some.command c.in-Some-server.server (sym c.server.ensures ∙ c.in-Some-server.is) in
+    let routers : routers_of c.in-Some.command ≡ c.in-Some-server.server.routers = routers_are c.in-Some.command c.in-Some-server.server (sym c.server.ensures ∙ c.in-Some-server.is) in
+    let count = rw (sym c.read_command.ensures.command, c.in-Some.is) at c.requires in omega (arith, shards, routers, count)
 
 pub returns-in-Some-server-clause-words : goal.returns-in-Some-server-clause-words
 returns-in-Some-server-clause-words g c = rw (sym c.read_command.ensures.command, c.in-Some.is) (
@@ -76,17 +91,20 @@ pub returns-in-Some-server-clause-untouched : goal.returns-in-Some-server-clause
 returns-in-Some-server-clause-untouched g c = λ refused. (c.after_server.ensures.rest, (λ told. refl, refl), (λ told. sym (append-nil (g.K.Sink.held c.args.out.now)), refl))
 
 pub returns-in-Some-server-clause-six : goal.returns-in-Some-server-clause-six
-returns-in-Some-server-clause-six g c = λ six. (c.serve_nodes.ensures.damaged (is_status statuses.DamagedJournal c.serve_nodes.result.status c.after_server.result.status c.after_server.ensures.status six)).2
+returns-in-Some-server-clause-six g c = rw (sym c.read_command.ensures.command, c.in-Some.is) (λ six told.
+    subst (λ (n : ℕ). AreRefused n (map g.D.Disk.content c.args.disks.items)) (sym (others_are c.in-Some.command c.in-Some-server.server (sym c.server.ensures ∙ c.in-Some-server.is)))
+    ((c.serve_nodes.ensures.damaged (is_status statuses.DamagedJournal c.serve_nodes.result.status c.after_server.result.status c.after_server.ensures.status six)).2 told))
 
 pub returns-in-Some-server-clause-refused : goal.returns-in-Some-server-clause-refused
-returns-in-Some-server-clause-refused g c = λ some told refused.
-    let done = c.serve_nodes.ensures.refused told refused in
+returns-in-Some-server-clause-refused g c = rw (sym c.read_command.ensures.command, c.in-Some.is) (λ told refused.
+    let done = c.serve_nodes.ensures.refused told
+    (subst (λ (n : ℕ). AreRefused n (map g.D.Disk.content c.args.disks.items)) (others_are c.in-Some.command c.in-Some-server.server (sym c.server.ensures ∙ c.in-Some-server.is)) refused) in
     rw c.after_server.ensures.disks (
       server_refused c.serve_nodes.result.status c.after_server.result.status c.after_server.ensures.status _ done.0,
       begun_none (disk_facts g.D.Disk.tells g.D.Disk.content g.D.Disk.may_leave g.D.Disk.moment g.D.Disk.left_since g.D.Disk.place g.D.Disk.fault_count) c.args.disks.items c.serve_nodes.result.disks.items
           (source_call g.S.Source.tells g.S.Source.left g.S.Source.fault_count c.args.input.now c.args.input.now) (sink_call g.K.Sink.tells g.K.Sink.held g.K.Sink.fault_count c.args.out.now c.args.out.now) c.after_server.result.rest
           ((λ told. refl), refl) ((λ told. sym (append-nil (g.K.Sink.held c.args.out.now))), refl) c.after_server.ensures.rest done.3,
-    )
+    ))
 
 pub returns-in-Some-server-clause-places : goal.returns-in-Some-server-clause-places
 returns-in-Some-server-clause-places g c = rw c.after_server.ensures.disks c.serve_nodes.ensures.places
@@ -125,7 +143,7 @@ returns-in-Some-server-clause-served g c =
     rw (sym c.read_command.ensures.command, c.in-Some.is) (λ any first told begun.
     rw (c.after_server.ensures.disks, c.after_server.ensures.links)
     (headline_as _ _ _ _ _ _ _ _ _ _ (λ is. has_number statuses.DiskFailed c.serve_nodes.result.status c.after_server.result.status c.after_server.ensures.status is)
-    (c.serve_nodes.ensures.headline first told (rw (routers_are c.in-Some.command c.in-Some-server.server (sym c.server.ensures ∙ c.in-Some-server.is)) at begun))))
+    (c.serve_nodes.ensures.headline first told (rw (others_are c.in-Some.command c.in-Some-server.server (sym c.server.ensures ∙ c.in-Some-server.is), routers_are c.in-Some.command c.in-Some-server.server (sym c.server.ensures ∙ c.in-Some-server.is)) at begun))))
 
 pub returns-in-Some-server-clause-sessions : goal.returns-in-Some-server-clause-sessions
 returns-in-Some-server-clause-sessions g c =
@@ -149,9 +167,10 @@ returns-in-Some-server-clause-not_accepted g c = λ six.
     rw c.after_server.ensures.links (none.1, none.0)
 
 pub returns-in-Some-server-clause-none_accepted : goal.returns-in-Some-server-clause-none_accepted
-returns-in-Some-server-clause-none_accepted g c = λ told refused.
-    let none = c.serve_nodes.ensures.refused told refused in
-    rw c.after_server.ensures.links (none.2, none.1)
+returns-in-Some-server-clause-none_accepted g c = rw (sym c.read_command.ensures.command, c.in-Some.is) (λ told refused.
+    let none = c.serve_nodes.ensures.refused told
+    (subst (λ (n : ℕ). AreRefused n (map g.D.Disk.content c.args.disks.items)) (others_are c.in-Some.command c.in-Some-server.server (sym c.server.ensures ∙ c.in-Some-server.is)) refused) in
+    rw c.after_server.ensures.links (none.2, none.1))
 
 -- A CONNECTION OR A SCRIPT
 
@@ -179,12 +198,12 @@ returns-in-None-server-clause-untouched g c = λ refused.
     (c.after_run.ensures.rest ∙ damaged.0, damaged.1, damaged.2)
 
 pub returns-in-None-server-clause-six : goal.returns-in-None-server-clause-six
-returns-in-None-server-clause-six g c = λ is. (c.run_nodes-ending.ensures.damaged (is_status statuses.DamagedJournal c.run_nodes-ending.result.status c.after_run.result.status c.after_run.ensures.status is)).3
+returns-in-None-server-clause-six g c = rw (sym c.read_command.ensures.command, c.in-Some.is) (λ is. (c.run_nodes-ending.ensures.damaged (is_status statuses.DamagedJournal c.run_nodes-ending.result.status c.after_run.result.status c.after_run.ensures.status is)).3)
 
 pub returns-in-None-server-clause-refused : goal.returns-in-None-server-clause-refused
-returns-in-None-server-clause-refused g c = λ some told refused.
+returns-in-None-server-clause-refused g c = rw (sym c.read_command.ensures.command, c.in-Some.is) (λ told refused.
     let done = c.run_nodes-ending.ensures.refused told refused in
-    rw (c.after_run.ensures.disks, c.after_run.ensures.rest) (inl (refused_number c.run_nodes-ending.result.status c.after_run.result.status c.after_run.ensures.status done.0), done.1)
+    rw (c.after_run.ensures.disks, c.after_run.ensures.rest) (inl (refused_number c.run_nodes-ending.result.status c.after_run.result.status c.after_run.ensures.status done.0), done.1))
 
 pub returns-in-None-server-clause-places : goal.returns-in-None-server-clause-places
 returns-in-None-server-clause-places g c = rw c.after_run.ensures.disks c.run_nodes-ending.ensures.places
@@ -240,4 +259,4 @@ pub returns-in-None-server-clause-not_accepted : goal.returns-in-None-server-cla
 returns-in-None-server-clause-not_accepted g c = λ six. (refl, c.after_run.ensures.links)
 
 pub returns-in-None-server-clause-none_accepted : goal.returns-in-None-server-clause-none_accepted
-returns-in-None-server-clause-none_accepted g c = λ told refused. (refl, c.after_run.ensures.links)
+returns-in-None-server-clause-none_accepted g c = rw (sym c.read_command.ensures.command, c.in-Some.is) (λ told refused. (refl, c.after_run.ensures.links))

@@ -6,7 +6,6 @@ use Rattle.driver_steps.specs.Seats.{seat_since}
 use Rattle.driver_steps.specs.Worlds.{network_view}
 use Rattle.driver_steps.proofs.Seats.{held_len}
 use Rattle.script_lines.specs.Lines.{client_line}
-use Rattle.pipe_driver.specs.Rounds.{first_router}
 use Rattle.sim_driver.specs.LineOutcomes.{HasPlayed, stops_at_memory, stops_unplayed}
 use Rattle.sim_driver.specs.Links.{LinkView}
 use Rattle.sim_driver.specs.Plays.{IsPartOfLine, no_router}
@@ -43,7 +42,7 @@ returns-in-Err-clause-stops g c asks since w handed routers s =
     ) in
     let here : slice_get c.args.script.now.links.items c.args.router ≡ Some link =
     slice_get_read _ _ _ _ (search rules) there c.index_mut-link.ensures.value in
-    let inside : first_router + c.args.router < length w.nodes = omega (
+    let inside : c.args.script.now.first_router + c.args.router < length w.nodes = omega (
       arith,
       count,
       there,
@@ -71,7 +70,7 @@ returns-then-not-malformed-clause-played g c asks since w handed routers s =
     ) in
     let here : slice_get c.args.script.now.links.items c.args.router ≡ Some link =
     slice_get_read _ _ _ _ (search rules) there c.index_mut-link.ensures.value in
-    let inside : first_router + c.args.router < length w.nodes = omega (
+    let inside : c.args.script.now.first_router + c.args.router < length w.nodes = omega (
       arith,
       count,
       there,
@@ -99,7 +98,7 @@ returns-then-script-clause-stops g c asks since w handed routers s =
     ) in
     let here : slice_get c.args.script.now.links.items c.args.router ≡ Some link =
     slice_get_read _ _ _ _ (search rules) there c.index_mut-link.ensures.value in
-    let inside : first_router + c.args.router < length w.nodes = omega (
+    let inside : c.args.script.now.first_router + c.args.router < length w.nodes = omega (
       arith,
       count,
       there,
@@ -125,7 +124,7 @@ returns-clause-played g c asks since w handed routers s =
     ) in
     let here : slice_get c.args.script.now.links.items c.args.router ≡ Some link =
     slice_get_read _ _ _ _ (search rules) there c.index_mut-link.ensures.value in
-    let inside : first_router + c.args.router < length w.nodes = omega (
+    let inside : c.args.script.now.first_router + c.args.router < length w.nodes = omega (
       arith,
       count,
       there,
@@ -137,5 +136,6 @@ returns-clause-played g c asks since w handed routers s =
     let links = set_twice c.args.script.now.links.items c.args.router c.take.new.self c.new.result
     ∙ ap (λ (l : LinkView). slice_set c.args.script.now.links.items c.args.router l) c.new.ensures in
     subst (λ (l : List LinkView). HasPlayed view c.take.new.seats.items (network_view (λ m. g.N.Mail.Mail.letter m) c.take.new.network) handed w line old
-    (record { links = l; opened = c.args.script.now.opened + 1; delivered = c.args.script.now.delivered }) (Some c.args.router)) (sym links)
+    (record { first_router = c.args.script.now.first_router; links = l; opened = c.args.script.now.opened + 1; delivered = c.args.script.now.delivered })
+    (Some c.args.router)) (sym links)
     (client_closed view _ _ handed w old c.args.router link here c.args.bytes.now asked.0 asked.1 asked.2)

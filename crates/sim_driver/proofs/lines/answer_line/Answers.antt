@@ -5,46 +5,46 @@ use Rattle.driver_steps.specs.Worlds.{puts_given}
 use Rattle.pipe_driver.proofs.Covers.{noted_more, noted_places, now_noted}
 use Rattle.sim_driver.specs.Scripts.{script_view}
 use Rattle.sim_driver.proofs.PlayedLines.{note_played}
-use Rattle.sim_driver.proofs.Plays.{plays_marks, plays_routers}
+use Rattle.sim_driver.proofs.Plays.{plays_marks, plays_script}
 use Rattle.sim_driver.proofs.Steps.{covers_line, line_answered, line_put_short, line_stopped, line_unprinted, playing_full}
 use Rattle.sim_driver.proofs.lines.answer_line.Goals as goal
 
 pub returns-in-Err-clause-stopped : goal.returns-in-Err-clause-stopped
-returns-in-Err-clause-stopped g c asks since first some held_before consumed others p n = (
+returns-in-Err-clause-stopped g c asks since first_router first some held_before consumed others p n = (
   since.noted,
   n,
-  playing_full (seat_since g.N.Node.state g.L.Log.facts since) _ _ first _ _ held_before _ consumed (c.args.line.now ++ 10 ∷ others)
+  playing_full (seat_since g.N.Node.state g.L.Log.facts since) _ _ first_router first _ _ held_before _ consumed (c.args.line.now ++ 10 ∷ others)
       (script_view c.args.script.now) p,
 )
 
 pub returns-in-Err-play_line-clause-stopped : goal.returns-in-Err-play_line-clause-stopped
-returns-in-Err-play_line-clause-stopped g c asks since first some held_before consumed others p n =
-    let router = plays_routers first some.routers p.lines p.events p.world (script_view c.args.script.now) p.out p.plays in
-    let next = plays_marks first p.lines p.events p.world (script_view c.args.script.now) p.out p.plays in (
+returns-in-Err-play_line-clause-stopped g c asks since first_router first some held_before consumed others p n =
+    let router = plays_script first_router first some.routers p.lines p.events p.world (script_view c.args.script.now) p.out p.plays in
+    let next = plays_marks first_router first p.lines p.events p.world (script_view c.args.script.now) p.out p.plays in (
       since.noted,
       noted_places g.K.Sink.tells _ _ _ since.noted c.play_line.ensures.places n,
-      line_stopped (seat_since g.N.Node.state g.L.Log.facts since) _ _ _ first
+      line_stopped (seat_since g.N.Node.state g.L.Log.facts since) _ _ _ first_router first
           _ _ held_before _ consumed (script_view c.args.script.now) p c.args.line.now
           c.requires.line others c.in-Err-play_line.status (c.in-Err-play_line.ensures.stops asks since p.world (puts_given p.world.answered) router next p.stands),
     )
 
 pub returns-in-Err-text_of-clause-stopped : goal.returns-in-Err-text_of-clause-stopped
-returns-in-Err-text_of-clause-stopped g c asks since first some held_before consumed others p n =
-    let router = plays_routers first some.routers p.lines p.events p.world (script_view c.args.script.now) p.out p.plays in
-    let next = plays_marks first p.lines p.events p.world (script_view c.args.script.now) p.out p.plays in
+returns-in-Err-text_of-clause-stopped g c asks since first_router first some held_before consumed others p n =
+    let router = plays_script first_router first some.routers p.lines p.events p.world (script_view c.args.script.now) p.out p.plays in
+    let next = plays_marks first_router first p.lines p.events p.world (script_view c.args.script.now) p.out p.plays in
     let h = c.in-Ok-play_line.ensures.played asks since p.world (puts_given p.world.answered) router next p.stands in (
       since.noted,
       noted_places g.K.Sink.tells _ _ _ since.noted c.play_line.ensures.places n,
       line_unprinted (seat_since g.N.Node.state g.L.Log.facts since) _ _ _
-          first _ _ held_before _ consumed (script_view c.args.script.now) p c.args.line.now
+          first_router first _ _ held_before _ consumed (script_view c.args.script.now) p c.args.line.now
           c.requires.line (λ m. g.N.Mail.Mail.letter m) c.play_line.new.network c.hand_on-replies.new.self (script_view c.play_line.new.script) c.in-Ok-play_line.closed
           h others,
     )
 
 pub returns-in-Ok-put_text-clause-answered : goal.returns-in-Ok-put_text-clause-answered
-returns-in-Ok-put_text-clause-answered g c asks since first some held_before consumed p n =
-    let router = plays_routers first some.routers p.lines p.events p.world (script_view c.args.script.now) p.out p.plays in
-    let next = plays_marks first p.lines p.events p.world (script_view c.args.script.now) p.out p.plays in
+returns-in-Ok-put_text-clause-answered g c asks since first_router first some held_before consumed p n =
+    let router = plays_script first_router first some.routers p.lines p.events p.world (script_view c.args.script.now) p.out p.plays in
+    let next = plays_marks first_router first p.lines p.events p.world (script_view c.args.script.now) p.out p.plays in
     let h = c.in-Ok-play_line.ensures.played asks since p.world (puts_given p.world.answered) router next p.stands in
     let facts = g.L.Log.facts in
     let seats = c.play_line.new.seats.items in
@@ -52,12 +52,12 @@ returns-in-Ok-put_text-clause-answered g c asks since first some held_before con
     let noted : List Noted = now_noted facts seats h.played.end count ∷ since.noted in (
       noted,
       noted_more facts seats h.played.end count g.K.Sink.tells _ _ _ since.noted n c.play_line.ensures.places c.put_text.ensures.noted,
-      line_answered (seat_since g.N.Node.state facts since) _ _ _ first
+      line_answered (seat_since g.N.Node.state facts since) _ _ _ first_router first
           _ _ held_before _ consumed (script_view c.args.script.now) p c.args.line.now
           c.requires.line (λ m. g.N.Mail.Mail.letter m) c.play_line.new.network c.hand_on-replies.new.self (script_view c.play_line.new.script) c.in-Ok-play_line.closed
           (seat_since g.N.Node.state facts (with_notes since noted)) noted
           (note_played facts seats count g.N.Node.state since _ _ _ _ _ _ _ c.put_text.ensures.durable h)
-          (covers_line (seat_since g.N.Node.state facts since) _ _ _ first
+          (covers_line (seat_since g.N.Node.state facts since) _ _ _ first_router first
           _ _ held_before _ consumed (script_view c.args.script.now) p c.args.line.now
           c.requires.line (λ m. g.N.Mail.Mail.letter m) c.play_line.new.network c.hand_on-replies.new.self (script_view c.play_line.new.script) c.in-Ok-play_line.closed
           h _) _
@@ -75,9 +75,9 @@ returns-in-Ok-put_text-clause-answered g c asks since first some held_before con
     )
 
 pub returns-clause-stopped : goal.returns-clause-stopped
-returns-clause-stopped g c asks since first some held_before consumed others p n =
-    let router = plays_routers first some.routers p.lines p.events p.world (script_view c.args.script.now) p.out p.plays in
-    let next = plays_marks first p.lines p.events p.world (script_view c.args.script.now) p.out p.plays in
+returns-clause-stopped g c asks since first_router first some held_before consumed others p n =
+    let router = plays_script first_router first some.routers p.lines p.events p.world (script_view c.args.script.now) p.out p.plays in
+    let next = plays_marks first_router first p.lines p.events p.world (script_view c.args.script.now) p.out p.plays in
     let h = c.in-Ok-play_line.ensures.played asks since p.world (puts_given p.world.answered) router next p.stands in
     let facts = g.L.Log.facts in
     let seats = c.play_line.new.seats.items in
@@ -86,12 +86,12 @@ returns-clause-stopped g c asks since first some held_before consumed others p n
       noted,
       noted_more facts seats h.played.end count g.K.Sink.tells _ _ _ since.noted n c.play_line.ensures.places c.put_text.ensures.noted,
       line_put_short (seat_since g.N.Node.state facts since) _ _ _
-          first _ _ held_before _ consumed (script_view c.args.script.now) p c.args.line.now
+          first_router first _ _ held_before _ consumed (script_view c.args.script.now) p c.args.line.now
           c.requires.line (λ m. g.N.Mail.Mail.letter m) c.play_line.new.network c.hand_on-replies.new.self
           (script_view c.play_line.new.script) c.in-Ok-play_line.closed
           (seat_since g.N.Node.state facts (with_notes since noted)) noted
           (note_played facts seats count g.N.Node.state since _ _ _ _ _ _ _ c.put_text.ensures.durable h)
-          (covers_line (seat_since g.N.Node.state facts since) _ _ _ first
+          (covers_line (seat_since g.N.Node.state facts since) _ _ _ first_router first
           _ _ held_before _ consumed (script_view c.args.script.now) p c.args.line.now
           c.requires.line (λ m. g.N.Mail.Mail.letter m) c.play_line.new.network c.hand_on-replies.new.self (script_view c.play_line.new.script) c.in-Ok-play_line.closed
           h _) others _

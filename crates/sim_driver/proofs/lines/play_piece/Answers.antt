@@ -13,16 +13,17 @@ lines-init g c = record {
   begun = c.requires.begun;
   len = refl;
   are_open = c.requires.«open»;
+  router = refl;
   links = refl;
   sink_calm = refl;
   disks_calm = refl;
   places = refl;
-  went = λ asks since first some held_before consumed p n. (since.noted, n, (consumed, refl, p));
+  went = λ asks since first_router first some held_before consumed p n. (since.noted, n, (consumed, refl, p));
 }
 
 pub returns-in-Err-clause-stopped : goal.returns-in-Err-clause-stopped
-returns-in-Err-clause-stopped g c asks since first some held_before consumed p n =
-    let was = c.lines.invariant.went asks since first some held_before consumed p n in (
+returns-in-Err-clause-stopped g c asks since first_router first some held_before consumed p n =
+    let was = c.lines.invariant.went asks since first_router first some held_before consumed p n in (
       was.0,
       was.1,
       record {
@@ -30,7 +31,7 @@ returns-in-Err-clause-stopped g c asks since first some held_before consumed p n
         left = c.lines.begun.items ++ c.lines.rest.now;
         whole = was.2.1;
         stopped = playing_full (seat_since g.N.Node.state g.L.Log.facts (with_notes since was.0)) _
-            _ first _ was.0 held_before _ was.2.0
+            _ first_router first _ was.0 held_before _ was.2.0
             (c.lines.begun.items ++ c.lines.rest.now) (script_view c.lines.script) was.2.2;
       },
     )
@@ -50,13 +51,14 @@ lines-preserved g c = record {
   begun = subst (λ (l : List ℕ). HasNone newline l) (sym c.clear.ensures.items) tt;
   len = c.answer_line.ensures.len ∙ c.lines.invariant.len;
   are_open = c.in-Ok-answer_line.ensures.«open» (λ e. cc);
+  router = c.answer_line.ensures.router ∙ c.lines.invariant.router;
   links = c.answer_line.ensures.links ∙ c.lines.invariant.links;
   sink_calm = c.answer_line.ensures.write_fault.1 (λ e. cc) ∙ c.lines.invariant.sink_calm;
   disks_calm = c.answer_line.ensures.disk_fault.1 (λ e. cc) ∙ c.lines.invariant.disks_calm;
   places = c.answer_line.ensures.places ∙ c.lines.invariant.places;
-  went = λ asks since first some held_before consumed p n.
-      let was = c.lines.invariant.went asks since first some held_before consumed p n in
-      let then = c.in-Ok-answer_line.ensures.answered asks (with_notes since was.0) first some held_before was.2.0 was.2.2 was.1 in (
+  went = λ asks since first_router first some held_before consumed p n.
+      let was = c.lines.invariant.went asks since first_router first some held_before consumed p n in
+      let then = c.in-Ok-answer_line.ensures.answered asks (with_notes since was.0) first_router first some held_before was.2.0 was.2.2 was.1 in (
         then.0,
         then.1,
         (
@@ -69,9 +71,10 @@ lines-preserved g c = record {
 }
 
 pub returns-in-Err-answer_line-clause-stopped : goal.returns-in-Err-answer_line-clause-stopped
-returns-in-Err-answer_line-clause-stopped g c asks since first some held_before consumed p n =
-    let was = c.lines.invariant.went asks since first some held_before consumed p n in
-    let then = c.in-Err-answer_line.ensures.stopped asks (with_notes since was.0) first some held_before was.2.0 c.in-Some.behind.now was.2.2 was.1 in (
+returns-in-Err-answer_line-clause-stopped g c asks since first_router first some held_before consumed p n =
+    let was = c.lines.invariant.went asks since first_router first some held_before consumed p n in
+    let then = c.in-Err-answer_line.ensures.stopped asks (with_notes since was.0) first_router first some held_before was.2.0 c.in-Some.behind.now
+    was.2.2 was.1 in (
       then.0,
       then.1,
       record {
@@ -84,8 +87,8 @@ returns-in-Err-answer_line-clause-stopped g c asks since first some held_before 
     )
 
 pub returns-in-Ok-extend_from_slice-clause-played : goal.returns-in-Ok-extend_from_slice-clause-played
-returns-in-Ok-extend_from_slice-clause-played g c asks since first some held_before consumed p n =
-    let was = c.lines.invariant.went asks since first some held_before consumed p n in (
+returns-in-Ok-extend_from_slice-clause-played g c asks since first_router first some held_before consumed p n =
+    let was = c.lines.invariant.went asks since first_router first some held_before consumed p n in (
       was.0,
       was.1,
       record {
@@ -96,8 +99,8 @@ returns-in-Ok-extend_from_slice-clause-played g c asks since first some held_bef
     )
 
 pub returns-in-Err-extend_from_slice-clause-stopped : goal.returns-in-Err-extend_from_slice-clause-stopped
-returns-in-Err-extend_from_slice-clause-stopped g c asks since first some held_before consumed p n =
-    let was = c.lines.invariant.went asks since first some held_before consumed p n in (
+returns-in-Err-extend_from_slice-clause-stopped g c asks since first_router first some held_before consumed p n =
+    let was = c.lines.invariant.went asks since first_router first some held_before consumed p n in (
       was.0,
       was.1,
       record {
@@ -105,7 +108,7 @@ returns-in-Err-extend_from_slice-clause-stopped g c asks since first some held_b
         left = c.lines.begun.items ++ c.lines.rest.now;
         whole = was.2.1;
         stopped = playing_full (seat_since g.N.Node.state g.L.Log.facts (with_notes since was.0)) _
-            _ first _ was.0 held_before _ was.2.0
+            _ first_router first _ was.0 held_before _ was.2.0
             (c.lines.begun.items ++ c.lines.rest.now) (script_view c.lines.script) was.2.2;
       },
     )

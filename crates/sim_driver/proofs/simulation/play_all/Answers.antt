@@ -4,14 +4,13 @@ use Rattle.outside.specs.Devices.{sink_call, source_call}
 use Rattle.outside.specs.Streams.{Took}
 use Rattle.std.proofs.Common.{◌+◌, ◌-◌}
 use Rattle.std.specs.Prelude.{vec_len}
-use Rattle.pipe_driver.specs.Rounds.{first_router}
 use Rattle.driver_steps.specs.Crashes.{with_notes}
 use Rattle.driver_steps.specs.Seats.{seat_since}
 use Rattle.driver_steps.specs.Worlds.{network_view}
 use Rattle.pipe_driver.specs.declared.status.Status.TheVariants as statuses
 use Rattle.pipe_driver.proofs.Counts.{have_risen_by, none_has_risen, rose_by, still}
 use Rattle.pipe_driver.proofs.Endings.{took_no_more}
-use Rattle.sim_driver.specs.Scripts.{new_script, script_view}
+use Rattle.sim_driver.specs.Scripts.{ScriptView, new_script, script_view}
 use Rattle.sim_driver.specs.Simulations.{router_count}
 use Rattle.sim_driver.proofs.Endings.{ended_at_limit, ended_stopped, ended_taking, ended_within, no_fault_of_disks, no_fault_of_writes, piece_taken, reads_by}
 use Rattle.sim_driver.proofs.Steps.{playing_from, playing_full, routers_are}
@@ -22,6 +21,7 @@ pieces-init g c = record {
   most = omega arith;
   room = c.in-Ok-new_piece.ensures;
   begun = rw c.new-begun.ensures.items tt;
+  router = ap (λ (s : ScriptView). s.first_router) c.in-Ok.ensures.view;
   links = omega (arith, c.in-Ok.ensures.links, c.len.ensures, c.args.seats.now.ok, c.requires.at);
   len = refl;
   are_open = c.requires.«open»;
@@ -36,10 +36,11 @@ pieces-init g c = record {
       [],
       rw c.new-begun.ensures.items refl,
       (λ told. rw c.new-begun.ensures.items refl),
-      playing_from (seat_since g.N.Node.state g.L.Log.facts (with_notes since since.noted)) _ _ first _ since.noted
-          _ _ [] (new_script (router_count first)) (script_view c.in-Ok.script)
-          (ap new_script (routers_are (seat_since g.N.Node.state g.L.Log.facts since) _ _ first _ _ _ _ _ _ p (vec_len c.args.seats.now)
-          c.args.seats.now.ok.0) ∙ (ap (λ (n : ℕ). new_script (n - 2)) (sym c.len.ensures) ∙ sym c.in-Ok.ensures.view)) p,
+      playing_from (seat_since g.N.Node.state g.L.Log.facts (with_notes since since.noted)) _ _ c.args.first_router first _ since.noted
+          _ _ [] (new_script c.args.first_router (router_count c.args.first_router first)) (script_view c.in-Ok.script)
+          (ap (λ (n : ℕ). new_script c.args.first_router n) (routers_are
+          (seat_since g.N.Node.state g.L.Log.facts since) _ _ c.args.first_router first _ _ _ _ _ _ p (vec_len c.args.seats.now)
+          c.args.seats.now.ok.0) ∙ (ap (λ (n : ℕ). new_script c.args.first_router (n - c.args.first_router)) (sym c.len.ensures) ∙ sym c.in-Ok.ensures.view)) p,
     ),
   );
 }
@@ -51,10 +52,11 @@ returns-in_default-clause-simulated g c asks since first some p n =
       n,
       ended_stopped view c.args.seats.now.items
           (source_call g.S.Source.tells g.S.Source.left g.S.Source.fault_count c.args.input.now c.args.input.now)
-          (sink_call g.K.Sink.tells g.K.Sink.held g.K.Sink.fault_count c.args.out.now c.args.out.now) since.noted first c.args.limit
+          (sink_call g.K.Sink.tells g.K.Sink.held g.K.Sink.fault_count c.args.out.now c.args.out.now) since.noted c.args.first_router first c.args.limit
           statuses.OutOfMemory [] [] statuses.OutOfMemory refl
-          (playing_full view c.args.seats.now.items (network_view (λ m. g.N.Mail.Mail.letter m) c.args.network) first g.K.Sink.tells since.noted (g.K.Sink.held c.args.out.now)
-          (g.K.Sink.held c.args.out.now) [] [] (new_script (router_count first)) p) (λ told. refl) (omega arith),
+          (playing_full view c.args.seats.now.items (network_view
+          (λ m. g.N.Mail.Mail.letter m) c.args.network) c.args.first_router first g.K.Sink.tells since.noted (g.K.Sink.held c.args.out.now)
+          (g.K.Sink.held c.args.out.now) [] [] (new_script c.args.first_router (router_count c.args.first_router first)) p) (λ told. refl) (omega arith),
     )
 
 pub returns-in_default-new_piece-clause-simulated : goal.returns-in_default-new_piece-clause-simulated
@@ -64,10 +66,11 @@ returns-in_default-new_piece-clause-simulated g c asks since first some p n =
       n,
       ended_stopped view c.args.seats.now.items
           (source_call g.S.Source.tells g.S.Source.left g.S.Source.fault_count c.args.input.now c.args.input.now)
-          (sink_call g.K.Sink.tells g.K.Sink.held g.K.Sink.fault_count c.args.out.now c.args.out.now) since.noted first c.args.limit
+          (sink_call g.K.Sink.tells g.K.Sink.held g.K.Sink.fault_count c.args.out.now c.args.out.now) since.noted c.args.first_router first c.args.limit
           statuses.OutOfMemory [] [] statuses.OutOfMemory refl
-          (playing_full view c.args.seats.now.items (network_view (λ m. g.N.Mail.Mail.letter m) c.args.network) first g.K.Sink.tells since.noted (g.K.Sink.held c.args.out.now)
-          (g.K.Sink.held c.args.out.now) [] [] (new_script (router_count first)) p) (λ told. refl) (omega arith),
+          (playing_full view c.args.seats.now.items (network_view
+          (λ m. g.N.Mail.Mail.letter m) c.args.network) c.args.first_router first g.K.Sink.tells since.noted (g.K.Sink.held c.args.out.now)
+          (g.K.Sink.held c.args.out.now) [] [] (new_script c.args.first_router (router_count c.args.first_router first)) p) (λ told. refl) (omega arith),
     )
 
 pub returns-in-Err-clause-simulated : goal.returns-in-Err-clause-simulated
@@ -78,7 +81,8 @@ returns-in-Err-clause-simulated g c asks since first some p n =
       ended_taking (seat_since g.N.Node.state g.L.Log.facts (with_notes since went.0))
           c.pieces.seats.items
           (source_call g.S.Source.tells g.S.Source.left g.S.Source.fault_count c.args.input.now c.take_more.new.input)
-          (sink_call g.K.Sink.tells g.K.Sink.held g.K.Sink.fault_count c.args.out.now c.pieces.out) went.0 first c.args.limit c.unended.result
+          (sink_call g.K.Sink.tells g.K.Sink.held g.K.Sink.fault_count c.args.out.now c.pieces.out) went.0 c.args.first_router
+          first c.args.limit c.unended.result
           went.2.0 c.pieces.begun.items (network_view (λ m. g.N.Mail.Mail.letter m) c.pieces.network) (script_view c.pieces.script) went.2.3
           (took_no_more _ _ _ _ _ went.2.2 c.in-Err.ensures.taken.0) c.pieces.invariant.begun
           (omega (arith, went.2.1, c.pieces-test.true)) c.in-Err.status (λ e. c.unended.ensures.none (c.as_slice.ensures.value ∙ e))
@@ -115,7 +119,8 @@ pieces-preserved g c =
       most = omega (arith, c.in-Ok-take_more.ensures.most, c.min-room.ensures, c.pieces-test.true);
       begun = c.in-Ok-play_piece.ensures.begun;
       room = c.take_more.ensures.len ∙ c.pieces.invariant.room;
-      links = ap (λ (n : ℕ). first_router + n) c.play_piece.ensures.links ∙ c.pieces.invariant.links;
+      router = c.play_piece.ensures.router ∙ c.pieces.invariant.router;
+      links = ap (λ (n : ℕ). c.args.first_router + n) c.play_piece.ensures.links ∙ c.pieces.invariant.links;
       len = c.play_piece.ensures.len ∙ c.pieces.invariant.len;
       are_open = c.in-Ok-play_piece.ensures.«open» (λ e. cc);
       source_calm = c.take_more.ensures.fault.1 (λ e. cc) ∙ c.pieces.invariant.source_calm;
@@ -135,7 +140,8 @@ pieces-preserved g c =
             c.pieces.invariant.room,
             c.take_more.new.piece.ok,
           )) in
-          let then = c.in-Ok-play_piece.ensures.played asks (with_notes since went.0) first some (g.K.Sink.held c.args.out.now) went.2.0 went.2.3 went.1 in
+          let then = c.in-Ok-play_piece.ensures.played asks (with_notes since went.0) c.args.first_router first some
+          (g.K.Sink.held c.args.out.now) went.2.0 went.2.3 went.1 in
           let h = then.2 in
           let t = piece_taken _ _ _ _ went.2.0 c.pieces.begun.items bytes _
           c.pieces.taken c.in-Ok-take_more.count went.2.2 more.took
@@ -168,13 +174,14 @@ returns-in-Err-play_piece-clause-simulated g c asks since first some p n =
     let t = piece_taken _ _ _ _ went.2.0 c.pieces.begun.items bytes _
     c.pieces.taken c.in-Ok-take_more.count went.2.2 more.took
     (ap (λ (b : List ℕ). take c.in-Ok-take_more.count b) c.deref.ensures.value) went.2.1 size in
-    let then = c.in-Err-play_piece.ensures.stopped asks (with_notes since went.0) first some (g.K.Sink.held c.args.out.now) went.2.0 went.2.3 went.1 in (
+    let then = c.in-Err-play_piece.ensures.stopped asks (with_notes since went.0) c.args.first_router first some
+    (g.K.Sink.held c.args.out.now) went.2.0 went.2.3 went.1 in (
       then.0,
       then.1,
       ended_within (seat_since g.N.Node.state g.L.Log.facts (with_notes since then.0))
           c.play_piece.new.seats.items
           (source_call g.S.Source.tells g.S.Source.left g.S.Source.fault_count c.args.input.now c.take_more.new.input)
-          (sink_call g.K.Sink.tells g.K.Sink.held g.K.Sink.fault_count c.args.out.now c.play_piece.new.out) then.0 first c.args.limit
+          (sink_call g.K.Sink.tells g.K.Sink.held g.K.Sink.fault_count c.args.out.now c.play_piece.new.out) then.0 c.args.first_router first c.args.limit
           c.in-Err-play_piece.status _
           then.2 t.0
           (omega (arith, t.1, c.in-Ok-take_more.ensures.most, c.min-room.ensures, c.pieces-test.true)),
@@ -202,7 +209,8 @@ returns-clause-simulated g c asks since first some p n =
       ended_at_limit (seat_since g.N.Node.state g.L.Log.facts (with_notes since went.0))
           c.pieces.seats.items
           (source_call g.S.Source.tells g.S.Source.left g.S.Source.fault_count c.args.input.now c.pieces.input)
-          (sink_call g.K.Sink.tells g.K.Sink.held g.K.Sink.fault_count c.args.out.now c.pieces.out) went.0 first c.args.limit
+          (sink_call g.K.Sink.tells g.K.Sink.held g.K.Sink.fault_count c.args.out.now c.pieces.out) went.0 c.args.first_router
+          first c.args.limit
           statuses.InputTooLong went.2.0 c.pieces.begun.items (network_view (λ m. g.N.Mail.Mail.letter m) c.pieces.network) (script_view c.pieces.script) went.2.3
           went.2.2 c.pieces.invariant.begun refl (omega (arith, went.2.1, c.pieces.invariant.most, c.pieces-test.false)),
     )

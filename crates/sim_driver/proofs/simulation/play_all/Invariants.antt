@@ -1,6 +1,5 @@
 use Rattle.std.proofs.Common.{◌≡◌, ℕ, List, [], ◌+◌, ◌-◌, ◌<◌, ◌≤◌, ◌++◌, length}
 use Rattle.std.specs.Prelude.{vec_len}
-use Rattle.pipe_driver.specs.Rounds.{first_router}
 use Rattle.outside.specs.Streams.{Took}
 use Rattle.node_model.specs.World.{World}
 use Rattle.driver_steps.specs.Crashes.{Since, with_notes}
@@ -24,7 +23,8 @@ abbrev pub invariant-pieces : goal.invariant-pieces
 invariant-pieces g l = record {
   most : l.taken ≤ l.limit;
   begun : HasNone newline l.begun.items;
-  links : first_router + vec_len l.script.links ≡ vec_len l.fn.seats;
+  router : l.script.first_router ≡ l.first_router;
+  links : l.first_router + vec_len l.script.links ≡ vec_len l.fn.seats;
   room : vec_len l.piece ≡ piece_room;
   len : vec_len l.seats ≡ vec_len l.fn.seats;
   are_open : AreOpen g.L.Log.facts.is_open l.seats.items;
@@ -32,15 +32,16 @@ invariant-pieces g l = record {
   sink_calm : g.K.Sink.fault_count l.out ≡ g.K.Sink.fault_count l.fn.out;
   disks_calm : faults_of g.L.Log.facts.fault_count l.seats.items ≡ faults_of g.L.Log.facts.fault_count l.fn.seats.items;
   places : places_of g.L.Log.facts.place l.seats.items ≡ places_of g.L.Log.facts.place l.fn.seats.items;
-  went : AreAskedAsRead g.N.Node.asks → (since : Since g.row.L.Denot) (first : World) → MayPlay first
+  went : AreAskedAsRead g.N.Node.asks → (since : Since g.row.L.Denot) (first : World) → MayPlay l.first_router first
       → Playing (seat_since g.N.Node.state g.L.Log.facts since)
-      l.fn.seats.items (network_view (λ m. g.N.Mail.Mail.letter m) l.fn.network) first g.K.Sink.tells since.noted (g.K.Sink.held l.fn.out)
-      (g.K.Sink.held l.fn.out) (new_script (router_count first)) []
+      l.fn.seats.items (network_view (λ m. g.N.Mail.Mail.letter m) l.fn.network) l.first_router first g.K.Sink.tells since.noted (g.K.Sink.held l.fn.out)
+      (g.K.Sink.held l.fn.out) (new_script l.first_router (router_count l.first_router first)) []
       → AreNoted g.K.Sink.tells (g.K.Sink.noted l.fn.out) (places_of g.L.Log.facts.place l.fn.seats.items) since.noted
       → WithNotes g.K.Sink.tells (g.K.Sink.noted l.out) (places_of g.L.Log.facts.place l.seats.items)
       (λ noted. (consumed : List ℕ) × (length consumed + length l.begun.items ≡ l.taken)
       × Took g.S.Source.tells (g.S.Source.left l.fn.input) (consumed ++ l.begun.items) (g.S.Source.left l.input)
       × Playing (seat_since g.N.Node.state g.L.Log.facts (with_notes since noted))
-      l.seats.items (network_view (λ m. g.N.Mail.Mail.letter m) l.network) first g.K.Sink.tells noted (g.K.Sink.held l.fn.out) (g.K.Sink.held l.out)
+      l.seats.items (network_view (λ m. g.N.Mail.Mail.letter m) l.network) l.first_router first g.K.Sink.tells noted (g.K.Sink.held l.fn.out)
+      (g.K.Sink.held l.out)
       (script_view l.script) consumed);
 }

@@ -25,13 +25,13 @@ returns-in-Ok-clause-simulated g c = λ asks first some are.
     let s = starts _ (λ m. g.N.Mail.Mail.letter m) c.args.seats.now.items first
     c.new-network.result some.begins seated leave c.new-network.ensures.waiting c.new-network.ensures.replies in
     let played = c.play_all.ensures.simulated asks since first some
-    (opened_playing _ _ first _ _ (vec_len c.args.seats.now) as_many _ some.begins
+    (opened_playing _ _ c.args.first_router first _ _ (vec_len c.args.seats.now) as_many _ some.begins
     (c.in-Ok.ensures.opened since first 0 (puts_given first.answered) s)) (none_noted _ _ _) in
-    simulated_as _ _ _ _ _ _ _ _ first _ _
+    simulated_as _ _ _ _ _ _ _ _ _ first _ _
     (λ nodes kept. kept_plain g.N.Node.state g.L.Log.facts (with_notes since played.0) _ nodes kept)
     (λ w leave. without_notes g.N.Node.state g.L.Log.facts since played.0 c.play_all.new.seats.items w refl leave)
     (λ w put leave owed.
-    acknowledged g.N.Node.state g.L.Log.facts since played.0 (all_printed first) first _ _ _ _ w put leave played.1 owed)
+    acknowledged g.N.Node.state g.L.Log.facts since played.0 (all_printed c.args.first_router first) first _ _ _ _ w put leave played.1 owed)
     played.2
 
 pub returns-in-Err-clause-simulated : goal.returns-in-Err-clause-simulated
@@ -44,16 +44,16 @@ returns-in-Err-clause-simulated g c = λ asks first some are.
     let as_many = c.args.seats.now.ok.0 ∙ held_len _ c.args.seats.now.items first.nodes seated in
     let s = starts _ (λ m. g.N.Mail.Mail.letter m) c.args.seats.now.items first
     c.new-network.result some.begins seated leave c.new-network.ensures.waiting c.new-network.ensures.replies in
-    simulated_as _ _ _ _ _ _ _ _ first _ _
+    simulated_as _ _ _ _ _ _ _ _ _ first _ _
     (λ nodes kept. kept_plain g.N.Node.state g.L.Log.facts since _ nodes kept)
     (λ w leave. leave)
     (λ w put leave owed.
-    acknowledged g.N.Node.state g.L.Log.facts since [] (all_printed first) first _ _ _ _ w put leave (none_noted _ _ _) owed)
+    acknowledged g.N.Node.state g.L.Log.facts since [] (all_printed c.args.first_router first) first _ _ _ _ w put leave (none_noted _ _ _) owed)
     (ended_stopped _ c.open_all.new.seats.items
     (source_call g.S.Source.tells g.S.Source.left g.S.Source.fault_count c.args.input.now c.args.input.now)
-    (sink_call g.K.Sink.tells g.K.Sink.held g.K.Sink.fault_count c.args.out.now c.args.out.now) [] first c.args.limit
+    (sink_call g.K.Sink.tells g.K.Sink.held g.K.Sink.fault_count c.args.out.now c.args.out.now) [] c.args.first_router first c.args.limit
     c.of.result [] [] c.of.result refl
-    (opening_stopped _ _ first _ _ (vec_len c.args.seats.now) as_many [] _ c.in-Err.e _ c.of.ensures
+    (opening_stopped _ _ c.args.first_router first _ _ (vec_len c.args.seats.now) as_many [] _ c.in-Err.e _ c.of.ensures
     (c.in-Err.ensures.stopped since first 0 (puts_given first.answered) s)) (λ told. refl) (omega arith))
 
 pub returns-in-Err-clause-open : goal.returns-in-Err-clause-open

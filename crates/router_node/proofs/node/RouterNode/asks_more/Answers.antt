@@ -22,8 +22,8 @@ returns c = λ kind.
     subst (λ (ls : List Letter). IfOk c.asks_rest.result (λ m. letters_of m ≡ ls))
     (ap (λ (x : states.Router). rows.asks_by x c.args.time.0 q.count q.namespace
     (states.writing kind c.args.ordered (map (λ s. statement_view given (rows.id_of x q.count) s) c.deref.result.now) (map done_view c.deref-2.result.now)) known) c.asker-asker.ensures
-    ∙ ap (λ (ss : List Statement). rows.asks_by (asking n.me.0 n.life) c.args.time.0 q.count q.namespace
+    ∙ ap (λ (ss : List Statement). rows.asks_by (asking n.me.0 n.shards n.life) c.args.time.0 q.count q.namespace
     (states.writing kind c.args.ordered (map (λ s. statement_view given id s) ss) (map done_view c.deref-2.result.now)) known) c.deref.ensures.value
-    ∙ ap (λ (ds : List Done). rows.asks_by (asking n.me.0 n.life) c.args.time.0 q.count q.namespace
+    ∙ ap (λ (ds : List Done). rows.asks_by (asking n.me.0 n.shards n.life) c.args.time.0 q.count q.namespace
     (states.writing kind c.args.ordered (map (λ s. statement_view given id s) c.args.statements.now.items) (map done_view ds)) known) c.deref-2.ensures.value)
     (c.asks_rest.ensures kind)

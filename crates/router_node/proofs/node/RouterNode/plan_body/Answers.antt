@@ -8,30 +8,30 @@ use Rattle.router_node.proofs.Started.{skipped}
 use Rattle.router_node.proofs.node.RouterNode.plan_body.Goals as goal
 
 pub returns-in-Stale : goal.returns-in-Stale
-returns-in-Stale c = λ m is late.
+returns-in-Stale c = λ m from is late.
     let r = router_of c.args.self.now in
     heard_late r m c.late.result c.args.time.0 late c.late.ensures (subst (λ (b : Body). rows.IsLate r b) (sym (is ∙ ap body_view c.in-Stale.is)) tt)
 
 pub returns-in-TableAsk : goal.returns-in-TableAsk
-returns-in-TableAsk c = λ m is late.
+returns-in-TableAsk c = λ m from is late.
     skipped (router_of c.args.self.now) c.late-in-TableAsk.result m (subst (λ (b : Body). rows.TellsNothing b) (sym (is ∙ ap body_view c.in-TableAsk.is)) tt) c.late-in-TableAsk.ensures
 
 pub returns-in-SplitAsk : goal.returns-in-SplitAsk
-returns-in-SplitAsk c = λ m is late.
+returns-in-SplitAsk c = λ m from is late.
     skipped (router_of c.args.self.now) c.late-in-SplitAsk.result m (subst (λ (b : Body). rows.TellsNothing b) (sym (is ∙ ap body_view c.in-SplitAsk.is)) tt) c.late-in-SplitAsk.ensures
 
 pub returns-in-WriteAsk : goal.returns-in-WriteAsk
-returns-in-WriteAsk c = λ m is late.
+returns-in-WriteAsk c = λ m from is late.
     skipped (router_of c.args.self.now) c.late-in-WriteAsk.result m (subst (λ (b : Body). rows.TellsNothing b) (sym (is ∙ ap body_view c.in-WriteAsk.is)) tt) c.late-in-WriteAsk.ensures
 
 pub returns-in-ReadAsk : goal.returns-in-ReadAsk
-returns-in-ReadAsk c = λ m is late.
+returns-in-ReadAsk c = λ m from is late.
     skipped (router_of c.args.self.now) c.late-in-ReadAsk.result m (subst (λ (b : Body). rows.TellsNothing b) (sym (is ∙ ap body_view c.in-ReadAsk.is)) tt) c.late-in-ReadAsk.ensures
 
 pub returns-in-HalfAsk : goal.returns-in-HalfAsk
-returns-in-HalfAsk c = λ m is late.
+returns-in-HalfAsk c = λ m from is late.
     skipped (router_of c.args.self.now) c.late-in-HalfAsk.result m (subst (λ (b : Body). rows.TellsNothing b) (sym (is ∙ ap body_view c.in-HalfAsk.is)) tt) c.late-in-HalfAsk.ensures
 
 pub returns : goal.returns
-returns c = λ m is late.
+returns c = λ m from is late.
     skipped (router_of c.args.self.now) c.late-in-TimeAsk.result m (subst (λ (b : Body). rows.TellsNothing b) (sym (is ∙ ap body_view c.in-TimeAsk.is)) tt) c.late-in-TimeAsk.ensures

@@ -8,4 +8,4 @@ pub returns-then-ne : goal.returns-then-ne
 returns-then-ne c = other_is (router_of c.args.self.now) c.late.result (letter_of c.args.message) (search rules) c.late.ensures
 
 pub returns : goal.returns
-returns c = ok_heard (router_of c.args.self.now) c.plan_body.result (letter_of c.args.message) (search rules) (c.plan_body.ensures (letter_of c.args.message) refl (search rules))
+returns c = ok_heard (router_of c.args.self.now) c.plan_body.result (letter_of c.args.message) (search rules) (c.plan_body.ensures (letter_of c.args.message) refl refl (search rules))

@@ -1,6 +1,7 @@
-use Rattle.std.proofs.Common.{subst, ◌∙◌, [], refl, map, rules}
+use Rattle.std.proofs.Common.{ap, subst, [], refl, map, rules}
 use Rattle.node_model.specs.Letters.{client_input}
 use Rattle.node_model.specs.RouterRows as rows
+use Rattle.router_requests.specs.Works.{numbers_of}
 use Rattle.router_requests.specs.declared.work.OpenRequest.{OpenRequest}
 use Rattle.protocol_model.specs.Messages.{letter_of}
 use Rattle.protocol_model.specs.Heads.{head_request}
@@ -29,10 +30,11 @@ returns c =
       head = c.args.asked.head;
       namespace = c.args.namespace;
       wait = c.in_ok-wait.wait;
+      told = c.new.result;
       work = c.args.work;
     } in
     subst (λ (z : ℤ). IfOk c.starts.result (λ p. IsPlanned r (client_input link z request) p)) (to_z-of_z w32 c.args.asked.number fits)
-    (ok_starts r c.starts.result n.quiet (client_input link number request) r.time r.moment (Opens o) (map letter_of c.mail_of-mail.result) [] tt tt
+    (ok_starts r c.starts.result n.quiet (client_input link number request) r.time r.moment (Opens o) (map letter_of c.in_ok-wait.mail) [] tt tt
     (refl, c.requires.few, c.requires.next)
-    (took_open r o c.requires.next (map letter_of c.mail_of-mail.result) c.requires.plan (c.mail_of-mail.ensures ∙ c.in_ok-wait.ensures.letters) (c.in_ok-wait.ensures.wait (rows.id_of r c.args.count)))
+    (took_open r o c.requires.next (map letter_of c.in_ok-wait.mail) c.requires.plan c.in_ok-wait.ensures.letters (ap numbers_of c.new.ensures.items) (c.in_ok-wait.ensures.wait (rows.id_of r c.args.count)))
     c.starts.ensures)

@@ -1,5 +1,0 @@
-use Rattle.node_replay.proofs.LawProofs.{runs_with_stops_keep_writes}
-use Rattle.node_replay.proofs.laws.runs_with_stops_keep_writes.Goals as goal
-
-pub returns : goal.returns
-returns c = runs_with_stops_keep_writes

@@ -1,0 +1,30 @@
+//! Lists of messages.
+
+ghost use Rattle.std.specs.Prelude.{◌≡◌, ◌++◌, IfOk, OnOk};
+ghost use Rattle.node_traits.specs.Lists.{listed};
+
+use bson_values::Memory;
+use node_traits::SpareList;
+use std::alloc::Global;
+
+/// Returns the list of the item, if there is one. Returns `Memory` if memory runs out.
+pub fn list_of<T: Drop>(alloc: Global, item: Option<T>) -> Result<Vec<T>, Memory>
+    ensures { IfOk result (λ list. list.items ≡ listed item) }
+{
+    let mut list = Vec::new(alloc);
+    match item {
+        Some(item) => list.push(item)?,
+        None => {}
+    }
+    Ok(list)
+}
+
+/// Appends items to a list, in order. Returns `Memory` if memory runs out.
+pub fn add_all<T: Drop>(list: &mut SpareList<T>, items: Vec<T>) -> Result<(), Memory>
+    ensures { OnOk result (list.new ≡ list.old ++ items.items) }
+{
+    for item in items {
+        list.push(item)?;
+    }
+    Ok(())
+}
