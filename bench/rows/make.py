@@ -1,5 +1,5 @@
 #!/usr/bin/env python3
-"""Writes rows into the data of wire_rows and serve_rows, and the requests of the examples for a new user.
+"""Writes rows into the data of wire_rows, serve_rows and router_rows, and the requests of the examples for a new user.
 
 What each request gets is told by the modules of this folder alone, which hold a separate account of the formats: bson (documents), order, matching,
 changing and pipelines (the languages), commands (the order of refusals), cluster (what is done, times), records (of journals), wire (messages, and the words
@@ -8,6 +8,7 @@ The pages of the examples go to examples-README-parts.md at the top, to be put i
 """
 import pathlib
 
+import alone
 import ceilings
 import chunk_scripts
 import chunks
@@ -30,6 +31,7 @@ from form import put_file
 TOP = pathlib.Path(__file__).resolve().parent.parent.parent
 DATA = TOP / "crates" / "wire_rows" / "data"
 SERVED = TOP / "crates" / "serve_rows" / "data"
+ALONE = TOP / "crates" / "router_rows" / "data"
 
 
 def main():
@@ -47,6 +49,7 @@ def main():
     put_file(DATA / "drivers.reads.rows", drivers.rows(DATA / "drivers.rows"))
     put_file(SERVED / "links.rows", serving.links_rows())
     put_file(SERVED / "ends.rows", serving.ends_rows())
+    put_file(ALONE / "reads.txt", alone.lines())
     sessions.put(TOP / "examples", TOP / "examples-README-parts.md")
 
 

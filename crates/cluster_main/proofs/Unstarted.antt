@@ -33,10 +33,10 @@ other_than status other no_two no_seven (inl two) is = no_two (omega (arith, two
 other_than status other no_two no_seven (inr seven) is = no_seven (omega (arith, seven, is))
 
 -- the disks are as they were: no arguments were read
-pub as_they_were : {D : Type 0} (status : ℕ) (started : Type 0) (given : Option Command) (source : SourceCall) (sink : SinkCall) (notes : List Note) (gives : ℕ → Type 0)
-    (facts : DiskFacts D) (disks : List D) → ¬ started → given ≡ None → SourceIsUntouched source → SinkIsUntouched sink → (status ≡ 2) ⊎ (status ≡ 7)
-    → IsLeft status started given source sink notes gives facts disks disks 0
-as_they_were {D} status started given source sink notes gives facts disks never none took put ended = record {
+pub as_they_were : {D : Type 0} (status : ℕ) (started : Type 0) (given : Option Command) (source : SourceCall) (sink : SinkCall) (noted notes : List Note)
+    (gives : ℕ → Type 0) (facts : DiskFacts D) (disks : List D) → ¬ started → given ≡ None → SourceIsUntouched source → SinkIsUntouched sink → (status ≡ 2) ⊎ (status ≡ 7)
+    → IsLeft status started given source sink noted notes gives facts disks disks 0
+as_they_were {D} status started given source sink noted notes gives facts disks never none took put ended = record {
   places = refl;
   disk_fault = all_still (status ≡ 5) (map facts.fault_count disks) (map facts.fault_count disks)
       (other_than status 5 (λ is. omega (arith, is)) (λ is. omega (arith, is)) ended) refl;

@@ -8,7 +8,7 @@ use Rattle.journal_starts.specs.Records.{AreRefused}
 use Rattle.journal_starts.specs.Starts.{BeginsOnFiles}
 use Rattle.cluster_service.specs.Arguments.{IsServer, command_of, others_of, routers_of}
 use Rattle.cluster_service.specs.Counts.{OneRoseWhere}
-use Rattle.cluster_service.specs.Crashes.{AreDurableBefore, LeaveTheWay}
+use Rattle.cluster_service.specs.Crashes.{AreDurableBefore, LeaveAll}
 use Rattle.cluster_service.specs.Headline.{HeadlineOf}
 use Rattle.cluster_service.specs.OpenJournals.{IsDurable}
 use Rattle.cluster_service.specs.Openings.{DiskFacts, IsNotBegun}
@@ -22,8 +22,8 @@ command_in (Err fault) items = None
 
 -- A start that ended with this status left these disks, and so many bytes after the last whole request. `started` says that its
 -- arguments start nodes, and `given` is the command that they are.
-pub record IsLeft {D : Type 0} (status : ℕ) (started : Type 0) (given : Option Command) (source : SourceCall) (sink : SinkCall) (notes : List Note) (gives : ℕ → Type 0)
-    (facts : DiskFacts D) (before left : List D) (rest : ℕ) : Type 0 where
+pub record IsLeft {D : Type 0} (status : ℕ) (started : Type 0) (given : Option Command) (source : SourceCall) (sink : SinkCall) (noted notes : List Note)
+    (gives : ℕ → Type 0) (facts : DiskFacts D) (before left : List D) (rest : ℕ) : Type 0 where
   -- each is in its place, and the status is 5 exactly by a fault of one
   pub places : map facts.place left ≡ map facts.place before
   pub disk_fault : OneRoseWhere (status ≡ 5) (map facts.fault_count before) (map facts.fault_count left)
@@ -40,8 +40,8 @@ pub record IsLeft {D : Type 0} (status : ℕ) (started : Type 0) (given : Option
   pub headline : IfSome given (λ command. ¬ IsServer command → (first : World) → IsTrue facts.tells
       → BeginsOnFiles (others_of command) (routers_of command) (map facts.content before) first
       → OfStatus status (λ s. OfConnection s (λ ending. HeadlineOf command first source sink facts.tells
-      (map facts.content left) (LeaveTheWay first facts.tells facts.moment facts.left_since before left)
-      (AreDurableBefore sink.tells facts.tells facts.place facts.moment facts.left_since command first notes sink.held_before left) gives ending rest)))
+      (map facts.content left) (LeaveAll first sink.tells facts.tells facts.place facts.moment facts.left_at noted notes before left)
+      (AreDurableBefore sink.tells facts.tells facts.place facts.moment facts.left_at command first notes sink.held_before left) gives ending rest)))
   -- but where a disk failed, a crash takes none of the records; or the nodes were not started, and each file has the records that it had; or a port was
   -- refused, and the disks are as they were
   pub durable : started → IsTrue facts.tells → status ≢ 5

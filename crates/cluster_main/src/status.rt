@@ -95,8 +95,8 @@ where
     ensures disks { (rest : ℕ) × IsLeft result.status (IsOkAnd words (λ given. IsSome (node_count_of given.items)))
         (command_in words (λ given. given.items))
         (source_call S.tells S.left S.fault_count input.old input.new)
-        (sink_call K.tells K.held K.fault_count out.old out.new) (K.noted out.new)
-        (C.gives clock.now) (disk_facts D.tells D.content D.may_leave D.moment D.left_since D.place D.fault_count)
+        (sink_call K.tells K.held K.fault_count out.old out.new) (K.noted out.old) (K.noted out.new)
+        (C.gives clock.now) (disk_facts D.tells D.content D.may_leave D.moment D.left_at D.place D.fault_count)
         disks.items result.disks.items rest }
 
     // Of a server too.
@@ -107,8 +107,8 @@ where
         BeginsOnFiles (others_of command) (routers_of command) (map D.content disks.items) first → ServerHeadline input_of
         (link_facts A.Link.Source.tells A.Link.Source.left A.Link.Sink.tells A.Link.Sink.held A.Link.is_closed)
         first D.tells (result.status ≡ 5) (map D.content result.disks.items)
-        (LeaveTheWay first D.tells D.moment D.left_since disks.items result.disks.items)
-        (LeaveUpTo first D.tells D.moment D.left_since disks.items result.disks.items) result.links.items) }
+        (LeaveTheWay first D.tells D.moment D.left_at disks.items result.disks.items)
+        (LeaveUpTo first D.tells D.moment D.left_at disks.items result.disks.items) result.links.items) }
 {
     let words = match words {
         Ok(words) => words,
@@ -160,8 +160,8 @@ where
     ensures disks { (rest : ℕ) × IsLeft (exit_status result.code) (IsOkAnd words (λ given. IsSome (node_count_of given.items)))
         (command_in words (λ given. given.items))
         (source_call S.tells S.left S.fault_count input.old input.new)
-        (sink_call K.tells K.held K.fault_count out.old out.new) (K.noted out.new)
-        (C.gives clock.now) (disk_facts D.tells D.content D.may_leave D.moment D.left_since D.place D.fault_count)
+        (sink_call K.tells K.held K.fault_count out.old out.new) (K.noted out.old) (K.noted out.new)
+        (C.gives clock.now) (disk_facts D.tells D.content D.may_leave D.moment D.left_at D.place D.fault_count)
         disks.items result.disks.items rest }
 
     // Of a server too.
@@ -172,8 +172,8 @@ where
         BeginsOnFiles (others_of command) (routers_of command) (map D.content disks.items) first → ServerHeadline input_of
         (link_facts A.Link.Source.tells A.Link.Source.left A.Link.Sink.tells A.Link.Sink.held A.Link.is_closed)
         first D.tells (exit_status result.code ≡ 5) (map D.content result.disks.items)
-        (LeaveTheWay first D.tells D.moment D.left_since disks.items result.disks.items)
-        (LeaveUpTo first D.tells D.moment D.left_since disks.items result.disks.items) result.links.items) }
+        (LeaveTheWay first D.tells D.moment D.left_at disks.items result.disks.items)
+        (LeaveUpTo first D.tells D.moment D.left_at disks.items result.disks.items) result.links.items) }
 {
     let stopped = status_of(rt, alloc, words, input, out, acceptor, disks, clock);
     Served {

@@ -28,8 +28,12 @@ whole_run : (u w : World) (events : List Event) → Run u events w → RunWithSt
 whole_run _ _ _ (stands w) = stays w
 whole_run _ _ _ (goes u v w e events h more) = proceeds u v w (whole_event e) (map whole_event events) (occurs u v e h) (whole_run v w events more)
 
+-- a run loses nothing that is stored
+pub keeps_by : (u w : World) → LeadsTo u w → KeepsJournals u w
+keeps_by u w leads = calls_keep_journals u w (this_call w (map whole_event leads.0) (whole_run u w leads.0 leads.1))
+
 -- calls lead to what a call leads to that begins on files
-reached_from : (others routers : ℕ) (files : List (List ℕ)) (first w : World) → BeginsOnFiles others routers files first → LeadsTo first w
+pub reached_from : (others routers : ℕ) (files : List (List ℕ)) (first w : World) → BeginsOnFiles others routers files first → LeadsTo first w
     → Reached others routers w
 reached_from others routers files _ w (begins_new are) (events, run) =
     this_call w (map whole_event events) (whole_run (start others routers) w events run)
@@ -44,7 +48,7 @@ module _ (tells : Bool) (files_after : List (List ℕ)) (first : World) (source 
   leads_to_end (Sim shards routers) headline = simulated_run source sink (1 + shards) _ leaves owed first most_taken ending headline.simulated
   leads_to_end (Serve server) headline = absurd headline
 
-  files_of_end : IsTrue tells → (command : Command) (headline : HeadlineOf command first source sink tells files_after leaves owed gives ending rest)
+  pub files_of_end : IsTrue tells → (command : Command) (headline : HeadlineOf command first source sink tells files_after leaves owed gives ending rest)
       → AreJournals files_after (ends_in command _ _ _ _ _ _ _ _ _ _ headline).nodes
   files_of_end told (Pipe shards) headline = headline.piped.files told
   files_of_end told (Sim shards routers) headline = headline.simulated.files told
@@ -65,7 +69,7 @@ calls_go_on tells command files files_after first source sink leaves owed gives 
     (on.0, begins_again end on.0 reached (files_of_end tells files_after first source sink leaves owed gives ending rest told command headline) on.1)
 
 -- where both worlds store the same, what keeps the journals of one keeps those of the other
-kept_from : (u v w : World) → ((at : ℕ) → journal_at v.nodes at ≡ journal_at u.nodes at) → KeepsJournals v w → KeepsJournals u w
+pub kept_from : (u v w : World) → ((at : ℕ) → journal_at v.nodes at ≡ journal_at u.nodes at) → KeepsJournals v w → KeepsJournals u w
 kept_from u v w same keeps at = let k = keeps at in (k.0, k.1 ∙ ap (λ (l : List Kept). l ++ k.0) (same at))
 
 pub acknowledged_goes_on : (tells : Bool) (command : Command) (files files_after : List (List ℕ)) (first : World) (source : SourceCall) (sink : SinkCall)
@@ -84,4 +88,4 @@ acknowledged_goes_on tells command files files_after first source sink leaves ow
     same_journals others routers files_after next end (reached_from others routers files_after next next again ([], stands next)) reached
     (starts_are_stored others routers files_after next again)
     (files_of_end tells files_after first source sink leaves owed gives ending rest told command headline) in
-    kept_from end next w same (calls_keep_journals next w (this_call w (map whole_event leads.0) (whole_run next w leads.0 leads.1)))
+    kept_from end next w same (keeps_by next w leads)

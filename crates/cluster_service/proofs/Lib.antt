@@ -1,3 +1,4 @@
+pub mod AfterCrashes
 pub mod Answered
 pub mod Composed
 pub mod Counts
@@ -19,3 +20,4 @@ pub mod Served
 pub mod ServedDisks
 pub mod ServerEnds
 pub mod Statuses
+pub mod Together

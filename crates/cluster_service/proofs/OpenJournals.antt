@@ -18,16 +18,16 @@ pub nothing : (file : List ℕ) → file ≡ [] → Stands file []
 nothing file empty = record { rest = file; fits = tt; split = refl; shut = inr empty }
 
 module _ {D : Type 0} (facts : DiskFacts D)
-    (counts_now : (disk : D) (t : ℕ) (c : List ℕ) → t ≤ facts.moment disk → facts.may_leave disk c → facts.left_since disk t c) (old new : D) where
+    (counts_now : (disk : D) (c : List ℕ) → facts.may_leave disk c → facts.left_at disk (facts.moment disk) c) (old new : D) where
   -- whatever an opening returned, the disk is as it was
   pub is_as_it_was : ((records : List (List ℕ)) → IsTrue facts.tells → Stands (facts.content old) records → Stands (facts.content new) records)
       → ((offset : ℕ) → IsTrue facts.tells → IsDamaged (facts.content old) offset → facts.content new ≡ facts.content old)
-      → (IsTrue facts.tells → LeavesOnly facts.moment facts.left_since old new (λ file. facts.may_leave old file ⊎ HaveSameRecords (facts.content old) file))
+      → (IsTrue facts.tells → LeavesOnly facts.moment facts.left_at old new (λ file. facts.may_leave old file ⊎ HaveSameRecords (facts.content old) file))
       → IsAsItWas facts old new
   is_as_it_was same as_damaged any_moment = record {
     same = λ told. record { records = λ records. same records told; damaged = λ offset. as_damaged offset told };
     leaves = λ told.
-        opening_leaves facts.moment facts.left_since facts.may_leave counts_now old new (facts.content old) (any_moment told);
+        opening_leaves facts.moment facts.left_at facts.may_leave counts_now old new (facts.content old) (any_moment told);
   }
 
 module _ {D : Type 0} (facts : DiskFacts D) (old : D) where

@@ -111,7 +111,7 @@ module _ {D : Type 0} (facts : DiskFacts D) where
   pub is_alone : (disk : D) → IsAsItWas facts disk disk
   is_alone disk = record {
     same = λ told. record { records = λ records is. is; damaged = λ offset is. refl };
-    leaves = λ told. left_alone facts.moment facts.left_since disk _;
+    leaves = λ told. left_alone facts.moment facts.left_at disk _;
   }
 
   pub are_alone : (disks : List D) → AreAsTheyWere facts disks disks
@@ -132,15 +132,15 @@ module _ {D : Type 0} (facts : DiskFacts D) where
 
   -- a crash left such files
   leaves_kept : (a b : D) (kept : List Kept) → IsTrue facts.tells → IsAsItWas facts a b → IsJournal (facts.content a) kept
-      → LeavesAlso facts.moment facts.left_since a b (λ file. Stands file (spellings kept))
+      → LeavesAlso facts.moment facts.left_at a b (λ file. Stands file (spellings kept))
   leaves_kept a b kept told was is =
-      leaves_then facts.moment facts.left_since a a b (λ file. ⊥) _ _ (left_alone facts.moment facts.left_since a (λ file. ⊥)) (was.leaves told)
+      leaves_then facts.moment facts.left_at a a b (λ file. ⊥) _ _ (left_alone facts.moment facts.left_at a (λ file. ⊥)) (was.leaves told)
       (λ file never. absurd never)
       (λ file same. subst (λ (l : List (List ℕ)). Stands file l) (one_list (facts.content a) same.0 (spellings kept) same.1 is.stands) same.2)
 
   pub leave_kept : (before after : List D) (nodes : List Held) → IsTrue facts.tells → AreAsTheyWere facts before after
       → AreJournals (map facts.content before) nodes
-      → LeaveSuch facts.moment facts.left_since (λ at file. Stands file (spellings (journal_at nodes at))) before after
+      → LeaveSuch facts.moment facts.left_at (λ at file. Stands file (spellings (journal_at nodes at))) before after
   leave_kept [] [] nodes told were are = tt
   leave_kept [] (b ∷ after) nodes told were are = absurd were
   leave_kept (a ∷ before) [] nodes told were are = absurd were
@@ -221,7 +221,7 @@ module _ {D : Type 0} (facts : DiskFacts D) where
   -- a crash in the meantime left these, too
   pub opened_leave : (disks : List D) (journals : List (JournalView D)) (found : List (List (List ℕ))) (nodes : List Held) → IsTrue facts.tells
       → InThrees (IsOpenedOn facts) disks journals found → AreJournals (map facts.content disks) nodes
-      → LeaveSuch facts.moment facts.left_since (λ at file. Stands file (spellings (journal_at nodes at))) disks (disks_of journals)
+      → LeaveSuch facts.moment facts.left_at (λ at file. Stands file (spellings (journal_at nodes at))) disks (disks_of journals)
   opened_leave disks journals found nodes told are is =
       leave_kept facts disks (disks_of journals) nodes told (opened_as_were facts disks journals found are) is
 
@@ -316,7 +316,7 @@ module _ {D : Type 0} (facts : DiskFacts D) where
     unopened_journals nodes told is = still_journals facts before after nodes told unopened_as_were is
 
     pub unopened_leave : (nodes : List Held) → IsTrue facts.tells → AreJournals (map facts.content before) nodes
-        → LeaveSuch facts.moment facts.left_since (λ at file. Stands file (spellings (journal_at nodes at))) before after
+        → LeaveSuch facts.moment facts.left_at (λ at file. Stands file (spellings (journal_at nodes at))) before after
     unopened_leave nodes told is = leave_kept facts before after nodes told unopened_as_were is
 
   pub unopened_stops : (status : Status) (before after : List D) → AreUnopened facts status before after → StopsOpening status

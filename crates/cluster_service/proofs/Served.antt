@@ -13,7 +13,7 @@ use Rattle.node_model.specs.States.{NodeState}
 use Rattle.node_model.specs.World.{Held, World, Event, Happens, IsRouter}
 use Rattle.driver_steps.specs.declared.seat.Seat.{Seat}
 use Rattle.driver_steps.specs.Crashes.{Since}
-use Rattle.driver_steps.specs.Seats.{AreHeld, Keeps, LeaveKept, seat_since, seat_view, since_then}
+use Rattle.driver_steps.specs.Seats.{AreHeld, Keeps, seat_since, seat_view, since_then}
 use Rattle.driver_steps.proofs.Crashes.{held_since, start_leaves}
 use Rattle.driver_steps.proofs.Seats.{held_len}
 use Rattle.node_cell.specs.declared.view.Placed.{Placed}

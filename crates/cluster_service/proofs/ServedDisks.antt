@@ -24,12 +24,12 @@ use Rattle.node_cell.specs.Standing.{AreFrom, Ends}
 use Rattle.conn_server.specs.Conversations.{LinkFacts, Served, some_failed}
 use Rattle.pipe_driver.proofs.Covers.{got_mapped}
 use Rattle.cluster_service.specs.Counts.{OneRoseWhere}
-use Rattle.cluster_service.specs.Crashes.{IsOfTheWay, LeaveSuch, LeaveTheWay}
+use Rattle.cluster_service.specs.Crashes.{IsOfTheWay, IsOfWorld, LeaveSuch, LeaveTheWay}
 use Rattle.journal_starts.specs.Journals.{AreJournals, IsJournal}
 use Rattle.cluster_service.specs.Openings.{InPairs}
 use Rattle.cluster_service.specs.Servers.{AreJournalsUpTo, IsUpTo, LeaveUpTo, ServerHeadline}
 use Rattle.cluster_service.proofs.Counts.{all_still, one_of_them_rose}
-use Rattle.cluster_service.proofs.Crashes.{IsOfWorld, all_weaker, at_place, leaves_then, left_alone, of_the_first, seats_leave}
+use Rattle.cluster_service.proofs.Crashes.{all_weaker, at_place, leaves_then, left_alone, of_the_first, seats_leave}
 use Rattle.cluster_service.proofs.Firsts.{happens_count}
 use Rattle.cluster_service.proofs.SeatFacts.{kept_in_files}
 use Rattle.cluster_service.proofs.OneHistories.{one_history}
@@ -45,7 +45,7 @@ pub told_placed : {N D X : Type 0} (f : D → X) (disks : List D) (placed : List
 told_placed {N = N} {D = D} f disks placed is =
     ap (λ (ds : List D). map f ds) is ∙ mapped_twice f (λ (p : Placed N (JournalView D)). p.seat.log.disk) placed
 
-run_count : (u : World) (events : List Event) (w : World) → Run u events w → length w.nodes ≡ length u.nodes
+pub run_count : (u : World) (events : List Event) (w : World) → Run u events w → length w.nodes ≡ length u.nodes
 run_count _ _ _ (stands w) = refl
 run_count _ _ _ (goes u v w e events h run) = run_count v events w run ∙ happens_count u v e h
 
@@ -60,26 +60,26 @@ journal_there (x ∷ files) (h ∷ nodes) are zero file got =
 journal_there (x ∷ files) (h ∷ nodes) are (suc at) file got = journal_there files nodes are.1 at file got
 
 -- no event more
-up_to_end : {D : Type 0} (first : World) (tells : Bool) (moment : D → ℕ) (left_since : D → ℕ → Outcomes) (befores afters : List D) (w : World)
-    → LeaveTheWay first tells moment left_since befores afters w → LeaveUpTo first tells moment left_since befores afters w
-up_to_end first tells moment left_since befores afters w left told =
-    all_weaker moment left_since (λ at file. IsOfTheWay first w at file) (λ at file. (v : World) × IsUpTo w v × IsOfTheWay first v at file) befores afters
+up_to_end : {D : Type 0} (first : World) (tells : Bool) (moment : D → ℕ) (left_at : D → ℕ → Outcomes) (befores afters : List D) (w : World)
+    → LeaveTheWay first tells moment left_at befores afters w → LeaveUpTo first tells moment left_at befores afters w
+up_to_end first tells moment left_at befores afters w left told =
+    all_weaker moment left_at (λ at file. IsOfTheWay first w at file) (λ at file. (v : World) × IsUpTo w v × IsOfTheWay first v at file) befores afters
     (λ at file is. (w, inl refl, is)) (left told)
 
 -- nothing was served
 pub none_served : {I S D : Type 0} (meaning : I → Input) (bytes : LinkFacts S) (first : World) (tells : Bool) (failed : Type 0) (files : List (List ℕ))
-    (moment : D → ℕ) (left_since : D → ℕ → Outcomes) (befores afters : List D) → IsFirst first → (IsTrue tells → AreJournals files first.nodes)
-    → LeaveTheWay first tells moment left_since befores afters first
-    → ServerHeadline meaning bytes first tells failed files (LeaveTheWay first tells moment left_since befores afters)
-    (LeaveUpTo first tells moment left_since befores afters) []
-none_served meaning bytes first tells failed files moment left_since befores afters begins are left = record {
+    (moment : D → ℕ) (left_at : D → ℕ → Outcomes) (befores afters : List D) → IsFirst first → (IsTrue tells → AreJournals files first.nodes)
+    → LeaveTheWay first tells moment left_at befores afters first
+    → ServerHeadline meaning bytes first tells failed files (LeaveTheWay first tells moment left_at befores afters)
+    (LeaveUpTo first tells moment left_at befores afters) []
+none_served meaning bytes first tells failed files moment left_at befores afters begins are left = record {
   events = [];
   end = first;
   run = stands first;
   journals = λ never. are;
   journals_up_to = λ told at file got. (first, inl refl, journal_there files first.nodes (are told) at file got);
   crashes = λ never. left;
-  crashes_up_to = up_to_end first tells moment left_since befores afters first left;
+  crashes_up_to = up_to_end first tells moment left_at befores afters first left;
   history = one_history first begins [] first (stands first);
   served = tt;
 }
@@ -102,13 +102,13 @@ headline_as meaning bytes first tells failed other files leaves leaves_up_to lin
 }
 
 -- after one event more, or none
-module _ {N D : Type 0} (state : N → NodeState) (tells : Bool) (content : D → List ℕ) (moment : D → ℕ) (left_since : D → ℕ → Outcomes)
+module _ {N D : Type 0} (state : N → NodeState) (tells : Bool) (content : D → List ℕ) (moment : D → ℕ) (left_at : D → ℕ → Outcomes)
     (fault_count : D → ℕ) (place : D → List ℕ) (first : World) (w : World) (told : IsTrue tells) where
   up_to_places : (node : ℕ → ℕ) (disks : List D) (olds : List (Seat N (JournalView D))) (all : List (Placed N (JournalView D)))
-      → LeaveSuch moment left_since (λ at. IsOfWorld first (node at)) disks (map (λ s. s.log.disk) olds) → length olds ≡ length all
+      → LeaveSuch moment left_at (λ at. IsOfWorld first (node at)) disks (map (λ s. s.log.disk) olds) → length olds ≡ length all
       → ((at : ℕ) (p : Placed N (JournalView D)) → slice_get all at ≡ Some p → (old : JournalView D) → slice_get (map (λ s. s.log) olds) at ≡ Some old
-      → (v : World) × IsUpTo w v × LeavesKept (journal_facts tells content moment left_since fault_count place) first old p.seat.log (node at) v)
-      → LeaveSuch moment left_since (λ at file. (v : World) × IsUpTo w v × IsOfTheWay first v (node at) file) disks (map (λ p. p.seat.log.disk) all)
+      → (v : World) × IsUpTo w v × LeavesKept (journal_facts tells content moment left_at fault_count place) first old p.seat.log (node at) v)
+      → LeaveSuch moment left_at (λ at file. (v : World) × IsUpTo w v × IsOfTheWay first v (node at) file) disks (map (λ p. p.seat.log.disk) all)
   up_to_places node [] [] [] early len kept = tt
   up_to_places node [] [] (p ∷ all) early len kept = absurd (omega (arith, len))
   up_to_places node [] (o ∷ olds) all early len kept = absurd early
@@ -116,37 +116,37 @@ module _ {N D : Type 0} (state : N → NodeState) (tells : Bool) (content : D �
   up_to_places node (disk ∷ disks) (o ∷ olds) [] early len kept = absurd (omega (arith, len))
   up_to_places node (disk ∷ disks) (o ∷ olds) (p ∷ all) early len kept = (
     (let k = kept zero p refl o.log refl in
-        leaves_then moment left_since disk disk p.seat.log.disk (λ file. ⊥) (λ file. IsOfTheWay first k.0 (node zero) file)
-        (λ file. (v : World) × IsUpTo w v × IsOfTheWay first v (node zero) file) (left_alone moment left_since disk (λ file. ⊥))
-        (at_place state tells content moment left_since fault_count place first k.0 told (node zero) disk o.log p.seat.log early.0 k.2)
+        leaves_then moment left_at disk disk p.seat.log.disk (λ file. ⊥) (λ file. IsOfTheWay first k.0 (node zero) file)
+        (λ file. (v : World) × IsUpTo w v × IsOfTheWay first v (node zero) file) (left_alone moment left_at disk (λ file. ⊥))
+        (at_place state tells content moment left_at fault_count place first k.0 told (node zero) disk o.log p.seat.log early.0 k.2)
         (λ file never. absurd never) (λ file is. (k.0, k.1, is))),
     up_to_places (λ at. node (suc at)) disks olds all early.1 (omega (arith, len)) (λ at. kept (suc at)),
   )
 
-module _ {N D : Type 0} (state : N → NodeState) (tells : Bool) (content : D → List ℕ) (moment : D → ℕ) (left_since : D → ℕ → Outcomes)
+module _ {N D : Type 0} (state : N → NodeState) (tells : Bool) (content : D → List ℕ) (moment : D → ℕ) (left_at : D → ℕ → Outcomes)
     (fault_count : D → ℕ) (place : D → List ℕ) (first : World) (seats : List (Seat N (JournalView D)))
-    (held : AreHeld (seat_view state (journal_facts tells content moment left_since fault_count place)) seats first.nodes) where
+    (held : AreHeld (seat_view state (journal_facts tells content moment left_at fault_count place)) seats first.nodes) where
   -- the nodes are as they were
   pub same_files : IsTrue tells → AreJournals (map content (map (λ s. s.log.disk) seats)) first.nodes
   same_files told =
-      kept_in_files state tells content moment left_since fault_count place seats first.nodes
-      (held_kept (seat_view state (journal_facts tells content moment left_since fault_count place)) seats first.nodes held) told
+      kept_in_files state tells content moment left_at fault_count place seats first.nodes
+      (held_kept (seat_view state (journal_facts tells content moment left_at fault_count place)) seats first.nodes held) told
 
-  pub same_leave : (disks : List D) → (IsTrue tells → LeaveSuch moment left_since (IsOfWorld first) disks (map (λ s. s.log.disk) seats))
-      → LeaveTheWay first tells moment left_since disks (map (λ s. s.log.disk) seats) first
+  pub same_leave : (disks : List D) → (IsTrue tells → LeaveSuch moment left_at (IsOfWorld first) disks (map (λ s. s.log.disk) seats))
+      → LeaveTheWay first tells moment left_at disks (map (λ s. s.log.disk) seats) first
   same_leave disks early told =
-      all_weaker moment left_since (IsOfWorld first) (λ at file. IsOfTheWay first first at file) disks (map (λ s. s.log.disk) seats)
+      all_weaker moment left_at (IsOfWorld first) (λ at file. IsOfTheWay first first at file) disks (map (λ s. s.log.disk) seats)
       (λ at file stands. of_the_first first first at file (leads_nowhere first) stands) (early told)
 
   module _ {M I : Type 0} (steps : N → ℕ) (letter : M → Letter) (meaning : I → Input) (placed : List (Placed N (JournalView D))) (events : List Event) (w : World)
       (run : Run first events w) (from : AreFrom 0 placed)
-      (ends : AllByRecursion (λ p. Ends (node_facts state steps letter meaning (journal_facts tells content moment left_since fault_count place))
+      (ends : AllByRecursion (λ p. Ends (node_facts state steps letter meaning (journal_facts tells content moment left_at fault_count place))
       (since_then seats first) w p) placed) (count : length placed ≡ length seats) where
-    after : InPairs (IsAfter (journal_facts tells content moment left_since fault_count place)) (map (λ s. s.log) seats) placed
+    after : InPairs (IsAfter (journal_facts tells content moment left_at fault_count place)) (map (λ s. s.log) seats) placed
     after =
-        in_pairs (IsAfter (journal_facts tells content moment left_since fault_count place)) (map (λ s. s.log) seats) placed
+        in_pairs (IsAfter (journal_facts tells content moment left_at fault_count place)) (map (λ s. s.log) seats) placed
         (λ at p got.
-        let was = each_was (node_facts state steps letter meaning (journal_facts tells content moment left_since fault_count place))
+        let was = each_was (node_facts state steps letter meaning (journal_facts tells content moment left_at fault_count place))
         (since_then seats first) w placed from ends at p got in
         (was.first, (was.here, was.is)))
         (count ∙ sym (length-map seats (λ s. s.log)))
@@ -158,14 +158,14 @@ module _ {N D : Type 0} (state : N → NodeState) (tells : Bool) (content : D �
       pub served_places : map place disks ≡ map (λ s. place s.log.disk) seats
       served_places =
           told_placed place disks placed are
-          ∙ after_places (journal_facts tells content moment left_since fault_count place) (map (λ s. s.log) seats) placed after ∙ before place
+          ∙ after_places (journal_facts tells content moment left_at fault_count place) (map (λ s. s.log) seats) placed after ∙ before place
 
       pub served_later : NoneFell (map (λ s. fault_count s.log.disk) seats) (map fault_count disks)
       served_later =
           subst (λ (ns : List ℕ). NoneFell ns (map fault_count disks)) (before fault_count)
           (subst (λ (ns : List ℕ). NoneFell (map (λ (j : JournalView D). fault_count j.disk) (map (λ s. s.log) seats)) ns)
           (sym (told_placed fault_count disks placed are))
-          (after_later (journal_facts tells content moment left_since fault_count place) (map (λ s. s.log) seats) placed after))
+          (after_later (journal_facts tells content moment left_at fault_count place) (map (λ s. s.log) seats) placed after))
 
       pub served_fault : (failed : Type 0) → failed ↔ IsTrue (some_failed placed)
           → OneRoseWhere failed (map (λ s. fault_count s.log.disk) seats) (map fault_count disks)
@@ -173,8 +173,8 @@ module _ {N D : Type 0} (state : N → NodeState) (tells : Bool) (content : D �
           subst (λ (ns : List ℕ). OneRoseWhere failed ns (map fault_count disks)) (before fault_count)
           (subst (λ (ns : List ℕ). OneRoseWhere failed (map (λ (j : JournalView D). fault_count j.disk) (map (λ s. s.log) seats)) ns)
           (sym (told_placed fault_count disks placed are)) (
-            λ is. after_rose (journal_facts tells content moment left_since fault_count place) (map (λ s. s.log) seats) placed after (where_it.0 is),
-            λ never. after_calm (journal_facts tells content moment left_since fault_count place) (map (λ s. s.log) seats) placed after
+            λ is. after_rose (journal_facts tells content moment left_at fault_count place) (map (λ s. s.log) seats) placed after (where_it.0 is),
+            λ never. after_calm (journal_facts tells content moment left_at fault_count place) (map (λ s. s.log) seats) placed after
                 (λ some. never (where_it.1 some)),
           ))
 
@@ -183,7 +183,7 @@ module _ {N D : Type 0} (state : N → NodeState) (tells : Bool) (content : D �
       served_up_to told at file got =
           let m = got_mapped (λ (p : Placed N (JournalView D)). content p.seat.log.disk) placed at file
           (subst (λ (fs : List (List ℕ)). slice_get fs at ≡ Some file) (told_placed content disks placed are) got) in
-          let k = (each_was (node_facts state steps letter meaning (journal_facts tells content moment left_since fault_count place))
+          let k = (each_was (node_facts state steps letter meaning (journal_facts tells content moment left_at fault_count place))
           (since_then seats first) w placed from ends at m.0 m.1).kept in
           let stored : journal_at k.end.nodes at ≡ k.held.kept = journal_got k.end.nodes at k.held k.here in (
             k.end,
@@ -193,13 +193,13 @@ module _ {N D : Type 0} (state : N → NodeState) (tells : Bool) (content : D �
           )
 
       pub served_leave_up_to : (befores : List D)
-          → (IsTrue tells → LeaveSuch moment left_since (IsOfWorld first) befores (map (λ s. s.log.disk) seats))
-          → LeaveUpTo first tells moment left_since befores disks w
+          → (IsTrue tells → LeaveSuch moment left_at (IsOfWorld first) befores (map (λ s. s.log.disk) seats))
+          → LeaveUpTo first tells moment left_at befores disks w
       served_leave_up_to befores early told =
-          subst (λ (ds : List D). LeaveSuch moment left_since (λ at file. (v : World) × IsUpTo w v × IsOfTheWay first v at file) befores ds) (sym are)
-          (up_to_places state tells content moment left_since fault_count place first w told (λ at. at) befores seats placed (early told) (sym count)
+          subst (λ (ds : List D). LeaveSuch moment left_at (λ at file. (v : World) × IsUpTo w v × IsOfTheWay first v at file) befores ds) (sym are)
+          (up_to_places state tells content moment left_at fault_count place first w told (λ at. at) befores seats placed (early told) (sym count)
           (λ at p got old began.
-          let l = (each_was (node_facts state steps letter meaning (journal_facts tells content moment left_since fault_count place))
+          let l = (each_was (node_facts state steps letter meaning (journal_facts tells content moment left_at fault_count place))
           (since_then seats first) w placed from ends at p got).crash in
           (l.last, l.up_to, (l.leaves told).0 old began)))
 
@@ -208,13 +208,13 @@ module _ {N D : Type 0} (state : N → NodeState) (tells : Bool) (content : D �
         served_open =
             all_by_place (λ p. IsTrue p.seat.log.is_open) placed
             (λ at p got.
-            ((each_was (node_facts state steps letter meaning (journal_facts tells content moment left_since fault_count place))
+            ((each_was (node_facts state steps letter meaning (journal_facts tells content moment left_at fault_count place))
             (since_then seats first) w placed from ends at p got).stays
-            (none_failed_at (journal_facts tells content moment left_since fault_count place) placed never at p got)).is_open)
+            (none_failed_at (journal_facts tells content moment left_at fault_count place) placed never at p got)).is_open)
 
         files_of : (nodes : List Held) (all : List (Placed N (JournalView D)))
             → ((at : ℕ) (p : Placed N (JournalView D)) → slice_get all at ≡ Some p → (h : Held) × ((slice_get nodes at ≡ Some h)
-            × IsHeld (seat_since state (journal_facts tells content moment left_since fault_count place) (since_then seats first) p.seat) h))
+            × IsHeld (seat_since state (journal_facts tells content moment left_at fault_count place) (since_then seats first) p.seat) h))
             → length nodes ≡ length all → IsTrue tells → AreJournals (map content (map (λ p. p.seat.log.disk) all)) nodes
         files_of [] [] each long told = tt
         files_of [] (p ∷ all) each long told = absurd (omega (arith, long))
@@ -222,7 +222,7 @@ module _ {N D : Type 0} (state : N → NodeState) (tells : Bool) (content : D �
         files_of (h ∷ nodes) (p ∷ all) each long told =
             let there = each zero p refl in
             let same : there.0 ≡ h = sym (cc there.1.0) in
-            let is = subst (λ (x : Held). IsHeld (seat_since state (journal_facts tells content moment left_since fault_count place) (since_then seats first) p.seat) x) same there.1.1 in
+            let is = subst (λ (x : Held). IsHeld (seat_since state (journal_facts tells content moment left_at fault_count place) (since_then seats first) p.seat) x) same there.1.1 in
             (record { stands = is.keeps.found told told; readable = is.keeps.readable }, files_of nodes all (λ at. each (suc at)) (omega (arith, long)) told)
 
         served_files : IsTrue tells → AreJournals (map content disks) w.nodes
@@ -230,12 +230,12 @@ module _ {N D : Type 0} (state : N → NodeState) (tells : Bool) (content : D �
             subst (λ (ds : List D). AreJournals (map content ds) w.nodes) (sym are)
             (files_of w.nodes placed
             (λ at p got.
-            let s = (each_was (node_facts state steps letter meaning (journal_facts tells content moment left_since fault_count place))
+            let s = (each_was (node_facts state steps letter meaning (journal_facts tells content moment left_at fault_count place))
             (since_then seats first) w placed from ends at p got).stays
-            (none_failed_at (journal_facts tells content moment left_since fault_count place) placed never at p got) in
+            (none_failed_at (journal_facts tells content moment left_at fault_count place) placed never at p got) in
             (s.stands.held, (s.stands.here, s.stands.is)))
             (run_count first events w run
-            ∙ (sym (held_len (seat_view state (journal_facts tells content moment left_since fault_count place)) seats first.nodes held) ∙ sym count))
+            ∙ (sym (held_len (seat_view state (journal_facts tells content moment left_at fault_count place)) seats first.nodes held) ∙ sym count))
             told)
 
         seat_at : (all : List (Placed N (JournalView D))) (at : ℕ) (s : Seat N (JournalView D)) → slice_get (map (λ p. p.seat) all) at ≡ Some s
@@ -244,30 +244,30 @@ module _ {N D : Type 0} (state : N → NodeState) (tells : Bool) (content : D �
         seat_at (p ∷ all) zero s got = (p, (refl, cc got))
         seat_at (p ∷ all) (suc at) s got = seat_at all at s got
 
-        served_leave : (befores : List D) → (IsTrue tells → LeaveSuch moment left_since (IsOfWorld first) befores (map (λ s. s.log.disk) seats))
-            → LeaveTheWay first tells moment left_since befores disks w
+        served_leave : (befores : List D) → (IsTrue tells → LeaveSuch moment left_at (IsOfWorld first) befores (map (λ s. s.log.disk) seats))
+            → LeaveTheWay first tells moment left_at befores disks w
         served_leave befores early told =
-            subst (λ (ds : List D). LeaveSuch moment left_since (λ at file. IsOfTheWay first w at file) befores ds)
+            subst (λ (ds : List D). LeaveSuch moment left_at (λ at file. IsOfTheWay first w at file) befores ds)
             (mapped_twice (λ (s : Seat N (JournalView D)). s.log.disk) (λ (p : Placed N (JournalView D)). p.seat) placed ∙ sym are)
-            (seats_leave state tells content moment left_since fault_count place first w told befores seats (map (λ p. p.seat) placed) (early told)
+            (seats_leave state tells content moment left_at fault_count place first w told befores seats (map (λ p. p.seat) placed) (early told)
             (sym count ∙ sym (length-map placed (λ p. p.seat)))
             (λ at s got.
             let there = seat_at placed at s got in
-            subst (λ (x : Seat N (JournalView D)). (seat_since state (journal_facts tells content moment left_since fault_count place) (since_then seats first) x).leaves at w)
+            subst (λ (x : Seat N (JournalView D)). (seat_since state (journal_facts tells content moment left_at fault_count place) (since_then seats first) x).leaves at w)
             there.1.1
-            ((each_was (node_facts state steps letter meaning (journal_facts tells content moment left_since fault_count place))
+            ((each_was (node_facts state steps letter meaning (journal_facts tells content moment left_at fault_count place))
             (since_then seats first) w placed from ends at there.0 there.1.0).stays
-            (none_failed_at (journal_facts tells content moment left_since fault_count place) placed never at there.0 there.1.0)).stands.leaves))
+            (none_failed_at (journal_facts tells content moment left_at fault_count place) placed never at there.0 there.1.0)).stands.leaves))
 
   -- the server ended
   pub some_served : {M I S : Type 0} (steps : N → ℕ) (letter : M → Letter) (meaning : I → Input) (bytes : LinkFacts S)
       (placed : List (Placed N (JournalView D))) (links : List (Spoken S)) (disks befores : List D) (failed : Type 0) → IsFirst first → AreFrom 0 placed
       → length placed ≡ length seats → disks ≡ map (λ p. p.seat.log.disk) placed → (IsTrue (some_failed placed) → failed)
-      → Served (node_facts state steps letter meaning (journal_facts tells content moment left_since fault_count place)) bytes
+      → Served (node_facts state steps letter meaning (journal_facts tells content moment left_at fault_count place)) bytes
       (since_then seats first) first placed links
-      → (IsTrue tells → LeaveSuch moment left_since (IsOfWorld first) befores (map (λ s. s.log.disk) seats))
-      → ServerHeadline meaning bytes first tells failed (map content disks) (LeaveTheWay first tells moment left_since befores disks)
-      (LeaveUpTo first tells moment left_since befores disks) links
+      → (IsTrue tells → LeaveSuch moment left_at (IsOfWorld first) befores (map (λ s. s.log.disk) seats))
+      → ServerHeadline meaning bytes first tells failed (map content disks) (LeaveTheWay first tells moment left_at befores disks)
+      (LeaveUpTo first tells moment left_at befores disks) links
   some_served steps letter meaning bytes placed links disks befores failed begins from count are where_it s early = record {
     events = s.events;
     end = s.world;

@@ -1,3 +1,4 @@
+pub mod AfterCrashes
 pub mod Arguments
 pub mod Counts
 pub mod Crashes

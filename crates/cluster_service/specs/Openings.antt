@@ -17,7 +17,7 @@ pub record DiskFacts (D : Type 0) : Type 1 where
   pub content : D → List ℕ
   pub may_leave : D → Outcomes
   pub moment : D → ℕ
-  pub left_since : D → ℕ → Outcomes
+  pub left_at : D → ℕ → Outcomes
   pub place : D → List ℕ
   pub fault_count : D → ℕ
 
@@ -27,7 +27,7 @@ disk_facts told content_of outcomes moment_of left place_of faults = record {
   content = content_of;
   may_leave = outcomes;
   moment = moment_of;
-  left_since = left;
+  left_at = left;
   place = place_of;
   fault_count = faults;
 }
@@ -52,7 +52,7 @@ pub record HasSame (before after : List ℕ) : Type 0 where
 -- The disk's file has the records that it had, now and after a crash at any moment since before.
 pub record IsAsItWas {D : Type 0} (facts : DiskFacts D) (before after : D) : Type 0 where
   pub same : IsTrue facts.tells → HasSame (facts.content before) (facts.content after)
-  pub leaves : IsTrue facts.tells → LeavesAlso facts.moment facts.left_since before after (λ file. HaveSameRecords (facts.content before) file)
+  pub leaves : IsTrue facts.tells → LeavesAlso facts.moment facts.left_at before after (λ file. HaveSameRecords (facts.content before) file)
 
 -- so are all, before and after in one order
 abbrev pub AreAsTheyWere : {D : Type 0} → DiskFacts D → List D → List D → Type 0

@@ -27,8 +27,8 @@ AreJournalsUpTo files end = (at : ℕ) (file : List ℕ) → slice_get files at 
 
 -- a crash at any moment of the call left of each disk what it might have left before, or what its node stored on the way to such a world
 abbrev pub LeaveUpTo : {D : Type 0} → (first : World) → Bool → (D → ℕ) → (D → ℕ → Outcomes) → List D → List D → World → Type 0
-LeaveUpTo first tells moment left_since befores afters end =
-    IsTrue tells → LeaveSuch moment left_since (λ at file. (v : World) × IsUpTo end v × IsOfTheWay first v at file) befores afters
+LeaveUpTo first tells moment left_at befores afters end =
+    IsTrue tells → LeaveSuch moment left_at (λ at file. (v : World) × IsUpTo end v × IsOfTheWay first v at file) befores afters
 
 -- From the first world on there is a run of the nodes, which makes one legal history with all calls before. On each link, each request was taken in a step of
 -- the run, and its reply returned by one, in the steps that are named; and these replies were written. The disks store the journals; but where a disk failed

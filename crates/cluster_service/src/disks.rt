@@ -26,9 +26,9 @@ pub struct AllUnopened<D: Drop> {
 
 /// Opens the journal on a disk, and returns it with the records that were found.
 fn open_one<D: Disk>(alloc: Global, disk: D) -> Result<(Journal<D>, RecordList), Unopened<D>>
-    ensures opened { IfOk result (λ x. IsOpenedOn (disk_facts D.tells D.content D.may_leave D.moment D.left_since D.place D.fault_count) disk x.0 x.1) }
+    ensures opened { IfOk result (λ x. IsOpenedOn (disk_facts D.tells D.content D.may_leave D.moment D.left_at D.place D.fault_count) disk x.0 x.1) }
     ensures unopened { IfErr result (λ u.
-        IsUnopened (disk_facts D.tells D.content D.may_leave D.moment D.left_since D.place D.fault_count) u.status disk u.disk) }
+        IsUnopened (disk_facts D.tells D.content D.may_leave D.moment D.left_at D.place D.fault_count) u.status disk u.disk) }
 {
     match Journal::open(alloc, disk) {
         Ok(opened) => Ok(opened),
@@ -62,7 +62,7 @@ fn open_some<D: Disk>(
     requires room { vec_len disks ≤ vec_capacity journals.old }
     requires found_room { vec_len disks ≤ vec_capacity found.old }
     requires unopened_room { vec_len disks ≤ vec_capacity unopened.old }
-    ensures { AreOpenedUpTo (disk_facts D.tells D.content D.may_leave D.moment D.left_since D.place D.fault_count)
+    ensures { AreOpenedUpTo (disk_facts D.tells D.content D.may_leave D.moment D.left_at D.place D.fault_count)
         disks.items [] result journals.new.items found.new.items unopened.new.items }
 {
     let mut stopped = None;
@@ -129,11 +129,11 @@ pub struct Opened<D: Disk> {
 /// place.
 pub fn open_all<D: Disk>(alloc: Global, disks: Vec<D>) -> Result<Opened<D>, AllUnopened<D>>
     ensures opened { IfOk result (λ all.
-        InThrees (IsOpenedOn (disk_facts D.tells D.content D.may_leave D.moment D.left_since D.place D.fault_count))
+        InThrees (IsOpenedOn (disk_facts D.tells D.content D.may_leave D.moment D.left_at D.place D.fault_count))
         disks.items all.journals.items all.found.items) }
     ensures back { IfOk result (λ all. (all.back.items ≡ []) × (vec_len disks ≤ vec_capacity all.back)) }
     ensures unopened { IfErr result (λ u.
-        AreUnopened (disk_facts D.tells D.content D.may_leave D.moment D.left_since D.place D.fault_count) u.status disks.items u.disks.items) }
+        AreUnopened (disk_facts D.tells D.content D.may_leave D.moment D.left_at D.place D.fault_count) u.status disks.items u.disks.items) }
 {
     let Ok(rooms) = rooms_for(alloc, disks.len()) else {
         return Err(AllUnopened {

@@ -3,7 +3,8 @@
 ghost use Rattle.std.specs.Prelude.{◌≡◌, ◌≢◌, ◌<◌, vec_len};
 ghost use Rattle.outside.specs.Devices.{sink_call, source_call};
 ghost use Rattle.node_model.specs.World.{World};
-ghost use Rattle.driver_steps.specs.Seats.{AreHeld, AreKept, AreOpen, LeaveKept, faults_of, places_of, seat_since, seat_view, since_then};
+ghost use Rattle.driver_steps.specs.Seats.{AreHeld, AreKept, AreOpen, LeaveKept, faults_of, places_of, seat_since, seat_view, since_noted, since_then};
+ghost use Rattle.driver_steps.specs.Together.{hosted};
 ghost use Rattle.pipe_driver.specs.Acknowledgements.{AreAcknowledgedBy};
 ghost use Rattle.pipe_driver.specs.Counts.{HaveRisenWhere, RoseWhere};
 ghost use Rattle.pipe_driver.specs.Progress.{AreAskedAsRead};
@@ -54,7 +55,8 @@ pub fn drive<
         AreHeld (seat_view N.state L.facts) seats.old.items first.nodes →
         IsDriven command first (source_call S.tells S.left S.fault_count input.old input.new) (sink_call K.tells K.held K.fault_count out.old out.new)
         (C.gives clock.now) (AreKept (seat_view N.state L.facts) seats.new.items)
-        (LeaveKept (seat_since N.state L.facts (since_then seats.old.items first)) seats.new.items)
+        (LeaveKept (seat_since N.state L.facts (since_then seats.old.items first))
+        (hosted K.tells L.facts (since_noted seats.old.items first (K.noted out.old)) (K.noted out.new) seats.new.items))
         (AreAcknowledgedBy L.facts K.tells (output_of command first) first (K.noted out.new) (K.held out.old) seats.new.items)
         result.status result.rest }
     ensures open { result.status ≢ statuses.DiskFailed → AreOpen L.facts.is_open seats.new.items }

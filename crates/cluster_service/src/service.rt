@@ -11,7 +11,7 @@ ghost use Rattle.pipe_driver.specs.Progress.{AreAskedAsRead};
 ghost use Rattle.sim_driver.specs.Moves.{MayPlay};
 ghost use Rattle.cluster_service.specs.Arguments.{IsServer, first_router_of, nodes_of, routers_of};
 ghost use Rattle.cluster_service.specs.Counts.{OneRoseWhere};
-ghost use Rattle.cluster_service.specs.Crashes.{AreDurableBefore, LeaveSuch, LeaveTheWay};
+ghost use Rattle.cluster_service.specs.Crashes.{AreDurableBefore, LeaveAll, LeaveSuch};
 ghost use Rattle.cluster_service.specs.Headline.{HeadlineOf};
 ghost use Rattle.cluster_service.specs.OpenJournals.{AreAllOpen, AreOpenWith, IsDurable, disks_of};
 ghost use Rattle.cluster_service.specs.Statuses.{OfConnection};
@@ -87,13 +87,13 @@ pub fn serve<
     ensures headline { AreAskedAsRead N.asks → (first : World) → MayPlay (first_router_of command) first →
         map N.state nodes.items ≡ map (λ h. h.state) first.nodes →
         AreOpenWith D.tells D.content journals.items first.nodes → (disks : List D) →
-        (IsTrue D.tells → LeaveSuch D.moment D.left_since (λ at file. Stands file (spellings (journal_at first.nodes at))) disks (disks_of journals.items)) →
+        (IsTrue D.tells → LeaveSuch D.moment D.left_at (λ at file. Stands file (spellings (journal_at first.nodes at))) disks (disks_of journals.items)) →
         OfConnection result.status (λ ending. HeadlineOf command first
         (source_call S.tells S.left S.fault_count input.old input.new)
         (sink_call K.tells K.held K.fault_count out.old out.new)
         D.tells (map D.content result.disks.items)
-        (LeaveTheWay first D.tells D.moment D.left_since disks result.disks.items)
-        (AreDurableBefore K.tells D.tells D.place D.moment D.left_since command first (K.noted out.new) (K.held out.old) result.disks.items)
+        (LeaveAll first K.tells D.tells D.place D.moment D.left_at (K.noted out.old) (K.noted out.new) disks result.disks.items)
+        (AreDurableBefore K.tells D.tells D.place D.moment D.left_at command first (K.noted out.new) (K.held out.old) result.disks.items)
         (C.gives clock.now) ending result.rest) }
     ensures durable { IsTrue D.tells → result.status ≢ statuses.DiskFailed → AllByRecursion (IsDurable D.content D.may_leave) result.disks.items }
     ensures status { (result.status ≢ statuses.BadArguments) × (result.status ≢ statuses.DamagedJournal) × (result.status ≢ statuses.AcceptFailed) }

@@ -102,18 +102,18 @@ where
     R: Threads + Wait + Sync,
     requires few { vec_len seats ≤ 64 }
     requires somewhere { AreSeatedSomewhere (1 + server.shards)
-        (seat_view N.state (journal_facts D.tells D.content D.moment D.left_since D.fault_count D.place)) seats.items }
+        (seat_view N.state (journal_facts D.tells D.content D.moment D.left_at D.fault_count D.place)) seats.items }
     requires small { AllByRecursion (λ seat. N.steps seat.node < 2 ^ 56) seats.items }
     requires open { AllByRecursion (λ seat. IsTrue seat.log.is_open) seats.items }
     requires back { back.items ≡ [] }
     requires room { vec_len seats ≤ vec_capacity back }
     ensures headline { (first : World) → MayPlay (1 + server.shards) first →
-        AreHeld (seat_view N.state (journal_facts D.tells D.content D.moment D.left_since D.fault_count D.place)) seats.items first.nodes → (disks : List D) →
-        (IsTrue D.tells → LeaveSuch D.moment D.left_since (λ at file. Stands file (spellings (journal_at first.nodes at))) disks (map (λ seat. seat.log.disk) seats.items)) →
+        AreHeld (seat_view N.state (journal_facts D.tells D.content D.moment D.left_at D.fault_count D.place)) seats.items first.nodes → (disks : List D) →
+        (IsTrue D.tells → LeaveSuch D.moment D.left_at (λ at file. Stands file (spellings (journal_at first.nodes at))) disks (map (λ seat. seat.log.disk) seats.items)) →
         ServerHeadline N.meaning (link_facts A.Link.Source.tells A.Link.Source.left A.Link.Sink.tells A.Link.Sink.held A.Link.is_closed)
         first D.tells (result.status ≡ statuses.DiskFailed)
-        (map D.content result.disks.items) (LeaveTheWay first D.tells D.moment D.left_since disks result.disks.items)
-        (LeaveUpTo first D.tells D.moment D.left_since disks result.disks.items) result.links.items }
+        (map D.content result.disks.items) (LeaveTheWay first D.tells D.moment D.left_at disks result.disks.items)
+        (LeaveUpTo first D.tells D.moment D.left_at disks result.disks.items) result.links.items }
     ensures durable { IsTrue D.tells → result.status ≢ statuses.DiskFailed → AllByRecursion (IsDurable D.content D.may_leave) result.disks.items }
     ensures status { IsServerEnd result.status }
     ensures disk_fault { OneRoseWhere (result.status ≡ statuses.DiskFailed) (map (λ seat. D.fault_count seat.log.disk) seats.items) (map D.fault_count result.disks.items) }
@@ -183,11 +183,11 @@ where
     // the journals were opened.
     ensures headline { (first : World) → MayPlay (1 + server.shards) first → map N.state nodes.items ≡ map (λ h. h.state) first.nodes →
         AreOpenWith D.tells D.content journals.items first.nodes → (disks : List D) →
-        (IsTrue D.tells → LeaveSuch D.moment D.left_since (λ at file. Stands file (spellings (journal_at first.nodes at))) disks (disks_of journals.items)) →
+        (IsTrue D.tells → LeaveSuch D.moment D.left_at (λ at file. Stands file (spellings (journal_at first.nodes at))) disks (disks_of journals.items)) →
         ServerHeadline N.meaning (link_facts A.Link.Source.tells A.Link.Source.left A.Link.Sink.tells A.Link.Sink.held A.Link.is_closed)
         first D.tells (result.status ≡ statuses.DiskFailed)
-        (map D.content result.disks.items) (LeaveTheWay first D.tells D.moment D.left_since disks result.disks.items)
-        (LeaveUpTo first D.tells D.moment D.left_since disks result.disks.items) result.links.items }
+        (map D.content result.disks.items) (LeaveTheWay first D.tells D.moment D.left_at disks result.disks.items)
+        (LeaveUpTo first D.tells D.moment D.left_at disks result.disks.items) result.links.items }
     ensures durable { IsTrue D.tells → result.status ≢ statuses.DiskFailed → AllByRecursion (IsDurable D.content D.may_leave) result.disks.items }
     ensures status { IsServerEnd result.status }
     ensures disk_fault { OneRoseWhere (result.status ≡ statuses.DiskFailed) (map D.fault_count (disks_of journals.items)) (map D.fault_count result.disks.items) }

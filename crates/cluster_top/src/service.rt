@@ -7,7 +7,7 @@ ghost use Rattle.node_model.specs.World.{World};
 ghost use Rattle.pipe_driver.specs.Counts.{RoseWhere};
 ghost use Rattle.cluster_service.specs.Arguments.{IsServer, nodes_of, others_of, routers_of, shards_of};
 ghost use Rattle.cluster_service.specs.Counts.{OneRoseWhere};
-ghost use Rattle.cluster_service.specs.Crashes.{AreDurableBefore, LeaveTheWay};
+ghost use Rattle.cluster_service.specs.Crashes.{AreDurableBefore, LeaveAll};
 ghost use Rattle.cluster_service.specs.Headline.{HeadlineOf};
 ghost use Rattle.cluster_service.specs.OpenJournals.{AreAllOpen, IsDurable, disks_of};
 ghost use Rattle.cluster_service.specs.Openings.{InThrees, IsNotBegun, IsOpenedOn, disk_facts};
@@ -62,12 +62,12 @@ pub fn run_nodes<R: Threads + Sync, S: Source, D: Disk, K: Witness<D>, C: Clock>
         (source_call S.tells S.left S.fault_count input.old input.new)
         (sink_call K.tells K.held K.fault_count out.old out.new)
         D.tells (map D.content result.disks.items)
-        (LeaveTheWay first D.tells D.moment D.left_since disks.items result.disks.items)
-        (AreDurableBefore K.tells D.tells D.place D.moment D.left_since command first (K.noted out.new) (K.held out.old) result.disks.items)
+        (LeaveAll first K.tells D.tells D.place D.moment D.left_at (K.noted out.old) (K.noted out.new) disks.items result.disks.items)
+        (AreDurableBefore K.tells D.tells D.place D.moment D.left_at command first (K.noted out.new) (K.held out.old) result.disks.items)
         (C.gives clock.now) ending result.rest) }
     ensures durable { IsTrue D.tells → result.status ≢ statuses.DiskFailed → AllByRecursion (IsDurable D.content D.may_leave) result.disks.items
         ⊎ (((result.status ≡ statuses.DamagedJournal) ⊎ (result.status ≡ statuses.OutOfMemory))
-        × IsNotBegun (disk_facts D.tells D.content D.may_leave D.moment D.left_since D.place D.fault_count)
+        × IsNotBegun (disk_facts D.tells D.content D.may_leave D.moment D.left_at D.place D.fault_count)
         (source_call S.tells S.left S.fault_count input.old input.new)
         (sink_call K.tells K.held K.fault_count out.old out.new) result.rest disks.items result.disks.items) }
     ensures status { (result.status ≢ statuses.BadArguments) × (result.status ≢ statuses.AcceptFailed) }
@@ -77,7 +77,7 @@ pub fn run_nodes<R: Threads + Sync, S: Source, D: Disk, K: Witness<D>, C: Clock>
         × (IsTrue D.tells → AreRefused (others_of command) (map D.content disks.items)) }
     ensures refused { IsTrue D.tells → AreRefused (others_of command) (map D.content disks.items) →
         ((result.status ≡ statuses.DamagedJournal) ⊎ ((result.status ≡ statuses.DiskFailed) ⊎ (result.status ≡ statuses.OutOfMemory)))
-        × IsNotBegun (disk_facts D.tells D.content D.may_leave D.moment D.left_since D.place D.fault_count)
+        × IsNotBegun (disk_facts D.tells D.content D.may_leave D.moment D.left_at D.place D.fault_count)
         (source_call S.tells S.left S.fault_count input.old input.new)
         (sink_call K.tells K.held K.fault_count out.old out.new) result.rest disks.items result.disks.items }
 
@@ -117,14 +117,14 @@ fn run_opened<R: Threads + Sync, S: Source, D: Disk, K: Witness<D>, C: Clock>(
 
     // `disks` are those of before the journals were opened.
     ensures headline { (disks : List D) (first : World) → IsTrue D.tells →
-        InThrees (IsOpenedOn (disk_facts D.tells D.content D.may_leave D.moment D.left_since D.place D.fault_count)) disks opened.journals.items opened.found.items →
+        InThrees (IsOpenedOn (disk_facts D.tells D.content D.may_leave D.moment D.left_at D.place D.fault_count)) disks opened.journals.items opened.found.items →
         BeginsOnFiles (others_of command) (routers_of command) (map D.content disks) first →
         OfConnection result.status (λ ending. HeadlineOf command first
         (source_call S.tells S.left S.fault_count input.old input.new)
         (sink_call K.tells K.held K.fault_count out.old out.new)
         D.tells (map D.content result.disks.items)
-        (LeaveTheWay first D.tells D.moment D.left_since disks result.disks.items)
-        (AreDurableBefore K.tells D.tells D.place D.moment D.left_since command first (K.noted out.new) (K.held out.old) result.disks.items)
+        (LeaveAll first K.tells D.tells D.place D.moment D.left_at (K.noted out.old) (K.noted out.new) disks result.disks.items)
+        (AreDurableBefore K.tells D.tells D.place D.moment D.left_at command first (K.noted out.new) (K.held out.old) result.disks.items)
         (C.gives clock.now) ending result.rest) }
     ensures durable { IsTrue D.tells → result.status ≢ statuses.DiskFailed → AllByRecursion (IsDurable D.content D.may_leave) result.disks.items }
     ensures status { (result.status ≢ statuses.BadArguments) × (result.status ≢ statuses.AcceptFailed) }
@@ -132,13 +132,13 @@ fn run_opened<R: Threads + Sync, S: Source, D: Disk, K: Witness<D>, C: Clock>(
         × SourceIsUntouched (source_call S.tells S.left S.fault_count input.old input.new)
         × SinkIsUntouched (sink_call K.tells K.held K.fault_count out.old out.new)
         × ((disks : List D) → IsTrue D.tells →
-        InThrees (IsOpenedOn (disk_facts D.tells D.content D.may_leave D.moment D.left_since D.place D.fault_count)) disks opened.journals.items opened.found.items →
+        InThrees (IsOpenedOn (disk_facts D.tells D.content D.may_leave D.moment D.left_at D.place D.fault_count)) disks opened.journals.items opened.found.items →
         AreRefused (others_of command) (map D.content disks)) }
     ensures refused { (disks : List D) → IsTrue D.tells →
-        InThrees (IsOpenedOn (disk_facts D.tells D.content D.may_leave D.moment D.left_since D.place D.fault_count)) disks opened.journals.items opened.found.items →
+        InThrees (IsOpenedOn (disk_facts D.tells D.content D.may_leave D.moment D.left_at D.place D.fault_count)) disks opened.journals.items opened.found.items →
         AreRefused (others_of command) (map D.content disks) →
         ((result.status ≡ statuses.DamagedJournal) ⊎ (result.status ≡ statuses.OutOfMemory))
-        × IsNotBegun (disk_facts D.tells D.content D.may_leave D.moment D.left_since D.place D.fault_count)
+        × IsNotBegun (disk_facts D.tells D.content D.may_leave D.moment D.left_at D.place D.fault_count)
         (source_call S.tells S.left S.fault_count input.old input.new)
         (sink_call K.tells K.held K.fault_count out.old out.new) result.rest disks result.disks.items }
     ensures read_fault { RoseWhere (result.status ≡ statuses.ReadFailed) (S.fault_count input.old) (S.fault_count input.new) }

@@ -72,30 +72,30 @@ where
     requires journals { vec_len opened.journals ≡ 1 + server.shards + server.routers }
     requires found { vec_len opened.found ≡ 1 + server.shards + server.routers }
     requires opened { (disks : List D) ×
-        InThrees (IsOpenedOn (disk_facts D.tells D.content D.may_leave D.moment D.left_since D.place D.fault_count)) disks opened.journals.items opened.found.items }
+        InThrees (IsOpenedOn (disk_facts D.tells D.content D.may_leave D.moment D.left_at D.place D.fault_count)) disks opened.journals.items opened.found.items }
     requires open { AreAllOpen opened.journals.items }
     requires back { opened.back.items ≡ [] }
     requires room { 1 + server.shards + server.routers ≤ vec_capacity opened.back }
 
     // `disks` are those of before the journals were opened.
     ensures headline { (disks : List D) (first : World) → IsTrue D.tells →
-        InThrees (IsOpenedOn (disk_facts D.tells D.content D.may_leave D.moment D.left_since D.place D.fault_count)) disks opened.journals.items opened.found.items →
+        InThrees (IsOpenedOn (disk_facts D.tells D.content D.may_leave D.moment D.left_at D.place D.fault_count)) disks opened.journals.items opened.found.items →
         BeginsOnFiles (server.shards - 1) server.routers (map D.content disks) first →
         ServerHeadline input_of (link_facts A.Link.Source.tells A.Link.Source.left A.Link.Sink.tells A.Link.Sink.held A.Link.is_closed)
         first D.tells (result.status ≡ statuses.DiskFailed)
-        (map D.content result.disks.items) (LeaveTheWay first D.tells D.moment D.left_since disks result.disks.items)
-        (LeaveUpTo first D.tells D.moment D.left_since disks result.disks.items) result.links.items }
+        (map D.content result.disks.items) (LeaveTheWay first D.tells D.moment D.left_at disks result.disks.items)
+        (LeaveUpTo first D.tells D.moment D.left_at disks result.disks.items) result.links.items }
     ensures durable { IsTrue D.tells → result.status ≢ statuses.DiskFailed → AllByRecursion (IsDurable D.content D.may_leave) result.disks.items }
     ensures status { IsServerEnd result.status ⊎ (result.status ≡ statuses.DamagedJournal) }
     ensures damaged { result.status ≡ statuses.DamagedJournal →
         (result.links.items ≡ []) × (acceptor.new ≡ acceptor.old) × ((disks : List D) → IsTrue D.tells →
-        InThrees (IsOpenedOn (disk_facts D.tells D.content D.may_leave D.moment D.left_since D.place D.fault_count)) disks opened.journals.items opened.found.items →
+        InThrees (IsOpenedOn (disk_facts D.tells D.content D.may_leave D.moment D.left_at D.place D.fault_count)) disks opened.journals.items opened.found.items →
         AreRefused (server.shards - 1) (map D.content disks)) }
     ensures refused { (disks : List D) → IsTrue D.tells →
-        InThrees (IsOpenedOn (disk_facts D.tells D.content D.may_leave D.moment D.left_since D.place D.fault_count)) disks opened.journals.items opened.found.items →
+        InThrees (IsOpenedOn (disk_facts D.tells D.content D.may_leave D.moment D.left_at D.place D.fault_count)) disks opened.journals.items opened.found.items →
         AreRefused (server.shards - 1) (map D.content disks) →
         ((result.status ≡ statuses.DamagedJournal) ⊎ (result.status ≡ statuses.OutOfMemory)) × (result.links.items ≡ []) × (acceptor.new ≡ acceptor.old)
-        × AreAsTheyWere (disk_facts D.tells D.content D.may_leave D.moment D.left_since D.place D.fault_count) disks result.disks.items }
+        × AreAsTheyWere (disk_facts D.tells D.content D.may_leave D.moment D.left_at D.place D.fault_count) disks result.disks.items }
     ensures disk_fault { OneRoseWhere (result.status ≡ statuses.DiskFailed) (map D.fault_count (disks_of opened.journals.items)) (map D.fault_count result.disks.items) }
     ensures later { NoneFell (map D.fault_count (disks_of opened.journals.items)) (map D.fault_count result.disks.items) }
     ensures places { map D.place result.disks.items ≡ map D.place (disks_of opened.journals.items) }
@@ -143,13 +143,13 @@ where
     ensures headline { (first : World) → IsTrue D.tells → BeginsOnFiles (server.shards - 1) server.routers (map D.content disks.items) first →
         ServerHeadline input_of (link_facts A.Link.Source.tells A.Link.Source.left A.Link.Sink.tells A.Link.Sink.held A.Link.is_closed)
         first D.tells (result.status ≡ statuses.DiskFailed)
-        (map D.content result.disks.items) (LeaveTheWay first D.tells D.moment D.left_since disks.items result.disks.items)
-        (LeaveUpTo first D.tells D.moment D.left_since disks.items result.disks.items) result.links.items }
+        (map D.content result.disks.items) (LeaveTheWay first D.tells D.moment D.left_at disks.items result.disks.items)
+        (LeaveUpTo first D.tells D.moment D.left_at disks.items result.disks.items) result.links.items }
 
     // Where the acceptor did not listen, the disks are as they were.
     ensures durable { IsTrue D.tells → result.status ≢ statuses.DiskFailed → AllByRecursion (IsDurable D.content D.may_leave) result.disks.items
         ⊎ ((((result.status ≡ statuses.DamagedJournal) ⊎ (result.status ≡ statuses.OutOfMemory))
-        × AreAsTheyWere (disk_facts D.tells D.content D.may_leave D.moment D.left_since D.place D.fault_count) disks.items result.disks.items)
+        × AreAsTheyWere (disk_facts D.tells D.content D.may_leave D.moment D.left_at D.place D.fault_count) disks.items result.disks.items)
         ⊎ ((result.status ≡ statuses.AcceptFailed) × (result.disks ≡ disks))) }
     ensures status { IsServerEnd result.status ⊎ (result.status ≡ statuses.DamagedJournal) }
     ensures damaged { result.status ≡ statuses.DamagedJournal → (result.links.items ≡ []) × (A.left acceptor.new ≡ A.left acceptor.old)
@@ -158,7 +158,7 @@ where
         (((result.status ≡ statuses.DamagedJournal) ⊎ ((result.status ≡ statuses.DiskFailed) ⊎ (result.status ≡ statuses.OutOfMemory)))
         ⊎ ((result.status ≡ statuses.AcceptFailed) × (result.disks ≡ disks)))
         × (result.links.items ≡ []) × (A.left acceptor.new ≡ A.left acceptor.old)
-        × AreAsTheyWere (disk_facts D.tells D.content D.may_leave D.moment D.left_since D.place D.fault_count) disks.items result.disks.items }
+        × AreAsTheyWere (disk_facts D.tells D.content D.may_leave D.moment D.left_at D.place D.fault_count) disks.items result.disks.items }
     ensures disk_fault { OneRoseWhere (result.status ≡ statuses.DiskFailed) (map D.fault_count disks.items) (map D.fault_count result.disks.items) }
     ensures later { NoneFell (map D.fault_count disks.items) (map D.fault_count result.disks.items) }
     ensures places { map D.place result.disks.items ≡ map D.place disks.items }

@@ -10,7 +10,7 @@ ghost use Rattle.protocol_model.specs.Inputs.{input_of};
 ghost use Rattle.conn_server.specs.Conversations.{link_facts};
 ghost use Rattle.cluster_service.specs.Arguments.{IsServer, command_of, node_count_of, others_of, routers_of, sessions_of};
 ghost use Rattle.cluster_service.specs.Counts.{OneRoseWhere};
-ghost use Rattle.cluster_service.specs.Crashes.{AreDurableBefore, LeaveTheWay};
+ghost use Rattle.cluster_service.specs.Crashes.{AreDurableBefore, LeaveAll, LeaveTheWay};
 ghost use Rattle.cluster_service.specs.Headline.{HeadlineOf};
 ghost use Rattle.cluster_service.specs.OpenJournals.{IsDurable};
 ghost use Rattle.cluster_service.specs.Openings.{IsNotBegun, disk_facts};
@@ -113,7 +113,7 @@ where
         IsSomeAnd (command_of words.now) (λ command. AreRefused (others_of command) (map D.content disks.items)) }
     ensures refused { IfSome (command_of words.now) (λ command. IsTrue D.tells → AreRefused (others_of command) (map D.content disks.items) →
         (((result.status ≡ 6) ⊎ ((result.status ≡ 5) ⊎ (result.status ≡ 7))) ⊎ ((result.status ≡ 8) × (result.disks ≡ disks)))
-        × IsNotBegun (disk_facts D.tells D.content D.may_leave D.moment D.left_since D.place D.fault_count)
+        × IsNotBegun (disk_facts D.tells D.content D.may_leave D.moment D.left_at D.place D.fault_count)
         (source_call S.tells S.left S.fault_count input.old input.new)
         (sink_call K.tells K.held K.fault_count out.old out.new) result.rest disks.items result.disks.items) }
 
@@ -134,15 +134,15 @@ where
         (source_call S.tells S.left S.fault_count input.old input.new)
         (sink_call K.tells K.held K.fault_count out.old out.new)
         D.tells (map D.content result.disks.items)
-        (LeaveTheWay first D.tells D.moment D.left_since disks.items result.disks.items)
-        (AreDurableBefore K.tells D.tells D.place D.moment D.left_since command first (K.noted out.new) (K.held out.old) result.disks.items)
+        (LeaveAll first K.tells D.tells D.place D.moment D.left_at (K.noted out.old) (K.noted out.new) disks.items result.disks.items)
+        (AreDurableBefore K.tells D.tells D.place D.moment D.left_at command first (K.noted out.new) (K.held out.old) result.disks.items)
         (C.gives clock.now) ending result.rest))) }
 
     // Unless a disk failed, each file is a journal, byte for byte, with nothing after its closed gate, and a crash results in just that; or the nodes were
     // not started, and then nothing was taken or put, and each file has the records that it had; or a port was refused, and no disk was used.
     ensures durable { IsSome (node_count_of words.now) → IsTrue D.tells → result.status ≢ 5 → AllByRecursion (IsDurable D.content D.may_leave) result.disks.items
         ⊎ ((((result.status ≡ 6) ⊎ (result.status ≡ 7))
-        × IsNotBegun (disk_facts D.tells D.content D.may_leave D.moment D.left_since D.place D.fault_count)
+        × IsNotBegun (disk_facts D.tells D.content D.may_leave D.moment D.left_at D.place D.fault_count)
         (source_call S.tells S.left S.fault_count input.old input.new)
         (sink_call K.tells K.held K.fault_count out.old out.new) result.rest disks.items result.disks.items)
         ⊎ ((result.status ≡ 8) × (result.disks ≡ disks))) }
@@ -160,8 +160,8 @@ where
         (link_facts A.Link.Source.tells A.Link.Source.left A.Link.Sink.tells A.Link.Sink.held A.Link.is_closed)
         first D.tells (result.status ≡ 5)
         (map D.content result.disks.items)
-        (LeaveTheWay first D.tells D.moment D.left_since disks.items result.disks.items)
-        (LeaveUpTo first D.tells D.moment D.left_since disks.items result.disks.items) result.links.items) }
+        (LeaveTheWay first D.tells D.moment D.left_at disks.items result.disks.items)
+        (LeaveUpTo first D.tells D.moment D.left_at disks.items result.disks.items) result.links.items) }
     ensures sessions { IfSome (command_of words.now) (λ command. IsServer command → result.status ≡ 0 → vec_len result.links ≡ sessions_of command) }
     ensures accept_fault { result.status ≡ 8 → Rose (A.fault_count acceptor.old) (A.fault_count acceptor.new) }
     ensures accept_later { A.fault_count acceptor.old ≤ A.fault_count acceptor.new }

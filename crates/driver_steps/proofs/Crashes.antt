@@ -1,7 +1,8 @@
 -- What a crash leaves while events lead on.
-use Rattle.std.proofs.Common.{◌≡◌, ◌⊎◌, inl, inr, ℕ, zero, suc, ◌≤◌, List, [], ◌∷◌, ◌++◌, map, IsTrue, sym, ap, subst, ◌∙◌, arith}
+use Rattle.std.proofs.Common.{◌≡◌, inl, inr, ℕ, zero, suc, List, [], ◌∷◌, ◌++◌, map, IsTrue, sym, ap, subst, ◌∙◌, arith}
 use Rattle.std.specs.Prelude.{Some}
 use Rattle.std.specs.List.{slice_get, slice_set}
+use Rattle.std.proofs.lemmas.Bool.{cases_lt}
 use Rattle.std.proofs.lemmas.List.{map-append}
 use Rattle.outside.specs.Logs.{IsDurable, LogFacts, WithOrWithout}
 use Rattle.node_model.specs.Journal.{Kept, record_kept}
@@ -10,11 +11,11 @@ use Rattle.node_model.specs.States.{NodeState}
 use Rattle.node_model.specs.World.{Held, World, Event, stands, Happens, goes, journal_at}
 use Rattle.node_model.proofs.Journals.{journal_got}
 use Rattle.node_model.proofs.Schedules.{run_then}
-use Rattle.node_traits.specs.Calls.{LeavesAlso}
+use Rattle.node_traits.specs.Calls.{LeavesThen}
 use Rattle.node_traits.specs.Effects.{spellings}
 use Rattle.driver_steps.specs.declared.seat.Seat.{Seat}
 use Rattle.driver_steps.specs.Crashes.{Noted, Since, LeadsTo, Passes, LeavesKept, LeavesNoLess, LeavesSinceNotes, leaves_kept, with_notes}
-use Rattle.driver_steps.specs.Seats.{SeatView, AreHeld, AreKept, LeaveKept, seat_since, seat_view, since_then}
+use Rattle.driver_steps.specs.Seats.{SeatView, AreHeld, AreKept, EachLeaves, seat_since, seat_view, since_then}
 use Rattle.driver_steps.proofs.Seats.{HeldAt, held_at}
 
 -- THE WAY
@@ -30,10 +31,6 @@ leads_on u v w first more = (first.0 ++ more.0, run_then u first.0 v more.0 w fi
 
 passes_on : (u v w : World) (P : World → Type 0) → Passes u v P → LeadsTo v w → Passes u w P
 passes_on u v w P p on = record { world = p.world; before = p.before; behind = leads_on p.world v w p.behind on; has = p.has }
-
-passed_on : (X : Type 0) (u v w : World) (P : World → Type 0) → X ⊎ Passes u v P → LeadsTo v w → X ⊎ Passes u w P
-passed_on X u v w P (inl left) on = inl left
-passed_on X u v w P (inr p) on = inr (passes_on u v w P p on)
 
 -- JOURNALS
 
@@ -58,7 +55,11 @@ module _ {L : Type 0} (facts : LogFacts L) (at : ℕ) where
   pub kept_on : (first : World) (old new : L) (v w : World) → LeavesKept facts first old new at v → LeadsTo v w → LeavesKept facts first old new at w
   kept_on first old new v w k on = record {
     came = leads_on first v w k.came on;
-    left = record { later = k.left.later; each = λ t file le left. passed_on _ first v w _ (k.left.each t file le left) on };
+    left = record {
+      later = k.left.later;
+      before = k.left.before;
+      each = λ t file past to left. passes_on first v w _ (k.left.each t file past to left) on;
+    };
   }
 
   pub no_less_on : (given : World) (m : ℕ) (new : L) (v w : World) → LeavesNoLess facts given m new at v → LeadsTo v w
@@ -66,11 +67,11 @@ module _ {L : Type 0} (facts : LogFacts L) (at : ℕ) where
   no_less_on given m new v w k on = record {
     came = leads_on given v w k.came on;
     later = k.later;
-    left = λ file left. passes_on given v w _ (k.left file left) on;
+    left = λ t file from to left. passes_on given v w _ (k.left t file from to left) on;
   }
 
   module _ (new after : L) (v w : World) (kept more : List Kept)
-      (whole : LeavesAlso facts.moment facts.left_since new after (λ file. WithOrWithout (facts.finds file) (spellings kept) (spellings more)))
+      (whole : LeavesThen facts.moment facts.left_at new after (λ file. WithOrWithout (facts.finds file) (spellings kept) (spellings more)))
       (was : journal_at v.nodes at ≡ kept) (is : journal_at w.nodes at ≡ kept ++ more) (on : LeadsTo v w) where
     found : (first : World) → LeadsTo first v → (file : List ℕ) → WithOrWithout (facts.finds file) (spellings kept) (spellings more)
         → Passes first w (λ x. facts.finds file (spellings (journal_at x.nodes at)))
@@ -88,33 +89,28 @@ module _ {L : Type 0} (facts : LogFacts L) (at : ℕ) where
           (subst (λ (l : List (List ℕ)). facts.finds file l) (sym (spellings_append kept more)) with_more);
     }
 
-    left_then : (first : World) (old : L) (k : LeavesKept facts first old new at v) (t : ℕ) (file : List ℕ) → t ≤ facts.moment old
-        → facts.left_since new t file ⊎ WithOrWithout (facts.finds file) (spellings kept) (spellings more)
-        → facts.left_since old t file ⊎ Passes first w (λ x. facts.finds file (spellings (journal_at x.nodes at)))
-    left_then first old k t file le (inl left) = passed_on _ first v w _ (k.left.each t file le left) on
-    left_then first old k t file le (inr whole_file) = inr (found first k.came file whole_file)
-
     -- records were appended to it, or were to be
     pub kept_step : (first : World) (old : L) → LeavesKept facts first old new at v → LeavesKept facts first old after at w
     kept_step first old k = record {
       came = leads_on first v w k.came on;
       left = record {
         later = omega (arith, k.left.later, whole.later);
-        each = λ t file le left. left_then first old k t file le (whole.each t file (omega (arith, le, k.left.later)) left);
+        before = λ t file le left. k.left.before t file le (whole.before t file (omega (arith, le, k.left.later)) left);
+        each = λ t file past to left. elim (cases_lt (facts.moment new) t) [
+          | inl later ↦ found first k.came file (whole.each t file later to left)
+          | inr until ↦ passes_on first v w _ (k.left.each t file past until (whole.before t file until left)) on
+        ];
       };
     }
-
-    no_less_then : (given : World) (m : ℕ) (n : LeavesNoLess facts given m new at v) (file : List ℕ)
-        → facts.left_since new m file ⊎ WithOrWithout (facts.finds file) (spellings kept) (spellings more)
-        → Passes given w (λ x. facts.finds file (spellings (journal_at x.nodes at)))
-    no_less_then given m n file (inl left) = passes_on given v w _ (n.left file left) on
-    no_less_then given m n file (inr whole_file) = found given n.came file whole_file
 
     pub no_less_step : (given : World) (m : ℕ) → LeavesNoLess facts given m new at v → LeavesNoLess facts given m after at w
     no_less_step given m n = record {
       came = leads_on given v w n.came on;
       later = omega (arith, n.later, whole.later);
-      left = λ file left. no_less_then given m n file (whole.each m file n.later left);
+      left = λ t file from to left. elim (cases_lt (facts.moment new) t) [
+        | inl later ↦ found given n.came file (whole.each t file later to left)
+        | inr until ↦ passes_on given v w _ (n.left t file from until (whole.before t file until left)) on
+      ];
     }
 
 module _ {L : Type 0} (facts : LogFacts L) (since : Since L) where
@@ -127,13 +123,13 @@ module _ {L : Type 0} (facts : LogFacts L) (since : Since L) where
 
   -- its own node takes a step, or is to
   pub leaves_step : (old new : L) (at : ℕ) (v w : World) (kept more : List Kept) → leaves_kept facts since old at v
-      → (IsTrue facts.tells → LeavesAlso facts.moment facts.left_since old new
+      → (IsTrue facts.tells → LeavesThen facts.moment facts.left_at old new
       (λ file. WithOrWithout (facts.finds file) (facts.records old) (spellings more)))
       → LeadsTo v w → (IsTrue facts.tells → facts.records old ≡ spellings kept) → journal_at v.nodes at ≡ kept → journal_at w.nodes at ≡ kept ++ more
       → leaves_kept facts since new at w
   leaves_step old new at v w kept more all whole on written was is tells =
-      let also : LeavesAlso facts.moment facts.left_since old new (λ file. WithOrWithout (facts.finds file) (spellings kept) (spellings more)) =
-      subst (λ (l : List (List ℕ)). LeavesAlso facts.moment facts.left_since old new (λ file. WithOrWithout (facts.finds file) l (spellings more)))
+      let also : LeavesThen facts.moment facts.left_at old new (λ file. WithOrWithout (facts.finds file) (spellings kept) (spellings more)) =
+      subst (λ (l : List (List ℕ)). LeavesThen facts.moment facts.left_at old new (λ file. WithOrWithout (facts.finds file) l (spellings more)))
       (written tells) (whole tells) in (
         λ first began. kept_step facts at old new v w kept more also was is on since.world first ((all tells).0 first began),
         λ j n m had of. no_less_step facts at old new v w kept more also was is on n.world m ((all tells).1 j n m had of),
@@ -143,8 +139,8 @@ module _ {L : Type 0} (facts : LogFacts L) (since : Since L) where
 
 -- events lead on, and what is said of crashes of one node is said of another there
 pub all_leave : {S : Type 0} (view : S → SeatView) (on : (s : S) (at : ℕ) (v w : World) → (view s).leaves at v → LeadsTo v w → (view s).leaves at w)
-    (seats : List S) (v w : World) (at : ℕ) (t : S) → LeaveKept view seats v → LeadsTo v w → (view t).leaves at w
-    → LeaveKept view (slice_set seats at t) w
+    (seats : List S) (v w : World) (at : ℕ) (t : S) → EachLeaves view seats v → LeadsTo v w → (view t).leaves at w
+    → EachLeaves view (slice_set seats at t) w
 all_leave {S} view on seats v w at t all way here =
     each_set (λ k (s : S). (view s).leaves k w) seats at t (λ k s there. on s k v w (all k s there) way) here
 
@@ -163,10 +159,17 @@ module _ {N L : Type 0} where
 
 module _ {N L : Type 0} (state : N → NodeState) (facts : LogFacts L) where
   -- nothing happened since then
-  pub start_leaves : (seats : List (Seat N L)) (w : World) → LeaveKept (seat_since state facts (since_then seats w)) seats w
+  pub start_leaves : (seats : List (Seat N L)) (w : World) → EachLeaves (seat_since state facts (since_then seats w)) seats w
   start_leaves seats w at s got tells = (
     λ old began. subst (λ (l : L). LeavesKept facts w l s.log at w) (same_log seats at s old got began)
-        (record { came = leads_nowhere w; left = record { later = omega arith; each = λ t file le left. inl left } }),
+        (record {
+          came = leads_nowhere w;
+          left = record {
+            later = omega arith;
+            before = λ t file le left. left;
+            each = λ t file past to left. absurd (omega (arith, past, to));
+          };
+        }),
     λ k n m had of. absurd (cc had),
   )
 
@@ -223,18 +226,19 @@ module _ {N L : Type 0} (state : N → NodeState) (facts : LogFacts L) where
           record {
             came = leads_nowhere w;
             later = omega arith;
-            left = λ file left. record {
+            left = λ t file from to left. record {
               world = w;
               before = leads_nowhere w;
               behind = leads_nowhere w;
               has = subst (λ (l : List Kept). facts.finds file (spellings l)) (sym (journal_got w.nodes at place.old place.here))
-                  (subst (λ (l : List (List ℕ)). facts.finds file l) (place.is.written tells) (durable at s got tells file left));
+                  (subst (λ (l : List (List ℕ)). facts.finds file l) (place.is.written tells)
+                  (durable at s got tells file (let now : t ≡ facts.moment s.log = omega (arith, from, to) in subst (λ n. facts.left_at s.log n file) now left)));
             };
           }
 
       -- where all disks are noted while all logs are durable, a crash from then on leaves no less than what the nodes keep
-      pub note_leaves : (length : ℕ) → LeaveKept (seat_since state facts since) seats w
-          → LeaveKept (seat_since state facts
+      pub note_leaves : (length : ℕ) → EachLeaves (seat_since state facts since) seats w
+          → EachLeaves (seat_since state facts
           (with_notes since (record { world = w; moments = map (λ (z : Seat N L). facts.moment z.log) seats; length = length } ∷ since.noted))) seats w
       note_leaves length all at s got tells = ((all at s got tells).0, noted_by)
         where

@@ -1,11 +1,12 @@
 -- Notes of the disks of hosted nodes, one after another.
-use Rattle.std.proofs.Common.{◌≡◌, ℕ, zero, suc, ◌<◌, ◌+◌, List, [], ◌∷◌, ◌++◌, length, take, get_or, sym, ap, subst, ◌∙◌, append_assoc, add-one, arith}
+use Rattle.std.proofs.Common.{◌≡◌, ℕ, zero, suc, ◌<◌, ◌+◌, List, [], ◌∷◌, ◌++◌, length, take, get_or, sym, ap, subst, ◌∙◌, append_assoc, append-nil, add-one, arith}
 use Rattle.std.specs.Prelude.{Some}
-use Rattle.std.specs.List.{slice_get, AllByRecursion}
+use Rattle.std.specs.List.{slice_get}
 use Rattle.outside.specs.Logs.{LogFacts}
 use Rattle.outside.specs.Notes.{Note}
 use Rattle.driver_steps.specs.declared.seat.Seat.{Seat}
-use Rattle.driver_steps.specs.Seats.{notes_of}
+use Rattle.driver_steps.specs.Seats.{AreDurable, AreDurableWhileOpen, AreOpen, HasMore, notes_of}
+use Rattle.driver_steps.proofs.Seats.{open_at}
 
 -- the items up to one more have what the first ones have, and it
 pub each_next : {S : Type 0} (P : S → Type 0) (items : List S) (i : ℕ) (s : S) → s ≡ get_or items i s → P s
@@ -19,10 +20,22 @@ each_next P (x ∷ items) (suc i) s is here before zero z below got = before zer
 each_next P (x ∷ items) (suc i) s is here before (suc at) z below got =
     each_next P items i s is here (λ a y le there. before (suc a) y (omega (arith, le)) there) at z (omega (arith, below)) got
 
-pub all_here : {S : Type 0} (P : S → Type 0) (items : List S) (i : ℕ) (s : S) → i < length items → s ≡ get_or items i s → AllByRecursion P items → P s
-all_here P [] i s inside is all = absurd (omega (arith, inside))
-all_here P (x ∷ items) zero s inside is all = subst (λ y. P y) (sym is) all.0
-all_here P (x ∷ items) (suc i) s inside is all = all_here P items i s (omega (arith, inside)) is all.1
+-- where all logs are open
+pub all_durable : {N L : Type 0} (facts : LogFacts L) (seats : List (Seat N L)) → AreOpen facts.is_open seats → AreDurableWhileOpen facts seats
+    → AreDurable facts seats
+all_durable facts seats are durable at s got = durable at s got (open_at facts.is_open seats at s are got)
+
+-- MORE NOTES
+
+pub no_more : (notes : List Note) → HasMore notes notes
+no_more notes = ([], sym (append-nil notes))
+
+pub more_then : (first next last : List Note) → HasMore first next → HasMore next last → HasMore first last
+more_then first next last one two =
+    (one.0 ++ two.0, two.1 ∙ (ap (λ (l : List Note). l ++ two.0) one.1 ∙ append_assoc first one.0 two.0))
+
+pub two_rows : (before row after : List Note) → after ≡ (before ++ row) ++ row → HasMore before after
+two_rows before row after is = (row ++ row, is ∙ append_assoc before row row)
 
 module _ {N L : Type 0} (facts : LogFacts L) (before : ℕ) where
   pub notes_next : (seats : List (Seat N L)) (i : ℕ) (s : Seat N L) → i < length seats → s ≡ get_or seats i s

@@ -1,7 +1,9 @@
 pub mod Crashes
+pub mod Cuts
 pub mod DiskNotes
 pub mod Moments
 pub mod Moves
 pub mod Runs
 pub mod Seats
 pub mod Stepping
+pub mod Together

@@ -8,16 +8,16 @@ use Rattle.node_traits.specs.declared.outputs.StepFault.{StepFault}
 use Rattle.node_traits.specs.declared.outputs.StepFault.TheVariants.{Disk, Steps, Memory}
 use Rattle.node_traits.specs.declared.outputs.ToLink.{ToLink}
 use Rattle.driver_steps.specs.declared.network.Network.{Network}
-use Rattle.driver_steps.specs.Seats.{SeatView, AreHeld, LeaveKept}
+use Rattle.driver_steps.specs.Seats.{Hosted, SeatView, AreHeld, LeaveKept}
 use Rattle.driver_steps.specs.Worlds.{StandsFor, network_view, puts_given}
 use Rattle.driver_steps.specs.Moves.{HasStepped, HasMoved, IsBroken, IsCutShort, MovesOrNot}
 use Rattle.driver_steps.proofs.Stepping.{puts_moved}
 
-module _ {S M : Type 0} (view : S → SeatView) (letter : M → Letter) (seats seats_after : List S) (handed : List ToLink) (w : World) (next at : ℕ)
-    (i : Input) (old new : Network M) (stands : StandsFor view seats (network_view letter old) handed w next) where
-  pub moved : (mail : List M) (replies : List ToLink) → HasStepped view seats_after w at i (map letter mail) replies
+module _ {S M : Type 0} (view : S → SeatView) (letter : M → Letter) (hosts hosts_after : Hosted S) (handed : List ToLink) (w : World) (next at : ℕ)
+    (i : Input) (old new : Network M) (stands : StandsFor view hosts (network_view letter old) handed w next) where
+  pub moved : (mail : List M) (replies : List ToLink) → HasStepped view hosts_after w at i (map letter mail) replies
       → new.waiting.items ≡ old.waiting.items ++ mail → new.replies.items ≡ old.replies.items ++ replies
-      → HasMoved view seats_after (network_view letter new) handed w next at i
+      → HasMoved view hosts_after (network_view letter new) handed w next at i
   moved mail replies h waits puts = record {
     end = h.end;
     moves = h.moves;
@@ -42,17 +42,17 @@ module _ {S M : Type 0} (view : S → SeatView) (letter : M → Letter) (seats s
       (more.0, more.1 ∙ ap (λ (l : List ToLink). l ++ more.0) stands.given)
 
   -- of a step at which a disk failed, the logs store what they store before it or after it
-  step_or_not : (b : IsBroken view seats_after w at i) → (b.end ≡ w) ⊎ (b.end ≡ b.last) → MovesOrNot w at i b.end
+  step_or_not : (b : IsBroken view hosts_after w at i) → (b.end ≡ w) ⊎ (b.end ≡ b.last) → MovesOrNot w at i b.end
   step_or_not b (inl before) = inl before
   step_or_not b (inr behind) = inr (subst (λ (x : World). Moves w at i x) (sym behind) b.moves)
 
-  one_more : (b : IsBroken view seats_after w at i) → (b.end ≡ w) ⊎ (b.end ≡ b.last) → (b.last ≡ b.end) ⊎ ((b.end ≡ w) × Moves w at i b.last)
+  one_more : (b : IsBroken view hosts_after w at i) → (b.end ≡ w) ⊎ (b.end ≡ b.last) → (b.last ≡ b.end) ⊎ ((b.end ≡ w) × Moves w at i b.last)
   one_more b (inl before) = inr (before, b.moves)
   one_more b (inr behind) = inl (sym behind)
 
   pub cut_short : (fault : StepFault)
-      → ByStepFault fault (λ faults. IsBroken view seats_after w at i) (AreHeld view seats_after w.nodes × LeaveKept view seats_after w)
-      → IsCutShort view seats_after old.replies.items handed w at i fault
+      → ByStepFault fault (λ faults. IsBroken view hosts_after w at i) (AreHeld view hosts_after.seats w.nodes × LeaveKept view hosts_after w)
+      → IsCutShort view hosts_after old.replies.items handed w at i fault
   cut_short (Disk faults) b =
       let more = given_or_not b.end (step_or_not b b.which) in
       record {
@@ -91,8 +91,8 @@ module _ {S M : Type 0} (view : S → SeatView) (letter : M → Letter) (seats s
       }
 
   -- a step was taken, and memory ran out for replies or messages
-  pub found_no_room : (mail : List Letter) (replies kept : List ToLink) → HasStepped view seats_after w at i mail replies
-      → (missing : List ToLink) × (old.replies.items ++ replies ≡ kept ++ missing) → IsCutShort view seats_after kept handed w at i Memory
+  pub found_no_room : (mail : List Letter) (replies kept : List ToLink) → HasStepped view hosts_after w at i mail replies
+      → (missing : List ToLink) × (old.replies.items ++ replies ≡ kept ++ missing) → IsCutShort view hosts_after kept handed w at i Memory
   found_no_room mail replies kept h (missing, e) = record {
     end = h.end;
     moves = inr h.moves;

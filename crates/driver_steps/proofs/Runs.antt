@@ -14,7 +14,7 @@ use Rattle.node_traits.specs.declared.outputs.StepFault.{StepFault}
 use Rattle.node_traits.specs.declared.outputs.StepFault.TheVariants.{Disk, Steps, Memory}
 use Rattle.node_traits.specs.declared.outputs.ToLink.{ToLink}
 use Rattle.driver_steps.specs.declared.network.Network.{Network}
-use Rattle.driver_steps.specs.Seats.{SeatView}
+use Rattle.driver_steps.specs.Seats.{Hosted, SeatView}
 use Rattle.driver_steps.specs.Worlds.{NetworkView, StandsFor, network_view}
 use Rattle.driver_steps.specs.Moves.{IsEvent, IsUpTo, BeginWith, IsDelivery, AreDeliveries, HasDelivered, HasHappened, HasMoved, HasRun, HasSettled, HasStopped}
 use Rattle.driver_steps.specs.Moves.{IsCutShort, MovesOrNot, DeliversOrLoses, Settles, settles_none, settles_next, loses_next}
@@ -84,16 +84,16 @@ seam [] m rest = refl
 seam (x ∷ past) m rest = seam past m rest
 
 -- what waited longest is taken from the queue
-pub record Popped {S M : Type 0} (view : S → SeatView) (letter : M → Letter) (seats : List S) (handed : List ToLink) (w : World) (next : ℕ) (m : M)
+pub record Popped {S M : Type 0} (view : S → SeatView) (letter : M → Letter) (hosts : Hosted S) (handed : List ToLink) (w : World) (next : ℕ) (m : M)
     (new : Network M) : Type 0 where
   pub got : slice_get w.sent next ≡ Some (letter m)
-  pub stands : StandsFor view seats (network_view letter new) handed w (next + 1)
+  pub stands : StandsFor view hosts (network_view letter new) handed w (next + 1)
 
-pub popped : {S M : Type 0} (view : S → SeatView) (letter : M → Letter) (seats : List S) (handed : List ToLink) (w : World) (next : ℕ) (m : M)
+pub popped : {S M : Type 0} (view : S → SeatView) (letter : M → Letter) (hosts : Hosted S) (handed : List ToLink) (w : World) (next : ℕ) (m : M)
     (old new : Network M)
-    → StandsFor view seats (network_view letter old) handed w next → old.waiting.items ≡ m ∷ new.waiting.items → new.replies.items ≡ old.replies.items
-    → Popped view letter seats handed w next m new
-popped view letter seats handed w next m old new s first same =
+    → StandsFor view hosts (network_view letter old) handed w next → old.waiting.items ≡ m ∷ new.waiting.items → new.replies.items ≡ old.replies.items
+    → Popped view letter hosts handed w next m new
+popped view letter hosts handed w next m old new s first same =
     let all : w.sent ≡ s.past ++ letter m ∷ map letter new.waiting.items =
     s.sent ∙ ap (λ l. s.past ++ map letter l) first in
     let count : length (s.past ++ letter m ∷ []) ≡ next + 1 = length-append s.past (letter m ∷ []) ∙ ap (λ (n : ℕ). n + 1) s.place in
@@ -128,21 +128,21 @@ is_opening w at i is v moves = was_opened w v at (subst (λ (x : Input). Moves w
 is_passing : (w : World) (at moment : ℕ) (i : Input) → i ≡ moment_input moment → IsEvent w at i (moment_event at moment)
 is_passing w at moment i is v moves = passes w v at moment (subst (λ (x : Input). Moves w at x v) is moves)
 
-pub delivered : {S : Type 0} (view : S → SeatView) (seats : List S) (network : NetworkView) (handed : List ToLink) (w : World) (next which at : ℕ)
+pub delivered : {S : Type 0} (view : S → SeatView) (hosts : Hosted S) (network : NetworkView) (handed : List ToLink) (w : World) (next which at : ℕ)
     (m : Letter) (i : Input)
-    → slice_get w.sent which ≡ Some m → i ≡ letter_input m → at ≡ m.receiver → HasMoved view seats network handed w next at i
-    → HasDelivered view seats network handed w next which m.receiver
-delivered view seats network handed w next which at m i got is to h = record {
+    → slice_get w.sent which ≡ Some m → i ≡ letter_input m → at ≡ m.receiver → HasMoved view hosts network handed w next at i
+    → HasDelivered view hosts network handed w next which m.receiver
+delivered view hosts network handed w next which at m i got is to h = record {
   end = h.end;
   delivers = inl (is_delivery w which at m i got is to h.end h.moves);
   stands = h.stands (deliver_event m.receiver which) (is_delivery w which at m i got is to);
 }
 
 -- it went to no node
-pub lost : {S : Type 0} (view : S → SeatView) (seats : List S) (network : NetworkView) (handed : List ToLink) (w : World) (next which receiver count at : ℕ)
-    → length seats ≡ length w.nodes → count ≡ length seats → at ≡ receiver → count ≤ at → StandsFor view seats network handed w next
-    → HasDelivered view seats network handed w next which receiver
-lost view seats network handed w next which receiver count at same counted to behind s = record { end = w; delivers = inr (refl, omega arith); stands = s }
+pub lost : {S : Type 0} (view : S → SeatView) (hosts : Hosted S) (network : NetworkView) (handed : List ToLink) (w : World) (next which receiver count at : ℕ)
+    → length hosts.seats ≡ length w.nodes → count ≡ length hosts.seats → at ≡ receiver → count ≤ at → StandsFor view hosts network handed w next
+    → HasDelivered view hosts network handed w next which receiver
+lost view hosts network handed w next which receiver count at same counted to behind s = record { end = w; delivers = inr (refl, omega arith); stands = s }
 
 -- a step leads to another world
 never_still : (w v : World) (at : ℕ) (i : Input) → Moves w at i v → v ≡ w → ⊥
@@ -158,13 +158,13 @@ up_to_more Steps end last A B same f = same
 up_to_more Memory end last A B same f = same
 
 -- events happened, and the next one was cut short
-pub stopped : {S : Type 0} (view : S → SeatView) (seats : List S) (replies handed : List ToLink) (u : World) (events : List Event) (w : World)
+pub stopped : {S : Type 0} (view : S → SeatView) (hosts : Hosted S) (replies handed : List ToLink) (u : World) (events : List Event) (w : World)
     (e : Event) (at : ℕ) (i : Input) (P : List Event → Type 0) (fault : StepFault)
     → Run u events w → IsEvent w at i e → P events → P (events ++ e ∷ [])
-    → IsCutShort view seats replies handed w at i fault → HasStopped view seats replies handed u P fault
-stopped view seats replies handed u events w e at i P fault run event before behind c = by_step c.moves
+    → IsCutShort view hosts replies handed w at i fault → HasStopped view hosts replies handed u P fault
+stopped view hosts replies handed u events w e at i P fault run event before behind c = by_step c.moves
   where
-    by_step : MovesOrNot w at i c.end → HasStopped view seats replies handed u P fault
+    by_step : MovesOrNot w at i c.end → HasStopped view hosts replies handed u P fault
     by_step (inl same) = record {
       events = events;
       end = c.end;
@@ -191,22 +191,22 @@ stopped view seats replies handed u events w e at i P fault run event before beh
       given = c.given;
     }
 
-pub run_more : {S : Type 0} (view : S → SeatView) (seats : List S) (network : NetworkView) (handed : List ToLink) (u : World) (events : List Event)
+pub run_more : {S : Type 0} (view : S → SeatView) (hosts : Hosted S) (network : NetworkView) (handed : List ToLink) (u : World) (events : List Event)
     (w : World) (next : ℕ) (e : Event) (at : ℕ) (i : Input)
-    → Run u events w → IsEvent w at i e → HasMoved view seats network handed w next at i
-    → HasRun view seats network handed u next (events ++ e ∷ [])
-run_more view seats network handed u events w next e at i run event h = record {
+    → Run u events w → IsEvent w at i e → HasMoved view hosts network handed w next at i
+    → HasRun view hosts network handed u next (events ++ e ∷ [])
+run_more view hosts network handed u events w next e at i run event h = record {
   end = h.end;
   run = run_then u events w (e ∷ []) h.end run (goes w h.end h.end e [] (event h.end h.moves) (stands h.end));
   stands = h.stands e event;
 }
 
 -- a run, and then a stop
-pub stopped_behind : {S : Type 0} (view : S → SeatView) (seats : List S) (replies handed : List ToLink) (u : World) (events : List Event) (w : World)
+pub stopped_behind : {S : Type 0} (view : S → SeatView) (hosts : Hosted S) (replies handed : List ToLink) (u : World) (events : List Event) (w : World)
     (P Q : List Event → Type 0) (fault : StepFault)
-    → Run u events w → ((more : List Event) → P more → Q (events ++ more)) → HasStopped view seats replies handed w P fault
-    → HasStopped view seats replies handed u Q fault
-stopped_behind view seats replies handed u events w P Q fault run all s = record {
+    → Run u events w → ((more : List Event) → P more → Q (events ++ more)) → HasStopped view hosts replies handed w P fault
+    → HasStopped view hosts replies handed u Q fault
+stopped_behind view hosts replies handed u events w P Q fault run all s = record {
   events = events ++ s.events;
   end = s.end;
   which = all s.events s.which;
@@ -227,20 +227,20 @@ stopped_behind view seats replies handed u events w P Q fault run all s = record
 -- ALL THAT WAITED
 
 -- after some of the deliveries
-pub record IsSettling {S : Type 0} (view : S → SeatView) (seats : List S) (network : NetworkView) (handed : List ToLink) (before : World) (next : ℕ) : Type 0 where
+pub record IsSettling {S : Type 0} (view : S → SeatView) (hosts : Hosted S) (network : NetworkView) (handed : List ToLink) (before : World) (next : ℕ) : Type 0 where
   pub events : List Event
   pub end : World
   pub later : ℕ
   pub settles : Settles before next events end later
-  pub stands : StandsFor view seats network handed end later
+  pub stands : StandsFor view hosts network handed end later
 
-pub settling_more : {S : Type 0} (view : S → SeatView) (seats : List S) (network : NetworkView) (handed : List ToLink) (u : World) (next : ℕ)
+pub settling_more : {S : Type 0} (view : S → SeatView) (hosts : Hosted S) (network : NetworkView) (handed : List ToLink) (u : World) (next : ℕ)
     (events : List Event) (v : World) (later : ℕ) (m : Letter)
-    → Settles u next events v later → slice_get v.sent later ≡ Some m → HasDelivered view seats network handed v (later + 1) later m.receiver
-    → IsSettling view seats network handed u next
-settling_more view seats network handed u next events v later m so_far got d = by_delivery d.delivers
+    → Settles u next events v later → slice_get v.sent later ≡ Some m → HasDelivered view hosts network handed v (later + 1) later m.receiver
+    → IsSettling view hosts network handed u next
+settling_more view hosts network handed u next events v later m so_far got d = by_delivery d.delivers
   where
-    by_delivery : DeliversOrLoses v later m.receiver d.end → IsSettling view seats network handed u next
+    by_delivery : DeliversOrLoses v later m.receiver d.end → IsSettling view hosts network handed u next
     by_delivery (inl happens) = record {
       events = events ++ deliver_event m.receiver later ∷ [];
       end = d.end;
@@ -257,15 +257,15 @@ settling_more view seats network handed u next events v later m so_far got d = b
     }
 
 -- a message is taken from the queue and delivered
-pub settling_step : {S M : Type 0} (view : S → SeatView) (letter : M → Letter) (seats seats_after : List S) (network : NetworkView) (handed : List ToLink)
+pub settling_step : {S M : Type 0} (view : S → SeatView) (letter : M → Letter) (hosts hosts_after : Hosted S) (network : NetworkView) (handed : List ToLink)
     (u : World) (next : ℕ) (m : M) (old taken : Network M)
-    → IsSettling view seats (network_view letter old) handed u next → old.waiting.items ≡ m ∷ taken.waiting.items → taken.replies.items ≡ old.replies.items
-    → ((v : World) (n which : ℕ) → StandsFor view seats (network_view letter taken) handed v n → slice_get v.sent which ≡ Some (letter m)
-    → HasDelivered view seats_after network handed v n which (letter m).receiver)
-    → IsSettling view seats_after network handed u next
-settling_step view letter seats seats_after network handed u next m old taken r first same deliver =
-    let p = popped view letter seats handed r.end r.later m old taken r.stands first same in
-    settling_more view seats_after network handed u next r.events r.end r.later (letter m) r.settles p.got (deliver r.end (r.later + 1) r.later p.stands p.got)
+    → IsSettling view hosts (network_view letter old) handed u next → old.waiting.items ≡ m ∷ taken.waiting.items → taken.replies.items ≡ old.replies.items
+    → ((v : World) (n which : ℕ) → StandsFor view hosts (network_view letter taken) handed v n → slice_get v.sent which ≡ Some (letter m)
+    → HasDelivered view hosts_after network handed v n which (letter m).receiver)
+    → IsSettling view hosts_after network handed u next
+settling_step view letter hosts hosts_after network handed u next m old taken r first same deliver =
+    let p = popped view letter hosts handed r.end r.later m old taken r.stands first same in
+    settling_more view hosts_after network handed u next r.events r.end r.later (letter m) r.settles p.got (deliver r.end (r.later + 1) r.later p.stands p.got)
 
 -- the first of one delivery, as far as it goes
 first_is_delivery : (receiver which : ℕ) (events : List Event) → BeginWith events (deliver_event receiver which ∷ []) → AreDeliveries events
@@ -275,31 +275,31 @@ first_is_delivery receiver which (e ∷ []) (others, all) =
     (subst (λ (x : Event). IsDelivery x) same tt, tt)
 first_is_delivery receiver which (e ∷ f ∷ events) (others, all) = absurd (cc)
 
-pub settling_stopped : {S M : Type 0} (view : S → SeatView) (letter : M → Letter) (seats seats_after : List S) (replies handed : List ToLink)
+pub settling_stopped : {S M : Type 0} (view : S → SeatView) (letter : M → Letter) (hosts hosts_after : Hosted S) (replies handed : List ToLink)
     (u : World) (next : ℕ) (m : M) (old taken : Network M) (fault : StepFault)
-    → IsSettling view seats (network_view letter old) handed u next → old.waiting.items ≡ m ∷ taken.waiting.items → taken.replies.items ≡ old.replies.items
-    → ((v : World) (n which : ℕ) → StandsFor view seats (network_view letter taken) handed v n → slice_get v.sent which ≡ Some (letter m)
-    → HasStopped view seats_after replies handed v (λ events. BeginWith events (deliver_event (letter m).receiver which ∷ [])) fault)
-    → HasStopped view seats_after replies handed u AreDeliveries fault
-settling_stopped view letter seats seats_after replies handed u next m old taken fault r first same deliver =
-    let p = popped view letter seats handed r.end r.later m old taken r.stands first same in
-    stopped_behind view seats_after replies handed u r.events r.end (λ events. BeginWith events (deliver_event (letter m).receiver r.later ∷ []))
+    → IsSettling view hosts (network_view letter old) handed u next → old.waiting.items ≡ m ∷ taken.waiting.items → taken.replies.items ≡ old.replies.items
+    → ((v : World) (n which : ℕ) → StandsFor view hosts (network_view letter taken) handed v n → slice_get v.sent which ≡ Some (letter m)
+    → HasStopped view hosts_after replies handed v (λ events. BeginWith events (deliver_event (letter m).receiver which ∷ [])) fault)
+    → HasStopped view hosts_after replies handed u AreDeliveries fault
+settling_stopped view letter hosts hosts_after replies handed u next m old taken fault r first same deliver =
+    let p = popped view letter hosts handed r.end r.later m old taken r.stands first same in
+    stopped_behind view hosts_after replies handed u r.events r.end (λ events. BeginWith events (deliver_event (letter m).receiver r.later ∷ []))
     AreDeliveries fault (settles_run u next r.events r.end r.later r.settles)
     (λ more are. deliveries_then r.events more (settles_which u next r.events r.end r.later r.settles)
     (first_is_delivery (letter m).receiver r.later more are))
     (deliver r.end (r.later + 1) r.later p.stands p.got)
 
 -- nothing waits any more
-pub settled : {S : Type 0} (view : S → SeatView) (seats : List S) (network : NetworkView) (handed : List ToLink) (u : World) (next : ℕ)
-    → IsSettling view seats network handed u next → network.waiting ≡ [] → HasSettled view seats network handed u next
-settled view seats network handed u next s none =
+pub settled : {S : Type 0} (view : S → SeatView) (hosts : Hosted S) (network : NetworkView) (handed : List ToLink) (u : World) (next : ℕ)
+    → IsSettling view hosts network handed u next → network.waiting ≡ [] → HasSettled view hosts network handed u next
+settled view hosts network handed u next s none =
     let past_all : s.end.sent ≡ s.stands.past = s.stands.sent ∙ (ap (λ (l : List Letter). s.stands.past ++ l) none ∙ append-nil s.stands.past) in
     let all : s.later ≡ length s.end.sent = sym s.stands.place ∙ sym (ap (λ (l : List Letter). length l) past_all) in
     record {
       events = s.events;
       end = s.end;
       settles = subst (λ (n : ℕ). Settles u next s.events s.end n) all s.settles;
-      stands = subst (λ (n : ℕ). StandsFor view seats network handed s.end n) all s.stands;
+      stands = subst (λ (n : ℕ). StandsFor view hosts network handed s.end n) all s.stands;
     }
 
 pub empty_of : {M : Type 0} (items : List M) → length items ≡ 0 → items ≡ []
@@ -307,16 +307,16 @@ empty_of [] none = refl
 empty_of (x ∷ items) none = absurd (omega (arith, none))
 
 -- the queue was found empty
-pub settled_at_end : {S M : Type 0} (view : S → SeatView) (letter : M → Letter) (seats : List S) (handed : List ToLink) (u : World) (next : ℕ)
-    (old taken : Network M) (found : Option M) → IsSettling view seats (network_view letter old) handed u next → found ≡ None
+pub settled_at_end : {S M : Type 0} (view : S → SeatView) (letter : M → Letter) (hosts : Hosted S) (handed : List ToLink) (u : World) (next : ℕ)
+    (old taken : Network M) (found : Option M) → IsSettling view hosts (network_view letter old) handed u next → found ≡ None
     → old.waiting.items ≡ option_to_list found ++ taken.waiting.items
     → MatchOption found ((deque_len old.waiting ≡ 0) × (deque_len taken.waiting ≡ 0)) (λ m. deque_len taken.waiting + 1 ≡ deque_len old.waiting)
     → deque_len taken.waiting ≡ length taken.waiting.items → taken.replies.items ≡ old.replies.items
-    → HasSettled view seats (network_view letter taken) handed u next
-settled_at_end view letter seats handed u next old taken (Some m) r none items cases count same = absurd (cc)
-settled_at_end {S} {M} view letter seats handed u next old taken None r none items cases count same =
+    → HasSettled view hosts (network_view letter taken) handed u next
+settled_at_end view letter hosts handed u next old taken (Some m) r none items cases count same = absurd (cc)
+settled_at_end {S} {M} view letter hosts handed u next old taken None r none items cases count same =
     let empty : taken.waiting.items ≡ [] = empty_of taken.waiting.items (sym count ∙ cases.1) in
-    let h = settled view seats (network_view letter old) handed u next r (ap (λ (l : List M). map letter l) (items ∙ empty)) in
+    let h = settled view hosts (network_view letter old) handed u next r (ap (λ (l : List M). map letter l) (items ∙ empty)) in
     record {
       events = h.events;
       end = h.end;
@@ -333,22 +333,22 @@ settled_at_end {S} {M} view letter seats handed u next old taken None r none ite
 
 -- OPENINGS, MOMENTS AND REQUESTS
 
-pub delivery_stopped : {S : Type 0} (view : S → SeatView) (seats : List S) (replies handed : List ToLink) (w : World) (which at : ℕ) (m : Letter)
+pub delivery_stopped : {S : Type 0} (view : S → SeatView) (hosts : Hosted S) (replies handed : List ToLink) (w : World) (which at : ℕ) (m : Letter)
     (i : Input) (fault : StepFault)
-    → slice_get w.sent which ≡ Some m → i ≡ letter_input m → at ≡ m.receiver → IsCutShort view seats replies handed w at i fault
-    → HasStopped view seats replies handed w (λ events. BeginWith events (deliver_event m.receiver which ∷ [])) fault
-delivery_stopped view seats replies handed w which at m i fault got is to c =
-    stopped view seats replies handed w [] w (deliver_event m.receiver which) at i
+    → slice_get w.sent which ≡ Some m → i ≡ letter_input m → at ≡ m.receiver → IsCutShort view hosts replies handed w at i fault
+    → HasStopped view hosts replies handed w (λ events. BeginWith events (deliver_event m.receiver which ∷ [])) fault
+delivery_stopped view hosts replies handed w which at m i fault got is to c =
+    stopped view hosts replies handed w [] w (deliver_event m.receiver which) at i
     (λ events. BeginWith events (deliver_event m.receiver which ∷ [])) fault (stands w)
     (is_delivery w which at m i got is to)
     (deliver_event m.receiver which ∷ [], refl) ([], refl) c
 
-pub ask_stopped : {S : Type 0} (view : S → SeatView) (seats : List S) (replies handed : List ToLink) (w : World) (at link : ℕ) (number : ℤ)
+pub ask_stopped : {S : Type 0} (view : S → SeatView) (hosts : Hosted S) (replies handed : List ToLink) (w : World) (at link : ℕ) (number : ℤ)
     (request : Request) (i : Input) (fault : StepFault)
-    → IsRouter w.nodes at → i ≡ client_input link number request → IsCutShort view seats replies handed w at i fault
-    → HasStopped view seats replies handed w (λ events. BeginWith events (client_event at link number request ∷ [])) fault
-ask_stopped view seats replies handed w at link number request i fault router is c =
-    stopped view seats replies handed w [] w (client_event at link number request) at i
+    → IsRouter w.nodes at → i ≡ client_input link number request → IsCutShort view hosts replies handed w at i fault
+    → HasStopped view hosts replies handed w (λ events. BeginWith events (client_event at link number request ∷ [])) fault
+ask_stopped view hosts replies handed w at link number request i fault router is c =
+    stopped view hosts replies handed w [] w (client_event at link number request) at i
     (λ events. BeginWith events (client_event at link number request ∷ [])) fault (stands w)
     (is_request w at link number request i router is)
     (client_event at link number request ∷ [], refl) ([], refl) c
@@ -399,61 +399,61 @@ one_more_moment at moment =
     ap (λ (n : ℕ). moments_given 0 n moment) (add-one at) ∙ (one_moment_more 0 at moment
     ∙ ap (λ (n : ℕ). moments_given 0 at moment ++ moment_event n moment ∷ []) zero_at)
 
-pub opened_stopped : {S : Type 0} (view : S → SeatView) (seats_before seats : List S) (post_before : NetworkView) (replies handed : List ToLink)
+pub opened_stopped : {S : Type 0} (view : S → SeatView) (hosts_before hosts : Hosted S) (post_before : NetworkView) (replies handed : List ToLink)
     (u : World) (next at count : ℕ) (i : Input) (fault : StepFault) → at < count
-    → (r : HasRun view seats_before post_before handed u next (openings 0 at)) → i ≡ opened_input → IsCutShort view seats replies handed r.end at i fault
-    → HasStopped view seats replies handed u (λ events. BeginWith events (openings 0 count)) fault
-opened_stopped view seats_before seats post_before replies handed u next at count i fault within r is c =
-    stopped view seats replies handed u (openings 0 at) r.end (opened_event at) at i (λ events. BeginWith events (openings 0 count)) fault r.run
+    → (r : HasRun view hosts_before post_before handed u next (openings 0 at)) → i ≡ opened_input → IsCutShort view hosts replies handed r.end at i fault
+    → HasStopped view hosts replies handed u (λ events. BeginWith events (openings 0 count)) fault
+opened_stopped view hosts_before hosts post_before replies handed u next at count i fault within r is c =
+    stopped view hosts replies handed u (openings 0 at) r.end (opened_event at) at i (λ events. BeginWith events (openings 0 count)) fault r.run
     (is_opening r.end at i is)
     (first_openings at count (omega (arith, within)))
     (subst (λ (l : List Event). BeginWith l (openings 0 count)) (one_more_opening at) (first_openings (at + 1) count (omega (arith, within)))) c
 
-pub given_stopped : {S : Type 0} (view : S → SeatView) (seats_before seats : List S) (post_before : NetworkView) (replies handed : List ToLink)
+pub given_stopped : {S : Type 0} (view : S → SeatView) (hosts_before hosts : Hosted S) (post_before : NetworkView) (replies handed : List ToLink)
     (u : World) (next at count moment : ℕ) (i : Input) (fault : StepFault) → at < count
-    → (r : HasRun view seats_before post_before handed u next (moments_given 0 at moment)) → i ≡ moment_input moment
-    → IsCutShort view seats replies handed r.end at i fault
-    → HasStopped view seats replies handed u (λ events. BeginWith events (moments_given 0 count moment)) fault
-given_stopped view seats_before seats post_before replies handed u next at count moment i fault within r is c =
-    stopped view seats replies handed u (moments_given 0 at moment) r.end (moment_event at moment) at i
+    → (r : HasRun view hosts_before post_before handed u next (moments_given 0 at moment)) → i ≡ moment_input moment
+    → IsCutShort view hosts replies handed r.end at i fault
+    → HasStopped view hosts replies handed u (λ events. BeginWith events (moments_given 0 count moment)) fault
+given_stopped view hosts_before hosts post_before replies handed u next at count moment i fault within r is c =
+    stopped view hosts replies handed u (moments_given 0 at moment) r.end (moment_event at moment) at i
     (λ events. BeginWith events (moments_given 0 count moment)) fault r.run
     (is_passing r.end at moment i is)
     (first_moments at count moment (omega (arith, within)))
     (subst (λ (l : List Event). BeginWith l (moments_given 0 count moment)) (one_more_moment at moment)
     (first_moments (at + 1) count moment (omega (arith, within)))) c
 
-pub opened_more : {S : Type 0} (view : S → SeatView) (seats_before seats : List S) (post_before network : NetworkView) (handed : List ToLink) (u : World)
+pub opened_more : {S : Type 0} (view : S → SeatView) (hosts_before hosts : Hosted S) (post_before network : NetworkView) (handed : List ToLink) (u : World)
     (next at : ℕ) (i : Input)
-    → (r : HasRun view seats_before post_before handed u next (openings 0 at)) → i ≡ opened_input → HasMoved view seats network handed r.end next at i
-    → HasRun view seats network handed u next (openings 0 (at + 1))
-opened_more view seats_before seats post_before network handed u next at i r is h =
-    subst (λ (l : List Event). HasRun view seats network handed u next l) (sym (one_more_opening at))
-    (run_more view seats network handed u (openings 0 at) r.end next (opened_event at) at i r.run
+    → (r : HasRun view hosts_before post_before handed u next (openings 0 at)) → i ≡ opened_input → HasMoved view hosts network handed r.end next at i
+    → HasRun view hosts network handed u next (openings 0 (at + 1))
+opened_more view hosts_before hosts post_before network handed u next at i r is h =
+    subst (λ (l : List Event). HasRun view hosts network handed u next l) (sym (one_more_opening at))
+    (run_more view hosts network handed u (openings 0 at) r.end next (opened_event at) at i r.run
     (is_opening r.end at i is) h)
 
-pub given_more : {S : Type 0} (view : S → SeatView) (seats_before seats : List S) (post_before network : NetworkView) (handed : List ToLink) (u : World)
+pub given_more : {S : Type 0} (view : S → SeatView) (hosts_before hosts : Hosted S) (post_before network : NetworkView) (handed : List ToLink) (u : World)
     (next at moment : ℕ) (i : Input)
-    → (r : HasRun view seats_before post_before handed u next (moments_given 0 at moment)) → i ≡ moment_input moment
-    → HasMoved view seats network handed r.end next at i
-    → HasRun view seats network handed u next (moments_given 0 (at + 1) moment)
-given_more view seats_before seats post_before network handed u next at moment i r is h =
-    subst (λ (l : List Event). HasRun view seats network handed u next l) (sym (one_more_moment at moment))
-    (run_more view seats network handed u (moments_given 0 at moment) r.end next (moment_event at moment) at i r.run
+    → (r : HasRun view hosts_before post_before handed u next (moments_given 0 at moment)) → i ≡ moment_input moment
+    → HasMoved view hosts network handed r.end next at i
+    → HasRun view hosts network handed u next (moments_given 0 (at + 1) moment)
+given_more view hosts_before hosts post_before network handed u next at moment i r is h =
+    subst (λ (l : List Event). HasRun view hosts network handed u next l) (sym (one_more_moment at moment))
+    (run_more view hosts network handed u (moments_given 0 at moment) r.end next (moment_event at moment) at i r.run
     (is_passing r.end at moment i is) h)
 
-pub run_none : {S : Type 0} (view : S → SeatView) (seats : List S) (network : NetworkView) (handed : List ToLink) (u : World) (next : ℕ)
-    → StandsFor view seats network handed u next → HasRun view seats network handed u next []
-run_none view seats network handed u next s = record { end = u; run = stands u; stands = s }
+pub run_none : {S : Type 0} (view : S → SeatView) (hosts : Hosted S) (network : NetworkView) (handed : List ToLink) (u : World) (next : ℕ)
+    → StandsFor view hosts network handed u next → HasRun view hosts network handed u next []
+run_none view hosts network handed u next s = record { end = u; run = stands u; stands = s }
 
-pub settling_none : {S : Type 0} (view : S → SeatView) (seats : List S) (network : NetworkView) (handed : List ToLink) (u : World) (next : ℕ)
-    → StandsFor view seats network handed u next → IsSettling view seats network handed u next
-settling_none view seats network handed u next s = record { events = []; end = u; later = next; settles = settles_none u next; stands = s }
+pub settling_none : {S : Type 0} (view : S → SeatView) (hosts : Hosted S) (network : NetworkView) (handed : List ToLink) (u : World) (next : ℕ)
+    → StandsFor view hosts network handed u next → IsSettling view hosts network handed u next
+settling_none view hosts network handed u next s = record { events = []; end = u; later = next; settles = settles_none u next; stands = s }
 
-pub asked : {S : Type 0} (view : S → SeatView) (seats : List S) (network : NetworkView) (handed : List ToLink) (u : World) (next at link : ℕ) (number : ℤ)
+pub asked : {S : Type 0} (view : S → SeatView) (hosts : Hosted S) (network : NetworkView) (handed : List ToLink) (u : World) (next at link : ℕ) (number : ℤ)
     (request : Request) (i : Input)
-    → IsRouter u.nodes at → i ≡ client_input link number request → HasMoved view seats network handed u next at i
-    → HasHappened view seats network handed u next (client_event at link number request)
-asked view seats network handed u next at link number request i router is h = record {
+    → IsRouter u.nodes at → i ≡ client_input link number request → HasMoved view hosts network handed u next at i
+    → HasHappened view hosts network handed u next (client_event at link number request)
+asked view hosts network handed u next at link number request i router is h = record {
   end = h.end;
   happens = is_request u at link number request i router is h.end h.moves;
   stands = h.stands (client_event at link number request) (is_request u at link number request i router is);
@@ -476,10 +476,10 @@ module _ (P : World → (next : ℕ) → Type 0) (there : (v : World) (n : ℕ) 
 -- HANDING ON
 
 -- the replies were appended to the others
-pub handed_on : {S M : Type 0} (view : S → SeatView) (letter : M → Letter) (seats : List S) (handed : List ToLink) (w : World) (next : ℕ) (old new : Network M)
-    → StandsFor view seats (network_view letter old) handed w next → new.waiting.items ≡ old.waiting.items → new.replies.items ≡ []
-    → StandsFor view seats (network_view letter new) (handed ++ old.replies.items) w next
-handed_on view letter seats handed w next old new s same none = record {
+pub handed_on : {S M : Type 0} (view : S → SeatView) (letter : M → Letter) (hosts : Hosted S) (handed : List ToLink) (w : World) (next : ℕ) (old new : Network M)
+    → StandsFor view hosts (network_view letter old) handed w next → new.waiting.items ≡ old.waiting.items → new.replies.items ≡ []
+    → StandsFor view hosts (network_view letter new) (handed ++ old.replies.items) w next
+handed_on view letter hosts handed w next old new s same none = record {
   nodes = s.nodes;
   crashes = s.crashes;
   past = s.past;

@@ -11,17 +11,17 @@ use Rattle.node_model.specs.States.{NodeState}
 use Rattle.node_model.specs.Steps.{Step}
 use Rattle.node_model.specs.World.{Held, World, Event, Moves, after, answered_by, is_given, tick, journal_at}
 use Rattle.node_model.proofs.Journals.{journal_got, journal_here}
-use Rattle.node_traits.specs.Calls.{LeavesAlso, log_call}
+use Rattle.node_traits.specs.Calls.{IsWhole, LeavesThen, LogCall, log_call}
 use Rattle.node_traits.specs.Effects.{AreReadable, ByStepFault, StepBroken, StepDone, put_by, puts_of, spellings}
 use Rattle.node_traits.specs.declared.outputs.StepFault.{StepFault}
 use Rattle.node_traits.specs.declared.outputs.StepFault.TheVariants.{Disk, Steps, Memory}
 use Rattle.node_traits.specs.declared.outputs.ToLink.{ToLink}
 use Rattle.driver_steps.specs.declared.seat.Seat.{Seat}
 use Rattle.driver_steps.specs.Crashes.{Since, LeadsTo, leaves_kept}
-use Rattle.driver_steps.specs.Seats.{SeatView, HaveRisen, Keeps, AreHeld, AreKept, LeaveKept, faults_of, seat_since}
+use Rattle.driver_steps.specs.Seats.{SeatView, HaveRisen, Hosted, Keeps, AreHeld, AreKept, EachLeaves, LeaveKept, faults_of, seat_since}
 use Rattle.driver_steps.specs.Worlds.{puts_given}
 use Rattle.driver_steps.specs.Moves.{HasStepped, IsBroken, IsEvent}
-use Rattle.driver_steps.specs.OneSeat.{BreaksAt, NamesFault, StandsAt, StepsAt}
+use Rattle.driver_steps.specs.OneSeat.{BreaksAt, BreaksOn, NamesFault, StandsAt, StepsAt, StepsOn}
 use Rattle.driver_steps.proofs.Crashes.{all_leave, leads_by, leads_nowhere, leaves_on, leaves_step, spellings_append}
 use Rattle.driver_steps.proofs.Seats.{HeldAt, fault_rose, faults_same, get_set, held_at, held_set, held_still, held_kept, kept_set, kept_still, none_fell_at}
 
@@ -109,8 +109,8 @@ module _ (s t : SeatView) (w : World) (at : ℕ) (i : Input) (f : Effect) (stand
         told = told;
       }
 
-  pub broken : (new : NodeState) → Step s.state i f new → WithOrWithout t.holds s.records (spellings f.written) → BreaksAt t w at i
-  broken new step (inl before) = record {
+  broken_at : (new : NodeState) → Step s.state i f new → WithOrWithout t.holds s.records (spellings f.written) → BreaksAt t w at i
+  broken_at new step (inl before) = record {
     end = w;
     last = after_by new;
     which = inl refl;
@@ -123,7 +123,7 @@ module _ (s t : SeatView) (w : World) (at : ℕ) (i : Input) (f : Effect) (stand
     };
     crashes = leaves_to new step;
   }
-  broken new step (inr behind) = record {
+  broken_at new step (inr behind) = record {
     end = after_by new;
     last = after_by new;
     which = inr refl;
@@ -136,6 +136,12 @@ module _ (s t : SeatView) (w : World) (at : ℕ) (i : Input) (f : Effect) (stand
     };
     crashes = leaves_to new step;
   }
+
+  pub broken : (new : NodeState) → Step s.state i f new → (call : LogCall) → IsWhole call (spellings f.written)
+      → WithOrWithout t.holds s.records (spellings f.written) → BreaksOn call t w at i
+  unfolding broken_at
+  broken new step call whole (inl before) = record { breaks = broken_at new step (inl before); whole = whole }
+  broken new step call whole (inr behind) = record { breaks = broken_at new step (inr behind); whole = whole }
 
 module _ {N L : Type 0} (state : N → NodeState) (facts : LogFacts L) where
   abbrev pub view_since : Since L → Seat N L → SeatView
@@ -168,7 +174,7 @@ module _ {N L : Type 0} (state : N → NodeState) (facts : LogFacts L) where
       ((state t.node ≡ state s.node) × (t.log ≡ s.log))
 
   module _ (since : Since L) (w : World) (at : ℕ) (s t : Seat N L) (i : Input) (stands : StandsAt (view_since since s) w at) where
-    leaves_by : (more : List Kept) → (IsTrue facts.tells → LeavesAlso facts.moment facts.left_since s.log t.log
+    leaves_by : (more : List Kept) → (IsTrue facts.tells → LeavesThen facts.moment facts.left_at s.log t.log
         (λ file. WithOrWithout (facts.finds file) (facts.records s.log) (spellings more)))
         → (x : World) → LeadsTo w x → journal_at w.nodes at ≡ stands.held.kept → journal_at x.nodes at ≡ stands.held.kept ++ more
         → leaves_kept facts since t.log at x
@@ -177,16 +183,20 @@ module _ {N L : Type 0} (state : N → NodeState) (facts : LogFacts L) where
 
     pub seat_stepped : (mail : List Letter) (replies : List ToLink)
         → StepDone (state s.node) i mail replies (log_call facts s.log t.log) (state t.node)
-        → (facts.holds s.log (facts.records s.log) → facts.holds t.log (facts.records t.log)) → StepsAt (view_since since t) w at i mail replies
-    seat_stepped mail replies d kept =
-        stepped (view_since since s) (view_since since t) w at i d.effect stands d.readable (λ tells. tells) (leaves_by d.effect.written d.kept.whole)
-        mail replies d.step d.sent d.told d.kept.grown kept
+        → (facts.holds s.log (facts.records s.log) → facts.holds t.log (facts.records t.log))
+        → StepsOn (log_call facts s.log t.log) (view_since since t) w at i mail replies
+    unfolding stepped
+    seat_stepped mail replies d kept = record {
+      steps = stepped (view_since since s) (view_since since t) w at i d.effect stands d.readable (λ tells. tells)
+          (leaves_by d.effect.written d.kept.whole) mail replies d.step d.sent d.told d.kept.grown kept;
+      whole = d.kept.whole;
+    }
 
     pub seat_failed : (fault : StepFault) → Fails fault i s t
-        → ByStepFault fault (λ faults. BreaksAt (view_since since t) w at i) (StandsAt (view_since since t) w at)
+        → ByStepFault fault (λ faults. BreaksOn (log_call facts s.log t.log) (view_since since t) w at i) (StandsAt (view_since since t) w at)
     seat_failed (Disk faults) b =
         broken (view_since since s) (view_since since t) w at i b.effect stands b.readable (λ tells. tells) (leaves_by b.effect.written b.left.whole)
-        b.new b.step b.left.left
+        b.new b.step (log_call facts s.log t.log) b.left.whole b.left.left
     seat_failed Steps unchanged = same_stands since w at s t unchanged stands
     seat_failed Memory unchanged = same_stands since w at s t unchanged stands
 
@@ -203,16 +213,23 @@ module _ {N L : Type 0} (state : N → NodeState) (facts : LogFacts L) where
   fault_told count i Steps s t unchanged rose later = ap count unchanged.1
   fault_told count i Memory s t unchanged rose later = ap count unchanged.1
 
+-- without what a crash leaves of the log alone
+pub breaks_only : (fault : StepFault) (call : LogCall) (seat : SeatView) (w : World) (at : ℕ) (i : Input) (other : Type 0)
+    → ByStepFault fault (λ faults. BreaksOn call seat w at i) other → ByStepFault fault (λ faults. BreaksAt seat w at i) other
+breaks_only (Disk faults) call seat w at i other b = b.breaks
+breaks_only Steps call seat w at i other same = same
+breaks_only Memory call seat w at i other same = same
+
 -- ONE NODE OF ALL
 
-pub stands_at : {S : Type 0} (view : S → SeatView) (seats : List S) (w : World) (at : ℕ) (s : S) → AreHeld view seats w.nodes → LeaveKept view seats w
+pub stands_at : {S : Type 0} (view : S → SeatView) (seats : List S) (w : World) (at : ℕ) (s : S) → AreHeld view seats w.nodes → EachLeaves view seats w
     → slice_get seats at ≡ Some s → StandsAt (view s) w at
 stands_at view seats w at s are leave got =
     let place : HeldAt (view s) w.nodes at = held_at view seats w.nodes at s are got in
     record { held = place.old; here = place.here; is = place.is; leaves = leave at s got }
 
 module _ {S : Type 0} (view : S → SeatView) (on : (s : S) (at : ℕ) (v w : World) → (view s).leaves at v → LeadsTo v w → (view s).leaves at w)
-    (seats : List S) (w : World) (at : ℕ) (t : S) (i : Input) (are : AreHeld view seats w.nodes) (leave : LeaveKept view seats w) where
+    (seats : List S) (w : World) (at : ℕ) (t : S) (i : Input) (are : AreHeld view seats w.nodes) (leave : EachLeaves view seats w) where
   -- the node at the place of a step
   new_held : (end : World) (m : Moves w at i end) (h : Held) → slice_get end.nodes at ≡ Some h
       → end.nodes ≡ slice_set w.nodes at h
@@ -224,19 +241,23 @@ module _ {S : Type 0} (view : S → SeatView) (on : (s : S) (at : ℕ) (v w : Wo
       all ∙ ap (λ (x : Held). slice_set w.nodes at x) (cc new)
 
   leave_all : (end : World) → Moves w at i end → ((e : Event) → IsEvent w at i e → (view t).leaves at end) → (e : Event) → IsEvent w at i e
-      → LeaveKept view (slice_set seats at t) end
+      → EachLeaves view (slice_set seats at t) end
   leave_all end moves crashes e event = all_leave view on seats w end at t leave (leads_by e w end (event end moves)) (crashes e event)
 
-  pub all_stepped : (mail : List Letter) (replies : List ToLink) → StepsAt (view t) w at i mail replies
-      → HasStepped view (slice_set seats at t) w at i mail replies
-  all_stepped mail replies h =
+  -- the nodes and logs, of whose disks together P is said
+  abbrev pub with_one : (P : World → Type 0) → Hosted S
+  with_one P = record { seats = slice_set seats at t; together = P }
+
+  pub all_stepped : (P : World → Type 0) (mail : List Letter) (replies : List ToLink) (h : StepsAt (view t) w at i mail replies)
+      → ((e : Event) → IsEvent w at i e → P h.end) → HasStepped view (with_one P) w at i mail replies
+  all_stepped P mail replies h together =
       let same = h.moves.then in
       record {
         end = h.end;
         moves = h.moves;
         nodes = subst (λ (l : List Held). AreHeld view (slice_set seats at t) l) (sym (new_held h.end h.moves h.held h.here))
             (held_set view seats w.nodes at t h.held are h.is);
-        crashes = leave_all h.end h.moves h.crashes;
+        crashes = λ e event. record { each = leave_all h.end h.moves h.crashes e event; together = together e event };
         sent = ap (λ (x : World). x.sent) same ∙ ap (λ (l : List Letter). w.sent ++ l) h.sent;
         given = ap (λ (x : World). puts_given x.answered) same ∙ (puts_append w.answered (answered_by w.now h.moves.f.replies)
             ∙ ap (λ (l : List ToLink). puts_given w.answered ++ l) (puts_answered w.now h.moves.f.replies ∙ sym h.told));
@@ -252,21 +273,22 @@ module _ {S : Type 0} (view : S → SeatView) (on : (s : S) (at : ℕ) (v w : Wo
       (sym (new_held end (subst (λ (x : World). Moves w at i x) (sym behind) moves) h here))
       (kept_set view seats w.nodes at t h (held_kept view seats w.nodes are) keeps)
 
-  pub all_failed : (fault : StepFault) → ByStepFault fault (λ faults. BreaksAt (view t) w at i) (StandsAt (view t) w at)
-      → ByStepFault fault (λ faults. IsBroken view (slice_set seats at t) w at i)
-      (AreHeld view (slice_set seats at t) w.nodes × LeaveKept view (slice_set seats at t) w)
-  all_failed (Disk faults) b = record {
+  pub all_broken : (P : World → Type 0) (b : BreaksAt (view t) w at i) → ((e : Event) → IsEvent w at i e → P b.last) → IsBroken view (with_one P) w at i
+  all_broken P b together = record {
     end = b.end;
     last = b.last;
     which = b.which;
     moves = b.moves;
     kept = all_kept b.end b.last b.held b.which b.moves b.here b.keeps;
-    crashes = leave_all b.last b.moves b.crashes;
+    crashes = λ e event. record { each = leave_all b.last b.moves b.crashes e event; together = together e event };
   }
-  all_failed Steps stands =
-      (held_still view seats w.nodes at t stands.held are stands.here stands.is, all_leave view on seats w w at t leave (leads_nowhere w) stands.leaves)
-  all_failed Memory stands =
-      (held_still view seats w.nodes at t stands.held are stands.here stands.is, all_leave view on seats w w at t leave (leads_nowhere w) stands.leaves)
+
+  pub all_as_before : (P : World → Type 0) → StandsAt (view t) w at → P w
+      → AreHeld view (slice_set seats at t) w.nodes × LeaveKept view (with_one P) w
+  all_as_before P stands together = (
+    held_still view seats w.nodes at t stands.held are stands.here stands.is,
+    record { each = all_leave view on seats w w at t leave (leads_nowhere w) stands.leaves; together = together },
+  )
 
 module _ {N L : Type 0} where
   pub faults_told : (count : L → ℕ) (seats : List (Seat N L)) (at : ℕ) (s t : Seat N L) (fault : StepFault) → slice_get seats at ≡ Some s

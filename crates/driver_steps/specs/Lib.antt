@@ -1,5 +1,7 @@
 pub mod Crashes
+pub mod Cuts
 pub mod Seats
+pub mod Together
 pub mod Worlds
 pub mod Moves
 pub mod OneSeat

@@ -4,7 +4,8 @@ use Rattle.std.specs.List.{slice_get}
 use Rattle.outside.specs.Causes.{Rose}
 use Rattle.node_model.specs.Letters.{Letter, Input}
 use Rattle.node_model.specs.World.{Held, World, Moves, Event}
-use Rattle.node_traits.specs.Effects.{ByStepFault, puts_of}
+use Rattle.node_traits.specs.Calls.{IsWhole, LogCall}
+use Rattle.node_traits.specs.Effects.{ByStepFault, puts_of, spellings}
 use Rattle.node_traits.specs.declared.outputs.StepFault.{StepFault}
 use Rattle.node_traits.specs.declared.outputs.ToLink.{ToLink}
 use Rattle.driver_steps.specs.Seats.{SeatView, Keeps, IsHeld}
@@ -38,6 +39,15 @@ pub record BreaksAt (seat : SeatView) (before : World) (at : ℕ) (i : Input) : 
   pub here : slice_get end.nodes at ≡ Some held
   pub keeps : Keeps seat held.kept
   pub crashes : (e : Event) → IsEvent before at i e → seat.leaves at last
+
+-- such a step, and what a crash during it left of the log: its records with those of the step, or without them
+pub record StepsOn (call : LogCall) (seat : SeatView) (before : World) (at : ℕ) (i : Input) (mail : List Letter) (replies : List ToLink) : Type 0 where
+  pub steps : StepsAt seat before at i mail replies
+  pub whole : IsWhole call (spellings steps.moves.f.written)
+
+pub record BreaksOn (call : LogCall) (seat : SeatView) (before : World) (at : ℕ) (i : Input) : Type 0 where
+  pub breaks : BreaksAt seat before at i
+  pub whole : IsWhole call (spellings breaks.moves.f.written)
 
 -- a disk's count of faults rose, and a fault names it
 pub record NamesFault (faults before after : ℕ) : Type 0 where

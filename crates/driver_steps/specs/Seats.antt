@@ -1,5 +1,5 @@
 -- Nodes with their logs, as the nodes of a world with what their journals keep (own).
-use Rattle.std.specs.Prelude.{◌≡◌, ℕ, ◌+◌, ◌-◌, ◌^◌, Bool, IsTrue, List, [], ◌∷◌, map, Some, Result, Ok, Err}
+use Rattle.std.specs.Prelude.{◌≡◌, ℕ, ◌+◌, ◌-◌, ◌^◌, Bool, IsTrue, List, [], ◌∷◌, ◌++◌, map, Some, Result, Ok, Err}
 use Rattle.std.specs.List.{slice_get, AllByRecursion}
 use Rattle.outside.specs.Devices.{NoneFell, OneRose}
 use Rattle.outside.specs.Logs.{IsDurable, LogFacts}
@@ -52,9 +52,18 @@ pub record IsHeld (seat : SeatView) (held : Held) : Type 0 where
   pub written : IsTrue seat.tells → seat.records ≡ spellings held.kept
   pub keeps : Keeps seat held.kept
 
--- from these on, at the start of a run from a world, with no note yet
+-- from these on, at the start of a run from a world, where the sink has these notes
+abbrev pub since_noted : {N L : Type 0} → List (Seat N L) → World → List Note → Since L
+since_noted seats w notes = record { logs = map (λ s. s.log) seats; world = w; taken = notes; noted = [] }
+
+-- without notes
 abbrev pub since_then : {N L : Type 0} → List (Seat N L) → World → Since L
-since_then seats w = record { logs = map (λ s. s.log) seats; world = w; noted = [] }
+since_then seats w = since_noted seats w []
+
+-- Nodes with their logs, and what a contract says of a crash of all their disks together, by the world that they are in.
+pub record Hosted (S : Type 0) : Type 1 where
+  pub seats : List S
+  pub together : World → Type 0
 
 -- these nodes with their logs, in order
 abbrev pub AreHeld : {S : Type 0} → (S → SeatView) → List S → List Held → Type 0
@@ -69,24 +78,37 @@ AreKept view (s ∷ seats) (h ∷ held) = Keeps (view s) h.kept × AreKept view 
 AreKept view seats held = ⊥
 
 -- all where no disk failed, else what the logs keep
-abbrev pub AreHeldOrKept : {S : Type 0} → StepFault → (S → SeatView) → List S → List Held → Type 0
-AreHeldOrKept fault view seats held = ByStepFault fault (λ faults. AreKept view seats held) (AreHeld view seats held)
+abbrev pub AreHeldOrKept : {S : Type 0} → StepFault → (S → SeatView) → Hosted S → List Held → Type 0
+AreHeldOrKept fault view hosted held = ByStepFault fault (λ faults. AreKept view hosted.seats held) (AreHeld view hosted.seats held)
 
 -- what is said of crashes holds of each node of a world
-abbrev pub LeaveKept : {S : Type 0} → (S → SeatView) → List S → World → Type 0
-LeaveKept {S} view seats w = (at : ℕ) (s : S) → slice_get seats at ≡ Some s → (view s).leaves at w
+abbrev pub EachLeaves : {S : Type 0} → (S → SeatView) → List S → World → Type 0
+EachLeaves {S} view seats w = (at : ℕ) (s : S) → slice_get seats at ≡ Some s → (view s).leaves at w
+
+-- of each node, and of all disks together
+pub record LeaveKept {S : Type 0} (view : S → SeatView) (hosted : Hosted S) (w : World) : Type 0 where
+  pub each : EachLeaves view hosted.seats w
+  pub together : hosted.together w
 
 -- records can be appended to each log
 abbrev pub AreOpen : {N L : Type 0} → (L → Bool) → List (Seat N L) → Type 0
 AreOpen is_open seats = AllByRecursion (λ s. IsTrue (is_open s.log)) seats
 
--- a crash at this moment leaves of each log a file in which an opening finds its records
+-- a crash at this moment leaves of each log to which records can be appended a file in which an opening finds its records
+abbrev pub AreDurableWhileOpen : {N L : Type 0} → LogFacts L → List (Seat N L) → Type 0
+AreDurableWhileOpen {N} {L} facts seats = (at : ℕ) (s : Seat N L) → slice_get seats at ≡ Some s → IsTrue (facts.is_open s.log) → IsDurable facts s.log
+
+-- of each log
 abbrev pub AreDurable : {N L : Type 0} → LogFacts L → List (Seat N L) → Type 0
 AreDurable {N} {L} facts seats = (at : ℕ) (s : Seat N L) → slice_get seats at ≡ Some s → IsDurable facts s.log
 
 -- the notes of their disks, in order, before which the sink held so many bytes
 abbrev pub notes_of : {N L : Type 0} → LogFacts L → (length : ℕ) → List (Seat N L) → List Note
 notes_of facts length seats = map (λ s. record { place = facts.place s.log; moment = facts.moment s.log; length = length }) seats
+
+-- a sink has these notes, and maybe others after them
+abbrev pub HasMore : (before after : List Note) → Type 0
+HasMore before after = (more : List Note) × (after ≡ before ++ more)
 
 -- this holds but where a disk failed
 abbrev pub UnlessDiskFailed : {X : Type 0} → Result X StepFault → Type 0 → Type 0

@@ -1,12 +1,13 @@
 //! Deliveries.
 
-ghost use Rattle.std.specs.Prelude.{◌≡◌, ℕ, ◌+◌, ◌⊎◌, Some, List, [], ◌∷◌, vec_len, IfErr, OnOk};
+ghost use Rattle.std.specs.Prelude.{◌≡◌, ℕ, ◌+◌, ◌⊎◌, Some, List, [], ◌∷◌, vec_len, IfErr, OnOk, IsTrue};
 ghost use Rattle.std.specs.List.{slice_get};
 ghost use Rattle.node_model.specs.World.{World, deliver_event};
 ghost use Rattle.node_traits.specs.declared.outputs.ToLink.{ToLink};
 ghost use Rattle.driver_steps.specs.Crashes.{Since};
-ghost use Rattle.driver_steps.specs.Seats.{AreOpen, TellsFaults, UnlessDiskFailed, faults_of, left_of, places_of, seat_since};
+ghost use Rattle.driver_steps.specs.Seats.{AreOpen, TellsFaults, UnlessDiskFailed, HasMore, faults_of, left_of, places_of, seat_since};
 ghost use Rattle.driver_steps.specs.Moves.{AreDeliveries, BeginWith, HasDelivered, HasSettled, HasStopped};
+ghost use Rattle.driver_steps.specs.Together.{hosted};
 ghost use Rattle.driver_steps.specs.Worlds.{StandsFor, network_view};
 
 use crate::network::Network;
@@ -14,6 +15,7 @@ use crate::seat::Seat;
 use crate::steps::happen;
 use node_traits::{Mail, Node, StepFault};
 use outside::log::Log;
+use outside::witness::Witness;
 use std::alloc::Global;
 use std::marker::Sync;
 use std::thread::Threads;
@@ -22,30 +24,36 @@ use std::thread::Threads;
 ///
 /// # Errors
 /// As `happen` has them.
-pub fn deliver<R: Threads + Sync, N: Node, L: Log>(
+pub fn deliver<R: Threads + Sync, N: Node, L: Log, K: Witness<L::Of>>(
     rt: &R,
     alloc: Global,
     seats: &mut Vec<Seat<N, L>>,
+    out: &mut K,
     network: &mut Network<N::Mail>,
     message: N::Mail,
 ) -> Result<(), StepFault>
     requires { AreOpen L.facts.is_open seats.old.items }
     ensures delivered { (since : Since L) (w : World) (next which : ℕ) (handed : List ToLink) →
-        StandsFor (seat_since N.state L.facts since) seats.old.items
+        StandsFor (seat_since N.state L.facts since) (hosted K.tells L.facts since (K.noted out.old) seats.old.items)
         (network_view (λ m. N.Mail.letter m) network.old) handed w next →
         slice_get w.sent which ≡ Some (N.Mail.letter message) →
-        OnOk result (HasDelivered (seat_since N.state L.facts since) seats.new.items
+        OnOk result (HasDelivered (seat_since N.state L.facts since) (hosted K.tells L.facts since (K.noted out.new) seats.new.items)
         (network_view (λ m. N.Mail.letter m) network.new) handed w next which (N.Mail.letter message).receiver) }
     ensures stopped { (since : Since L) (w : World) (next which : ℕ) (handed : List ToLink) →
-        StandsFor (seat_since N.state L.facts since) seats.old.items
+        StandsFor (seat_since N.state L.facts since) (hosted K.tells L.facts since (K.noted out.old) seats.old.items)
         (network_view (λ m. N.Mail.letter m) network.old) handed w next →
         slice_get w.sent which ≡ Some (N.Mail.letter message) →
-        IfErr result (λ e. HasStopped (seat_since N.state L.facts since) seats.new.items
+        IfErr result (λ e. HasStopped (seat_since N.state L.facts since) (hosted K.tells L.facts since (K.noted out.new) seats.new.items)
         network.new.replies.items handed w (λ events. BeginWith events (deliver_event (N.Mail.letter message).receiver which ∷ [])) e) }
     ensures len { vec_len seats.new ≡ vec_len seats.old }
     ensures open { UnlessDiskFailed result (AreOpen L.facts.is_open seats.new.items) }
     ensures falls { OnOk result ((left_of N.steps seats.new.items + 1 ≡ left_of N.steps seats.old.items) ⊎
         ((left_of N.steps seats.new.items ≡ left_of N.steps seats.old.items) × (network.new.waiting.items ≡ network.old.waiting.items))) }
+
+    // Of the sink: notes alone.
+    ensures held { K.held out.new ≡ K.held out.old }
+    ensures sink { K.fault_count out.new ≡ K.fault_count out.old }
+    ensures noted { IsTrue K.tells → HasMore (K.noted out.old) (K.noted out.new) }
 
     // Of the logs' disks.
     ensures faults { TellsFaults result (faults_of L.facts.fault_count seats.old.items) (faults_of L.facts.fault_count seats.new.items) }
@@ -55,7 +63,7 @@ pub fn deliver<R: Threads + Sync, N: Node, L: Log>(
     if at >= seats.len() {
         return Ok(());
     }
-    match happen(seats, network, at, N::prepare(rt, alloc, message)) {
+    match happen(seats, out, network, at, N::prepare(rt, alloc, message)) {
         Ok(()) => Ok(()),
         Err(e) => Err(e),
     }
@@ -65,32 +73,38 @@ pub fn deliver<R: Threads + Sync, N: Node, L: Log>(
 ///
 /// # Errors
 /// The first fault of a delivery, as `deliver` has it.
-pub fn settle<R: Threads + Sync, N: Node, L: Log>(
+pub fn settle<R: Threads + Sync, N: Node, L: Log, K: Witness<L::Of>>(
     rt: &R,
     alloc: Global,
     seats: &mut Vec<Seat<N, L>>,
+    out: &mut K,
     network: &mut Network<N::Mail>,
 ) -> Result<(), StepFault>
     requires { AreOpen L.facts.is_open seats.old.items }
     ensures settled { (since : Since L) (w : World) (next : ℕ) (handed : List ToLink) →
-        StandsFor (seat_since N.state L.facts since) seats.old.items
+        StandsFor (seat_since N.state L.facts since) (hosted K.tells L.facts since (K.noted out.old) seats.old.items)
         (network_view (λ m. N.Mail.letter m) network.old) handed w next →
-        OnOk result (HasSettled (seat_since N.state L.facts since) seats.new.items
+        OnOk result (HasSettled (seat_since N.state L.facts since) (hosted K.tells L.facts since (K.noted out.new) seats.new.items)
         (network_view (λ m. N.Mail.letter m) network.new) handed w next) }
     ensures stopped { (since : Since L) (w : World) (next : ℕ) (handed : List ToLink) →
-        StandsFor (seat_since N.state L.facts since) seats.old.items
+        StandsFor (seat_since N.state L.facts since) (hosted K.tells L.facts since (K.noted out.old) seats.old.items)
         (network_view (λ m. N.Mail.letter m) network.old) handed w next →
-        IfErr result (λ e. HasStopped (seat_since N.state L.facts since) seats.new.items
+        IfErr result (λ e. HasStopped (seat_since N.state L.facts since) (hosted K.tells L.facts since (K.noted out.new) seats.new.items)
         network.new.replies.items handed w AreDeliveries e) }
     ensures len { vec_len seats.new ≡ vec_len seats.old }
     ensures open { UnlessDiskFailed result (AreOpen L.facts.is_open seats.new.items) }
+
+    // Of the sink: notes alone.
+    ensures held { K.held out.new ≡ K.held out.old }
+    ensures sink { K.fault_count out.new ≡ K.fault_count out.old }
+    ensures noted { IsTrue K.tells → HasMore (K.noted out.old) (K.noted out.new) }
 
     // Of the logs' disks.
     ensures faults { TellsFaults result (faults_of L.facts.fault_count seats.old.items) (faults_of L.facts.fault_count seats.new.items) }
     ensures places { places_of L.facts.place seats.new.items ≡ places_of L.facts.place seats.old.items }
 {
     'messages: while let Some(message) = network.waiting.pop_front() {
-        match deliver(rt, alloc, seats, network, message) {
+        match deliver(rt, alloc, seats, out, network, message) {
             Ok(()) => {}
             Err(e) => return Err(e),
         }

@@ -10,7 +10,7 @@ mod steps;
 
 pub use deliveries::{deliver, settle};
 pub use network::Network;
-pub use notes::note_disks;
+pub use notes::{note_cut, note_disks};
 pub use rounds::{ask, give_moment, give_moments, open_all};
 pub use seat::Seat;
 pub use steps::{happen, step_node, step_seat};

@@ -2,18 +2,22 @@
 
 ghost use Rattle.std.specs.Prelude.{◌≡◌, ℕ, ◌+◌, ◌<◌, ◌^◌, List, map, vec_len, IfErr, IfOk, IsTrue, OnOk};
 ghost use Rattle.node_model.specs.World.{World};
+ghost use Rattle.node_traits.specs.Calls.{log_call};
 ghost use Rattle.node_traits.specs.Effects.{ByStepFault, steps_after};
 ghost use Rattle.node_traits.specs.declared.outputs.ToLink.{ToLink};
 ghost use Rattle.driver_steps.specs.Crashes.{Since};
-ghost use Rattle.driver_steps.specs.Seats.{AreHeld, AreOpen, LeaveKept, TellsFaults, UnlessDiskFailed, faults_of, left_of, places_of, seat_since};
+ghost use Rattle.driver_steps.specs.Seats.{AreHeld, AreOpen, LeaveKept, TellsFaults, UnlessDiskFailed, HasMore, faults_of, left_of, places_of, seat_since};
 ghost use Rattle.driver_steps.specs.Moves.{HasMoved, HasStepped, IsBroken, IsCutShort};
-ghost use Rattle.driver_steps.specs.OneSeat.{BreaksAt, StandsAt, StepsAt, TellsFault};
+ghost use Rattle.driver_steps.specs.OneSeat.{BreaksOn, StandsAt, StepsOn, TellsFault};
+ghost use Rattle.driver_steps.specs.Together.{hosted};
 ghost use Rattle.driver_steps.specs.Worlds.{StandsFor, network_view};
 
 use crate::network::Network;
+use crate::notes::note_cut;
 use crate::seat::Seat;
 use node_traits::{Node, Outputs, StepFault};
 use outside::log::Log;
+use outside::witness::Witness;
 
 /// A node with its log takes a step on the input, at whatever place in a world it stands; what it sends and returns is the result.
 ///
@@ -26,12 +30,12 @@ pub fn step_seat<N: Node, L: Log>(
     requires open { IsTrue (L.facts.is_open seat.old.log) }
     ensures stepped { (since : Since L) (w : World) (at : ℕ) →
         StandsAt (seat_since N.state L.facts since seat.old) w at →
-        IfOk result (λ outputs. StepsAt (seat_since N.state L.facts since seat.new) w at
+        IfOk result (λ outputs. StepsOn (log_call L.facts seat.old.log seat.new.log) (seat_since N.state L.facts since seat.new) w at
         (N.meaning input) (map (λ message. N.Mail.letter message) outputs.mail) outputs.replies) }
     ensures failed { (since : Since L) (w : World) (at : ℕ) →
         StandsAt (seat_since N.state L.facts since seat.old) w at →
         IfErr result (λ e. ByStepFault e
-        (λ faults. BreaksAt (seat_since N.state L.facts since seat.new) w at (N.meaning input))
+        (λ faults. BreaksOn (log_call L.facts seat.old.log seat.new.log) (seat_since N.state L.facts since seat.new) w at (N.meaning input))
         (StandsAt (seat_since N.state L.facts since seat.new) w at)) }
     ensures unchanged { IfErr result (λ e. ByStepFault e
         (λ faults. Unit {0})
@@ -53,12 +57,13 @@ pub fn step_seat<N: Node, L: Log>(
     }
 }
 
-/// The node at a place takes a step on the input; what it sends and returns is the result.
+/// The node at a place takes a step on the input; what it sends and returns is the result. Then the disks of all are shown to the sink, in a cut.
 ///
 /// # Errors
 /// The fault of the step: `StepFault::Disk` only if the disk of that node's log met one.
-pub fn step_node<N: Node, L: Log>(
+pub fn step_node<N: Node, L: Log, K: Witness<L::Of>>(
     seats: &mut Vec<Seat<N, L>>,
+    out: &mut K,
     at: usize,
     input: N::Input,
 ) -> Result<Outputs<N::Mail>, StepFault>
@@ -66,19 +71,24 @@ pub fn step_node<N: Node, L: Log>(
     requires open { AreOpen L.facts.is_open seats.old.items }
     ensures stepped { (since : Since L) (w : World) →
         AreHeld (seat_since N.state L.facts since) seats.old.items w.nodes →
-        LeaveKept (seat_since N.state L.facts since) seats.old.items w →
-        IfOk result (λ outputs. HasStepped (seat_since N.state L.facts since) seats.new.items w at
+        LeaveKept (seat_since N.state L.facts since) (hosted K.tells L.facts since (K.noted out.old) seats.old.items) w →
+        IfOk result (λ outputs. HasStepped (seat_since N.state L.facts since) (hosted K.tells L.facts since (K.noted out.new) seats.new.items) w at
         (N.meaning input) (map (λ message. N.Mail.letter message) outputs.mail) outputs.replies) }
     ensures failed { (since : Since L) (w : World) →
         AreHeld (seat_since N.state L.facts since) seats.old.items w.nodes →
-        LeaveKept (seat_since N.state L.facts since) seats.old.items w →
+        LeaveKept (seat_since N.state L.facts since) (hosted K.tells L.facts since (K.noted out.old) seats.old.items) w →
         IfErr result (λ e. ByStepFault e
-        (λ faults. IsBroken (seat_since N.state L.facts since) seats.new.items w at (N.meaning input))
+        (λ faults. IsBroken (seat_since N.state L.facts since) (hosted K.tells L.facts since (K.noted out.new) seats.new.items) w at (N.meaning input))
         (AreHeld (seat_since N.state L.facts since) seats.new.items w.nodes
-        × LeaveKept (seat_since N.state L.facts since) seats.new.items w)) }
+        × LeaveKept (seat_since N.state L.facts since) (hosted K.tells L.facts since (K.noted out.new) seats.new.items) w)) }
     ensures len { vec_len seats.new ≡ vec_len seats.old }
     ensures open { UnlessDiskFailed result (AreOpen L.facts.is_open seats.new.items) }
     ensures falls { OnOk result (left_of N.steps seats.new.items + 1 ≡ left_of N.steps seats.old.items) }
+
+    // Of the sink: notes alone.
+    ensures held { K.held out.new ≡ K.held out.old }
+    ensures sink { K.fault_count out.new ≡ K.fault_count out.old }
+    ensures noted { IsTrue K.tells → HasMore (K.noted out.old) (K.noted out.new) }
 
     // Of the logs' disks.
     ensures faults { TellsFaults result (faults_of L.facts.fault_count seats.old.items) (faults_of L.facts.fault_count seats.new.items) }
@@ -86,8 +96,14 @@ pub fn step_node<N: Node, L: Log>(
 {
     let seat = &mut seats[at];
     match step_seat(seat, input) {
-        Ok(outputs) => Ok(outputs),
-        Err(e) => Err(e),
+        Ok(outputs) => {
+            note_cut(out, seats);
+            Ok(outputs)
+        }
+        Err(e) => {
+            note_cut(out, seats);
+            Err(e)
+        }
     }
 }
 
@@ -95,8 +111,9 @@ pub fn step_node<N: Node, L: Log>(
 ///
 /// # Errors
 /// The fault of the step, or `StepFault::Memory` where memory runs out for its messages or replies.
-pub fn happen<N: Node, L: Log>(
+pub fn happen<N: Node, L: Log, K: Witness<L::Of>>(
     seats: &mut Vec<Seat<N, L>>,
+    out: &mut K,
     network: &mut Network<N::Mail>,
     at: usize,
     input: N::Input,
@@ -104,24 +121,29 @@ pub fn happen<N: Node, L: Log>(
     requires at { at < vec_len seats.old }
     requires open { AreOpen L.facts.is_open seats.old.items }
     ensures moved { (since : Since L) (w : World) (next : ℕ) (handed : List ToLink) →
-        StandsFor (seat_since N.state L.facts since) seats.old.items
+        StandsFor (seat_since N.state L.facts since) (hosted K.tells L.facts since (K.noted out.old) seats.old.items)
         (network_view (λ m. N.Mail.letter m) network.old) handed w next →
-        OnOk result (HasMoved (seat_since N.state L.facts since) seats.new.items
+        OnOk result (HasMoved (seat_since N.state L.facts since) (hosted K.tells L.facts since (K.noted out.new) seats.new.items)
         (network_view (λ m. N.Mail.letter m) network.new) handed w next at (N.meaning input)) }
     ensures cut { (since : Since L) (w : World) (next : ℕ) (handed : List ToLink) →
-        StandsFor (seat_since N.state L.facts since) seats.old.items
+        StandsFor (seat_since N.state L.facts since) (hosted K.tells L.facts since (K.noted out.old) seats.old.items)
         (network_view (λ m. N.Mail.letter m) network.old) handed w next →
-        IfErr result (λ e. IsCutShort (seat_since N.state L.facts since) seats.new.items
+        IfErr result (λ e. IsCutShort (seat_since N.state L.facts since) (hosted K.tells L.facts since (K.noted out.new) seats.new.items)
         network.new.replies.items handed w at (N.meaning input) e) }
     ensures len { vec_len seats.new ≡ vec_len seats.old }
     ensures open { UnlessDiskFailed result (AreOpen L.facts.is_open seats.new.items) }
     ensures falls { OnOk result (left_of N.steps seats.new.items + 1 ≡ left_of N.steps seats.old.items) }
 
+    // Of the sink: notes alone.
+    ensures held { K.held out.new ≡ K.held out.old }
+    ensures sink { K.fault_count out.new ≡ K.fault_count out.old }
+    ensures noted { IsTrue K.tells → HasMore (K.noted out.old) (K.noted out.new) }
+
     // Of the logs' disks.
     ensures faults { TellsFaults result (faults_of L.facts.fault_count seats.old.items) (faults_of L.facts.fault_count seats.new.items) }
     ensures places { places_of L.facts.place seats.new.items ≡ places_of L.facts.place seats.old.items }
 {
-    let outputs = match step_node(seats, at, input) {
+    let outputs = match step_node(seats, out, at, input) {
         Ok(outputs) => outputs,
         Err(e) => return Err(e),
     };

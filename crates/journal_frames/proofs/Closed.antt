@@ -59,13 +59,13 @@ module _ (records : List (List ℕ)) (fits : Fit records) (end : ℕ) (size : en
   pub close_done : (gate : ℕ) (old c : List ℕ) → old ≡ blocks records ++ gate ∷ [] → Holds end (0 ∷ []) old c → c ≡ at_rest records
   close_done gate old c is holds = held_at records fits end size 0 gate [] c (subst (λ f. Holds end (0 ∷ []) f c) is holds)
 
-  module _ {D : Type 0} (moment : D → ℕ) (left_since : D → ℕ → Outcomes) (content : D → List ℕ) (may_leave : D → Outcomes) (old mid : D) where
+  module _ {D : Type 0} (moment : D → ℕ) (left_at : D → ℕ → Outcomes) (content : D → List ℕ) (may_leave : D → Outcomes) (old mid : D) where
     -- a crash at any moment of the cut, and of both steps
-    pub cut_run : LeavesOnly moment left_since old mid (After (Cut (end + 1)) (may_leave old)) → Only (content old) (may_leave old) → Stands (content old) records → 0 < length (content old) → LeavesOnly moment left_since old mid (λ c. Stands c records)
-    cut_run run only stands some = widened moment left_since old mid _ (λ c. Stands c records) run (cut_crash (content old) (may_leave old) only stands some)
+    pub cut_run : LeavesOnly moment left_at old mid (After (Cut (end + 1)) (may_leave old)) → Only (content old) (may_leave old) → Stands (content old) records → 0 < length (content old) → LeavesOnly moment left_at old mid (λ c. Stands c records)
+    cut_run run only stands some = widened moment left_at old mid _ (λ c. Stands c records) run (cut_crash (content old) (may_leave old) only stands some)
 
-    pub close_run : (new : D) (gate : ℕ) → LeavesOnly moment left_since old mid (λ c. Stands c records) → content mid ≡ blocks records ++ gate ∷ [] → Only (content mid) (may_leave mid) → LeavesOnly moment left_since mid new (After (Torn end 1) (may_leave mid)) → LeavesOnly moment left_since old new (λ c. Stands c records)
-    close_run new gate run is only second = then_run moment left_since old mid new (λ c. Stands c records) _ run second (close_crash gate (content mid) (may_leave mid) is only)
+    pub close_run : (new : D) (gate : ℕ) → LeavesOnly moment left_at old mid (λ c. Stands c records) → content mid ≡ blocks records ++ gate ∷ [] → Only (content mid) (may_leave mid) → LeavesOnly moment left_at mid new (After (Torn end 1) (may_leave mid)) → LeavesOnly moment left_at old new (λ c. Stands c records)
+    close_run new gate run is only second = then_run moment left_at old mid new (λ c. Stands c records) _ run second (close_crash gate (content mid) (may_leave mid) is only)
 
 pub none_in_empty : (records : List (List ℕ)) (rest : List ℕ) → [] ≡ blocks records ++ rest → records ≡ []
 none_in_empty [] rest is = refl

@@ -6,15 +6,15 @@ use Rattle.outside.specs.Disks.{Elapses, Outcomes, Within}
 use Rattle.journal_frames.specs.Views.{IsUndisturbed}
 use Rattle.journal_frames.proofs.Moments.{goes_on, started}
 
-module _ {D : Type 0} (content : D → List ℕ) (may_leave : D → Outcomes) (moment : D → ℕ) (left_since : D → ℕ → Outcomes) where
-  pub not_yet : (old : D) → ((c : List ℕ) → left_since old (moment old) c → may_leave old c) → IsUndisturbed content may_leave moment left_since old old
-  not_yet old only = record { same = refl; crash = λ c left. left; any_moment = started moment left_since old (may_leave old) only }
+module _ {D : Type 0} (content : D → List ℕ) (may_leave : D → Outcomes) (moment : D → ℕ) (left_at : D → ℕ → Outcomes) where
+  pub not_yet : (old : D) → ((c : List ℕ) → left_at old (moment old) c → may_leave old c) → IsUndisturbed content may_leave moment left_at old old
+  not_yet old only = record { same = refl; crash = λ c left. left; any_moment = started moment left_at old (may_leave old) only }
 
-  pub one_more : (old mid new : D) → IsUndisturbed content may_leave moment left_since old mid → content new ≡ content mid → Within (may_leave mid) (may_leave new) → Elapses (moment mid) (moment new) (left_since mid) (left_since new) (may_leave new) → IsUndisturbed content may_leave moment left_since old new
+  pub one_more : (old mid new : D) → IsUndisturbed content may_leave moment left_at old mid → content new ≡ content mid → Within (may_leave mid) (may_leave new) → Elapses (moment mid) (moment new) (left_at mid) (left_at new) (may_leave new) → IsUndisturbed content may_leave moment left_at old new
   one_more old mid new so_far same within call = record {
     same = same ∙ so_far.same;
     crash = λ c left. so_far.crash c (within c left);
-    any_moment = goes_on moment left_since old mid new (may_leave old) (may_leave new) so_far.any_moment call (λ c left. so_far.crash c (within c left));
+    any_moment = goes_on moment left_at old mid new (may_leave old) (may_leave new) so_far.any_moment call (λ c left. so_far.crash c (within c left));
   }
 
 -- writing to a window of the buffer does not change the buffer's length
@@ -34,10 +34,10 @@ read_on file buf window buf' at n so_far within is piece =
     ∙ sym (take-add at n file)
 
 -- the part of the file that is read
-pub record IsReading (tells : Bool) {D : Type 0} (content : D → List ℕ) (may_leave : D → Outcomes) (moment : D → ℕ) (left_since : D → ℕ → Outcomes) (faults : D → ℕ) (place : D → List ℕ) (old disk : D) (size : ℕ) (buf : List ℕ) (at : ℕ) : Type 0 where
+pub record IsReading (tells : Bool) {D : Type 0} (content : D → List ℕ) (may_leave : D → Outcomes) (moment : D → ℕ) (left_at : D → ℕ → Outcomes) (faults : D → ℕ) (place : D → List ℕ) (old disk : D) (size : ℕ) (buf : List ℕ) (at : ℕ) : Type 0 where
   pub within : at ≤ length buf
   pub len : length buf ≡ size
   pub bytes : IsTrue tells → take at buf ≡ take at (content old)
-  pub undisturbed : IsTrue tells → IsUndisturbed content may_leave moment left_since old disk
+  pub undisturbed : IsTrue tells → IsUndisturbed content may_leave moment left_at old disk
   pub calm : faults disk ≡ faults old
   pub in_place : place disk ≡ place old

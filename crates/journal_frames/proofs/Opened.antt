@@ -7,8 +7,8 @@ use Rattle.journal_frames.proofs.Moments.{then_run, widened}
 use Rattle.journal_frames.proofs.Staged.{stands_last}
 use Rattle.journal_frames.proofs.Unique.{one_list}
 
-module _ {D : Type 0} (tells : Bool) (content : D → List ℕ) (may_leave : D → Outcomes) (moment : D → ℕ) (left_since : D → ℕ → Outcomes) (old mid : D) (file : List ℕ) (records : List (List ℕ)) (end : ℕ) where
-  pub is_found : (IsTrue tells → file ≡ content old) → (IsTrue tells → Only (content old) (may_leave mid)) → (IsTrue tells → IsUndisturbed content may_leave moment left_since old mid) → Stands file records → end ≡ length (blocks records) → IsFound tells (content mid) (may_leave mid) records end
+module _ {D : Type 0} (tells : Bool) (content : D → List ℕ) (may_leave : D → Outcomes) (moment : D → ℕ) (left_at : D → ℕ → Outcomes) (old mid : D) (file : List ℕ) (records : List (List ℕ)) (end : ℕ) where
+  pub is_found : (IsTrue tells → file ≡ content old) → (IsTrue tells → Only (content old) (may_leave mid)) → (IsTrue tells → IsUndisturbed content may_leave moment left_at old mid) → Stands file records → end ≡ length (blocks records) → IsFound tells (content mid) (may_leave mid) records end
   is_found is durable undisturbed stands size = record {
     size = size;
     fits = stands.fits;
@@ -22,14 +22,14 @@ module _ {D : Type 0} (tells : Bool) (content : D → List ℕ) (may_leave : D �
       subst (λ rs. Stands (content new) rs) (one_list file records others stands (subst (λ f. Stands f others) (sym is) before)) after
 
   -- a crash at any moment of the loading and of the change that keeps the records
-  pub opened_run : (new : D) → file ≡ content old → Stands file records → IsUndisturbed content may_leave moment left_since old mid → LeavesOnly moment left_since mid new (λ c. Stands c records) → LeavesOnly moment left_since old new (λ c. may_leave old c ⊎ HaveSameRecords (content old) c)
+  pub opened_run : (new : D) → file ≡ content old → Stands file records → IsUndisturbed content may_leave moment left_at old mid → LeavesOnly moment left_at mid new (λ c. Stands c records) → LeavesOnly moment left_at old new (λ c. may_leave old c ⊎ HaveSameRecords (content old) c)
   opened_run new is stands undisturbed run =
-      then_run moment left_since old mid new (λ c. may_leave old c ⊎ HaveSameRecords (content old) c) (λ c. Stands c records)
-      (widened moment left_since old mid (may_leave old) (λ c. may_leave old c ⊎ HaveSameRecords (content old) c) undisturbed.any_moment (λ c left. inl left))
+      then_run moment left_at old mid new (λ c. may_leave old c ⊎ HaveSameRecords (content old) c) (λ c. Stands c records)
+      (widened moment left_at old mid (may_leave old) (λ c. may_leave old c ⊎ HaveSameRecords (content old) c) undisturbed.any_moment (λ c left. inl left))
       run (λ c after. inr (records, subst (λ f. Stands f records) is stands, after))
 
-  pub loaded_run : IsUndisturbed content may_leave moment left_since old mid → LeavesOnly moment left_since old mid (λ c. may_leave old c ⊎ HaveSameRecords (content old) c)
-  loaded_run undisturbed = widened moment left_since old mid (may_leave old) (λ c. may_leave old c ⊎ HaveSameRecords (content old) c) undisturbed.any_moment (λ c left. inl left)
+  pub loaded_run : IsUndisturbed content may_leave moment left_at old mid → LeavesOnly moment left_at old mid (λ c. may_leave old c ⊎ HaveSameRecords (content old) c)
+  loaded_run undisturbed = widened moment left_at old mid (may_leave old) (λ c. may_leave old c ⊎ HaveSameRecords (content old) c) undisturbed.any_moment (λ c left. inl left)
 
 -- the file of a journal at rest, and the file after a crash
 pub rest_stands : (tells : Bool) (content : List ℕ) (may_leave : Outcomes) (records : List (List ℕ)) (end : ℕ) → IsAtRest tells content may_leave records end → IsTrue tells → Stands content records

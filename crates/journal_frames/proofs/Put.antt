@@ -35,15 +35,15 @@ module _ (records : List (List ℕ)) (fits : Fit records) (end : ℕ) (size : en
       let grown = ap length (staged_open records more piece piece_is) in
       omega (arith, size, grown, length-append (blocks records) (1 ∷ piece), length-append (blocks (records ++ more)) (0 ∷ []))
 
-  module _ {D : Type 0} (moment : D → ℕ) (left_since : D → ℕ → Outcomes) (content : D → List ℕ) (may_leave : D → Outcomes) (n : ℕ) (old mid : D) where
+  module _ {D : Type 0} (moment : D → ℕ) (left_at : D → ℕ → Outcomes) (content : D → List ℕ) (may_leave : D → Outcomes) (n : ℕ) (old mid : D) where
     -- a crash at any moment of the first step, and of both
-    pub first_run : LeavesOnly moment left_since old mid (After (Torn (end + 1) n) (may_leave old)) → Only (at_rest records) (may_leave old)
-        → LeavesOnly moment left_since old mid (StandsWithOrWithout records more)
-    first_run run only = widened moment left_since old mid _ (StandsWithOrWithout records more) run (first_crash n (may_leave old) only)
+    pub first_run : LeavesOnly moment left_at old mid (After (Torn (end + 1) n) (may_leave old)) → Only (at_rest records) (may_leave old)
+        → LeavesOnly moment left_at old mid (StandsWithOrWithout records more)
+    first_run run only = widened moment left_at old mid _ (StandsWithOrWithout records more) run (first_crash n (may_leave old) only)
 
-    pub both_runs : (new : D) → LeavesOnly moment left_since old mid (After (Torn (end + 1) n) (may_leave old))
+    pub both_runs : (new : D) → LeavesOnly moment left_at old mid (After (Torn (end + 1) n) (may_leave old))
         → Only (at_rest records) (may_leave old) → content mid ≡ staged records 0 piece → Only (content mid) (may_leave mid)
-        → LeavesOnly moment left_since mid new (After (Torn end 1) (may_leave mid))
-        → LeavesOnly moment left_since old new (StandsWithOrWithout records more)
-    both_runs new run only done durable second = then_run moment left_since old mid new (StandsWithOrWithout records more) _ (first_run run only)
+        → LeavesOnly moment left_at mid new (After (Torn end 1) (may_leave mid))
+        → LeavesOnly moment left_at old new (StandsWithOrWithout records more)
+    both_runs new run only done durable second = then_run moment left_at old mid new (StandsWithOrWithout records more) _ (first_run run only)
         second (second_crash (content mid) (may_leave mid) done durable)

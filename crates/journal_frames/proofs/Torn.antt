@@ -29,12 +29,12 @@ cut_all n old new is =
     let long = ap length is ∙ length-take n old in
     record { no_shorter = omega (arith, long); prefix = is ∙ sym (ap (λ (m : ℕ). take m old) long ∙ take_min n old) }
 
-module _ {D : Type 0} (moment : D → ℕ) (left_since : D → ℕ → Outcomes) (may_leave : D → Outcomes) (step : List ℕ → List ℕ → Type 0) where
+module _ {D : Type 0} (moment : D → ℕ) (left_at : D → ℕ → Outcomes) (may_leave : D → Outcomes) (step : List ℕ → List ℕ → Type 0) where
   -- A change and a sync: each crash since the start results in an old outcome after a part of the change.
-  pub change_run : (old new : D) → ((c : List ℕ) → left_since old (moment old) c → may_leave old c) → ((d : List ℕ) → step d d) → Follows step (may_leave old) (may_leave new) → Elapses (moment old) (moment new) (left_since old) (left_since new) (may_leave new) → LeavesOnly moment left_since old new (After step (may_leave old))
+  pub change_run : (old new : D) → ((c : List ℕ) → left_at old (moment old) c → may_leave old c) → ((d : List ℕ) → step d d) → Follows step (may_leave old) (may_leave new) → Elapses (moment old) (moment new) (left_at old) (left_at new) (may_leave new) → LeavesOnly moment left_at old new (After step (may_leave old))
   change_run old new only nothing follows call =
-      goes_on moment left_since old old new (After step (may_leave old)) (may_leave new)
-      (started moment left_since old (After step (may_leave old)) (λ c left. (c, only c left, nothing c))) call follows
+      goes_on moment left_at old old new (After step (may_leave old)) (may_leave new)
+      (started moment left_at old (After step (may_leave old)) (λ c left. (c, only c left, nothing c))) call follows
 
-  pub synced_run : (old mid new : D) → LeavesOnly moment left_since old mid (After step (may_leave old)) → Follows step (may_leave old) (may_leave mid) → Within (may_leave mid) (may_leave new) → Elapses (moment mid) (moment new) (left_since mid) (left_since new) (may_leave new) → LeavesOnly moment left_since old new (After step (may_leave old))
-  synced_run old mid new so_far follows within call = goes_on moment left_since old mid new (After step (may_leave old)) (may_leave new) so_far call (λ c left. follows c (within c left))
+  pub synced_run : (old mid new : D) → LeavesOnly moment left_at old mid (After step (may_leave old)) → Follows step (may_leave old) (may_leave mid) → Within (may_leave mid) (may_leave new) → Elapses (moment mid) (moment new) (left_at mid) (left_at new) (may_leave new) → LeavesOnly moment left_at old new (After step (may_leave old))
+  synced_run old mid new so_far follows within call = goes_on moment left_at old mid new (After step (may_leave old)) (may_leave new) so_far call (λ c left. follows c (within c left))

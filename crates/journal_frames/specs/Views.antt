@@ -25,7 +25,7 @@ journal_facts disk_tells content moment_of left fault_count_of place_of = record
   holds = λ j records. IsTrue disk_tells → Stands (content j.disk) records;
   finds = Stands;
   moment = λ j. moment_of j.disk;
-  left_since = λ j t file. left j.disk t file;
+  left_at = λ j t file. left j.disk t file;
   fault_count = λ j. fault_count_of j.disk;
   place = λ j. place_of j.disk;
 }
@@ -59,7 +59,7 @@ pub record IsFound (tells : Bool) (content : List ℕ) (may_leave : Outcomes) (r
   pub durable : IsTrue tells → Only content may_leave
 
 -- Calls that only read: the file is unchanged, and a crash at any moment results in a file that was possible before.
-pub record IsUndisturbed {D : Type 0} (content : D → List ℕ) (may_leave : D → Outcomes) (moment : D → ℕ) (left_since : D → ℕ → Outcomes) (old new : D) : Type 0 where
+pub record IsUndisturbed {D : Type 0} (content : D → List ℕ) (may_leave : D → Outcomes) (moment : D → ℕ) (left_at : D → ℕ → Outcomes) (old new : D) : Type 0 where
   pub same : content new ≡ content old
   pub crash : Within (may_leave old) (may_leave new)
-  pub any_moment : LeavesOnly moment left_since old new (may_leave old)
+  pub any_moment : LeavesOnly moment left_at old new (may_leave old)

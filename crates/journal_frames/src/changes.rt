@@ -15,7 +15,7 @@ pub(crate) fn write_synced<D: Disk>(disk: &mut D, at: u64, piece: &[u8]) -> Resu
     ensures durable { OnOk result (IsTrue D.tells → Only (D.content disk.new) (D.may_leave disk.new)) }
     ensures torn { IsTrue D.tells → Torn at (length piece.now) (D.content disk.old) (D.content disk.new) }
     ensures crash { IsTrue D.tells → Follows (Torn at (length piece.now)) (D.may_leave disk.old) (D.may_leave disk.new) }
-    ensures any_moment { IsTrue D.tells → LeavesOnly D.moment D.left_since disk.old disk.new
+    ensures any_moment { IsTrue D.tells → LeavesOnly D.moment D.left_at disk.old disk.new
         (After (Torn at (length piece.now)) (D.may_leave disk.old)) }
     ensures cause { OnErr result (Rose (D.fault_count disk.old) (D.fault_count disk.new)) }
     ensures calm { OnOk result (D.fault_count disk.new ≡ D.fault_count disk.old) }
@@ -36,7 +36,7 @@ pub(crate) fn cut_synced<D: Disk>(disk: &mut D, len: u64) -> Result<(), Failed>
     ensures durable { OnOk result (IsTrue D.tells → Only (D.content disk.new) (D.may_leave disk.new)) }
     ensures between { IsTrue D.tells → Cut len (D.content disk.old) (D.content disk.new) }
     ensures crash { IsTrue D.tells → Follows (Cut len) (D.may_leave disk.old) (D.may_leave disk.new) }
-    ensures any_moment { IsTrue D.tells → LeavesOnly D.moment D.left_since disk.old disk.new
+    ensures any_moment { IsTrue D.tells → LeavesOnly D.moment D.left_at disk.old disk.new
         (After (Cut len) (D.may_leave disk.old)) }
     ensures cause { OnErr result (Rose (D.fault_count disk.old) (D.fault_count disk.new)) }
     ensures calm { OnOk result (D.fault_count disk.new ≡ D.fault_count disk.old) }

@@ -44,7 +44,7 @@ fn fill<D: Disk>(disk: &mut D, buf: &mut [u8]) -> Result<usize, Failed>
     ensures len { length buf.new ≡ length buf.old }
     ensures bytes { IfOk result (λ n. IsTrue D.tells → take n buf.new ≡ take n (D.content disk.old)) }
     ensures at_end { IfOk result (λ n. IsTrue D.tells → n < length buf.old → length (D.content disk.old) ≤ n) }
-    ensures undisturbed { IsTrue D.tells → IsUndisturbed D.content D.may_leave D.moment D.left_since disk.old disk.new }
+    ensures undisturbed { IsTrue D.tells → IsUndisturbed D.content D.may_leave D.moment D.left_at disk.old disk.new }
     ensures cause { OnErr result (Rose (D.fault_count disk.old) (D.fault_count disk.new)) }
     ensures calm { OnOk result (D.fault_count disk.new ≡ D.fault_count disk.old) }
     ensures later { D.fault_count disk.old ≤ D.fault_count disk.new }
@@ -69,7 +69,7 @@ fn fill<D: Disk>(disk: &mut D, buf: &mut [u8]) -> Result<usize, Failed>
 pub(crate) fn load<D: Disk>(alloc: Global, disk: &mut D) -> Result<Vec<u8>, LoadFault>
     ensures file { IfOk result (λ file. IsTrue D.tells → file.items ≡ D.content disk.old) }
     ensures durable { OnOk result (IsTrue D.tells → Only (D.content disk.old) (D.may_leave disk.new)) }
-    ensures undisturbed { IsTrue D.tells → IsUndisturbed D.content D.may_leave D.moment D.left_since disk.old disk.new }
+    ensures undisturbed { IsTrue D.tells → IsUndisturbed D.content D.may_leave D.moment D.left_at disk.old disk.new }
     ensures cause { IfErr result (λ e. IsLoadFault (D.fault_count disk.old) (D.fault_count disk.new) e) }
     ensures calm { OnOk result (D.fault_count disk.new ≡ D.fault_count disk.old) }
     ensures later { D.fault_count disk.old ≤ D.fault_count disk.new }

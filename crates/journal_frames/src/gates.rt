@@ -23,7 +23,7 @@ pub(crate) fn put_records<D: Disk>(disk: &mut D, end: u64, piece: &[u8]) -> Resu
         IsTrue D.tells → StandsWithOrWithout records more (D.content disk.new) }
     ensures any_moment { (records more : List (List ℕ)) →
         IsReady D.tells (D.content disk.old) (D.may_leave disk.old) records end more piece.now →
-        IsTrue D.tells → LeavesOnly D.moment D.left_since disk.old disk.new (StandsWithOrWithout records more) }
+        IsTrue D.tells → LeavesOnly D.moment D.left_at disk.old disk.new (StandsWithOrWithout records more) }
     ensures cause { OnErr result (Rose (D.fault_count disk.old) (D.fault_count disk.new)) }
     ensures calm { OnOk result (D.fault_count disk.new ≡ D.fault_count disk.old) }
     ensures later { D.fault_count disk.old ≤ D.fault_count disk.new }
@@ -51,7 +51,7 @@ pub(crate) fn write_first_gate<D: Disk>(disk: &mut D) -> Result<(), Failed>
     ensures any_moment { (records : List (List ℕ)) →
         IsFound D.tells (D.content disk.old) (D.may_leave disk.old) records 0 →
         (IsTrue D.tells → D.content disk.old ≡ []) →
-        IsTrue D.tells → LeavesOnly D.moment D.left_since disk.old disk.new (λ c. Stands c records) }
+        IsTrue D.tells → LeavesOnly D.moment D.left_at disk.old disk.new (λ c. Stands c records) }
     ensures cause { OnErr result (Rose (D.fault_count disk.old) (D.fault_count disk.new)) }
     ensures calm { OnOk result (D.fault_count disk.new ≡ D.fault_count disk.old) }
     ensures later { D.fault_count disk.old ≤ D.fault_count disk.new }
@@ -78,7 +78,7 @@ pub(crate) fn close_end<D: Disk>(disk: &mut D, end: u64) -> Result<(), Failed>
     ensures any_moment { (records : List (List ℕ)) →
         IsFound D.tells (D.content disk.old) (D.may_leave disk.old) records end →
         (IsTrue D.tells → 0 < length (D.content disk.old)) →
-        IsTrue D.tells → LeavesOnly D.moment D.left_since disk.old disk.new (λ c. Stands c records) }
+        IsTrue D.tells → LeavesOnly D.moment D.left_at disk.old disk.new (λ c. Stands c records) }
     ensures cause { OnErr result (Rose (D.fault_count disk.old) (D.fault_count disk.new)) }
     ensures calm { OnOk result (D.fault_count disk.new ≡ D.fault_count disk.old) }
     ensures later { D.fault_count disk.old ≤ D.fault_count disk.new }

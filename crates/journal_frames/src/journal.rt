@@ -99,7 +99,7 @@ fn settle<D: Disk>(disk: &mut D, len: usize, end: usize) -> Result<(), Failed>
     ensures any_moment { (records : List (List ℕ)) →
         IsFound D.tells (D.content disk.old) (D.may_leave disk.old) records end →
         (IsTrue D.tells → len ≡ length (D.content disk.old)) →
-        IsTrue D.tells → LeavesOnly D.moment D.left_since disk.old disk.new (λ c. Stands c records) }
+        IsTrue D.tells → LeavesOnly D.moment D.left_at disk.old disk.new (λ c. Stands c records) }
     ensures cause { OnErr result (Rose (D.fault_count disk.old) (D.fault_count disk.new)) }
     ensures calm { OnOk result (D.fault_count disk.new ≡ D.fault_count disk.old) }
     ensures later { D.fault_count disk.old ≤ D.fault_count disk.new }
@@ -141,7 +141,7 @@ impl<D: Disk> Journal<D> {
         // before.
         ensures same { (records : List (List ℕ)) → IsTrue D.tells → Stands (D.content disk) records →
             Stands (D.content (disk_left result)) records }
-        ensures any_moment { IsTrue D.tells → LeavesOnly D.moment D.left_since disk (disk_left result)
+        ensures any_moment { IsTrue D.tells → LeavesOnly D.moment D.left_at disk (disk_left result)
             (λ c. D.may_leave disk c ⊎ HaveSameRecords (D.content disk) c) }
     {
         let mut disk = disk;
@@ -188,11 +188,11 @@ impl<D: Disk> Journal<D> {
 impl<D: Disk> Log for Journal<D> {
     type Of = D;
 
-    ghost facts = { journal_facts D.tells D.content D.moment D.left_since D.fault_count D.place };
+    ghost facts = { journal_facts D.tells D.content D.moment D.left_at D.fault_count D.place };
 
     fn device(&self) -> &D
         ensures disk { result.now ≡ self.now.disk }
-        ensures durable { IsTrue self.now.is_open → IsTrue D.tells → (file : List ℕ) → D.left_since self.now.disk (D.moment self.now.disk) file →
+        ensures durable { IsTrue self.now.is_open → IsTrue D.tells → (file : List ℕ) → D.left_at self.now.disk (D.moment self.now.disk) file →
             Stands file self.now.records }
     {
         &self.disk
@@ -218,7 +218,7 @@ impl<D: Disk> Log for Journal<D> {
         // A crash after it results in a file with all records, and a crash at any moment of it in one with the earlier ones, with the new one or without it.
         ensures durable { OnOk result (IsTrue D.tells →
             (c : List ℕ) → D.may_leave self.new.disk c → Stands c self.new.records) }
-        ensures any_moment { IsTrue D.tells → LeavesOnly (λ j. D.moment j.disk) (λ j t file. D.left_since j.disk t file) self.old self.new
+        ensures any_moment { IsTrue D.tells → LeavesOnly (λ j. D.moment j.disk) (λ j t file. D.left_at j.disk t file) self.old self.new
             (λ file. WithOrWithout (λ records. Stands file records) self.old.records (bytes.now ∷ [])) }
     {
         let Ok(body) = Blob::of(self.alloc, bytes) else {
@@ -253,7 +253,7 @@ impl<D: Disk> Log for Journal<D> {
         // none.
         ensures durable { OnOk result (IsTrue D.tells →
             (c : List ℕ) → D.may_leave self.new.disk c → Stands c self.new.records) }
-        ensures any_moment { IsTrue D.tells → LeavesOnly (λ j. D.moment j.disk) (λ j t file. D.left_since j.disk t file) self.old self.new
+        ensures any_moment { IsTrue D.tells → LeavesOnly (λ j. D.moment j.disk) (λ j t file. D.left_at j.disk t file) self.old self.new
             (λ file. WithOrWithout (λ records. Stands file records) self.old.records bodies.now) }
     {
         let at = self.end;

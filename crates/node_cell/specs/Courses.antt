@@ -12,7 +12,7 @@ use Rattle.node_model.specs.World.{World, Held, Event, client_event, deliver_eve
 use Rattle.node_traits.specs.declared.outputs.ToLink.{ToLink}
 use Rattle.driver_steps.specs.declared.seat.Seat.{Seat}
 use Rattle.driver_steps.specs.Crashes.{Since}
-use Rattle.driver_steps.specs.Seats.{SeatView, AreHeld, LeaveKept, seat_since}
+use Rattle.driver_steps.specs.Seats.{SeatView, AreHeld, EachLeaves, seat_since}
 use Rattle.driver_steps.specs.OneSeat.{StandsAt}
 use Rattle.driver_steps.specs.Worlds.{puts_given}
 use Rattle.node_cell.specs.declared.view.Taken.{Taken}
@@ -120,7 +120,7 @@ RoutersFrom number nodes = (at : ℕ) → number ≤ at → at < length nodes �
 pub record OpenedAs {N L M I : Type 0} (f : NodeFacts N L M I) (since : Since L) (routers : ℕ) (seats : List (Seat N L)) (w : World) : Type 0 where
   pub logs : since.logs ≡ map (λ s. s.log) seats
   pub nodes : AreHeld (view_by f since) seats w.nodes
-  pub crashes : LeaveKept (view_by f since) seats w
+  pub crashes : EachLeaves (view_by f since) seats w
   pub are_routers : RoutersFrom routers w.nodes
 
 -- From each world that the nodes were those of at the start the steps up to now, in the order of their numbers, are one run, and what passes know is so.

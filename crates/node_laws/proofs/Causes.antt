@@ -29,7 +29,7 @@ use Rattle.node_model.specs.Letters.{At, split_done, Input, client_input, letter
 use Rattle.node_model.specs.States.{Telling, Work, writing, reading, sharding, splitting, Open, Router, Catalogue, Shard}
 use Rattle.node_model.specs.CatalogueRows.{CatalogueRow, catalogue_create, catalogue_tell, catalogue_split, catalogue_bound, catalogue_none, catalogue_skip, catalogue_moment, catalogue_opened, catalogue_client}
 use Rattle.node_model.specs.ShardRows.{ShardRow, shard_write, shard_repeat, shard_empty, shard_park, shard_waits, shard_stale, shard_read, shard_read_above, shard_rows, shard_excess, shard_overflow, shard_time, shard_learn, shard_known, shard_skip, shard_moment, shard_opened, shard_client}
-use Rattle.node_model.specs.RouterRows.{table_for, is_for, is_for_catalogue, reply_to, empty_answer, Next, replies_in, stays, is_told, next_waiting, next_of, RequestPlan, at_once, needs, needs_batch, needs_end, plan_of, block_size, Opened, gives_number, Tells, tells_overflow, tells_excess, tells_number, tells_batch, tells_cursor, RouterRow, router_begin, router_opened, router_plain, router_more, router_no_cursor, router_kill, router_take, router_learn, router_split, router_not_sharded, router_reach, router_hear, router_ahead, router_note, router_wrote, router_read, router_excess, router_overflow, router_late, router_skip, router_moment}
+use Rattle.node_model.specs.RouterRows.{table_for, is_for, is_for_catalogue, reply_to, empty_answer, Next, replies_in, stays, is_told, next_waiting, next_of, RequestPlan, at_once, needs, needs_batch, needs_end, plan_of, block_size, Opened, gives_number, Tells, tells_overflow, tells_excess, tells_number, tells_batch, tells_cursor, RouterRow, router_begin, router_opened, router_plain, router_more, router_no_cursor, router_kill, router_take, router_learn, router_split, router_not_sharded, router_reach, router_hear, router_ahead, router_note, router_wrote, router_part, router_read, router_excess, router_overflow, router_late, router_skip, router_moment}
 use Rattle.node_model.specs.World.{World, answered_by, dated_onto}
 use Rattle.node_laws.proofs.Views.{Book, View, view_of}
 use Rattle.node_laws.proofs.ReadFacts.{IsTelling, tells_find, tells_count}
@@ -126,9 +126,11 @@ router_aside _ _ _ _ (router_hear r m id q named at stages telling says o w t le
 router_aside _ _ _ _ (router_ahead r m id q named at stages telling says o w t le all) = tt
 router_aside _ _ _ _ (router_note r m id dones q kind ordered statements answers says o w n c) = tt
 router_aside _ _ _ _ (router_wrote r m id dones q kind ordered statements answers says o w n c) = tt
-router_aside _ _ _ _ (router_read r m id rows q named at stages telling out answer f says o w merged tells) = tells_stored r q at telling out answer f tells
-router_aside _ _ _ _ (router_excess r m id n q named at stages telling says o w) = tt
-router_aside _ _ _ _ (router_overflow r m id q named at stages telling says o w) = tt
+router_aside _ _ _ _ (router_part r m id rows q named at stages telling says o w target some) = tt
+router_aside _ _ _ _ (router_read r m id rows q named at stages telling all out answer f says o w target whole got merged tells) =
+    tells_stored r q at telling out answer f tells
+router_aside _ _ _ _ (router_excess r m id rows n q named at stages telling says o w target whole got) = tt
+router_aside _ _ _ _ (router_overflow r m id rows q named at stages telling says o w target whole got) = tt
 router_aside _ _ _ _ (router_late r m l) = tt
 router_aside _ _ _ _ (router_skip r m s) = tt
 router_aside _ _ _ _ (router_moment r moment b) = tt
@@ -276,17 +278,18 @@ row_true dated asked _ _ _ _ works truly (router_wrote r m id dones q kind order
       (subst (λ x. IsNoSplitting x) (sym work) tt) asks)),
   tt,
 )
-row_true dated asked _ _ _ _ works truly (router_read r m id rows q named at stages telling out answer f says o work merged tells) = (
+row_true dated asked _ _ _ _ works truly (router_part r m id rows q named at stages telling says o work target some) = tt
+row_true dated asked _ _ _ _ works truly (router_read r m id rows q named at stages telling all out answer f says o work target whole got merged tells) = (
   (λ split asks none. absurd (none_split q split (all_at HasWork q r.requests works (open_of_found r id q o).stands)
       (subst (λ x. IsNoSplitting x) (sym work) tt) asks)),
   tt,
 )
-row_true dated asked _ _ _ _ works truly (router_excess r m id n q named at stages telling says o work) = (
+row_true dated asked _ _ _ _ works truly (router_excess r m id rows n q named at stages telling says o work target whole got) = (
   (λ split asks none. absurd (none_split q split (all_at HasWork q r.requests works (open_of_found r id q o).stands)
       (subst (λ x. IsNoSplitting x) (sym work) tt) asks)),
   tt,
 )
-row_true dated asked _ _ _ _ works truly (router_overflow r m id q named at stages telling says o work) = (
+row_true dated asked _ _ _ _ works truly (router_overflow r m id rows q named at stages telling says o work target whole got) = (
   (λ split asks none. absurd (none_split q split (all_at HasWork q r.requests works (open_of_found r id q o).stands)
       (subst (λ x. IsNoSplitting x) (sym work) tt) asks)),
   tt,

@@ -1,26 +1,25 @@
 -- Where the reply to a read is that nothing is there, its collection was not created at its time, nor will it have been.
 use Rattle.std.proofs.Common.{◌≡◌, ℕ, ◌<◌, ◌≤◌, List, refl, sym, ap, subst, ◌∙◌, arith, Bool}
-use Rattle.std.specs.Prelude.{Option, Some, None, true, false, if◌then◌else◌}
+use Rattle.std.specs.Prelude.{Option, Some, None, is_some, true, false, if◌then◌else◌}
 use Rattle.std.specs.List.{AllByRecursion}
 use Rattle.std.proofs.lemmas.Bool.{eqb-true}
 use Rattle.history_model.proofs.Lists.{all_at, all_from, in_back}
 use Rattle.bson_model.specs.Tree.{null_value}
 use Rattle.chunk_model.specs.Catalogue.{Creation}
 use Rattle.chunk_model.specs.Changes.{Change, create_change, split_change, commit_change, time_of}
-use Rattle.chunk_model.specs.Tables.{Table, table_of, with_table}
+use Rattle.chunk_model.specs.Tables.{Table, owner_at, table_of, with_table}
 use Rattle.pipeline_model.specs.Stages.{Stage}
-use Rattle.pipeline_model.specs.Split.{split}
 use Rattle.history_model.specs.History.{IsIn}
 use Rattle.reply_model.specs.Exchanges.{Asked}
 use Rattle.node_model.specs.Letters.{At, no_time, at_time}
 use Rattle.node_model.specs.States.{Telling, reading}
-use Rattle.node_model.specs.RouterRows.{owner_of_span, enough_of, table_for, is_for, adopted}
+use Rattle.node_model.specs.RouterRows.{is_owned_at, enough_of, table_for, is_for, adopted}
 use Rattle.node_laws.proofs.Views.{View, changes_in}
 use Rattle.node_laws.proofs.ReadFacts.{BeginsAfter, NoneBegan}
 use Rattle.node_laws.proofs.Facts.{IsKnownTable, TableFits, AreMade, NeighboursFit}
 use Rattle.node_laws.proofs.Answers.{some_none}
 use Rattle.node_laws.proofs.CatalogueTables.{IsCreated, some_created, one_creation, created_after}
-use Rattle.node_laws.proofs.KnownTables.{FoundTable, table_found, table_there, older_still}
+use Rattle.node_laws.proofs.KnownTables.{FoundTable, table_found, table_there, older_still, known_owned_at}
 
 -- the one collection of a name was created after the time
 begins_after : (v : View) (namespace : List ℕ) (time : ℕ) (c : Creation) → AreMade (v.bound 0) (changes_in v) → IsIn (create_change c) (changes_in v)
@@ -36,19 +35,24 @@ begins_after v namespace time c begun stands name after =
     by_change (split_change s) i = tt
     by_change (commit_change m) i = tt
 
--- a table that the catalogue had, and that names no owner at the time
-unowned : (v : View) (known : ℕ) (namespace : List ℕ) (stages : List Stage) (at : ℕ) (t : Table) → AreMade (v.bound 0) (changes_in v)
+no_owner : (o : Option ℕ) → is_some o ≡ false → o ≡ None
+no_owner None e = refl
+no_owner (Some shard) e = absurd (cc)
+
+-- a table that the catalogue had, and that does not say who owned each key at the time
+unowned : (v : View) (known : ℕ) (namespace : List ℕ) (at : ℕ) (t : Table) → AreMade (v.bound 0) (changes_in v)
     → IsKnownTable v known t
     → t.namespace ≡ namespace
-    → owner_of_span t at (split stages).0.span ≡ None → NoneBegan v namespace at
-unowned v known namespace stages at t begun k name none =
+    → is_owned_at t at ≡ false → NoneBegan v namespace at
+unowned v known namespace at t begun k name lacks =
+    let none : owner_at t null_value at ≡ None = no_owner (owner_at t null_value at) (sym (known_owned_at v known t at k) ∙ lacks) in
     let c : IsCreated k.older t.namespace = some_created t.namespace k.older t k.known in
     let after : at < c.creation.at = created_after t.namespace k.older t null_value at k.fitting (older_still v known t k) k.known refl none c in
     begins_after v namespace at c.creation begun
     (subst (λ l. IsIn (create_change c.creation) l) (sym k.all) (in_back (create_change c.creation) k.more k.older c.begun))
     (c.name ∙ name) after
 
--- the catalogue returned no table, or one that names no owner: for the time that is read at
+-- the catalogue returned no table, or one that does not say who owned each key: for the time that is read at
 pub told_nothing : (v : View) (asked : List Asked) (told_at known : ℕ) (namespace : List ℕ) (told : At) (table : Option Table)
     (tables : List Table) (named : Bool) (at : ℕ) (stages : List Stage) (telling : Telling)
     → NeighboursFit v asked → TableFits v told_at namespace told table → AllByRecursion (IsKnownTable v known) (adopted table tables)
@@ -57,14 +61,13 @@ told_nothing v asked told_at known namespace no_time None tables named at stages
 told_nothing v asked told_at known namespace (at_time time) None tables named at stages telling n fits all own none =
     subst (λ x. NoneBegan v namespace x) (eqb-true time at own) fits
 told_nothing v asked told_at known namespace told (Some t) tables named at stages telling n fits all own none =
-    by_owner (owner_of_span there.0 at (split stages).0.span) refl (ap (λ x. enough_of x (reading named at stages telling)) (sym there.1) ∙ none)
+    by_owned (is_owned_at there.0 at) refl (ap (λ x. enough_of x (reading named at stages telling)) (sym there.1) ∙ none)
   where
     there : (u : Table) × (table_of namespace (with_table t tables) ≡ Some u)
     there = table_there namespace t tables fits.1
 
-    by_owner : (owner : Option ℕ) → owner_of_span there.0 at (split stages).0.span ≡ owner
-        → (if (elim owner as (λ (o : Option ℕ). Bool) [ None ↦ false | Some shard ↦ true ]) then Some there.0 else None) ≡ None → NoneBegan v namespace at
-    by_owner (Some shard) h got = absurd (some_none got)
-    by_owner None h got =
+    by_owned : (b : Bool) → is_owned_at there.0 at ≡ b → (if b then Some there.0 else None) ≡ None → NoneBegan v namespace at
+    by_owned true h got = absurd (some_none got)
+    by_owned false h got =
         let f : FoundTable namespace (with_table t tables) there.0 = table_found namespace (with_table t tables) there.0 there.1 in
-        unowned v known namespace stages at there.0 n.begun (all_at (IsKnownTable v known) there.0 (with_table t tables) all f.stands) f.name h
+        unowned v known namespace at there.0 n.begun (all_at (IsKnownTable v known) there.0 (with_table t tables) all f.stands) f.name h

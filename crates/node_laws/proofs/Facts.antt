@@ -7,7 +7,7 @@ use Rattle.command_model.specs.Writes.{WriteCommand}
 use Rattle.command_model.specs.Command.{write_command, shard_collection_command, split_command, command_of}
 use Rattle.command_model.specs.Reading.{Reading}
 use Rattle.reply_model.specs.Cursors.{Cursor}
-use Rattle.chunk_model.specs.Changes.{Change, time_of, known_table}
+use Rattle.chunk_model.specs.Changes.{Change, time_of}
 use Rattle.chunk_model.specs.Placement.{AreFitting}
 use Rattle.chunk_model.specs.Tables.{Table, first_shard}
 use Rattle.history_model.specs.History.{Entry, Legal, IsIn}
@@ -28,19 +28,9 @@ use Rattle.node_laws.proofs.Places.{EachAt}
 use Rattle.node_laws.proofs.SplitFacts.{IsSplitOf, IsSplitDone, WasMissing, IsMissing}
 use Rattle.node_laws.proofs.WriteFacts.{IsDoneAt, AreAnswers, OnlyLast, WasMade}
 use Rattle.node_laws.proofs.TimeFacts.{IsPast, HeardFits}
+pub use Rattle.node_laws.proofs.TableFacts.{IsKnownTable}
+use Rattle.node_laws.proofs.TableFacts.{IsSentTo}
 use Rattle.node_laws.proofs.ReadFacts.{NoneBegan, WaitsFor, IsDecided, IsReading, IsReadOf, IsShown, RowsFit}
-
--- TABLES
-
--- a table that the catalogue had: its changes up to one of them make it, and its collection was created by a time
-pub record IsKnownTable (v : View) (time : ℕ) (t : Table) : Type 0 where
-  pub more : List Change
-  pub older : List Change
-  pub all : changes_in v ≡ more ++ older
-  pub begun : WasCreated older t.namespace time
-  pub known : known_table t.namespace older ≡ Some t
-  pub fitting : AreFitting older
-  pub still : AllByRecursion MovesNothing (changes_in v)
 
 -- a statement goes to this shard: it owns the key, by a table of the collection that the catalogue had by a time
 pub record IsOwned (v : View) (time : ℕ) (namespace : List ℕ) (shard : ℕ) (s : Statement) : Type 0 where
@@ -193,6 +183,9 @@ pub record IsOpenOf (v : View) (asked : List Asked) (answered : List Answered) (
   pub silent : AllByRecursion (λ (t : Answered). t.id ≢ id_of r q.count) answered
   pub work : WorkFits request q.namespace q.work
   pub seen : AreSeen v r.time request q.work
+  -- and no shard has returned a part of a read, since the only one that it was sent to ends it
+  pub sent : IsSentTo v r.time q.namespace q.wait q.work q.targets
+  pub parts : q.parts ≡ []
 
 -- what is in a life before this one, or in this one
 abbrev pub IsBy : (life now : ℕ) (begun : Bool) → Type 0 → Type 0

@@ -14,7 +14,7 @@ use Rattle.reply_model.specs.Exchanges.{Asked, Answered}
 use Rattle.reply_model.specs.OneHistory.{ids_asked, AreDifferent}
 use Rattle.node_model.specs.Letters.{At, time_told, Letter, Input, client_input, letter_input, moment_input, opened_input, Taken, Effect}
 use Rattle.node_model.specs.States.{Telling, Work, writing, reading, sharding, splitting, Open, Router, replaced, without}
-use Rattle.node_model.specs.RouterRows.{id_of, heard, table_for, places_from, untold, also_told, with_told, reached, going_on, noted, is_for, is_for_catalogue, was_created, adopted, opened_request, reply_to, empty_answer, Next, stays, is_told, next_waiting, next_of, stay_in, taken_now, RouterRow, router_begin, router_opened, router_plain, router_more, router_no_cursor, router_kill, router_take, router_learn, router_split, router_not_sharded, router_reach, router_hear, router_ahead, router_note, router_wrote, router_read, router_excess, router_overflow, router_late, router_skip, router_moment}
+use Rattle.node_model.specs.RouterRows.{id_of, heard, table_for, places_from, untold, also_told, with_told, with_part, reached, going_on, noted, is_for, is_for_catalogue, was_created, adopted, opened_request, reply_to, empty_answer, Next, stays, is_told, next_waiting, next_of, stay_in, taken_now, RouterRow, router_begin, router_opened, router_plain, router_more, router_no_cursor, router_kill, router_take, router_learn, router_split, router_not_sharded, router_reach, router_hear, router_ahead, router_note, router_wrote, router_part, router_read, router_excess, router_overflow, router_late, router_skip, router_moment}
 use Rattle.node_model.specs.World.{asked_by, answered_by}
 use Rattle.reply_facts.proofs.Requests.{one_asked}
 use Rattle.node_laws.proofs.Views.{View, history_in}
@@ -194,11 +194,17 @@ row_times _ _ _ _ (router_note r m id dones q kind ordered statements answers sa
 }
 row_times _ _ _ _ (router_wrote r m id dones q kind ordered statements answers says o w n c) =
     record { same = λ n. refl; shards = refl; later = omega arith; requests = from_without r _ _ _ q.count }
-row_times _ _ _ _ (router_read r m id rows q named at stages telling out answer f says o w merged tells) =
+row_times _ _ _ _ (router_part r m id rows q named at stages telling says o w target some) = record {
+  same = λ n. refl;
+  shards = refl;
+  later = omega arith;
+  requests = from_replaced r _ _ _ (with_part q m.sender rows) (from_before q (open_of_found r id q o).stands refl refl);
+}
+row_times _ _ _ _ (router_read r m id rows q named at stages telling all out answer f says o w target whole got merged tells) =
     record { same = λ n. refl; shards = refl; later = omega arith; requests = from_without r _ _ _ q.count }
-row_times _ _ _ _ (router_excess r m id n q named at stages telling says o w) =
+row_times _ _ _ _ (router_excess r m id rows n q named at stages telling says o w target whole got) =
     record { same = λ n. refl; shards = refl; later = omega arith; requests = from_without r _ _ _ q.count }
-row_times _ _ _ _ (router_overflow r m id q named at stages telling says o w) =
+row_times _ _ _ _ (router_overflow r m id rows q named at stages telling says o w target whole got) =
     record { same = λ n. refl; shards = refl; later = omega arith; requests = from_without r _ _ _ q.count }
 row_times _ _ _ _ (router_late r m l) = leaves_all r _ _ _ (λ n. refl) refl (omega arith) refl
 row_times _ _ _ _ (router_skip r m s) = leaves_all r _ _ _ (λ n. refl) refl (omega arith) refl

@@ -2,12 +2,14 @@ pub mod Views
 pub mod GreatestTimes
 pub mod CatalogueTables
 pub mod SplitTables
+pub mod SpanOwners
 pub mod CatalogueAnswers
 pub mod Places
 pub mod ReadFacts
 pub mod WriteFacts
 pub mod TimeFacts
 pub mod SplitFacts
+pub mod TableFacts
 pub mod Facts
 pub mod Owes
 pub mod Lists
@@ -25,6 +27,7 @@ pub mod Requests
 pub mod Others
 pub mod AnswerTimes
 pub mod Answers
+pub mod AskedOwners
 pub mod HeardTimes
 pub mod Keeps
 pub mod Neighbours
@@ -45,6 +48,7 @@ pub mod NextFacts
 pub mod RouterLater
 pub mod RouterForms
 pub mod RouterMessages
+pub mod SentReads
 pub mod RouterReads
 pub mod RouterSplits
 pub mod RouterTakes

@@ -16,7 +16,7 @@ use Rattle.reply_model.specs.Exchanges.{Asked, Answered}
 use Rattle.reply_model.specs.Accounts.{Given}
 use Rattle.node_model.specs.Letters.{At, Reply}
 use Rattle.node_model.specs.States.{Telling, in_batches, as_number, Work, writing, reading, sharding, splitting, Wait, for_time, for_catalogue, for_shards, Open, Router}
-use Rattle.node_model.specs.RouterRows.{id_of, table_for, is_ahead, reply_to, empty_answer, is_for, is_for_catalogue, adopted, was_created, Next, stays, is_told, next_without, next_waiting, next_of}
+use Rattle.node_model.specs.RouterRows.{id_of, targets_of, table_for, is_ahead, reply_to, empty_answer, is_for, is_for_catalogue, adopted, was_created, Next, stays, is_told, next_without, next_waiting, next_of}
 use Rattle.node_laws.proofs.Views.{View, changes_in}
 use Rattle.node_laws.proofs.ReadFacts.{NoneBegan, IsDecided}
 use Rattle.node_laws.proofs.Facts.{IsKnownTable, TableFits, WorkFits, HasTime, IsOpenOf, ToldBelow, IsMet, AnswerFits, NeighboursFit}
@@ -25,7 +25,7 @@ use Rattle.node_laws.proofs.Growth.{seen_grows}
 use Rattle.node_laws.proofs.Journals.{later_self}
 use Rattle.node_laws.proofs.NextRequests.{KeepsCount, NextIs}
 use Rattle.node_laws.proofs.KnownTables.{FoundTable, table_found, table_there, table_created}
-use Rattle.node_laws.proofs.RouterAsks.{open_asks, shards_fit, table_for_found}
+use Rattle.node_laws.proofs.RouterAsks.{open_asks, shards_fit, table_for_found, sent_with}
 use Rattle.node_laws.proofs.AnswerTimes.{ShowsBelow, first_below, count_below, sharded_below}
 use Rattle.node_laws.proofs.EmptyReads.{told_nothing}
 use Rattle.node_laws.proofs.RouterAnswers.{as_answered, answer_fits}
@@ -164,8 +164,9 @@ module _ (v : View) (asked : List Asked) (answered said : List Answered) (cursor
       by_table (Some t) h =
           let f : FoundTable q.namespace (adopted table tables) t = table_for_found v asked given r s.time met (adopted table tables) q.namespace q.work t
           h in (
-            open_goes v asked answered r s q for_shards q.work later o (inr (λ e. cc, reached, decided)) o.work
-                (seen_grows v v r.time s.time o.request q.work (later_self v) later o.seen),
+            open_goes v asked answered r s q for_shards (targets_of t q.work) q.work later o (inr (λ e. cc, reached, decided)) o.work
+                (seen_grows v v r.time s.time o.request q.work (later_self v) later o.seen)
+                (sent_with v asked given r s.time met (adopted table tables) q.namespace q.work t known h),
             shards_fit v asked given r s.time met q.count q.namespace t q.work (open_asks v asked answered r s.time q later o (λ e. decided))
                 (all_at (IsKnownTable v s.time) t (adopted table tables) known f.stands) f.name reached,
           )

@@ -7,13 +7,14 @@ use Rattle.history_model.proofs.Lists.{all_at}
 use Rattle.base_model.specs.Identities.{RequestId}
 use Rattle.reply_model.specs.Exchanges.{Asked, Answered}
 use Rattle.node_model.specs.Letters.{Letter}
-use Rattle.node_model.specs.States.{Work, writing, reading, sharding, splitting, Wait, Open, Router}
+use Rattle.node_model.specs.States.{Target, Work, writing, reading, sharding, splitting, Wait, Open, Router}
 use Rattle.node_model.specs.RouterRows.{id_of, is_ahead, with_work}
 use Rattle.node_laws.proofs.Views.{View, chosen_time, Later}
+use Rattle.node_laws.proofs.TableFacts.{IsSentTo}
 use Rattle.node_laws.proofs.Facts.{LetterFits, WorkFits, AreSeen, HasTime, IsOpenOf, IsBy}
 use Rattle.node_laws.proofs.Growth.{letter_grows, seen_grows}
 use Rattle.node_laws.proofs.Journals.{later_self}
-use Rattle.node_laws.proofs.Others.{open_grows}
+use Rattle.node_laws.proofs.Others.{sent_grows, open_grows}
 
 -- another state of a router, in the same life
 abbrev pub with_own : Router → Router → Router
@@ -47,12 +48,13 @@ ahead_later a b sharding le not_ahead = refl
 ahead_later a b (splitting middle) le not_ahead = refl
 
 -- an open request proceeds, with other work
-pub open_goes : (v : View) (asked : List Asked) (answered : List Answered) (r s : Router) (q : Open) (wait : Wait) (work : Work) → r.time ≤ s.time
+pub open_goes : (v : View) (asked : List Asked) (answered : List Answered) (r s : Router) (q : Open) (wait : Wait) (targets : List Target) (work : Work)
+    → r.time ≤ s.time
     → (o : IsOpenOf v asked answered r q)
     → HasTime v o.request (id_of r q.count) s.time wait work
-    → WorkFits o.request q.namespace work → AreSeen v s.time o.request work
-    → IsOpenOf v asked answered (with_own r s) (with_work q wait work)
-open_goes v asked answered r s q wait work later o reached fits seen = record {
+    → WorkFits o.request q.namespace work → AreSeen v s.time o.request work → IsSentTo v s.time q.namespace wait work targets
+    → IsOpenOf v asked answered (with_own r s) (with_work q wait targets work)
+open_goes v asked answered r s q wait targets work later o reached fits seen sent = record {
   request = o.request;
   taken = o.taken;
   own = o.own;
@@ -64,12 +66,27 @@ open_goes v asked answered r s q wait work later o reached fits seen = record {
   silent = o.silent;
   work = fits;
   seen = seen;
+  sent = sent;
+  parts = refl;
 }
 
 pub open_rises : (v : View) (asked : List Asked) (answered : List Answered) (r s : Router) (q : Open) → r.time ≤ s.time → IsOpenOf v asked answered r q
     → IsOpenOf v asked answered (with_own r s) q
-open_rises v asked answered r s q later o = open_goes v asked answered r s q q.wait q.work later o (by_reached o.reached) o.work
-    (seen_grows v v r.time s.time o.request q.work (later_self v) later o.seen)
+open_rises v asked answered r s q later o = record {
+  request = o.request;
+  taken = o.taken;
+  own = o.own;
+  link = o.link;
+  number = o.number;
+  asks = o.asks;
+  past = (let p = o.past in omega arith);
+  reached = by_reached o.reached;
+  silent = o.silent;
+  work = o.work;
+  seen = seen_grows v v r.time s.time o.request q.work (later_self v) later o.seen;
+  sent = sent_grows v v r.time s.time q.namespace q.wait q.work q.targets (later_self v) later o.sent;
+  parts = o.parts;
+}
   where
     by_reached : HasTime v o.request (id_of r q.count) r.time q.wait q.work → HasTime v o.request (id_of r q.count) s.time q.wait q.work
     by_reached (inl e) = inl e

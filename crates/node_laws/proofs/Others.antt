@@ -11,12 +11,13 @@ use Rattle.reply_model.specs.OneHistory.{WasWanted, IsPlaced, ids_asked, ids_tol
 use Rattle.node_model.specs.Journal.{Kept}
 use Rattle.node_model.specs.Letters.{Letter}
 use Rattle.reply_model.specs.Cursors.{Cursor}
-use Rattle.node_model.specs.States.{Router, Work, writing, reading, sharding, splitting, Open, NodeState, catalogue_state, shard_state, router_state, time_of_node}
+use Rattle.node_model.specs.States.{Target, Router, Wait, for_time, for_catalogue, for_shards, Work, writing, reading, sharding, splitting, Open, NodeState, catalogue_state, shard_state, router_state, time_of_node}
 use Rattle.node_model.specs.RouterRows.{id_of}
 use Rattle.node_model.specs.World.{Held}
 use Rattle.node_laws.proofs.Views.{Choice, View, chosen_time, changes_in, history_in, Later}
 use Rattle.node_laws.proofs.ReadFacts.{WaitsFor, IsDecided}
 use Rattle.node_laws.proofs.WriteFacts.{WasMade}
+use Rattle.node_laws.proofs.TableFacts.{IsSentTo}
 use Rattle.node_laws.proofs.Facts.{IsKnownTable, ParkedFits, HasTime, IsOpenOf, IsBy, ToldBelow, IsClosedOrOpen, RouterFits, StateFits, IsGiven, is_of, OwnCursors, HeldFits}
 use Rattle.node_laws.proofs.Choices.{none_longer, none_of_others, decided_stays}
 use Rattle.node_laws.proofs.OwnCursors.{same_lives}
@@ -45,6 +46,22 @@ decided_grows v w id (reading named at stages telling) later f = decided_stays v
 decided_grows v w id sharding later f = f
 decided_grows v w id (splitting middle) later f = f
 
+-- where it was sent stays so
+pub sent_grows : (v w : View) (early late : ℕ) (namespace : List ℕ) (wait : Wait) (work : Work) (targets : List Target) → Later v w → early ≤ late
+    → IsSentTo v early namespace wait work targets → IsSentTo w late namespace wait work targets
+sent_grows v w early late namespace for_time work targets later le s = s
+sent_grows v w early late namespace for_catalogue work targets later le s = s
+sent_grows v w early late namespace for_shards (writing kind ordered statements answers) targets later le s = s
+sent_grows v w early late namespace for_shards (reading named at stages telling) targets later le s = record {
+  table = s.table;
+  known = known_grows v w early late s.table later le s.known;
+  name = s.name;
+  targets_are = s.targets_are;
+  enough = s.enough;
+}
+sent_grows v w early late namespace for_shards sharding targets later le s = s
+sent_grows v w early late namespace for_shards (splitting middle) targets later le s = s
+
 -- an open request stays one, where the answers that are new are to others, and no time is decided for it
 pub open_grows : (v w : View) (asked more : List Asked) (answered news : List Answered) (r : Router) (q : Open) → Later v w
     → (chosen_time (id_of r q.count) v.chosen ≡ None → chosen_time (id_of r q.count) w.chosen ≡ None)
@@ -61,6 +78,8 @@ open_grows v w asked more answered news r q later still others o = record {
   silent = all_append (λ (t : Answered). t.id ≢ id_of r q.count) answered news o.silent others;
   work = o.work;
   seen = seen_grows v w r.time r.time o.request q.work later (omega arith) o.seen;
+  sent = sent_grows v w r.time r.time q.namespace q.wait q.work q.targets later (omega arith) o.sent;
+  parts = o.parts;
 }
   where
     by_reached : HasTime v o.request (id_of r q.count) r.time q.wait q.work → HasTime w o.request (id_of r q.count) r.time q.wait q.work

@@ -22,7 +22,7 @@ use Rattle.node_laws.proofs.Facts.{IsKnownTable, WorkFits, AreSeen, IsOpenOf, To
 use Rattle.node_laws.proofs.Owes.{IsSaid, Owes}
 use Rattle.node_laws.proofs.Growth.{known_grows, met_later, met_max}
 use Rattle.node_laws.proofs.OpenRequests.{all_without, all_replaced, parted_same, parted_replaced, parted_without}
-use Rattle.node_laws.proofs.RouterAsks.{asks_fit, again_fits}
+use Rattle.node_laws.proofs.RouterAsks.{sent_for, asks_fit, again_fits}
 use Rattle.node_laws.proofs.Neighbours.{neighbours}
 use Rattle.node_laws.proofs.RouterAnswers.{as_answered}
 use Rattle.node_laws.proofs.OpenFacts.{with_own, open_rises, open_stays}
@@ -163,7 +163,7 @@ module _ (w : World) (book : Book) (at : ℕ) (kept : List Kept) (r : Router) (g
           all_append (IsSaid v w.asked w.given) (asks_again r (max r.time (time_of_moment moment)) q)
           (flat_map (λ q. asks_again r (max r.time (time_of_moment moment)) q) requests)
           (again_fits v w.asked w.given r (max r.time (time_of_moment moment)) met q o.request o.taken o.own o.past o.work o.seen
-          (known_tables v behind (max r.time (time_of_moment moment)) (omega arith)) o.reached)
+          (known_tables v behind (max r.time (time_of_moment moment)) (omega arith)) o.reached o.sent)
           (each_again v behind moment met requests all.1)
 
   -- an open request proceeds with this work, of a time that is decided
@@ -205,6 +205,9 @@ module _ (w : World) (book : Book) (at : ℕ) (kept : List Kept) (r : Router) (g
               silent = o.silent;
               work = g.does;
               seen = g.seen;
+              sent = sent_for v w.asked w.given r time (met_later (view_of w.nodes book) v w.given time grows met) q.namespace work
+                  (known_tables v (grows, others) time later);
+              parts = refl;
             })
             (others_open v (grows, others) news chosen (goes_to r time r.moment r.tables (replaced (going_on r time q work) r.requests) (as_before r)) later
             q.count none);

@@ -182,6 +182,8 @@ module _ (w : World) (book : Book) (at : ℕ) (r : Router) (fits : RouterFits (v
           silent = all_append (λ (t : Answered). t.id ≢ id_of r q.count) w.answered (answered_by w.now replies) o.silent s;
           work = o.work;
           seen = o.seen;
+          sent = o.sent;
+          parts = o.parts;
         }) row.requests parted.silent;
     different = parted.different;
     counted = fits.counted;

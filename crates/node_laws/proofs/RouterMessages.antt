@@ -92,6 +92,8 @@ open_told v asked answered r q shard o = record {
   silent = o.silent;
   work = o.work;
   seen = o.seen;
+  sent = o.sent;
+  parts = o.parts;
 }
 
 -- a message that returns a time says so of its sender

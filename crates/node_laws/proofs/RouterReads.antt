@@ -1,6 +1,6 @@
 -- The rows of a read determine the reply of a router.
 use Rattle.std.proofs.Common.{◌≡◌, ◌≢◌, inl, inr, ℕ, ◌≤◌, ◌*◌, List, [], ◌∷◌, ◌++◌, refl, sym, ap, subst, ◌∙◌, arith, Bool}
-use Rattle.std.specs.Prelude.{pos, Some, None, Ok, Err, true, false, length, drop, codes, nat_lt}
+use Rattle.std.specs.Prelude.{pos, Some, None, Result, Ok, Err, true, false, length, drop, codes, nat_lt}
 use Rattle.std.specs.List.{AllByRecursion}
 use Rattle.pipeline_model.specs.Batches.{IsBatch}
 use Rattle.pipeline_model.specs.Halves.{Rows, MergesInTurn}
@@ -19,9 +19,9 @@ use Rattle.base_model.specs.Identities.{RequestId}
 use Rattle.reply_model.specs.Exchanges.{Asked, Answered}
 use Rattle.reply_model.specs.Reads.{MayGive, excess_answer}
 use Rattle.node_model.specs.Journal.{Kept}
-use Rattle.node_model.specs.Letters.{half_overflow, half_excess, read_rows, Letter}
+use Rattle.node_model.specs.Letters.{HalfFault, half_overflow, half_excess, read_rows, Letter}
 use Rattle.node_model.specs.States.{Telling, in_batches, as_number, reading, Open, Router, router_state, without}
-use Rattle.node_model.specs.RouterRows.{id_of, heard, Opened, as_before, too_much, block_size, gives_number, next_number, new_cursor, batch_of, reply_to, Tells, tells_overflow, tells_excess, tells_number, tells_batch, tells_cursor}
+use Rattle.node_model.specs.RouterRows.{id_of, heard, is_target, also_part, awaited, rows_of, Opened, as_before, too_much, block_size, gives_number, next_number, new_cursor, batch_of, reply_to, Tells, tells_overflow, tells_excess, tells_number, tells_batch, tells_cursor}
 use Rattle.node_model.specs.World.{World}
 use Rattle.node_laws.proofs.Views.{Book, View, view_of, chosen_time, history_in}
 use Rattle.node_laws.proofs.ReadFacts.{WaitsFor, IsDecided, IsReading, IsMade, IsTooMuch}
@@ -36,6 +36,7 @@ use Rattle.node_laws.proofs.ReadTimes.{read_int64}
 use Rattle.node_laws.proofs.RouterAnswers.{as_answered, answer_fits}
 use Rattle.node_laws.proofs.ReadAnswers.{MadeFor, made_for, rows_give, rows_exceed, told_alike, overflow_right, excess_right, number_right, batch_right}
 use Rattle.node_laws.proofs.Turns.{Turns, began_by, next_above, one_more_number, turns_one}
+use Rattle.node_laws.proofs.SentReads.{alone, none_awaited, rows_alone}
 use Rattle.node_laws.proofs.RouterLater.{goes_to, tells, IsTimeless}
 use Rattle.node_laws.proofs.RouterForms.{IsBehind, came_by, turns_stay, told_owes}
 use Rattle.node_laws.proofs.RouterMessages.{body_in, later, heard_met}
@@ -191,13 +192,13 @@ module _ (w : World) (book : Book) (at : ℕ) (kept : List Kept) (r : Router) (g
           (book.cursors ++ new_cursor r q time (drop (length batch) documents) ∷ [])) (sym own)
           (opens_one (drop (length batch) documents) (pos (next_number r)) rest refl new)
 
-  pub read_owes : (id : RequestId) (rows : Rows) (q : Open) (named : Bool) (time : ℕ) (stages : List Stage) (telling : Telling) (out : Outcome)
+  one_owes : (id : RequestId) (rows : Rows) (q : Open) (named : Bool) (time : ℕ) (stages : List Stage) (telling : Telling) (out : Outcome)
       (answer : Answer) (f : Opened)
       → m.body ≡ read_rows id 1 (Ok rows) → IsOpenWith r id q → q.work ≡ reading named time stages telling → MergesInTurn (split stages).1 (rows ∷ []) out
       → Tells r q time telling out answer f
       → Owes w book at (record { state = router_state r; kept = kept }) (tells f [] (reply_to r (heard r m) q answer ∷ []))
       (router_state (goes_to r (heard r m) r.moment r.tables (without q.count r.requests) f))
-  read_owes id rows q named time stages _ _ _ _ says found work merged (tells_overflow telling) =
+  one_owes id rows q named time stages _ _ _ _ says found work merged (tells_overflow telling) =
       told_still q (refusal_answer (without_evidence overflow)) found.stands
       (λ v behind o n.
       let x = read_now id rows q named time stages telling says found work v behind o in (
@@ -207,7 +208,7 @@ module _ (w : World) (book : Book) (at : ℕ) (kept : List Kept) (r : Router) (g
             (past id rows q named time stages telling says found work v o.request x) refl,
         refusal_below (heard r m) (without_evidence overflow),
       ))
-  read_owes id rows q named time stages _ _ _ _ says found work merged (tells_excess telling documents n much) =
+  one_owes id rows q named time stages _ _ _ _ says found work merged (tells_excess telling documents n much) =
       told_still q (refusal_answer (too_much n)) found.stands
       (λ v behind o k.
       let x = read_now id rows q named time stages telling says found work v behind o in (
@@ -218,7 +219,7 @@ module _ (w : World) (book : Book) (at : ℕ) (kept : List Kept) (r : Router) (g
             (past id rows q named time stages telling says found work v o.request x) refl,
         refusal_below (heard r m) (too_much n),
       ))
-  read_owes id rows q named time stages _ _ _ _ says found work merged (tells_number n) =
+  one_owes id rows q named time stages _ _ _ _ says found work merged (tells_number n) =
       told_still q (count_answer n time) found.stands
       (λ v behind o k.
       let x = read_now id rows q named time stages as_number says found work v behind o in
@@ -229,7 +230,7 @@ module _ (w : World) (book : Book) (at : ℕ) (kept : List Kept) (r : Router) (g
             reached refl,
         count_below (heard r m) n time reached,
       ))
-  read_owes id rows q named time stages _ _ _ _ says found work merged (tells_batch size single documents batch small is_batch rest) =
+  one_owes id rows q named time stages _ _ _ _ says found work merged (tells_batch size single documents batch small is_batch rest) =
       told_still q (first_answer (batch_of q time (pos 0) batch)) found.stands
       (λ v behind o k.
       let x = read_now id rows q named time stages (in_batches size single) says found work v behind o in
@@ -241,16 +242,57 @@ module _ (w : World) (book : Book) (at : ℕ) (kept : List Kept) (r : Router) (g
             (opens_none (drop (length batch) documents) rest) (inl x.made.settled) reached refl,
         first_below (heard r m) (batch_of q time (pos 0) batch) reached,
       ))
-  read_owes id rows q named time stages _ _ _ _ says found work merged (tells_cursor size documents batch small is_batch rest) =
+  one_owes id rows q named time stages _ _ _ _ says found work merged (tells_cursor size documents batch small is_batch rest) =
       opened_owes id rows q named time stages size documents batch says found work merged small is_batch rest
 
+  -- WHERE IT WAS SENT
+
+  open_now : (q : Open) → IsIn q r.requests → IsOpenOf (view_of w.nodes book) w.asked w.answered r q
+  open_now q stands = all_at (IsOpenOf (view_of w.nodes book) w.asked w.answered r) q r.requests h.state.requests stands
+
+  -- no read waits for more parts than the one that comes
+  pub part_is_all : (id : RequestId) (rows : Result Rows HalfFault) (q : Open) → IsOpenWith r id q → is_target m.sender q.targets ≡ true
+      → awaited q.targets (also_part q.parts m.sender rows) ≡ []
+  part_is_all id rows q found target =
+      let o = open_now q found.stands in
+      none_awaited m.sender rows (view_of w.nodes book) r.time q.namespace q.wait q.work q.targets q.parts o.sent o.parts target
+
+  all_alone : (id : RequestId) (rows : Result Rows HalfFault) (q : Open) (all : Result (List Rows) HalfFault) → IsOpenWith r id q
+      → is_target m.sender q.targets ≡ true
+      → rows_of q.targets (also_part q.parts m.sender rows) ≡ all → alone rows ≡ all
+  all_alone id rows q all found target got =
+      let o = open_now q found.stands in
+      sym (rows_alone m.sender rows (view_of w.nodes book) r.time q.namespace q.wait q.work q.targets q.parts o.sent o.parts target) ∙ got
+
+  pub read_owes : (id : RequestId) (rows : Result Rows HalfFault) (q : Open) (named : Bool) (time : ℕ) (stages : List Stage) (telling : Telling)
+      (all : List Rows) (out : Outcome) (answer : Answer) (f : Opened)
+      → m.body ≡ read_rows id 1 rows → IsOpenWith r id q → q.work ≡ reading named time stages telling → is_target m.sender q.targets ≡ true
+      → rows_of q.targets (also_part q.parts m.sender rows) ≡ Ok all → MergesInTurn (split stages).1 all out
+      → Tells r q time telling out answer f
+      → Owes w book at (record { state = router_state r; kept = kept }) (tells f [] (reply_to r (heard r m) q answer ∷ []))
+      (router_state (goes_to r (heard r m) r.moment r.tables (without q.count r.requests) f))
+  read_owes id rows q named time stages telling all out answer f says found work target got merged told =
+      by_rows rows says (all_alone id rows q (Ok all) found target got)
+    where
+      by_rows : (x : Result Rows HalfFault) → m.body ≡ read_rows id 1 x → alone x ≡ Ok all
+          → Owes w book at (record { state = router_state r; kept = kept }) (tells f [] (reply_to r (heard r m) q answer ∷ []))
+          (router_state (goes_to r (heard r m) r.moment r.tables (without q.count r.requests) f))
+      by_rows (Err fault) says is = absurd (cc)
+      by_rows (Ok own) says is =
+          let same : all ≡ own ∷ [] = cc in
+          one_owes id own q named time stages telling out answer f says found work (subst (λ l. MergesInTurn (split stages).1 l out) same merged) told
+
+  same_fault : (rows : Result Rows HalfFault) (fault : HalfFault) → alone rows ≡ Err fault → rows ≡ Err fault
+  same_fault (Ok own) fault is = absurd (cc)
+  same_fault (Err own) fault is = cc
+
   -- too much
-  pub much_owes : (id : RequestId) (n : ℕ) (q : Open) (named : Bool) (time : ℕ) (stages : List Stage) (telling : Telling)
+  one_much : (id : RequestId) (n : ℕ) (q : Open) (named : Bool) (time : ℕ) (stages : List Stage) (telling : Telling)
       → m.body ≡ read_rows id 1 (Err (half_excess n))
       → IsOpenWith r id q → q.work ≡ reading named time stages telling
       → Owes w book at (record { state = router_state r; kept = kept }) (tells (as_before r) [] (reply_to r (heard r m) q (refusal_answer (too_much n)) ∷ []))
       (router_state (goes_to r (heard r m) r.moment r.tables (without q.count r.requests) (as_before r)))
-  much_owes id n q named time stages telling says found work =
+  one_much id n q named time stages telling says found work =
       told_still q (refusal_answer (too_much n)) found.stands
       (λ v behind o k.
       let much : IsTooMuch v w.asked m.sender m.time id n = body_in w book at kept r good h m comes v behind (read_rows id 1 (Err (half_excess n))) says in
@@ -264,8 +306,21 @@ module _ (w : World) (book : Book) (at : ℕ) (kept : List Kept) (r : Router) (g
         refusal_below (heard r m) (too_much n),
       ))
 
+  pub much_owes : (id : RequestId) (rows : Result Rows HalfFault) (n : ℕ) (q : Open) (named : Bool) (time : ℕ) (stages : List Stage) (telling : Telling)
+      → m.body ≡ read_rows id 1 rows
+      → IsOpenWith r id q → q.work ≡ reading named time stages telling → is_target m.sender q.targets ≡ true
+      → rows_of q.targets (also_part q.parts m.sender rows) ≡ Err (half_excess n)
+      → Owes w book at (record { state = router_state r; kept = kept }) (tells (as_before r) [] (reply_to r (heard r m) q (refusal_answer (too_much n)) ∷ []))
+      (router_state (goes_to r (heard r m) r.moment r.tables (without q.count r.requests) (as_before r)))
+  much_owes id rows n q named time stages telling says found work target got =
+      let fault : rows ≡ Err (half_excess n) = same_fault rows (half_excess n) (all_alone id rows q (Err (half_excess n)) found target got) in
+      one_much id n q named time stages telling (says ∙ ap (λ x. read_rows id 1 x) fault) found work
+
   -- no half overflows
-  pub none_overflows : (id : RequestId) → m.body ≡ read_rows id 1 (Err half_overflow) → ⊥
-  none_overflows id says =
+  pub none_overflows : (id : RequestId) (rows : Result Rows HalfFault) (q : Open) → m.body ≡ read_rows id 1 rows → IsOpenWith r id q
+      → is_target m.sender q.targets ≡ true
+      → rows_of q.targets (also_part q.parts m.sender rows) ≡ Err half_overflow → ⊥
+  none_overflows id rows q says found target got =
+      let fault : rows ≡ Err half_overflow = same_fault rows half_overflow (all_alone id rows q (Err half_overflow) found target got) in
       body_in w book at kept r good h m comes (view_of w.nodes book) (later_self (view_of w.nodes book), λ p other. refl)
-      (read_rows id 1 (Err half_overflow)) says
+      (read_rows id 1 (Err half_overflow)) (says ∙ ap (λ x. read_rows id 1 x) fault)

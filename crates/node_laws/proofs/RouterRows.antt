@@ -22,7 +22,7 @@ use Rattle.reply_model.specs.Right.{asks_for_one, usual_size, unless_silent, rig
 use Rattle.node_model.specs.Journal.{Kept}
 use Rattle.node_model.specs.Letters.{Input, Reply, Effect}
 use Rattle.node_model.specs.States.{Telling, in_batches, as_number, Work, writing, reading, sharding, splitting, for_time, Open, Router, router_state}
-use Rattle.node_model.specs.RouterRows.{id_of, heard, is_ahead, table_for, wait_by, wait_of, asks_for, RequestPlan, at_once, needs, needs_batch, needs_end, plan_of, plan_read, opened_request, taken_now, RouterRow, router_begin, router_opened, router_plain, router_more, router_no_cursor, router_kill, router_take, router_learn, router_split, router_not_sharded, router_reach, router_hear, router_ahead, router_note, router_wrote, router_read, router_excess, router_overflow, router_late, router_skip, router_moment}
+use Rattle.node_model.specs.RouterRows.{id_of, heard, is_ahead, table_for, wait_by, wait_of, asks_for, RequestPlan, at_once, needs, needs_batch, needs_end, plan_of, plan_read, opened_request, taken_now, RouterRow, router_begin, router_opened, router_plain, router_more, router_no_cursor, router_kill, router_take, router_learn, router_split, router_not_sharded, router_reach, router_hear, router_ahead, router_note, router_wrote, router_part, router_read, router_excess, router_overflow, router_late, router_skip, router_moment}
 use Rattle.node_model.specs.World.{Held, World}
 use Rattle.node_laws.proofs.Views.{Choice, Book, View, view_of, chosen_time}
 use Rattle.node_laws.proofs.Places.{each_get}
@@ -37,13 +37,13 @@ use Rattle.node_laws.proofs.Answers.{StaysRight}
 use Rattle.node_laws.proofs.OpenRequests.{open_of_found}
 use Rattle.node_laws.proofs.AnswerTimes.{ShowsBelow, refusal_below, next_below, killed_below}
 use Rattle.node_laws.proofs.ReadTimes.{reads_of, first_time, planned_time, awaits_first, awaits_named}
-use Rattle.node_laws.proofs.RouterAsks.{asks_fit}
+use Rattle.node_laws.proofs.RouterAsks.{sent_for, asks_fit}
 use Rattle.node_laws.proofs.RouterAnswers.{as_answered, IsPlain, plain_fits}
 use Rattle.node_laws.proofs.Turns.{Turns, turns_same, turns_left, turns_closed, open_past}
 use Rattle.node_laws.proofs.RouterLater.{told_now}
-use Rattle.node_laws.proofs.RouterForms.{waits_not, known_tables, stays_owes, again_owes}
+use Rattle.node_laws.proofs.RouterForms.{waits_not, IsBehind, known_tables, stays_owes, again_owes}
 use Rattle.node_laws.proofs.RouterMessages.{heard_met, learn_owes, reach_owes, hear_owes, ahead_owes, note_owes, wrote_owes}
-use Rattle.node_laws.proofs.RouterReads.{read_owes, much_owes, none_overflows}
+use Rattle.node_laws.proofs.RouterReads.{part_is_all, read_owes, much_owes, none_overflows}
 use Rattle.node_laws.proofs.RouterSplits.{split_owes, unsplit_owes}
 use Rattle.node_laws.proofs.RouterTakes.{asked_now, took, counts_behind, new_answer, undecided, begin_owes, takes_owes}
 
@@ -309,7 +309,7 @@ module _ (w : World) (book : Book) (at : ℕ) (kept : List Kept) (r : Router) (g
       (asks_for r r.time (r.count + 1) namespace work) [] chose (turns_kept (Asking namespace work ∷ []))
       (tt, tt) (refl, tt) tt tt tt tt (inl (counts_behind (r.count + 1) r.requests (Asking namespace work ∷ []) (in_first (r.count + 1) [])))
       (λ v behind chosen cursors. record {
-        requests = (opens v chosen, tt);
+        requests = (opens v behind chosen, tt);
         letters = asks_fit v (w.asked ++ New ∷ []) w.given r r.time (met_later (view_of w.nodes book) v w.given r.time behind.0 h.met) (r.count + 1)
             namespace work
             (record { request = New; taken = taken; own = refl; past = omega arith; does = (does v).0; seen = (does v).1; decided = (timed v chosen).1 })
@@ -317,10 +317,10 @@ module _ (w : World) (book : Book) (at : ℕ) (kept : List Kept) (r : Router) (g
         answers = subst (λ l. AnswersFit v (w.asked ++ New ∷ []) (w.answered ++ []) book.cursors [] l) (sym cursors) (no_answer book.cursors);
       })
     where
-      opens : (v : View) → v.chosen ≡ book.chosen ++ news
+      opens : (v : View) → IsBehind w book at kept r good h v → v.chosen ≡ book.chosen ++ news
           → IsOpenOf v (w.asked ++ New ∷ []) (w.answered ++ []) (took r r.cursors (opened_request r link number request namespace work ∷ []))
           (opened_request r link number request namespace work)
-      opens v chosen = record {
+      opens v behind chosen = record {
         request = New;
         taken = taken;
         own = refl;
@@ -332,6 +332,9 @@ module _ (w : World) (book : Book) (at : ℕ) (kept : List Kept) (r : Router) (g
         silent = rw (append-nil w.answered) (new_answer w book at kept r good h);
         work = (does v).0;
         seen = (does v).1;
+        sent = sent_for v (w.asked ++ New ∷ []) w.given r r.time (met_later (view_of w.nodes book) v w.given r.time behind.0 h.met) namespace work
+            (known_tables w book at kept r good h v behind r.time (omega arith));
+        parts = refl;
       }
 
   take_owes : (namespace : List ℕ) (work : Work) → plan_of r (id_of r (r.count + 1)) request.more (command_of request) ≡ needs namespace work
@@ -401,12 +404,16 @@ router_owes w book at kept _ _ _ _ good here h comes (router_note r m id dones q
     note_owes w book at kept r good h m comes id dones q kind ordered statements answers says (open_of_found r id q found) work open_yet
 router_owes w book at kept _ _ _ _ good here h comes (router_wrote r m id dones q kind ordered statements answers says found work news whole) =
     wrote_owes w book at kept r good h m comes id dones q kind ordered statements answers says (open_of_found r id q found) work news whole
-router_owes w book at kept _ _ _ _ good here h comes (router_read r m id rows q named time stages telling out answer f says found work merged tells) =
-    read_owes w book at kept r good h m comes id rows q named time stages telling out answer f says (open_of_found r id q found) work merged tells
-router_owes w book at kept _ _ _ _ good here h comes (router_excess r m id n q named time stages telling says found work) =
-    much_owes w book at kept r good h m comes id n q named time stages telling says (open_of_found r id q found) work
-router_owes w book at kept _ _ _ _ good here h comes (router_overflow r m id q named time stages telling says found work) =
-    absurd (none_overflows w book at kept r good h m comes id says)
+router_owes w book at kept _ _ _ _ good here h comes (router_part r m id rows q named time stages telling says found work target some) =
+    absurd (some (part_is_all w book at kept r good h m comes id rows q (open_of_found r id q found) target))
+router_owes w book at kept _ _ _ _ good here h comes
+    (router_read r m id rows q named time stages telling all out answer f says found work target whole got merged tells) =
+    read_owes w book at kept r good h m comes id rows q named time stages telling all out answer f says (open_of_found r id q found) work target got merged
+    tells
+router_owes w book at kept _ _ _ _ good here h comes (router_excess r m id rows n q named time stages telling says found work target whole got) =
+    much_owes w book at kept r good h m comes id rows n q named time stages telling says (open_of_found r id q found) work target got
+router_owes w book at kept _ _ _ _ good here h comes (router_overflow r m id rows q named time stages telling says found work target whole got) =
+    absurd (none_overflows w book at kept r good h m comes id rows q says (open_of_found r id q found) target got)
 router_owes w book at kept _ _ _ _ good here h comes (router_late r m late) = stays_owes w book at kept r good h (heard r m) (omega arith)
     (heard_met w book at kept r good h m comes)
 router_owes w book at kept _ _ _ _ good here h comes (router_skip r m none) = stays_owes w book at kept r good h r.time (omega arith) h.met

@@ -1,6 +1,6 @@
 -- What a router may do in a step.
-use Rattle.std.specs.Prelude.{◌≡◌, ◌≢◌, ◌<◌, ◌≤◌, ◌⊎◌, ℕ, zero, suc, ℤ, pos, ◌+◌, ◌*◌, max, List, [], ◌∷◌, ◌++◌, length, drop, map, filter, not, Bool, true, false, ◌==◌, ◌&&◌, ◌||◌, codes, Option, Some, None, Result, Ok, Err, nat_lt, if◌then◌else◌}
-use Rattle.std.specs.List.{flat_map, list_any}
+use Rattle.std.specs.Prelude.{◌≡◌, ◌≢◌, ◌<◌, ◌≤◌, ◌⊎◌, ℕ, zero, suc, ℤ, pos, ◌+◌, ◌*◌, max, List, [], ◌∷◌, ◌++◌, length, drop, map, filter, not, Bool, true, false, ◌==◌, ◌&&◌, ◌||◌, codes, Option, Some, None, is_some, Result, Ok, Err, nat_lt, if◌then◌else◌}
+use Rattle.std.specs.List.{flat_map, list_all, list_any}
 use Rattle.std.specs.Str.{bytes_eq}
 use Rattle.std.specs.Option.{unwrap_or}
 use Rattle.reply_model.specs.Tree.{Datum, null_value, Fields}
@@ -22,6 +22,8 @@ use Rattle.pipeline_model.specs.Split.{split}
 use Rattle.pipeline_model.specs.Lengths.{excess_of_answer}
 use Rattle.pipeline_model.specs.Runs.{Outcome, listed, overflowed, count_documents}
 use Rattle.reply_model.specs.Keys.{Span}
+use Rattle.chunk_model.specs.Tables.{Chunk, owner_among}
+use Rattle.chunk_model.specs.Targets.{targets}
 use Rattle.reply_model.specs.Command.{Command, hello_command, legacy_command, ping_command, end_sessions_command, write_command, find_command, count_command, more_command, kill_command, shard_collection_command, split_command, command_of}
 use Rattle.reply_model.specs.Answers.{Answer, hello_answer, legacy_answer, done_answer, first_answer, next_answer, count_answer, killed_answer, sharded_answer, changed_answer, refusal_answer, answer_document}
 use Rattle.reply_model.specs.History.{Operation, key_written}
@@ -32,8 +34,8 @@ use Rattle.reply_model.specs.Exchanges.{number_for}
 use Rattle.reply_model.specs.Outcomes.{Done, answer_of}
 use Rattle.reply_model.specs.Right.{ends, unless_silent, usual_size}
 use Rattle.node_model.specs.Journal.{Kept, kept_block, kept_life}
-use Rattle.node_model.specs.Letters.{At, no_time, at_time, Statement, half_overflow, half_excess, Body, table_ask, table_told, split_ask, split_done, write_ask, write_done, read_ask, read_rows, stale, time_ask, time_told, Letter, Input, client_input, letter_input, moment_input, opened_input, Taken, Reply, Effect, nothing, sends, writes}
-use Rattle.node_model.specs.States.{Telling, in_batches, as_number, Work, writing, reading, sharding, splitting, Wait, for_time, for_catalogue, for_shards, Open, Router, open_with, without, replaced}
+use Rattle.node_model.specs.Letters.{At, no_time, at_time, Statement, HalfFault, half_overflow, half_excess, Body, table_ask, table_told, split_ask, split_done, write_ask, write_done, read_ask, read_rows, stale, time_ask, time_told, Letter, Input, client_input, letter_input, moment_input, opened_input, Taken, Reply, Effect, nothing, sends, writes}
+use Rattle.node_model.specs.States.{Target, Part, Telling, in_batches, as_number, Work, writing, reading, sharding, splitting, Wait, for_time, for_catalogue, for_shards, Open, Router, open_with, without, replaced}
 
 -- THE STATE
 
@@ -104,20 +106,30 @@ asks_to_write r time id namespace t ordered (s ∷ statements) = elim (owner_of_
   | Some shard ↦ says r shard time (write_ask id 1 ordered namespace (run_to t shard (s ∷ statements)) (sent_by t shard)) ∷ []
 ]
 
--- currently one shard owns all keys, so that a span goes to the owner of the least key, whatever its ranges and points are
-abbrev pub owner_of_span : Table → ℕ → List Span → Option ℕ
-owner_of_span t at span = owner_at t null_value at
-
-abbrev pub asks_to_read : Router → ℕ → RequestId → (namespace : List ℕ) → Table → ℕ → Half → List Letter
-asks_to_read r time id namespace t at half = elim (owner_of_span t at half.span) [
-  | None ↦ []
-  | Some shard ↦ says r shard time (read_ask id 1 namespace at half (sent_by t shard)) ∷ []
+-- the shards that own keys of a span at a time, rising; where the span has no key, the owner of the least one
+abbrev pub owners_of_span : Table → ℕ → List Span → List ℕ
+owners_of_span t at span = elim (targets t span at) [
+  | [] ↦ elim (owner_at t null_value at) [ None ↦ [] | Some shard ↦ shard ∷ [] ]
+  | shard ∷ shards ↦ shard ∷ shards
 ]
+
+-- which shards a read of these stages is sent to, by a table
+abbrev pub targets_at : Table → ℕ → List Stage → List Target
+targets_at t at stages = map (λ shard. record { shard = shard; sent = sent_by t shard }) (owners_of_span t at (split stages).0.span)
+
+abbrev pub targets_of : Table → Work → List Target
+targets_of t (writing kind ordered statements answers) = []
+targets_of t (reading named at stages telling) = targets_at t at stages
+targets_of t sharding = []
+targets_of t (splitting middle) = []
+
+abbrev pub asks_to_read : Router → ℕ → RequestId → (namespace : List ℕ) → ℕ → Half → List Target → List Letter
+asks_to_read r time id namespace at half targets = map (λ (t : Target). says r t.shard time (read_ask id 1 namespace at half t.sent)) targets
 
 -- what a request sends to the shards, by a table
 abbrev pub asks_shards : Router → ℕ → (count : ℕ) → (namespace : List ℕ) → Table → Work → List Letter
 asks_shards r time count namespace t (writing kind ordered statements answers) = asks_to_write r time (id_of r count) namespace t ordered (unanswered statements answers)
-asks_shards r time count namespace t (reading named at stages telling) = asks_to_read r time (id_of r count) namespace t at (split stages).0
+asks_shards r time count namespace t (reading named at stages telling) = asks_to_read r time (id_of r count) namespace at (split stages).0 (targets_at t at stages)
 asks_shards r time count namespace t sharding = []
 asks_shards r time count namespace t (splitting middle) = []
 
@@ -128,10 +140,18 @@ asks_catalogue r time count namespace (reading named at stages telling) = says r
 asks_catalogue r time count namespace sharding = says r 0 time (table_ask namespace true no_time)
 asks_catalogue r time count namespace (splitting middle) = says r 0 time (split_ask (id_of r count) namespace middle)
 
--- a table is enough where it says who owned what is read at its time; and none for what the catalogue does
+-- a chunk has an owner at a time
+abbrev pub has_owner : (at : ℕ) → Chunk → Bool
+has_owner at c = is_some (owner_among at c.owners)
+
+-- a table says who owned each key at a time: each of its chunks has an owner then
+abbrev pub is_owned_at : Table → (at : ℕ) → Bool
+is_owned_at t at = list_all (has_owner at) t.chunks
+
+-- a table is enough for a read where it says who owned each key at its time; and none is for what the catalogue does
 abbrev pub is_enough : Table → Work → Bool
 is_enough t (writing kind ordered statements answers) = true
-is_enough t (reading named at stages telling) = elim (owner_of_span t at (split stages).0.span) [ None ↦ false | Some shard ↦ true ]
+is_enough t (reading named at stages telling) = is_owned_at t at
 is_enough t sharding = false
 is_enough t (splitting middle) = false
 
@@ -190,10 +210,18 @@ wait_of r time namespace work = if is_ahead time work then for_time else wait_by
 abbrev pub asks_for : Router → ℕ → (count : ℕ) → (namespace : List ℕ) → Work → List Letter
 asks_for r time count namespace work = if is_ahead time work then asks_times r time (id_of r count) [] else asks_by r time count namespace work (table_for r.tables namespace work)
 
+-- which shards it is sent to, where it waits for them
+abbrev pub targets_by : Option Table → Work → List Target
+targets_by None work = []
+targets_by (Some t) work = targets_of t work
+
+abbrev pub targets_for : Router → ℕ → (namespace : List ℕ) → Work → List Target
+targets_for r time namespace work = if is_ahead time work then [] else targets_by (table_for r.tables namespace work) work
+
 -- A REQUEST THAT COMES
 
 abbrev pub opened_request : Router → (link : ℕ) → (number : ℤ) → Request → (namespace : List ℕ) → Work → Open
-opened_request r link number request namespace work = record { count = r.count + 1; link = link; number = number; request = request; namespace = namespace; wait = wait_of r r.time namespace work; told = []; work = work }
+opened_request r link number request namespace work = record { count = r.count + 1; link = link; number = number; request = request; namespace = namespace; wait = wait_of r r.time namespace work; told = []; targets = targets_for r r.time namespace work; parts = []; work = work }
 
 abbrev pub taken_now : Router → (link : ℕ) → (number : ℤ) → Request → Taken
 taken_now r link number request = record { id = id_of r (r.count + 1); link = link; number = number; time = r.time; moment = r.moment; request = request }
@@ -215,19 +243,49 @@ is_answered ordered [] answers = true
 is_answered ordered (s ∷ statements) [] = false
 is_answered ordered (s ∷ statements) (d ∷ answers) = if ends ordered d then true else is_answered ordered statements answers
 
-abbrev pub with_work : Open → Wait → Work → Open
-with_work q wait work = record { count = q.count; link = q.link; number = q.number; request = q.request; namespace = q.namespace; wait = wait; told = q.told; work = work }
+abbrev pub with_work : Open → Wait → List Target → Work → Open
+with_work q wait targets work = record { count = q.count; link = q.link; number = q.number; request = q.request; namespace = q.namespace; wait = wait; told = q.told; targets = targets; parts = []; work = work }
 
 -- the shards that returned their time, with one more
 abbrev pub also_told : (told : List ℕ) → (shard : ℕ) → List ℕ
 also_told told shard = if list_any (λ t. t == shard) told then told else told ++ shard ∷ []
 
 abbrev pub with_told : Open → (shard : ℕ) → Open
-with_told q shard = record { count = q.count; link = q.link; number = q.number; request = q.request; namespace = q.namespace; wait = q.wait; told = also_told q.told shard; work = q.work }
+with_told q shard = record { count = q.count; link = q.link; number = q.number; request = q.request; namespace = q.namespace; wait = q.wait; told = also_told q.told shard; targets = q.targets; parts = q.parts; work = q.work }
 
 -- an open request proceeds with this work at a time of the router
 abbrev pub going_on : Router → ℕ → Open → Work → Open
-going_on r time q work = with_work q (wait_of r time q.namespace work) work
+going_on r time q work = with_work q (wait_of r time q.namespace work) (targets_for r time q.namespace work) work
+
+-- PARTS OF A READ
+
+-- what a shard returned, if it did
+abbrev pub part_of : (shard : ℕ) → List Part → Option (Result Rows HalfFault)
+part_of shard [] = None
+part_of shard (p ∷ parts) = if p.shard == shard then Some p.rows else part_of shard parts
+
+abbrev pub is_target : (shard : ℕ) → List Target → Bool
+is_target shard targets = list_any (λ (t : Target). t.shard == shard) targets
+
+-- a shard returned its part, the first time
+abbrev pub also_part : List Part → (shard : ℕ) → Result Rows HalfFault → List Part
+also_part parts shard rows = if is_some (part_of shard parts) then parts else parts ++ record { shard = shard; rows = rows } ∷ []
+
+abbrev pub with_part : Open → (shard : ℕ) → Result Rows HalfFault → Open
+with_part q shard rows = record { count = q.count; link = q.link; number = q.number; request = q.request; namespace = q.namespace; wait = q.wait; told = q.told; targets = q.targets; parts = also_part q.parts shard rows; work = q.work }
+
+-- the targets that have not returned their parts
+abbrev pub awaited : List Target → List Part → List Target
+awaited targets parts = filter (λ (t : Target). not (is_some (part_of t.shard parts))) targets
+
+-- the rows of these parts, in order of the targets; or why the first that has none has none
+abbrev pub rows_of : List Target → List Part → Result (List Rows) HalfFault
+rows_of [] parts = Ok []
+rows_of (t ∷ targets) parts = elim (part_of t.shard parts) [
+  | None ↦ rows_of targets parts
+  | Some (Err fault) ↦ Err fault
+  | Some (Ok rows) ↦ elim (rows_of targets parts) [ Err fault ↦ Err fault | Ok others ↦ Ok (rows ∷ others) ]
+]
 
 -- A TABLE THAT ARRIVES
 
@@ -268,7 +326,7 @@ next_without r time made told q = elim q.work [
 
 abbrev pub next_waiting : Router → ℕ → (made : Bool) → At → Open → Option Table → Next
 next_waiting r time made told q None = next_without r time made told q
-next_waiting r time made told q (Some t) = stays (with_work q for_shards q.work) (asks_shards r time q.count q.namespace t q.work)
+next_waiting r time made told q (Some t) = stays (with_work q for_shards (targets_of t q.work) q.work) (asks_shards r time q.count q.namespace t q.work)
 
 abbrev pub next_of : Router → ℕ → (tables : List Table) → (namespace : List ℕ) → (made : Bool) → At → Open → Next
 next_of r time tables namespace made told q =
@@ -301,7 +359,12 @@ abbrev pub asks_again : Router → ℕ → Open → List Letter
 asks_again r time q = elim q.wait [
   | for_time ↦ asks_times r time (id_of r q.count) q.told
   | for_catalogue ↦ asks_catalogue r time q.count q.namespace q.work ∷ []
-  | for_shards ↦ elim (table_of q.namespace r.tables) [ None ↦ [] | Some t ↦ asks_shards r time q.count q.namespace t q.work ]
+  | for_shards ↦ elim q.work [
+    | writing kind ordered statements answers ↦ elim (table_of q.namespace r.tables) [ None ↦ [] | Some t ↦ asks_shards r time q.count q.namespace t q.work ]
+    | reading named at stages telling ↦ asks_to_read r time (id_of r q.count) q.namespace at (split stages).0 (awaited q.targets q.parts)
+    | sharding ↦ []
+    | splitting middle ↦ []
+  ]
 ]
 
 -- THE ROWS
@@ -325,10 +388,10 @@ abbrev pub AreNoNews : Option Open → List Done → Type 0
 AreNoNews None dones = Unit {0}
 AreNoNews (Some q) dones = elim q.work [ writing kind ordered statements answers ↦ noted answers dones ≡ answers | reading named at stages telling ↦ Unit {0} | sharding ↦ Unit {0} | splitting middle ↦ Unit {0} ]
 
--- rows are new to an open read of the turn that it is in
-abbrev pub IsNoRead : Option Open → (turn : ℕ) → Type 0
-IsNoRead None turn = Unit {0}
-IsNoRead (Some q) turn = elim q.work [ writing kind ordered statements answers ↦ Unit {0} | reading named at stages telling ↦ turn ≢ 1 | sharding ↦ Unit {0} | splitting middle ↦ Unit {0} ]
+-- rows are new to an open read of the turn that it is in, which was sent to the shard that returns them
+abbrev pub IsNoRead : Option Open → (sender turn : ℕ) → Type 0
+IsNoRead None sender turn = Unit {0}
+IsNoRead (Some q) sender turn = elim q.work [ writing kind ordered statements answers ↦ Unit {0} | reading named at stages telling ↦ (turn ≢ 1) ⊎ (is_target sender q.targets ≡ false) | sharding ↦ Unit {0} | splitting middle ↦ Unit {0} ]
 
 -- a time is new to a read that waits for it
 abbrev pub IsNotAwaited : Option Open → Type 0
@@ -341,13 +404,13 @@ IsNoSplit None = Unit {0}
 IsNoSplit (Some q) = elim q.work [ writing kind ordered statements answers ↦ Unit {0} | reading named at stages telling ↦ Unit {0} | sharding ↦ Unit {0} | splitting middle ↦ ⊥ ]
 
 -- a message is late: what it carries changes nothing
-abbrev pub IsLate : Router → Body → Type 0
-IsLate r (write_done id dones) = AreNoNews (open_of r id) dones
-IsLate r (read_rows id turn rows) = IsNoRead (open_of r id) turn
-IsLate r (time_told id) = IsNotAwaited (open_of r id)
-IsLate r (split_done id found) = IsNoSplit (open_of r id)
-IsLate r (stale id turn met) = Unit {0}
-IsLate r body = ⊥
+abbrev pub IsLate : Router → (sender : ℕ) → Body → Type 0
+IsLate r sender (write_done id dones) = AreNoNews (open_of r id) dones
+IsLate r sender (read_rows id turn rows) = IsNoRead (open_of r id) sender turn
+IsLate r sender (time_told id) = IsNotAwaited (open_of r id)
+IsLate r sender (split_done id found) = IsNoSplit (open_of r id)
+IsLate r sender (stale id turn met) = Unit {0}
+IsLate r sender body = ⊥
 
 -- the router in its life
 abbrev pub begins : Router → Router
@@ -496,20 +559,29 @@ pub data RouterRow : Router → Input → Effect → Router → Type 0 where
       → open_of r id ≡ Some q → q.work ≡ writing kind ordered statements answers
       → noted answers dones ≢ answers → is_answered ordered statements (noted answers dones) ≡ true
       → RouterRow r (letter_input m) (answers_now (reply_to r (heard r m) q (answer_of kind (heard r m) (noted answers dones)))) (knows r (heard r m) r.tables (without q.count r.requests))
-  -- a read has its rows
-  router_read : (r : Router) (m : Letter) (id : RequestId) (rows : Rows) (q : Open) (named : Bool) (at : ℕ) (stages : List Stage) (telling : Telling) (out : Outcome) (answer : Answer) (f : Opened)
-      → m.body ≡ read_rows id 1 (Ok rows) → open_of r id ≡ Some q → q.work ≡ reading named at stages telling
-      → MergesInTurn (split stages).1 (rows ∷ []) out → Tells r q at telling out answer f
+  -- a shard returned its part of a read, and others have not
+  router_part : (r : Router) (m : Letter) (id : RequestId) (rows : Result Rows HalfFault) (q : Open) (named : Bool) (at : ℕ) (stages : List Stage) (telling : Telling) → m.body ≡ read_rows id 1 rows
+      → open_of r id ≡ Some q → q.work ≡ reading named at stages telling → is_target m.sender q.targets ≡ true
+      → awaited q.targets (also_part q.parts m.sender rows) ≢ []
+      → RouterRow r (letter_input m) nothing (knows r (heard r m) r.tables (replaced (with_part q m.sender rows) r.requests))
+  -- a read has all its rows
+  router_read : (r : Router) (m : Letter) (id : RequestId) (rows : Result Rows HalfFault) (q : Open) (named : Bool) (at : ℕ) (stages : List Stage) (telling : Telling) (all : List Rows) (out : Outcome) (answer : Answer) (f : Opened)
+      → m.body ≡ read_rows id 1 rows → open_of r id ≡ Some q → q.work ≡ reading named at stages telling → is_target m.sender q.targets ≡ true
+      → awaited q.targets (also_part q.parts m.sender rows) ≡ [] → rows_of q.targets (also_part q.parts m.sender rows) ≡ Ok all
+      → MergesInTurn (split stages).1 all out → Tells r q at telling out answer f
       → RouterRow r (letter_input m) (record { written = f.written; mail = []; taken = []; replies = reply_to r (heard r m) q answer ∷ [] })
       (opens f (knows r (heard r m) r.tables (without q.count r.requests)))
-  -- its rows are too much
-  router_excess : (r : Router) (m : Letter) (id : RequestId) (n : ℕ) (q : Open) (named : Bool) (at : ℕ) (stages : List Stage) (telling : Telling) → m.body ≡ read_rows id 1 (Err (half_excess n))
-      → open_of r id ≡ Some q → q.work ≡ reading named at stages telling
+  -- all returned their parts, and the first that has no rows has too many
+  router_excess : (r : Router) (m : Letter) (id : RequestId) (rows : Result Rows HalfFault) (n : ℕ) (q : Open) (named : Bool) (at : ℕ) (stages : List Stage) (telling : Telling) → m.body ≡ read_rows id 1 rows
+      → open_of r id ≡ Some q → q.work ≡ reading named at stages telling → is_target m.sender q.targets ≡ true
+      → awaited q.targets (also_part q.parts m.sender rows) ≡ [] → rows_of q.targets (also_part q.parts m.sender rows) ≡ Err (half_excess n)
       → RouterRow r (letter_input m) (answers_now (reply_to r (heard r m) q (refusal_answer (too_much n)))) (knows r (heard r m) r.tables (without q.count r.requests))
-  router_overflow : (r : Router) (m : Letter) (id : RequestId) (q : Open) (named : Bool) (at : ℕ) (stages : List Stage) (telling : Telling) → m.body ≡ read_rows id 1 (Err half_overflow)
-      → open_of r id ≡ Some q → q.work ≡ reading named at stages telling
+  -- the same of one whose sum is outside int64
+  router_overflow : (r : Router) (m : Letter) (id : RequestId) (rows : Result Rows HalfFault) (q : Open) (named : Bool) (at : ℕ) (stages : List Stage) (telling : Telling) → m.body ≡ read_rows id 1 rows
+      → open_of r id ≡ Some q → q.work ≡ reading named at stages telling → is_target m.sender q.targets ≡ true
+      → awaited q.targets (also_part q.parts m.sender rows) ≡ [] → rows_of q.targets (also_part q.parts m.sender rows) ≡ Err half_overflow
       → RouterRow r (letter_input m) (answers_now (reply_to r (heard r m) q (refusal_answer (without_evidence overflow)))) (knows r (heard r m) r.tables (without q.count r.requests))
-  router_late : (r : Router) (m : Letter) → IsLate r m.body → RouterRow r (letter_input m) nothing (knows r (heard r m) r.tables r.requests)
+  router_late : (r : Router) (m : Letter) → IsLate r m.sender m.body → RouterRow r (letter_input m) nothing (knows r (heard r m) r.tables r.requests)
   -- a message of another kind has no effect
   router_skip : (r : Router) (m : Letter) → TellsNothing m.body → RouterRow r (letter_input m) nothing r
   router_moment : (r : Router) (moment : ℕ) → r.begun ≡ true

@@ -1,5 +1,5 @@
 -- What nodes are.
-use Rattle.std.specs.Prelude.{ℕ, ℤ, List, [], ◌∷◌, Bool, false, ◌==◌, Option, Some, None, if◌then◌else◌}
+use Rattle.std.specs.Prelude.{ℕ, ℤ, List, [], ◌∷◌, Bool, false, ◌==◌, Option, Some, None, Result, if◌then◌else◌}
 use Rattle.reply_model.specs.Requests.{Request}
 use Rattle.reply_model.specs.History.{Entry}
 use Rattle.chunk_model.specs.Changes.{Change}
@@ -7,9 +7,11 @@ use Rattle.reply_model.specs.Tables.{Table}
 use Rattle.reply_model.specs.Tree.{Datum}
 use Rattle.reply_model.specs.Outcomes.{Done}
 use Rattle.reply_model.specs.Writes.{WriteKind}
+use Rattle.pipeline_model.specs.Halves.{Rows}
 use Rattle.pipeline_model.specs.Stages.{Stage}
+use Rattle.reply_model.specs.Verdicts.{Sent}
 use Rattle.reply_model.specs.Cursors.{Cursor}
-use Rattle.node_model.specs.Letters.{Letter, Statement}
+use Rattle.node_model.specs.Letters.{HalfFault, Letter, Statement}
 
 -- `changes`: newest first
 pub record Catalogue : Type 0 where
@@ -49,7 +51,18 @@ pub data Wait : Type 0 where
   for_catalogue : Wait
   for_shards : Wait
 
--- a request that is not answered yet; `told`: the shards that returned their time to it, in order
+-- a shard that a read was sent to, with the versions that were sent along
+pub record Target : Type 0 where
+  pub shard : ℕ
+  pub sent : Sent
+
+-- what a shard returned for a read: its rows, or why there are none
+pub record Part : Type 0 where
+  pub shard : ℕ
+  pub rows : Result Rows HalfFault
+
+-- A request that is not answered yet. `told`: the shards that returned their time to it, in order; of a read that was sent to shards: to which ones, in order of
+-- their numbers, and what they returned, in order of arrival.
 pub record Open : Type 0 where
   pub count : ℕ
   pub link : ℕ
@@ -58,6 +71,8 @@ pub record Open : Type 0 where
   pub namespace : List ℕ
   pub wait : Wait
   pub told : List ℕ
+  pub targets : List Target
+  pub parts : List Part
   pub work : Work
 
 -- `life` is the one that the router is in, or will begin where `begun` is false; `moment` is the last that it was given; `count` counts

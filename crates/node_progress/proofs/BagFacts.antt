@@ -1,6 +1,6 @@
 -- What is known where a message comes to a node.
-use Rattle.std.proofs.Common.{◌≡◌, ◌≢◌, ℕ, ◌<◌, List, length, sym, ap, subst, ◌∙◌, arith}
-use Rattle.std.specs.Prelude.{Some, Bool}
+use Rattle.std.proofs.Common.{◌≡◌, ◌≢◌, ℕ, ◌<◌, List, [], length, refl, sym, ap, subst, ◌∙◌, arith}
+use Rattle.std.specs.Prelude.{Some, true, Bool}
 use Rattle.std.specs.List.{AllByRecursion, slice_get}
 use Rattle.std.proofs.lemmas.Option.{slice_get_within}
 use Rattle.history_model.specs.History.{IsIn}
@@ -11,19 +11,22 @@ use Rattle.reply_model.specs.Exchanges.{Asked}
 use Rattle.command_model.proofs.Taken.{operations_with_keys}
 use Rattle.node_model.specs.Journal.{Kept, changes_kept, greatest_kept}
 use Rattle.node_model.specs.Letters.{At, Body, table_ask, table_told, split_ask, split_done, write_ask, write_done, read_ask, half_ask, read_rows, stale, time_ask, time_told, Letter, Input, letter_input}
-use Rattle.node_model.specs.States.{Catalogue, Shard, Router, Work, writing, reading, sharding, splitting, Open, NodeState, catalogue_state, shard_state, router_state}
-use Rattle.node_model.specs.RouterRows.{shards_of}
+use Rattle.node_model.specs.States.{Target, Wait, for_time, for_catalogue, for_shards, Catalogue, Shard, Router, Work, writing, reading, sharding, splitting, Open, NodeState, catalogue_state, shard_state, router_state}
+use Rattle.node_model.specs.RouterRows.{shards_of, is_target}
 use Rattle.node_model.specs.World.{Held, World, journal_at}
 use Rattle.node_model.proofs.Journals.{journal_got}
 use Rattle.node_laws.proofs.Views.{Book, View, view_of, changes_in}
 use Rattle.node_laws.proofs.Facts.{IsKnownTable, BodyFits, WorkFits, IsOpenOf, AreMade, CatalogueFits, ShardFits, RouterFits, SentFits, Good}
+use Rattle.node_laws.proofs.TableFacts.{IsSentTo}
+use Rattle.node_laws.proofs.KnownTables.{one_target}
 use Rattle.node_laws.proofs.Keeps.{the_begun}
 use Rattle.node_laws.proofs.StepsKeep.{fits_here}
 use Rattle.node_progress.proofs.Versions.{IsFirst, IsTableOf, table_had, IsWell, fits_there}
 use Rattle.node_progress.proofs.ShardPasses.{FitsThere}
 use Rattle.node_progress.proofs.ShardSends.{request_in}
 use Rattle.node_progress.proofs.RouterWaits.{IsWaiting}
-use Rattle.node_progress.proofs.RouterGoesOn.{IsStated, IsReady}
+use Rattle.node_progress.proofs.RouterGoesOn.{IsStated, WaitsForParts, IsReady}
+use Rattle.node_progress.proofs.RouterSends.{WasSent, OpenWasSent}
 use Rattle.node_progress.proofs.Shards.{IsShardIn}
 use Rattle.node_progress.proofs.Bags.{changes_made, OpenGoes, Bag}
 
@@ -132,6 +135,17 @@ module _ (w : World) (book : Book) (left : ℕ → Type 0) (good : Good w book) 
   stated_work a namespace sharding fits = tt
   stated_work a namespace (splitting middle) fits = tt
 
+  -- no request was sent to shards but one that waits for them
+  waits_for : (time : ℕ) (namespace : List ℕ) (wait : Wait) (work : Work) (targets : List Target) → IsSentTo (now w book) time namespace wait work targets
+      → (shard : ℕ) → is_target shard targets ≡ true → wait ≡ for_shards
+  waits_for time namespace for_time work targets sent shard target =
+      let none : is_target shard [] ≡ true = subst (λ l. is_target shard l ≡ true) sent target in
+      absurd (cc none)
+  waits_for time namespace for_catalogue work targets sent shard target =
+      let none : is_target shard [] ≡ true = subst (λ l. is_target shard l ≡ true) sent target in
+      absurd (cc none)
+  waits_for time namespace for_shards work targets sent shard target = refl
+
   pub ready_here : (r : Router) (p : ℕ) (kept : List Kept) (i : Input) → slice_get w.nodes p ≡ Some (record { state = router_state r; kept = kept })
       → IsHere w p i → AllByRecursion (OpenGoes left w r) r.requests → IsReady r i
   ready_here r p kept i here comes goes =
@@ -148,6 +162,8 @@ module _ (w : World) (book : Book) (left : ℕ → Type 0) (good : Good w book) 
         waiting = all_weaken (OpenGoes left w r) IsWaiting r.requests (λ q o. o.waiting) goes;
         stated = all_weaken (IsOpenOf (now w book) w.asked w.answered r) (λ (q : Open). IsStated q.work) r.requests
             (λ q o. stated_work o.request q.namespace q.work o.work) fits.requests;
+        sent = all_weaken (IsOpenOf (now w book) w.asked w.answered r) WaitsForParts r.requests
+            (λ q o shard target. waits_for r.time q.namespace q.wait q.work q.targets o.sent shard target) fits.requests;
         tables = all_weaken (IsKnownTable (now w book) r.time) IsFirst r.tables (λ t k. (table_had (now w book) r.time t k).1) fits.tables;
         told = λ m is namespace create at t says. let h = told_had m (comes m is).1 namespace create at t says in (h.0.1, h.1);
       }
@@ -156,3 +172,24 @@ module _ (w : World) (book : Book) (left : ℕ → Type 0) (good : Good w book) 
       → AllByRecursion (IsTableOf (changes_made w)) r.tables
   tables_here r p kept here =
       all_weaken (IsKnownTable (now w book) r.time) (IsTableOf (changes_made w)) r.tables (λ t k. table_had (now w book) r.time t k) (router_fits r p kept here).tables
+
+  -- where its open requests were sent
+  sent_out : (time : ℕ) (namespace : List ℕ) (wait : Wait) (work : Work) (targets : List Target) → IsSentTo (now w book) time namespace wait work targets
+      → WasSent (changes_made w) namespace wait work targets
+  sent_out time namespace for_time work targets sent = tt
+  sent_out time namespace for_catalogue work targets sent = tt
+  sent_out time namespace for_shards (writing kind ordered statements answers) targets sent = tt
+  sent_out time namespace for_shards (reading named at stages telling) targets sent = record {
+    table = sent.table;
+    had = (table_had (now w book) time sent.table sent.known).0;
+    name = sent.name;
+    targets_are = one_target (now w book) time namespace at stages targets sent;
+  }
+  sent_out time namespace for_shards sharding targets sent = tt
+  sent_out time namespace for_shards (splitting middle) targets sent = tt
+
+  pub sent_here : (r : Router) (p : ℕ) (kept : List Kept) → slice_get w.nodes p ≡ Some (record { state = router_state r; kept = kept })
+      → AllByRecursion (OpenWasSent (changes_made w)) r.requests
+  sent_here r p kept here =
+      all_weaken (IsOpenOf (now w book) w.asked w.answered r) (OpenWasSent (changes_made w)) r.requests
+      (λ q o. sent_out r.time q.namespace q.wait q.work q.targets o.sent) (router_fits r p kept here).requests

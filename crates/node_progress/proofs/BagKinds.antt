@@ -27,7 +27,7 @@ use Rattle.node_progress.proofs.ShardParks.{shard_parked}
 use Rattle.node_progress.proofs.ShardSends.{shard_well}
 use Rattle.node_progress.proofs.RouterWaits.{WaitsAfter}
 use Rattle.node_progress.proofs.RouterGoesOn.{IsReady, router_waits}
-use Rattle.node_progress.proofs.RouterSends.{router_well}
+use Rattle.node_progress.proofs.RouterSends.{OpenWasSent, router_well}
 use Rattle.node_progress.proofs.Takings.{catalogue_takes_none, shard_takes_none, IsInLife, stays_in_life}
 use Rattle.node_progress.proofs.Shards.{IsShardIn}
 use Rattle.node_progress.proofs.Bags.{changes_made, IsHeldFor, OpenGoes, ParkedGoes, Bag, WasFor, Clears}
@@ -181,15 +181,15 @@ module _ (left later : ℕ → Type 0) (w : World) (book : Book) (p : ℕ) (i : 
 pub router_keeps : (left later : ℕ → Type 0) (w : World) (book : Book) (p : ℕ) (i : Input) (kept : List Kept) (o r u : Router) (f : Effect)
     → Good w book → Bag left w → slice_get w.nodes p ≡ Some (record { state = router_state o; kept = kept }) → Clears left later w.sent i
     → ((n : ℕ) → length w.sent ≤ n → later n) → IsHere w p i → RouterRow r i f u → IsReady r i → AllByRecursion (OpenGoes left w r) r.requests
-    → AllByRecursion (IsTableOf (changes_made w)) r.tables → r.me ≡ o.me → r.shards ≡ o.shards
+    → AllByRecursion (IsTableOf (changes_made w)) r.tables → AllByRecursion (OpenWasSent (changes_made w)) r.requests → r.me ≡ o.me → r.shards ≡ o.shards
     → (g : Effect) → g.mail ≡ f.mail → g.taken ≡ f.taken
     → Bag later (tick (after (is_given w p i) p (record { state = router_state o; kept = kept }) g (router_state u)))
-router_keeps left later w book p i kept o r u f good bag here clears fresh comes row ready goes tables me shards g mail taken =
+router_keeps left later w book p i kept o r u f good bag here clears fresh comes row ready goes tables sent me shards g mail taken =
     together left later w book p i kept (router_state o) g (router_state u) good bag here clears fresh comes
     (lives.shards ∙ shards)
     (subst (λ l. AllByRecursion (IsWell (changes_made w) (length w.nodes)) l) (sym mail)
     (router_well (changes_made w) (length w.nodes) r i f u (subst (λ n. n < length w.nodes) (sym own) inside)
-    (omega (arith, inside, place)) known ready tables
+    (omega (arith, inside, place)) known ready tables sent
     (λ m is namespace create at t says. (told_had w book left good bag m (comes m is).1 namespace create at t says).0) row))
     (open_after left later w p i kept (router_state o) g (router_state u) bag here clears fresh r u (λ s is. cc is) goes
     (subst (λ l. AllByRecursion (WaitsAfter r u i l) u.requests) (sym mail) (router_waits r i f u ready row)))

@@ -10,7 +10,7 @@ use Rattle.reply_model.specs.Exchanges.{Asked}
 use Rattle.node_model.specs.Journal.{Kept}
 use Rattle.node_model.specs.Letters.{no_time, Letter, Input, letter_input, Effect}
 use Rattle.node_model.specs.States.{Shard, Router, Open, NodeState, catalogue_state, shard_state, router_state}
-use Rattle.node_model.specs.RouterRows.{id_of, shards_of, untold}
+use Rattle.node_model.specs.RouterRows.{id_of, shards_of, untold, awaited}
 use Rattle.node_model.specs.World.{Held, World, asked_by, after, is_given, tick}
 use Rattle.node_laws.proofs.Views.{Book}
 use Rattle.node_laws.proofs.Facts.{RouterFits, StateFits, HeldFits, Good}
@@ -62,10 +62,11 @@ module _ (left later : ℕ → Type 0) (w : World) (book : Book) (p : ℕ) (i : 
       record {
         above = omega (arith, own, place, home_is);
         away = λ e. other (sym own ∙ (sym home_is ∙ e));
-        none = λ node namespace e. wants_other (id_of r q.count) r.me (untold q.told (shards_of r)) q.namespace q.work q.wait node namespace
+        none = λ node namespace e. wants_other (id_of r q.count) r.me (untold q.told (shards_of r))
+            (awaited q.targets q.parts) q.namespace q.work q.wait node namespace
             (subst (λ x. Awaits r q x) e (awaits r q t one));
         times = λ at time.
-            let among = wants_time (id_of r q.count) r.me (untold q.told (shards_of r)) q.namespace q.work q.wait time.0 at
+            let among = wants_time (id_of r q.count) r.me (untold q.told (shards_of r)) (awaited q.targets q.parts) q.namespace q.work q.wait time.0 at
             (subst (λ x. Awaits r q x) time.1 (awaits r q t one)) in
             known_shard w book left good bag r j at more there (in_filtered (λ s. not (list_any (λ x. x == s) q.told)) at (shards_of r) among).0;
       }

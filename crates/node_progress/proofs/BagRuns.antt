@@ -23,7 +23,7 @@ use Rattle.node_progress.proofs.Shards.{AreShards}
 use Rattle.node_progress.proofs.RouterGoesOn.{IsReady}
 use Rattle.node_progress.proofs.Versions.{IsWell}
 use Rattle.node_progress.proofs.Bags.{changes_made, OpenGoes, ParkedGoes, NodeGoes, Bag, Clears}
-use Rattle.node_progress.proofs.BagFacts.{IsHere, now, ready_here, tables_here}
+use Rattle.node_progress.proofs.BagFacts.{IsHere, now, ready_here, tables_here, sent_here}
 use Rattle.node_progress.proofs.BagKinds.{catalogue_keeps, shard_keeps, router_keeps}
 
 -- A STEP
@@ -39,6 +39,7 @@ ready_begins r i x = record {
   different = x.different;
   waiting = x.waiting;
   stated = x.stated;
+  sent = x.sent;
   tables = x.tables;
   told = x.told;
 }
@@ -58,12 +59,13 @@ step_bag left later w book p _ kept _ _ _ good bag here clears fresh arrives nod
     shard_keeps left later w book p i kept s u f good bag here clears fresh arrives row node
 step_bag left later w book p _ kept _ _ _ good bag here clears fresh arrives node (router_step r u i f own row) =
     router_keeps left later w book p i kept r r u f good bag here clears fresh arrives row (ready_here w book left good bag r p kept i here arrives node) node
-    (tables_here w book left good bag r p kept here) refl refl f refl refl
+    (tables_here w book left good bag r p kept here) (sent_here w book left good bag r p kept here) refl refl f refl refl
 step_bag left later w book p _ kept _ _ _ good bag here clears fresh arrives node (begin_step r u i f early before row) =
     router_keeps left later w book p i kept r (begins r) u f good bag here clears fresh arrives row
     (ready_begins r i (ready_here w book left good bag r p kept i here arrives node))
     (all_weaken (OpenGoes left w r) (OpenGoes left w (begins r)) r.requests (λ q o. record { waiting = o.waiting; some = o.some; carried = o.carried }) node)
-    (tables_here w book left good bag r p kept here) refl refl (both (writes (kept_life r.life ∷ []) []) f) refl refl
+    (tables_here w book left good bag r p kept here) (sent_here w book left good bag r p kept here) refl refl (both (writes (kept_life r.life ∷ []) []) f)
+    refl refl
 step_bag left later w book p _ kept _ _ _ good bag here clears fresh arrives node (other_step s m other) =
     absurd (other ((arrives m refl).0
     ∙ sym (state_place w book p kept s (fits_here w book p (record { state = s; kept = kept }) good here).state)))

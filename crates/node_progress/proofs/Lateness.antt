@@ -1,6 +1,6 @@
 -- A message that is for what an open request waits for is not late.
 use Rattle.std.proofs.Common.{◌≡◌, ◌≢◌, ◌⊎◌, inl, inr, ℕ, ◌+◌, ◌≤◌, List, [], ◌∷◌, ◌++◌, length, refl, sym, ap, subst, ◌∙◌, arith, length-append, Bool}
-use Rattle.std.specs.Prelude.{Option, Some, None, true, false, ◌==◌, if◌then◌else◌}
+use Rattle.std.specs.Prelude.{Option, Some, None, is_some, true, false, not, ◌==◌, ◌||◌, if◌then◌else◌}
 use Rattle.std.proofs.lemmas.Bool.{eqb-true}
 use Rattle.std.proofs.lemmas.Bool.Decides.{Decides-eqb}
 use Rattle.history_model.specs.History.{IsIn}
@@ -8,11 +8,12 @@ use Rattle.history_model.proofs.Lists.{in_first, in_later, in_cons, in_none, all
 use Rattle.base_model.specs.Identities.{RequestId}
 use Rattle.reply_model.specs.Outcomes.{Done}
 use Rattle.node_model.specs.Letters.{At, no_time, at_time, Body, table_ask, table_told, split_ask, split_done, write_ask, write_done, read_ask, half_ask, read_rows, stale, time_ask, time_told}
-use Rattle.node_model.specs.States.{Wait, for_time, for_catalogue, for_shards, Work, writing, reading, sharding, splitting, Open, Router, open_with}
-use Rattle.node_model.specs.RouterRows.{id_of, shards_of, untold, noted, AreNoNews, IsNoRead, IsNotAwaited, IsNoSplit, IsLate, open_of}
+use Rattle.node_model.specs.States.{Target, Wait, for_time, for_catalogue, for_shards, Work, writing, reading, sharding, splitting, Open, Router, open_with}
+use Rattle.node_model.specs.RouterRows.{id_of, shards_of, untold, part_of, is_target, awaited, noted, AreNoNews, IsNoRead, IsNotAwaited, IsNoSplit, IsLate, open_of}
 use Rattle.node_laws.proofs.Facts.{counts_of, AreDifferentCounts}
 use Rattle.node_laws.proofs.SeenStatements.{own_session}
 use Rattle.node_progress.specs.UnderWay.{Thing, a_time, a_table, a_split, a_run, a_part, things_of, Brings}
+use Rattle.node_progress.proofs.Members.{in_filtered}
 use Rattle.node_progress.proofs.Things.{IsAwaited, Awaits, awaits}
 
 -- WHAT WORK MAY WAIT FOR
@@ -44,7 +45,7 @@ named_in (a_time id shard) = Some id
 named_in (a_table node namespace create at) = None
 named_in (a_split id) = Some id
 named_in (a_run id first) = Some id
-named_in (a_part id turn) = Some id
+named_in (a_part id shard turn) = Some id
 
 one_name : (t x : Thing) (id i : RequestId) → t ≡ x → named_in x ≡ Some id → named_in t ≡ Some i → i ≡ id
 one_name t x id i is own named =
@@ -56,14 +57,15 @@ no_name t x i is none named =
     let e : None ≡ Some i = sym none ∙ (sym (ap (λ y. named_in y) is) ∙ named) in
     absurd (cc e)
 
-module _ (id : RequestId) (node : ℕ) (shards namespace : List ℕ) where
+module _ (id : RequestId) (node : ℕ) (shards : List ℕ) (targets : List Target) (namespace : List ℕ) where
   -- names this one
-  pub names_own : (work : Work) (wait : Wait) (t : Thing) (i : RequestId) → IsAwaited id node shards namespace work wait t → named_in t ≡ Some i → i ≡ id
+  pub names_own : (work : Work) (wait : Wait) (t : Thing) (i : RequestId) → IsAwaited id node shards targets namespace work wait t → named_in t ≡ Some i
+      → i ≡ id
   names_own work for_time t i is named = one_name t (a_time id is.0) id i is.2 refl named
   names_own (writing kind ordered statements answers) for_catalogue t i is named = no_name t (a_table node namespace true no_time) i is refl named
   names_own (writing kind ordered statements answers) for_shards t i is named = one_name t (a_run id (length answers)) id i is refl named
   names_own (reading named_time at stages telling) for_catalogue t i is named = no_name t (a_table node namespace false (at_time at)) i is refl named
-  names_own (reading named_time at stages telling) for_shards t i is named = one_name t (a_part id 1) id i is refl named
+  names_own (reading named_time at stages telling) for_shards t i is named = one_name t (a_part id is.0.shard 1) id i is.2 refl named
   names_own sharding for_catalogue t i is named = no_name t (a_table node namespace true no_time) i is refl named
   names_own sharding for_shards t i is named = no_name t (a_table node namespace true no_time) i is refl named
   names_own (splitting middle) for_catalogue t i is named = one_name t (a_split id) id i is refl named
@@ -71,32 +73,33 @@ module _ (id : RequestId) (node : ℕ) (shards namespace : List ℕ) where
 
   -- a table: it waits for the catalogue, and the table is as it wants it
   pub wants_table : (work : Work) (wait : Wait) (n : ℕ) (name : List ℕ) (create : Bool) (at : At) → WaitFits work wait
-      → IsAwaited id node shards namespace work wait (a_table n name create at)
+      → IsAwaited id node shards targets namespace work wait (a_table n name create at)
       → (wait ≡ for_catalogue) × (name ≡ namespace) × WantsTable work create at
   wants_table work for_time n name create at fits is = let e = is.2 in absurd (cc e)
   wants_table (writing kind ordered statements answers) for_catalogue n name create at fits is = (refl, cc is, (cc is, cc is))
   wants_table (writing kind ordered statements answers) for_shards n name create at fits is = absurd (cc is)
   wants_table (reading named time stages telling) for_catalogue n name create at fits is = (refl, cc is, (cc is, cc is))
-  wants_table (reading named time stages telling) for_shards n name create at fits is = absurd (cc is)
+  wants_table (reading named time stages telling) for_shards n name create at fits is = let e = is.2 in absurd (cc e)
   wants_table sharding for_catalogue n name create at fits is = (refl, cc is, (cc is, cc is))
   wants_table sharding for_shards n name create at fits is = absurd fits
   wants_table (splitting middle) for_catalogue n name create at fits is = absurd (cc is)
   wants_table (splitting middle) for_shards n name create at fits is = absurd fits
 
   -- no request waits for a table that a shard wants
-  pub wants_other : (work : Work) (wait : Wait) (n : ℕ) (name : List ℕ) → IsAwaited id node shards namespace work wait (a_table n name false no_time) → ⊥
+  pub wants_other : (work : Work) (wait : Wait) (n : ℕ) (name : List ℕ) → IsAwaited id node shards targets namespace work wait (a_table n name false no_time)
+      → ⊥
   wants_other work for_time n name is = let e = is.2 in cc e
   wants_other (writing kind ordered statements answers) for_catalogue n name is = cc is
   wants_other (writing kind ordered statements answers) for_shards n name is = cc is
   wants_other (reading named time stages telling) for_catalogue n name is = cc is
-  wants_other (reading named time stages telling) for_shards n name is = cc is
+  wants_other (reading named time stages telling) for_shards n name is = let e = is.2 in cc e
   wants_other sharding for_catalogue n name is = cc is
   wants_other sharding for_shards n name is = cc is
   wants_other (splitting middle) for_catalogue n name is = cc is
   wants_other (splitting middle) for_shards n name is = cc is
 
   -- a time is that of one of the shards
-  pub wants_time : (work : Work) (wait : Wait) (i : RequestId) (at : ℕ) → IsAwaited id node shards namespace work wait (a_time i at) → IsIn at shards
+  pub wants_time : (work : Work) (wait : Wait) (i : RequestId) (at : ℕ) → IsAwaited id node shards targets namespace work wait (a_time i at) → IsIn at shards
   wants_time work for_time i at is =
       let e = is.2 in
       let same : at ≡ is.0 = cc e in
@@ -104,7 +107,7 @@ module _ (id : RequestId) (node : ℕ) (shards namespace : List ℕ) where
   wants_time (writing kind ordered statements answers) for_catalogue i at is = absurd (cc is)
   wants_time (writing kind ordered statements answers) for_shards i at is = absurd (cc is)
   wants_time (reading named time stages telling) for_catalogue i at is = absurd (cc is)
-  wants_time (reading named time stages telling) for_shards i at is = absurd (cc is)
+  wants_time (reading named time stages telling) for_shards i at is = let e = is.2 in absurd (cc e)
   wants_time sharding for_catalogue i at is = absurd (cc is)
   wants_time sharding for_shards i at is = absurd (cc is)
   wants_time (splitting middle) for_catalogue i at is = absurd (cc is)
@@ -130,8 +133,8 @@ noted_more answers dones d next same =
     let e : length (noted (answers ++ d ∷ []) dones) ≡ length answers = ap (λ (x : List Done). length x) (sym is ∙ same) in
     omega (arith, l, more, e)
 
-module _ (id : RequestId) (node : ℕ) (shards namespace : List ℕ) (i : RequestId) where
-  pub time_is_new : (at : ℕ) (work : Work) (wait : Wait) → WaitFits work wait → IsAwaited id node shards namespace work wait (a_time i at)
+module _ (id : RequestId) (node : ℕ) (shards : List ℕ) (targets : List Target) (namespace : List ℕ) (i : RequestId) where
+  pub time_is_new : (at : ℕ) (work : Work) (wait : Wait) → WaitFits work wait → IsAwaited id node shards targets namespace work wait (a_time i at)
       → (elim work as (λ (w : Work). Type 0)
       [ writing kind ordered statements answers ↦ Unit {0} | reading named at stages telling ↦ wait ≢ for_time | sharding ↦ Unit {0} | splitting middle ↦ Unit {0} ])
       → ⊥
@@ -140,7 +143,7 @@ module _ (id : RequestId) (node : ℕ) (shards namespace : List ℕ) (i : Reques
   time_is_new at (writing kind ordered statements answers) for_shards fits is late = cc is
   time_is_new at (reading named time stages telling) for_time fits is late = late refl
   time_is_new at (reading named time stages telling) for_catalogue fits is late = cc is
-  time_is_new at (reading named time stages telling) for_shards fits is late = cc is
+  time_is_new at (reading named time stages telling) for_shards fits is late = let e = is.2 in cc e
   time_is_new at sharding for_time fits is late = fits
   time_is_new at sharding for_catalogue fits is late = cc is
   time_is_new at sharding for_shards fits is late = cc is
@@ -148,21 +151,34 @@ module _ (id : RequestId) (node : ℕ) (shards namespace : List ℕ) (i : Reques
   time_is_new at (splitting middle) for_catalogue fits is late = cc is
   time_is_new at (splitting middle) for_shards fits is late = cc is
 
-  pub rows_are_new : (turn : ℕ) (work : Work) (wait : Wait) → IsAwaited id node shards namespace work wait (a_part i turn)
-      → (elim work as (λ (w : Work). Type 0)
-      [ writing kind ordered statements answers ↦ Unit {0} | reading named at stages telling ↦ turn ≢ 1 | sharding ↦ Unit {0} | splitting middle ↦ Unit {0} ])
+  pub rows_are_new : (shard turn : ℕ) (all : List Target) (work : Work) (wait : Wait)
+      → ((x : Target) → IsIn x targets → is_target x.shard all ≡ true) → IsAwaited id node shards targets namespace work wait (a_part i shard turn)
+      → (elim work as (λ (w : Work). Type 0) [
+        | writing kind ordered statements answers ↦ Unit {0}
+        | reading named at stages telling ↦ (turn ≢ 1) ⊎ (is_target shard all ≡ false)
+        | sharding ↦ Unit {0}
+        | splitting middle ↦ Unit {0}
+      ])
       → ⊥
-  rows_are_new turn work for_time is late = let e = is.2 in cc e
-  rows_are_new turn (writing kind ordered statements answers) for_catalogue is late = cc is
-  rows_are_new turn (writing kind ordered statements answers) for_shards is late = cc is
-  rows_are_new turn (reading named at stages telling) for_catalogue is late = cc is
-  rows_are_new turn (reading named at stages telling) for_shards is late = let e : turn ≡ 1 = cc is in late e
-  rows_are_new turn sharding for_catalogue is late = cc is
-  rows_are_new turn sharding for_shards is late = cc is
-  rows_are_new turn (splitting middle) for_catalogue is late = cc is
-  rows_are_new turn (splitting middle) for_shards is late = cc is
+  rows_are_new shard turn all work for_time among is late = let e = is.2 in cc e
+  rows_are_new shard turn all (writing kind ordered statements answers) for_catalogue among is late = cc is
+  rows_are_new shard turn all (writing kind ordered statements answers) for_shards among is late = cc is
+  rows_are_new shard turn all (reading named at stages telling) for_catalogue among is late = cc is
+  rows_are_new shard turn all (reading named at stages telling) for_shards among is (inl late) =
+      let e = is.2 in
+      let first : turn ≡ 1 = cc e in
+      late first
+  rows_are_new shard turn all (reading named at stages telling) for_shards among is (inr late) =
+      let e = is.2 in
+      let place : shard ≡ is.0.shard = cc e in
+      let yes : is_target shard all ≡ true = ap (λ n. is_target n all) place ∙ among is.0 is.1 in
+      cc (yes, late)
+  rows_are_new shard turn all sharding for_catalogue among is late = cc is
+  rows_are_new shard turn all sharding for_shards among is late = cc is
+  rows_are_new shard turn all (splitting middle) for_catalogue among is late = cc is
+  rows_are_new shard turn all (splitting middle) for_shards among is late = cc is
 
-  pub split_is_new : (work : Work) (wait : Wait) → WaitFits work wait → IsAwaited id node shards namespace work wait (a_split i)
+  pub split_is_new : (work : Work) (wait : Wait) → WaitFits work wait → IsAwaited id node shards targets namespace work wait (a_split i)
       → (elim work as (λ (w : Work). Type 0)
       [ writing kind ordered statements answers ↦ Unit {0} | reading named at stages telling ↦ Unit {0} | sharding ↦ Unit {0} | splitting middle ↦ ⊥ ])
       → ⊥
@@ -170,13 +186,13 @@ module _ (id : RequestId) (node : ℕ) (shards namespace : List ℕ) (i : Reques
   split_is_new (writing kind ordered statements answers) for_catalogue fits is late = cc is
   split_is_new (writing kind ordered statements answers) for_shards fits is late = cc is
   split_is_new (reading named at stages telling) for_catalogue fits is late = cc is
-  split_is_new (reading named at stages telling) for_shards fits is late = cc is
+  split_is_new (reading named at stages telling) for_shards fits is late = let e = is.2 in cc e
   split_is_new sharding for_catalogue fits is late = cc is
   split_is_new sharding for_shards fits is late = cc is
   split_is_new (splitting middle) for_catalogue fits is late = late
   split_is_new (splitting middle) for_shards fits is late = late
 
-  pub outcomes_are_new : (d : Done) (dones : List Done) (work : Work) (wait : Wait) → IsAwaited id node shards namespace work wait (a_run i d.index)
+  pub outcomes_are_new : (d : Done) (dones : List Done) (work : Work) (wait : Wait) → IsAwaited id node shards targets namespace work wait (a_run i d.index)
       → (elim work as (λ (w : Work). Type 0)
       [ writing kind ordered statements answers ↦ noted answers (d ∷ dones) ≡ answers | reading named at stages telling ↦ Unit {0} | sharding ↦ Unit {0} | splitting middle ↦ Unit {0} ])
       → ⊥
@@ -186,11 +202,26 @@ module _ (id : RequestId) (node : ℕ) (shards namespace : List ℕ) (i : Reques
       let e : d.index ≡ length answers = cc is in
       noted_more answers dones d e late
   outcomes_are_new d dones (reading named at stages telling) for_catalogue is late = cc is
-  outcomes_are_new d dones (reading named at stages telling) for_shards is late = cc is
+  outcomes_are_new d dones (reading named at stages telling) for_shards is late = let e = is.2 in cc e
   outcomes_are_new d dones sharding for_catalogue is late = cc is
   outcomes_are_new d dones sharding for_shards is late = cc is
   outcomes_are_new d dones (splitting middle) for_catalogue is late = cc is
   outcomes_are_new d dones (splitting middle) for_shards is late = cc is
+
+-- a target is one
+target_there : (x : Target) (targets : List Target) → IsIn x targets → is_target x.shard targets ≡ true
+target_there x [] i = absurd (in_none x i)
+target_there x (t ∷ targets) i = by_place (in_cons x t targets i) (λ j. target_there x targets j)
+  where
+    either : (b : Bool) → (b || true) ≡ true
+    either true = refl
+    either false = refl
+
+    by_place : (x ≡ t) ⊎ IsIn x targets → (IsIn x targets → is_target x.shard targets ≡ true)
+        → ((t.shard == x.shard) || is_target x.shard targets) ≡ true
+    by_place (inl same) later =
+        ap (λ b. b || is_target x.shard targets) ((Decides-eqb t.shard x.shard).1 (ap (λ (y : Target). y.shard) (sym same)))
+    by_place (inr there) later = ap (λ b. (t.shard == x.shard) || b) (later there) ∙ either (t.shard == x.shard)
 
 -- LOOKING IT UP
 
@@ -229,7 +260,7 @@ found_there r q id different there own =
 -- NO SUCH MESSAGE IS LATE
 
 pub not_late : (r : Router) (q : Open) (t : Thing) (from to : ℕ) (b : Body) → AreDifferentCounts (counts_of r.requests) → IsIn q r.requests
-    → WaitFits q.work q.wait → IsIn t (things_of r q) → IsLate r b → Brings t from to b → ⊥
+    → WaitFits q.work q.wait → IsIn t (things_of r q) → IsLate r from b → Brings t from to b → ⊥
 not_late r q t from to b different there fits one late is = by_body b late is
   where
     awaits_it : (x : Thing) → t ≡ x → Awaits r q x
@@ -238,27 +269,31 @@ not_late r q t from to b different there fits one late is = by_body b late is
     found : (x : Thing) (id : RequestId) → t ≡ x → named_in x ≡ Some id → open_of r id ≡ Some q
     found x id same named =
         found_there r q id different there
-        (names_own (id_of r q.count) r.me (untold q.told (shards_of r)) q.namespace q.work q.wait x id (awaits_it x same) named)
+        (names_own (id_of r q.count) r.me (untold q.told (shards_of r)) (awaited q.targets q.parts) q.namespace q.work q.wait x id (awaits_it x same) named)
 
-    by_body : (b : Body) → IsLate r b → Brings t from to b → ⊥
+    by_body : (b : Body) → IsLate r from b → Brings t from to b → ⊥
     by_body (table_ask namespace create at) late is = late
     by_body (table_told namespace create at table) late is = late
     by_body (split_ask id namespace middle) late is = late
     by_body (split_done id done) late is =
-        split_is_new (id_of r q.count) r.me (untold q.told (shards_of r)) q.namespace id q.work q.wait fits (awaits_it (a_split id) is.0)
+        split_is_new (id_of r q.count) r.me (untold q.told (shards_of r)) (awaited q.targets q.parts) q.namespace id q.work q.wait fits
+        (awaits_it (a_split id) is.0)
         (subst (λ o. IsNoSplit o) (found (a_split id) id is.0 refl) late)
     by_body (write_ask id turn ordered namespace statements sent) late is = late
     by_body (write_done id []) late is = is
     by_body (write_done id (d ∷ dones)) late is =
-        outcomes_are_new (id_of r q.count) r.me (untold q.told (shards_of r)) q.namespace id d dones q.work q.wait (awaits_it (a_run id d.index) is.0)
+        outcomes_are_new (id_of r q.count) r.me (untold q.told (shards_of r)) (awaited q.targets q.parts) q.namespace id d dones q.work q.wait
+        (awaits_it (a_run id d.index) is.0)
         (subst (λ o. AreNoNews o (d ∷ dones)) (found (a_run id d.index) id is.0 refl) late)
     by_body (read_ask id turn namespace at half sent) late is = late
     by_body (half_ask id turn namespace at half documents) late is = late
     by_body (read_rows id turn rows) late is =
-        rows_are_new (id_of r q.count) r.me (untold q.told (shards_of r)) q.namespace id turn q.work q.wait (awaits_it (a_part id turn) is.0)
-        (subst (λ o. IsNoRead o turn) (found (a_part id turn) id is.0 refl) late)
+        rows_are_new (id_of r q.count) r.me (untold q.told (shards_of r)) (awaited q.targets q.parts) q.namespace id from turn q.targets q.work q.wait
+        (λ x one. target_there x q.targets (in_filtered (λ (y : Target). not (is_some (part_of y.shard q.parts))) x q.targets one).0)
+        (awaits_it (a_part id from turn) is.0) (subst (λ o. IsNoRead o from turn) (found (a_part id from turn) id is.0 refl) late)
     by_body (stale id turn met) late is = is
     by_body (time_ask id) late is = late
     by_body (time_told id) late is =
-        time_is_new (id_of r q.count) r.me (untold q.told (shards_of r)) q.namespace id from q.work q.wait fits (awaits_it (a_time id from) is.0)
+        time_is_new (id_of r q.count) r.me (untold q.told (shards_of r)) (awaited q.targets q.parts) q.namespace id from q.work q.wait fits
+        (awaits_it (a_time id from) is.0)
         (subst (λ o. IsNotAwaited o) (found (a_time id from) id is.0 refl) late)

@@ -13,6 +13,7 @@ pub mod Sends
 pub mod Plans
 pub mod RouterWaits
 pub mod RouterHears
+pub mod RouterParts
 pub mod RouterGoesOn
 pub mod RouterSends
 pub mod Arrivals

@@ -76,7 +76,7 @@ none_passes test (x ∷ xs) y none = by_test (test x) none (λ e. none_passes te
 
 -- SHARDS
 
-is_false : (b : Bool) → not b ≡ true → b ≡ false
+pub is_false : (b : Bool) → not b ≡ true → b ≡ false
 is_false true is = absurd (cc is)
 is_false false is = refl
 

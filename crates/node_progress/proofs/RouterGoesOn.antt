@@ -1,6 +1,6 @@
 -- In each transition of a router: what its open requests wait for, and what it sends.
 use Rattle.std.proofs.Common.{◌≡◌, ◌≢◌, inl, inr, ℕ, ℤ, ◌+◌, List, [], ◌∷◌, ◌++◌, refl, sym, ap, subst, ◌∙◌, Bool}
-use Rattle.std.specs.Prelude.{Some, Result, Ok, Err, true, false, Bool, ◌==◌, not}
+use Rattle.std.specs.Prelude.{Some, Result, true, false, Bool, ◌==◌, not}
 use Rattle.std.specs.List.{AllByRecursion, list_any}
 use Rattle.history_model.specs.History.{IsIn}
 use Rattle.history_model.proofs.Lists.{all_at, all_append}
@@ -10,10 +10,11 @@ use Rattle.command_model.specs.Writes.{WriteKind}
 use Rattle.command_model.specs.Command.{command_of}
 use Rattle.opmsg_model.specs.Requests.{Request}
 use Rattle.reply_model.specs.Outcomes.{Done}
-use Rattle.node_model.specs.Letters.{At, table_told, split_done, write_done, read_rows, time_told, half_overflow, half_excess, HalfFault, Statement, Letter, Input, client_input, letter_input, Effect}
-use Rattle.node_model.specs.States.{for_time, Router, Work, writing, reading, sharding, splitting, Open, without, replaced}
+use Rattle.node_model.specs.Letters.{At, table_told, split_done, write_done, read_rows, time_told, HalfFault, Statement, Letter, Input, client_input, letter_input, Effect}
+use Rattle.node_model.specs.States.{Telling, for_time, for_shards, Router, Work, writing, reading, sharding, splitting, Open, without, replaced}
 use Rattle.pipeline_model.specs.Halves.{Rows}
-use Rattle.node_model.specs.RouterRows.{id_of, shards_of, untold, also_told, with_told, is_ahead, heard, knows, noted, reached, going_on, asks_for, opened_request, takes, needs, plan_of, IsLate, TellsNothing, RouterRow, router_begin, router_opened, router_plain, router_more, router_no_cursor, router_kill, router_take, router_learn, router_split, router_not_sharded, router_reach, router_hear, router_ahead, router_note, router_wrote, router_read, router_excess, router_overflow, router_late, router_skip, router_moment}
+use Rattle.pipeline_model.specs.Stages.{Stage}
+use Rattle.node_model.specs.RouterRows.{id_of, is_target, also_part, awaited, shards_of, untold, also_told, with_told, with_part, is_ahead, heard, knows, noted, reached, going_on, asks_for, opened_request, takes, needs, plan_of, IsLate, TellsNothing, RouterRow, router_begin, router_opened, router_plain, router_more, router_no_cursor, router_kill, router_take, router_learn, router_split, router_not_sharded, router_reach, router_hear, router_ahead, router_note, router_wrote, router_part, router_read, router_excess, router_overflow, router_late, router_skip, router_moment}
 use Rattle.node_laws.proofs.Facts.{counts_of, AreDifferentCounts}
 use Rattle.node_laws.proofs.KnownTables.{table_found, all_adopted}
 use Rattle.node_laws.proofs.OpenRequests.{open_of_found}
@@ -26,6 +27,7 @@ use Rattle.node_progress.proofs.Sends.{IsGoing, AreStated, going_of, asks_send, 
 use Rattle.node_progress.proofs.Plans.{plan_goes}
 use Rattle.node_progress.proofs.RouterWaits.{WaitsAfter, IsWaiting, all_wait, answered_wait, replaced_wait, learned_wait}
 use Rattle.node_progress.proofs.RouterHears.{heard_waits, reached_now}
+use Rattle.node_progress.proofs.RouterParts.{parted_waits}
 
 -- WHAT IS KNOWN BEFORE
 
@@ -34,6 +36,10 @@ IsStated (writing kind ordered statements answers) = AreStated statements
 IsStated (reading named at stages telling) = Unit {0}
 IsStated sharding = Unit {0}
 IsStated (splitting middle) = Unit {0}
+
+-- a request that was sent to a shard which returns a part waits for shards
+abbrev pub WaitsForParts : Open → Type 0
+WaitsForParts q = (shard : ℕ) → is_target shard q.targets ≡ true → q.wait ≡ for_shards
 
 -- of the messages that come, and of the router
 pub record IsReady (r : Router) (i : Input) : Type 0 where
@@ -45,6 +51,7 @@ pub record IsReady (r : Router) (i : Input) : Type 0 where
   pub different : AreDifferentCounts (counts_of r.requests)
   pub waiting : AllByRecursion IsWaiting r.requests
   pub stated : AllByRecursion (λ (q : Open). IsStated q.work) r.requests
+  pub sent : AllByRecursion WaitsForParts r.requests
   pub tables : AllByRecursion IsFirst r.tables
   pub told : (m : Letter) → i ≡ letter_input m → (namespace : List ℕ) (create : Bool) (at : At) (t : Table) → m.body ≡ table_told namespace create at (Some t)
       → IsFirst t × (t.namespace ≡ namespace)
@@ -92,6 +99,16 @@ module _ (r : Router) (m : Letter) (id : RequestId) (q : Open) (ready : IsReady 
       let same : InSameLife r u = record { me = refl; shards = refl; life = refl } in
       replaced_wait r u m [] q id same own names (with_told q m.sender) refl (inl (heard_waits r u q m waits same id says there others))
 
+  has_part : (time : ℕ) (rows : Result Rows HalfFault) (named : Bool) (at : ℕ) (stages : List Stage) (telling : Telling) → m.body ≡ read_rows id 1 rows
+      → IsIn q r.requests → q.wait ≡ for_shards → q.work ≡ reading named at stages telling → awaited q.targets (also_part q.parts m.sender rows) ≢ []
+      → AllByRecursion (WaitsAfter r (knows r time r.tables (replaced (with_part q m.sender rows) r.requests)) (letter_input m) [])
+      (replaced (with_part q m.sender rows) r.requests)
+  has_part time rows named at stages telling says there waits work others =
+      let u : Router = knows r time r.tables (replaced (with_part q m.sender rows) r.requests) in
+      let same : InSameLife r u = record { me = refl; shards = refl; life = refl } in
+      replaced_wait r u m [] q id same own names (with_part q m.sender rows) refl
+      (inl (parted_waits r u q m rows named at stages telling waits work same id says there others))
+
 -- A REQUEST COMES
 
 came_no_letter : (r : Router) (i : Input) → ((m : Letter) → i ≡ letter_input m → ⊥) → (q : Open) → IsIn q r.requests → (t : Thing) → IsIn t (things_of r q)
@@ -135,7 +152,7 @@ pub stated_of : (q : Open) (kind : WriteKind) (ordered : Bool) (statements : Lis
     → AreStated statements
 stated_of q kind ordered statements answers is stated = subst (λ w. IsStated w) is stated
 
-late_waits : (r : Router) (m : Letter) (u : Router) → IsReady r (letter_input m) → IsLate r m.body → InSameLife r u
+late_waits : (r : Router) (m : Letter) (u : Router) → IsReady r (letter_input m) → IsLate r m.sender m.body → InSameLife r u
     → AllByRecursion (WaitsAfter r u (letter_input m) []) r.requests
 late_waits r m u ready late alive = all_wait r u (letter_input m) [] alive (λ q there t one n is brings.
     let same : m ≡ n = cc is in
@@ -146,7 +163,8 @@ late_waits r m u ready late alive = all_wait r u (letter_input m) [] alive (λ q
 own_time : (r : Router) (m : Letter) (q : Open) (t : Thing) → IsReady r (letter_input m) → IsIn t (things_of r q) → IsTimeAt t m.receiver → ⊥
 own_time r m q t ready one is =
     let shards : List ℕ = untold q.told (shards_of r) in
-    let among = wants_time (id_of r q.count) r.me shards q.namespace q.work q.wait is.0 m.receiver (subst (λ x. Awaits r q x) is.1 (awaits r q t one)) in
+    let among = wants_time (id_of r q.count) r.me shards (awaited q.targets q.parts) q.namespace q.work q.wait is.0 m.receiver
+    (subst (λ x. Awaits r q x) is.1 (awaits r q t one)) in
     ready.not_shard (subst (λ n. IsIn n (shards_of r)) (ready.place m refl)
     (in_filtered (λ s. not (list_any (λ x. x == s) q.told)) m.receiver (shards_of r) among).0)
 
@@ -191,12 +209,16 @@ router_waits _ _ _ _ ready (router_note r m id dones q kind ordered statements a
     refl
 router_waits _ _ _ _ ready (router_wrote r m id dones q kind ordered statements answers says found work news all) =
     is_over r m id q ready (names_run m id dones says) (open_of_found r id q found).own _ [] (record { me = refl; shards = refl; life = refl })
-router_waits _ _ _ _ ready (router_read r m id rows q named at stages telling out answer f says found work merged tells) =
-    is_over r m id q ready (names_rows m id 1 (Ok rows) says) (open_of_found r id q found).own _ [] (record { me = refl; shards = refl; life = refl })
-router_waits _ _ _ _ ready (router_excess r m id n q named at stages telling says found work) =
-    is_over r m id q ready (names_rows m id 1 (Err (half_excess n)) says) (open_of_found r id q found).own _ [] (record { me = refl; shards = refl; life = refl })
-router_waits _ _ _ _ ready (router_overflow r m id q named at stages telling says found work) =
-    is_over r m id q ready (names_rows m id 1 (Err half_overflow) says) (open_of_found r id q found).own _ [] (record { me = refl; shards = refl; life = refl })
+router_waits _ _ _ _ ready (router_part r m id rows q named at stages telling says found work target some) =
+    let o = open_of_found r id q found in
+    has_part r m id q ready (names_rows m id 1 rows says) o.own (heard r m) rows named at stages telling says o.stands
+    (all_at WaitsForParts q r.requests ready.sent o.stands m.sender target) work some
+router_waits _ _ _ _ ready (router_read r m id rows q named at stages telling all out answer f says found work target whole got merged tells) =
+    is_over r m id q ready (names_rows m id 1 rows says) (open_of_found r id q found).own _ [] (record { me = refl; shards = refl; life = refl })
+router_waits _ _ _ _ ready (router_excess r m id rows n q named at stages telling says found work target whole got) =
+    is_over r m id q ready (names_rows m id 1 rows says) (open_of_found r id q found).own _ [] (record { me = refl; shards = refl; life = refl })
+router_waits _ _ _ _ ready (router_overflow r m id rows q named at stages telling says found work target whole got) =
+    is_over r m id q ready (names_rows m id 1 rows says) (open_of_found r id q found).own _ [] (record { me = refl; shards = refl; life = refl })
 router_waits _ _ _ _ ready (router_late r m late) = late_waits r m _ ready late (record { me = refl; shards = refl; life = refl })
 router_waits _ _ _ _ ready (router_skip r m none) = skip_waits r m ready none
 router_waits _ _ _ _ ready (router_moment r moment begun) = all_wait r _ _ _ (record { me = refl; shards = refl; life = refl }) (came_no_letter r _ (λ m is. cc is))

@@ -6,13 +6,13 @@ use Rattle.history_model.specs.History.{IsIn}
 use Rattle.base_model.specs.Identities.{RequestId}
 use Rattle.node_model.specs.Letters.{time_told, Letter, letter_input}
 use Rattle.node_model.specs.States.{for_time, Router, Open}
-use Rattle.node_model.specs.RouterRows.{id_of, shards_of, untold, also_told, with_told}
+use Rattle.node_model.specs.RouterRows.{id_of, awaited, shards_of, untold, also_told, with_told}
 use Rattle.node_progress.specs.UnderWay.{Thing, a_time, things_by, things_of, Brings, IsFor}
 use Rattle.node_progress.proofs.Members.{in_map, still_untold}
 use Rattle.node_progress.proofs.Things.{IsAwaited, awaits, InSameLife, same_things}
 use Rattle.node_progress.proofs.RouterWaits.{StillWaits}
 
-some_more : {X Y : Type 0} (g : X → Y) (xs : List X) → xs ≢ [] → map g xs ≢ []
+pub some_more : {X Y : Type 0} (g : X → Y) (xs : List X) → xs ≢ [] → map g xs ≢ []
 some_more g [] some = absurd (some refl)
 some_more g (x ∷ xs) some = λ e. cc e
 
@@ -29,14 +29,14 @@ module _ (r u : Router) (q : Open) (m : Letter) (waits : q.wait ≡ for_time) (s
 
   one_of : (t : Thing) → IsIn t (things_of u (with_told q m.sender)) → (shard : ℕ) × IsIn shard others × (t ≡ time_by shard)
   one_of t one =
-      subst (λ w. IsAwaited (id_of r q.count) r.me others q.namespace q.work w t) waits
+      subst (λ w. IsAwaited (id_of r q.count) r.me others (awaited q.targets q.parts) q.namespace q.work w t) waits
       (awaits r (with_told q m.sender) t (subst (λ l. IsIn t l) things one))
 
   still_among : (t : Thing) → IsIn t (things_of u (with_told q m.sender)) → IsIn t (things_of r q)
   still_among t one =
       let time = one_of t one in
       let still = still_untold q.told (shards_of r) m.sender time.0 time.1 in
-      subst (λ w. IsIn t (things_by (id_of r q.count) r.me (untold q.told (shards_of r)) q.namespace q.work w)) (sym waits)
+      subst (λ w. IsIn t (things_by (id_of r q.count) r.me (untold q.told (shards_of r)) (awaited q.targets q.parts) q.namespace q.work w)) (sym waits)
       (subst (λ x. IsIn x (map time_by (untold q.told (shards_of r)))) (sym time.2) (in_map time_by time.0 (untold q.told (shards_of r)) still.0))
 
   -- the read waits for the times of these, and that of the sender is none of them
@@ -48,7 +48,7 @@ module _ (r u : Router) (q : Open) (m : Letter) (waits : q.wait ≡ for_time) (s
     wait = refl;
     some = λ had none.
         some_more time_by others some
-        (subst (λ w. things_by (id_of r q.count) r.me others q.namespace q.work w ≡ []) waits (sym things ∙ none));
+        (subst (λ w. things_by (id_of r q.count) r.me others (awaited q.targets q.parts) q.namespace q.work w ≡ []) waits (sym things ∙ none));
     among = still_among;
     not_come = λ t one n is brings.
         let time = one_of t one in

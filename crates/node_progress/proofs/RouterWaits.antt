@@ -13,7 +13,7 @@ use Rattle.base_model.specs.Identities.{RequestId}
 use Rattle.command_model.specs.Answers.{sharded_answer}
 use Rattle.node_model.specs.Letters.{At, no_time, table_told, Letter, Input, letter_input}
 use Rattle.node_model.specs.States.{for_catalogue, for_shards, Router, Work, writing, reading, sharding, splitting, Open, without, replaced}
-use Rattle.node_model.specs.RouterRows.{id_of, shards_of, untold, with_work, asks_shards, is_enough, enough_of, table_for, adopted, is_for, is_for_catalogue, Next, stays, is_told, was_created, next_of, next_waiting, stay_in, letters_in, reply_to, empty_answer}
+use Rattle.node_model.specs.RouterRows.{id_of, targets_of, awaited, shards_of, untold, with_work, asks_shards, is_enough, enough_of, table_for, adopted, is_for, is_for_catalogue, Next, stays, is_told, was_created, next_of, next_waiting, stay_in, letters_in, reply_to, empty_answer}
 use Rattle.node_laws.proofs.KnownTables.{table_found, table_there}
 use Rattle.node_laws.proofs.OpenRequests.{all_replaced}
 use Rattle.node_progress.specs.UnderWay.{Thing, things_of, Brings, IsFor}
@@ -103,7 +103,7 @@ module _ (r u : Router) (m : Letter) (mail : List Letter) (q : Open) (id : Reque
       let letter : m ≡ n = cc is in
       let named = names t (subst (λ x. IsFor t x) (sym letter) brings) in
       let mine : id ≡ id_of r p.count =
-      names_own (id_of r p.count) r.me (untold p.told (shards_of r)) p.namespace p.work p.wait t id (awaits r p t one) named in
+      names_own (id_of r p.count) r.me (untold p.told (shards_of r)) (awaited p.targets p.parts) p.namespace p.work p.wait t id (awaits r p t one) named in
       other (ap (λ (x : RequestId). x.count) (sym mine ∙ own))))
 
   -- it is answered
@@ -172,7 +172,8 @@ module _ (r u : Router) (m : Letter) (time : ℕ) (namespace : List ℕ) (create
       let same : m ≡ n = cc is in
       let own : IsFor t m = subst (λ x. IsFor t x) (sym same) brings in
       let l = subst (λ b. Brings t m.sender m.receiver b) says own in
-      let w = wants_table (id_of r q.count) r.me (untold q.told (shards_of r)) q.namespace q.work q.wait m.receiver namespace create at waiting.fits
+      let w = wants_table (id_of r q.count) r.me (untold q.told (shards_of r)) (awaited q.targets q.parts) q.namespace q.work
+      q.wait m.receiver namespace create at waiting.fits
       (subst (λ x. Awaits r q x) l.0 (awaits r q t one)) in
       none l.1 w.1 w.0 w.2)
 
@@ -229,7 +230,8 @@ module _ (r u : Router) (m : Letter) (time : ℕ) (namespace : List ℕ) (create
       inr (
         waiting.going,
         shards_fit t q.work found.1,
-        subst (λ l. AreSent (asks_shards r time q.count q.namespace t q.work) l) (sym (same_things r u (with_work q for_shards q.work) alive))
+        subst (λ l. AreSent (asks_shards r time q.count q.namespace t q.work) l)
+            (sym (same_things r u (with_work q for_shards (targets_of t q.work) q.work) alive))
             (shards_send r time q.count q.namespace t first q.work waiting.going found.1),
       )
 

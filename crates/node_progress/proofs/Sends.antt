@@ -1,12 +1,12 @@
 -- What a router requests is for what the request waits for.
 use Rattle.std.proofs.Common.{◌≡◌, ◌≢◌, ℕ, zero, suc, ◌+◌, List, [], ◌∷◌, length, drop, map, refl, sym, ap, subst, ◌∙◌, arith, Bool}
-use Rattle.std.specs.Prelude.{Option, Some, None, true, false, if◌then◌else◌}
+use Rattle.std.specs.Prelude.{Option, Some, None, is_some, true, false, if◌then◌else◌}
 use Rattle.std.specs.List.{AllByRecursion}
-use Rattle.value_model.specs.Keys.{is_key, Span}
-use Rattle.pipeline_model.specs.Halves.{Half}
+use Rattle.value_model.specs.Keys.{is_key}
+use Rattle.pipeline_model.specs.Stages.{Stage}
 use Rattle.pipeline_model.specs.Split.{split}
 use Rattle.bson_model.specs.Tree.{Datum, null_value}
-use Rattle.chunk_model.specs.Tables.{Table, first_shard, table_of, owner_now}
+use Rattle.chunk_model.specs.Tables.{Table, first_shard, table_of, owner_now, owner_at}
 use Rattle.chunk_model.specs.Verdicts.{sent_by}
 use Rattle.history_model.specs.History.{Operation, key_written}
 use Rattle.command_model.specs.Writes.{ClientNumber}
@@ -15,13 +15,14 @@ use Rattle.reply_model.specs.Exchanges.{number_for}
 use Rattle.reply_model.specs.Outcomes.{Done}
 use Rattle.reply_model.specs.Right.{ends}
 use Rattle.node_model.specs.Letters.{Statement, write_ask, read_ask, time_ask, Letter}
-use Rattle.node_model.specs.States.{Router, for_time, Work, writing, reading, sharding, splitting}
-use Rattle.node_model.specs.RouterRows.{id_of, places_from, shards_of, untold, statements_from, owner_of_statement, is_on, run_to, says, asks_to_write, owner_of_span, asks_to_read, asks_shards, asks_catalogue, is_enough, enough_of, table_for, asks_times, is_ahead, wait_by, asks_by, wait_of, asks_for, is_answered}
+use Rattle.node_model.specs.States.{Target, Router, for_time, Work, writing, reading, sharding, splitting}
+use Rattle.node_model.specs.RouterRows.{id_of, places_from, shards_of, untold, statements_from, owner_of_statement, is_on, run_to, says, asks_to_write, targets_at, targets_of, asks_to_read, asks_shards, asks_catalogue, is_owned_at, is_enough, enough_of, table_for, asks_times, is_ahead, wait_by, asks_by, wait_of, asks_for, targets_by, targets_for, awaited, is_answered}
 use Rattle.history_model.proofs.Lists.{all_from}
 use Rattle.command_model.proofs.Judged.{HasKey}
 use Rattle.history_model.proofs.Keyed.{written_is_key}
 use Rattle.node_laws.proofs.MadeEntries.{index_at}
-use Rattle.node_progress.specs.UnderWay.{Thing, a_time, a_run, a_part, thing_there, thing_stored, things_by, IsFor}
+use Rattle.node_laws.proofs.SpanOwners.{listed_owner}
+use Rattle.node_progress.specs.UnderWay.{Thing, a_time, a_run, a_part, thing_there, things_stored, things_by, IsFor}
 use Rattle.node_progress.proofs.Members.{in_map, in_mapped}
 use Rattle.node_progress.proofs.Versions.{IsFirst}
 use Rattle.node_progress.proofs.Lateness.{WaitFits}
@@ -93,24 +94,18 @@ to_write r time id namespace t ordered s more owner =
     ∙ ap (λ o. says r first_shard time
     (write_ask id 1 ordered namespace (if is_on first_shard o then s ∷ run_to t first_shard more else []) (sent_by t first_shard)) ∷ []) owner
 
-pub to_read : (r : Router) (time : ℕ) (id : RequestId) (namespace : List ℕ) (t : Table) (at : ℕ) (half : Half)
-    → owner_of_span t at half.span ≡ Some first_shard
-    → asks_to_read r time id namespace t at half ≡ says r first_shard time (read_ask id 1 namespace at half (sent_by t first_shard)) ∷ []
-to_read r time id namespace t at half owner =
-    ap (λ o. elim o as (λ (o : Option ℕ). List Letter) [
-      | None ↦ []
-      | Some shard ↦ says r shard time
-          (read_ask id 1 namespace at half (sent_by t shard)) ∷ []
-    ]) owner
+-- a read by a table that says who owned each key at its time
+abbrev pub first_target : Table → Target
+first_target t = record { shard = first_shard; sent = sent_by t first_shard }
 
-span_owner : (t : Table) (at : ℕ) (span : List Span) → IsFirst t
-    → (elim (owner_of_span t at span) as (λ (o : Option ℕ). Bool) [ None ↦ false | Some shard ↦ true ]) ≡ true → owner_of_span t at span ≡ Some first_shard
-span_owner t at span first enough = by_owner (owner_of_span t at span) refl enough
+pub one_target : (t : Table) (at : ℕ) (stages : List Stage) → IsFirst t → is_owned_at t at ≡ true → targets_at t at stages ≡ first_target t ∷ []
+one_target t at stages first enough = by_owner (owner_at t null_value at) refl (sym (first.owned at) ∙ enough)
   where
-    by_owner : (o : Option ℕ) → owner_of_span t at span ≡ o → (elim o as (λ (o : Option ℕ). Bool) [ None ↦ false | Some shard ↦ true ]) ≡ true
-        → o ≡ Some first_shard
+    by_owner : (o : Option ℕ) → owner_at t null_value at ≡ o → is_some o ≡ true → targets_at t at stages ≡ first_target t ∷ []
     by_owner None is enough = absurd (cc enough)
-    by_owner (Some shard) is enough = ap (λ n. Some n) (first.before null_value at shard refl is)
+    by_owner (Some shard) is enough =
+        let owner : owner_at t null_value at ≡ Some first_shard = is ∙ ap (λ n. Some n) (first.before null_value at shard refl is) in
+        ap (map (λ s. record { shard = s; sent = sent_by t s })) (first.spans at (split stages).0.span ∙ ap listed_owner owner)
 
 module _ (r : Router) (time count : ℕ) (namespace : List ℕ) where
   -- the run that is next goes to the first shard
@@ -123,17 +118,18 @@ module _ (r : Router) (time count : ℕ) (namespace : List ℕ) where
 
   -- by a table, what comes next is requested of the shard
   pub shards_send : (t : Table) → IsFirst t → (work : Work) → IsGoing work → is_enough t work ≡ true
-      → AreSent (asks_shards r time count namespace t work) (thing_stored (id_of r count) r.me namespace work ∷ [])
+      → AreSent (asks_shards r time count namespace t work) (things_stored (id_of r count) r.me (awaited (targets_of t work) []) namespace work)
   shards_send t first (writing kind ordered statements answers) going enough =
       subst (λ l. AreSent l (a_run (id_of r count) (length answers) ∷ [])) (sym (run_sends t ordered statements answers first going))
       (one_sent
       (says r first_shard time (write_ask (id_of r count) 1 ordered namespace (going.first ∷ run_to t first_shard going.more) (sent_by t first_shard)))
       (a_run (id_of r count) (length answers)) (ap (λ n. a_run (id_of r count) n) (sym going.numbered), refl))
   shards_send t first (reading named at stages telling) going enough =
-      subst (λ l. AreSent l (a_part (id_of r count) 1 ∷ []))
-      (sym (to_read r time (id_of r count) namespace t at (split stages).0 (span_owner t at (split stages).0.span first enough)))
-      (one_sent (says r first_shard time (read_ask (id_of r count) 1 namespace at (split stages).0 (sent_by t first_shard))) (a_part (id_of r count) 1)
-      (refl, refl))
+      subst (λ l. AreSent (asks_to_read r time (id_of r count) namespace at (split stages).0 l)
+      (map (λ (x : Target). a_part (id_of r count) x.shard 1) (awaited l [])))
+      (sym (one_target t at stages first enough))
+      (one_sent (says r first_shard time (read_ask (id_of r count) 1 namespace at (split stages).0 (sent_by t first_shard)))
+      (a_part (id_of r count) first_shard 1) (refl, refl))
   shards_send t first sharding going enough = absurd (cc enough)
   shards_send t first (splitting middle) going enough = absurd (cc enough)
 
@@ -149,14 +145,14 @@ module _ (r : Router) (time count : ℕ) (namespace : List ℕ) where
 
   table_sends : (shards : List ℕ) (work : Work) → ((t : Table) → table_of namespace r.tables ≡ Some t → IsFirst t) → IsGoing work → (o p : Option Table)
       → table_of namespace r.tables ≡ o → enough_of o work ≡ p
-      → AreSent (asks_by r time count namespace work p) (things_by (id_of r count) r.me shards namespace work (wait_by p))
+      → AreSent (asks_by r time count namespace work p) (things_by (id_of r count) r.me shards (awaited (targets_by p work) []) namespace work (wait_by p))
   table_sends shards work firsts going o None is enough =
       one_sent (asks_catalogue r time count namespace work) (thing_there (id_of r count) r.me namespace work) (catalogue_sends work)
   table_sends shards work firsts going None (Some t) is enough = absurd (cc enough)
   table_sends shards work firsts going (Some x) (Some t) is enough = by_enough (is_enough x work) refl enough
     where
       by_enough : (b : Bool) → is_enough x work ≡ b → (if b then Some x else None) ≡ Some t
-          → AreSent (asks_shards r time count namespace t work) (thing_stored (id_of r count) r.me namespace work ∷ [])
+          → AreSent (asks_shards r time count namespace t work) (things_stored (id_of r count) r.me (awaited (targets_of t work) []) namespace work)
       by_enough false lacks got = absurd (cc got)
       by_enough true has got =
           let same : x ≡ t = cc got in
@@ -165,12 +161,14 @@ module _ (r : Router) (time count : ℕ) (namespace : List ℕ) where
   -- where it waits for a time, no shard has returned it
   pub asks_send : (shards : List ℕ) (work : Work) → ((t : Table) → table_of namespace r.tables ≡ Some t → IsFirst t) → r.shards ≢ 0 → IsGoing work
       → (is_ahead time work ≡ true → shards ≡ untold [] (shards_of r))
-      → AreSent (asks_for r time count namespace work) (things_by (id_of r count) r.me shards namespace work (wait_of r time namespace work))
+      → AreSent (asks_for r time count namespace work) (things_by (id_of r count) r.me shards (awaited (targets_for r time namespace work) []) namespace work
+      (wait_of r time namespace work))
   asks_send shards work firsts some going fresh = by_ahead (is_ahead time work) refl
     where
       by_ahead : (b : Bool) → is_ahead time work ≡ b
           → AreSent (if b then asks_times r time (id_of r count) [] else asks_by r time count namespace work (table_for r.tables namespace work))
-          (things_by (id_of r count) r.me shards namespace work (if b then for_time else wait_by (table_for r.tables namespace work)))
+          (things_by (id_of r count) r.me shards (awaited (if b then [] else targets_by (table_for r.tables namespace work) work) []) namespace work
+          (if b then for_time else wait_by (table_for r.tables namespace work)))
       by_ahead true is =
           subst (λ l. AreSent (asks_times r time (id_of r count) []) (map (λ s. a_time (id_of r count) s) l)) (sym (fresh is)) (record {
             some = some_times (id_of r count) r.shards some;

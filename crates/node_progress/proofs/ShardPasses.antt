@@ -15,7 +15,7 @@ use Rattle.node_model.specs.States.{Shard}
 use Rattle.node_model.specs.Service.{seen_before, Serves, serves_again, serves_new, ends_again, ends_new, Repeats, repeats, ends_repeat, documents_at}
 use Rattle.node_model.specs.ShardRows.{Ask, is_ask, same_ask, ask_in, wants_table, says, heard, ShardRow, shard_write, shard_repeat, shard_empty, shard_park, shard_waits, shard_stale, shard_read, shard_read_above, shard_rows, shard_excess, shard_overflow, shard_time, shard_learn, shard_known, shard_skip, shard_moment, shard_opened, shard_client}
 use Rattle.node_laws.proofs.SeenStatements.{IsFound, found_entry, found_older, seen_found}
-use Rattle.node_progress.specs.UnderWay.{Thing, a_time, a_run, Brings, IsFor}
+use Rattle.node_progress.specs.UnderWay.{Thing, a_time, a_run, a_part, Brings, IsFor}
 use Rattle.node_progress.proofs.Members.{in_map, in_filter, any_found}
 use Rattle.node_progress.proofs.Things.{home, shard_idle, thing_asked, ask_brings, brings_asked, same_thing}
 use Rattle.node_progress.proofs.Versions.{never_stale}
@@ -64,10 +64,10 @@ module _ (s : Shard) (m : Letter) (t : Thing) (is : IsFor t m) where
 
   -- and the rows of a half
   rows_among : (time : ℕ) (id : RequestId) (turn : ℕ) (namespace : List ℕ) (at : ℕ) (half : Half) (documents : List Fields) (rows : Result Rows HalfFault)
-      → m.body ≡ half_ask id turn namespace at half documents → IsAmong (says s id.router time (read_rows id turn rows) ∷ []) t
-  rows_among time id turn namespace at half documents rows body =
+      → m.receiver ≡ s.me → m.body ≡ half_ask id turn namespace at half documents → IsAmong (says s id.router time (read_rows id turn rows) ∷ []) t
+  rows_among time id turn namespace at half documents rows place body =
       let l = subst (λ b. Brings t m.sender m.receiver b) body is in
-      only_among (says s id.router time (read_rows id turn rows)) t (l.0, refl)
+      only_among (says s id.router time (read_rows id turn rows)) t (l.0 ∙ ap (λ n. a_part id n turn) place, refl)
 
   -- a request that waits already
   waits_already : (a : Ask) (parked : List Letter) (p : Letter) (o : Option Ask) → ask_in m.body ≡ Some a → ask_in p.body ≡ o → p.receiver ≡ first_shard
@@ -103,16 +103,18 @@ shard_passes _ _ _ _ t place away own fit to is (shard_stale s m a met asks unse
     absurd (never_stale s.tables a met (subst (λ n. verdict_of a.sent n (table_of a.namespace s.tables) ≡ router_is_old met) there.0 old) there.1)
 shard_passes _ _ _ _ t place away own fit to is (shard_read s m id turn namespace at half sent body verdict covered) =
     let l = subst (λ b. Brings t m.sender m.receiver b) body is in
-    inl (only_among (says s s.me (heard s m) (half_ask id turn namespace at half (documents_at s.entries namespace at half))) t (l.0, sym place ∙ l.1))
+    inl (only_among (says s s.me (heard s m) (half_ask id turn namespace at half (documents_at s.entries namespace at half))) t
+    (l.0 ∙ ap (λ n. a_part id n turn) place, sym place ∙ l.1))
 shard_passes _ _ _ _ t place away own fit to is (shard_read_above s m id turn namespace at half sent body verdict above) =
     let l = subst (λ b. Brings t m.sender m.receiver b) body is in
-    inl (only_among (says s s.me (heard s m) (half_ask id turn namespace at half (documents_at s.entries namespace at half))) t (l.0, sym place ∙ l.1))
+    inl (only_among (says s s.me (heard s m) (half_ask id turn namespace at half (documents_at s.entries namespace at half))) t
+    (l.0 ∙ ap (λ n. a_part id n turn) place, sym place ∙ l.1))
 shard_passes _ _ _ _ t place away own fit to is (shard_rows s m id turn namespace at half documents rows body makes few) =
-    inl (rows_among s m t is (heard s m) id turn namespace at half documents (Ok rows) body)
+    inl (rows_among s m t is (heard s m) id turn namespace at half documents (Ok rows) place body)
 shard_passes _ _ _ _ t place away own fit to is (shard_excess s m id turn namespace at half documents rows length n body makes much told) =
-    inl (rows_among s m t is (heard s m) id turn namespace at half documents (Err (half_excess n)) body)
+    inl (rows_among s m t is (heard s m) id turn namespace at half documents (Err (half_excess n)) place body)
 shard_passes _ _ _ _ t place away own fit to is (shard_overflow s m id turn namespace at half documents body runs) =
-    inl (rows_among s m t is (heard s m) id turn namespace at half documents (Err half_overflow) body)
+    inl (rows_among s m t is (heard s m) id turn namespace at half documents (Err half_overflow) place body)
 shard_passes _ _ _ _ t place away own fit to is (shard_time s m id body) =
     let l = subst (λ b. Brings t m.sender m.receiver b) body is in
     inl (only_among (says s id.router (heard s m) (time_told id)) t (l ∙ ap (λ n. a_time id n) place, refl))

@@ -1,27 +1,34 @@
 -- What an open request waits for, and which messages are for it.
-use Rattle.std.proofs.Common.{◌≡◌, ◌≢◌, ◌⊎◌, inl, inr, ℕ, List, [], ◌∷◌, refl, sym, ap, ◌∙◌, Bool}
+use Rattle.std.proofs.Common.{◌≡◌, ◌≢◌, ◌⊎◌, inl, inr, ℕ, List, [], ◌∷◌, length, refl, sym, ap, ◌∙◌, Bool}
 use Rattle.std.specs.Prelude.{Option, Some, None, true, false, ◌==◌, ◌&&◌}
 use Rattle.std.proofs.lemmas.Bool.{eqb-true}
 use Rattle.history_model.specs.History.{IsIn}
 use Rattle.history_model.proofs.Lists.{in_cons, in_none}
 use Rattle.chunk_model.specs.Tables.{first_shard}
 use Rattle.base_model.specs.Identities.{RequestId, same_request}
-use Rattle.node_model.specs.Letters.{Body, table_ask, table_told, split_ask, split_done, write_ask, write_done, read_ask, half_ask, read_rows, stale, time_ask, time_told}
-use Rattle.node_model.specs.States.{Wait, for_time, for_catalogue, for_shards, Work, writing, reading, sharding, splitting, Open, Router}
+use Rattle.node_model.specs.Letters.{no_time, Body, table_ask, table_told, split_ask, split_done, write_ask, write_done, read_ask, half_ask, read_rows, stale, time_ask, time_told}
+use Rattle.node_model.specs.States.{Target, Wait, for_time, for_catalogue, for_shards, Work, writing, reading, sharding, splitting, Open, Router}
 use Rattle.node_model.specs.CatalogueRows.{AsksNothing as AsksNoTable}
 use Rattle.node_model.specs.ShardRows.{Ask, ask_in, same_index, same_ask, AsksNothing}
-use Rattle.node_model.specs.RouterRows.{id_of, places_from, shards_of, untold, TellsNothing}
+use Rattle.node_model.specs.RouterRows.{id_of, places_from, shards_of, untold, awaited, TellsNothing}
 use Rattle.reply_facts.proofs.Requests.{same_id}
 use Rattle.node_progress.proofs.Members.{in_mapped}
-use Rattle.node_progress.specs.UnderWay.{Thing, a_time, a_table, a_split, a_run, a_part, thing_there, thing_stored, things_by, things_of, Brings}
+use Rattle.node_progress.specs.UnderWay.{Thing, a_time, a_table, a_split, a_run, a_part, thing_there, things_stored, things_by, things_of, Brings}
 
 -- ONE OF THE THINGS
 
--- it is the time of one of these shards, or the one thing
-abbrev pub IsAwaited : RequestId → (node : ℕ) → (shards namespace : List ℕ) → Work → Wait → Thing → Type 0
-IsAwaited id node shards namespace work for_time t = (shard : ℕ) × IsIn shard shards × (t ≡ a_time id shard)
-IsAwaited id node shards namespace work for_catalogue t = t ≡ thing_there id node namespace work
-IsAwaited id node shards namespace work for_shards t = t ≡ thing_stored id node namespace work
+-- it is the part of one of these shards, or the one thing
+abbrev pub IsAwaitedStored : RequestId → (node : ℕ) → List Target → (namespace : List ℕ) → Work → Thing → Type 0
+IsAwaitedStored id node targets namespace (writing kind ordered statements answers) t = t ≡ a_run id (length answers)
+IsAwaitedStored id node targets namespace (reading named at stages telling) t = (x : Target) × IsIn x targets × (t ≡ a_part id x.shard 1)
+IsAwaitedStored id node targets namespace sharding t = t ≡ a_table node namespace true no_time
+IsAwaitedStored id node targets namespace (splitting middle) t = t ≡ a_split id
+
+-- it is the time of one of these shards, the part of one of those, or the one thing
+abbrev pub IsAwaited : RequestId → (node : ℕ) → (shards : List ℕ) → List Target → (namespace : List ℕ) → Work → Wait → Thing → Type 0
+IsAwaited id node shards targets namespace work for_time t = (shard : ℕ) × IsIn shard shards × (t ≡ a_time id shard)
+IsAwaited id node shards targets namespace work for_catalogue t = t ≡ thing_there id node namespace work
+IsAwaited id node shards targets namespace work for_shards t = IsAwaitedStored id node targets namespace work t
 
 only_one : (t x : Thing) → IsIn t (x ∷ []) → t ≡ x
 only_one t x there = by_place (in_cons t x [] there)
@@ -30,18 +37,26 @@ only_one t x there = by_place (in_cons t x [] there)
     by_place (inl same) = same
     by_place (inr none) = absurd (in_none t none)
 
-pub awaited : (id : RequestId) (node : ℕ) (shards namespace : List ℕ) (work : Work) (wait : Wait) (t : Thing)
-    → IsIn t (things_by id node shards namespace work wait) → IsAwaited id node shards namespace work wait t
-awaited id node shards namespace work for_time t there = in_mapped (λ shard. a_time id shard) t shards there
-awaited id node shards namespace work for_catalogue t there = only_one t (thing_there id node namespace work) there
-awaited id node shards namespace work for_shards t there = only_one t (thing_stored id node namespace work) there
+awaited_stored : (id : RequestId) (node : ℕ) (targets : List Target) (namespace : List ℕ) (work : Work) (t : Thing)
+    → IsIn t (things_stored id node targets namespace work) → IsAwaitedStored id node targets namespace work t
+awaited_stored id node targets namespace (writing kind ordered statements answers) t there = only_one t (a_run id (length answers)) there
+awaited_stored id node targets namespace (reading named at stages telling) t there = in_mapped (λ (x : Target). a_part id x.shard 1) t targets there
+awaited_stored id node targets namespace sharding t there = only_one t (a_table node namespace true no_time) there
+awaited_stored id node targets namespace (splitting middle) t there = only_one t (a_split id) there
+
+pub is_awaited : (id : RequestId) (node : ℕ) (shards : List ℕ) (targets : List Target) (namespace : List ℕ) (work : Work) (wait : Wait) (t : Thing)
+    → IsIn t (things_by id node shards targets namespace work wait) → IsAwaited id node shards targets namespace work wait t
+is_awaited id node shards targets namespace work for_time t there = in_mapped (λ shard. a_time id shard) t shards there
+is_awaited id node shards targets namespace work for_catalogue t there = only_one t (thing_there id node namespace work) there
+is_awaited id node shards targets namespace work for_shards t there = awaited_stored id node targets namespace work t there
 
 -- of an open request
 abbrev pub Awaits : Router → Open → Thing → Type 0
-Awaits r q t = IsAwaited (id_of r q.count) r.me (untold q.told (shards_of r)) q.namespace q.work q.wait t
+Awaits r q t = IsAwaited (id_of r q.count) r.me (untold q.told (shards_of r)) (awaited q.targets q.parts) q.namespace q.work q.wait t
 
 pub awaits : (r : Router) (q : Open) (t : Thing) → IsIn t (things_of r q) → Awaits r q t
-awaits r q t there = awaited (id_of r q.count) r.me (untold q.told (shards_of r)) q.namespace q.work q.wait t there
+awaits r q t there =
+    is_awaited (id_of r q.count) r.me (untold q.told (shards_of r)) (awaited q.targets q.parts) q.namespace q.work q.wait t there
 
 -- a router that is in the same life, and knows of the same shards
 pub record InSameLife (r u : Router) : Type 0 where
@@ -52,7 +67,7 @@ pub record InSameLife (r u : Router) : Type 0 where
 -- waits for the same
 pub same_things : (r u : Router) (q : Open) → InSameLife r u → things_of u q ≡ things_of r q
 same_things r u q same = λ i. things_by (record { router = same.me i; life = same.life i; count = q.count }) (same.me i)
-    (untold q.told (places_from first_shard (same.shards i))) q.namespace q.work q.wait
+    (untold q.told (places_from first_shard (same.shards i))) (awaited q.targets q.parts) q.namespace q.work q.wait
 
 -- WHERE MESSAGES GO
 
@@ -62,7 +77,7 @@ home (a_time id shard) = id.router
 home (a_table node namespace create at) = node
 home (a_split id) = id.router
 home (a_run id first) = id.router
-home (a_part id turn) = id.router
+home (a_part id shard turn) = id.router
 
 pub home_of : (r : Router) (q : Open) (t : Thing) → IsIn t (things_of r q) → home t ≡ r.me
 home_of r q t there = by_wait q.wait (awaits r q t there)
@@ -73,16 +88,17 @@ home_of r q t there = by_wait q.wait (awaits r q t there)
     in_catalogue sharding = refl
     in_catalogue (splitting middle) = refl
 
-    in_shards : (work : Work) → home (thing_stored (id_of r q.count) r.me q.namespace work) ≡ r.me
-    in_shards (writing kind ordered statements answers) = refl
-    in_shards (reading named at stages telling) = refl
-    in_shards sharding = refl
-    in_shards (splitting middle) = refl
+    in_shards : (work : Work) → IsAwaitedStored (id_of r q.count) r.me (awaited q.targets q.parts) q.namespace work t → home t ≡ r.me
+    in_shards (writing kind ordered statements answers) is = ap (λ x. home x) is
+    in_shards (reading named at stages telling) is = ap (λ x. home x) is.2
+    in_shards sharding is = ap (λ x. home x) is
+    in_shards (splitting middle) is = ap (λ x. home x) is
 
-    by_wait : (wait : Wait) → IsAwaited (id_of r q.count) r.me (untold q.told (shards_of r)) q.namespace q.work wait t → home t ≡ r.me
+    by_wait : (wait : Wait) → IsAwaited (id_of r q.count) r.me (untold q.told (shards_of r)) (awaited q.targets q.parts) q.namespace q.work wait t
+        → home t ≡ r.me
     by_wait for_time is = ap (λ x. home x) is.2
     by_wait for_catalogue is = ap (λ x. home x) is ∙ in_catalogue q.work
-    by_wait for_shards is = ap (λ x. home x) is ∙ in_shards q.work
+    by_wait for_shards is = in_shards q.work is
 
 -- the thing is the time of the node at a place
 abbrev pub IsTimeAt : Thing → ℕ → Type 0
@@ -104,7 +120,7 @@ module _ (t : Thing) (from to : ℕ) where
   brings_to (write_done id (d ∷ dones)) is = inr (inr (inl (at_home (a_run id d.index) is.0 is.1)))
   brings_to (read_ask id turn namespace at half sent) is = inr (inl is.1)
   brings_to (half_ask id turn namespace at half documents) is = inr (inl is.1)
-  brings_to (read_rows id turn rows) is = inr (inr (inl (at_home (a_part id turn) is.0 is.1)))
+  brings_to (read_rows id turn rows) is = inr (inr (inl (at_home (a_part id from turn) is.0 is.1)))
   brings_to (stale id turn met) is = absurd is
   brings_to (time_ask id) is = inr (inr (inr (id, is)))
   brings_to (time_told id) is = inr (inr (inl (at_home (a_time id from) is.0 is.1)))
@@ -121,7 +137,7 @@ module _ (t : Thing) (from to : ℕ) where
   catalogue_idle (write_done id (d ∷ dones)) place own timeless none is = own (sym (at_home (a_run id d.index) is.0 is.1) ∙ place)
   catalogue_idle (read_ask id turn namespace at half sent) place own timeless none is = cc (is.1, place)
   catalogue_idle (half_ask id turn namespace at half documents) place own timeless none is = cc (is.1, place)
-  catalogue_idle (read_rows id turn rows) place own timeless none is = own (sym (at_home (a_part id turn) is.0 is.1) ∙ place)
+  catalogue_idle (read_rows id turn rows) place own timeless none is = own (sym (at_home (a_part id from turn) is.0 is.1) ∙ place)
   catalogue_idle (stale id turn met) place own timeless none is = is
   catalogue_idle (time_ask id) place own timeless none is = timeless (id, is)
   catalogue_idle (time_told id) place own timeless none is = own (sym (at_home (a_time id from) is.0 is.1) ∙ place)
@@ -137,7 +153,7 @@ module _ (t : Thing) (from to : ℕ) where
   shard_idle (write_done id (d ∷ dones)) not_zero own none is = own (sym (at_home (a_run id d.index) is.0 is.1))
   shard_idle (read_ask id turn namespace at half sent) not_zero own none is = none
   shard_idle (half_ask id turn namespace at half documents) not_zero own none is = none
-  shard_idle (read_rows id turn rows) not_zero own none is = own (sym (at_home (a_part id turn) is.0 is.1))
+  shard_idle (read_rows id turn rows) not_zero own none is = own (sym (at_home (a_part id from turn) is.0 is.1))
   shard_idle (stale id turn met) not_zero own none is = is
   shard_idle (time_ask id) not_zero own none is = none
   shard_idle (time_told id) not_zero own none is = own (sym (at_home (a_time id from) is.0 is.1))
@@ -160,9 +176,9 @@ module _ (t : Thing) (from to : ℕ) where
 
 -- REQUESTS OF DOCUMENTS
 
--- what a request of documents is for
+-- what a request of documents is for, at the first shard
 abbrev pub thing_asked : Ask → Thing
-thing_asked a = elim a.first as (λ (o : Option ℕ). Thing) [ None ↦ a_part a.id a.turn | Some first ↦ a_run a.id first ]
+thing_asked a = elim a.first as (λ (o : Option ℕ). Thing) [ None ↦ a_part a.id first_shard a.turn | Some first ↦ a_run a.id first ]
 
 pub ask_brings : (t : Thing) (from to : ℕ) (b : Body) (a : Ask) → ask_in b ≡ Some a → Brings t from to b → t ≡ thing_asked a
 ask_brings t from to (table_ask namespace create at) a asks is = absurd (cc asks)
@@ -176,7 +192,7 @@ ask_brings t from to (write_ask id turn ordered namespace (s ∷ more) sent) a a
 ask_brings t from to (write_done id dones) a asks is = absurd (cc asks)
 ask_brings t from to (read_ask id turn namespace at half sent) a asks is =
     let same : record { id = id; turn = turn; first = None; namespace = namespace; sent = sent } ≡ a = cc asks in
-    is.0 ∙ ap (λ x. thing_asked x) same
+    is.0 ∙ ap (λ n. a_part id n turn) is.1 ∙ ap (λ x. thing_asked x) same
 ask_brings t from to (half_ask id turn namespace at half documents) a asks is = absurd (cc asks)
 ask_brings t from to (read_rows id turn rows) a asks is = absurd (cc asks)
 ask_brings t from to (stale id turn met) a asks is = absurd (cc asks)
@@ -195,7 +211,7 @@ brings_asked from to (write_ask id turn ordered namespace (s ∷ more) sent) a a
 brings_asked from to (write_done id dones) a asks place = absurd (cc asks)
 brings_asked from to (read_ask id turn namespace at half sent) a asks place =
     let same : record { id = id; turn = turn; first = None; namespace = namespace; sent = sent } ≡ a = cc asks in
-    (ap (λ x. thing_asked x) (sym same), place)
+    (ap (λ x. thing_asked x) (sym same) ∙ ap (λ n. a_part id n turn) (sym place), place)
 brings_asked from to (half_ask id turn namespace at half documents) a asks place = absurd (cc asks)
 brings_asked from to (read_rows id turn rows) a asks place = absurd (cc asks)
 brings_asked from to (stale id turn met) a asks place = absurd (cc asks)
@@ -207,8 +223,8 @@ pub same_thing : (a b : Ask) → same_ask a b ≡ true → thing_asked a ≡ thi
 same_thing a b is = by_ids (same_request a.id b.id) (a.turn == b.turn) (same_index a.first b.first) refl refl refl is
   where
     by_first : (x y : Option ℕ) → a.id ≡ b.id → a.turn ≡ b.turn → same_index x y ≡ true
-        → (elim x as (λ (o : Option ℕ). Thing) [ None ↦ a_part a.id a.turn | Some first ↦ a_run a.id first ])
-        ≡ (elim y as (λ (o : Option ℕ). Thing) [ None ↦ a_part b.id b.turn | Some first ↦ a_run b.id first ])
+        → (elim x as (λ (o : Option ℕ). Thing) [ None ↦ a_part a.id first_shard a.turn | Some first ↦ a_run a.id first ])
+        ≡ (elim y as (λ (o : Option ℕ). Thing) [ None ↦ a_part b.id first_shard b.turn | Some first ↦ a_run b.id first ])
     by_first None None id turn same = cc (id, turn)
     by_first None (Some m) id turn same = absurd (cc same)
     by_first (Some n) None id turn same = absurd (cc same)

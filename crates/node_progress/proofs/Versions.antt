@@ -1,11 +1,11 @@
 -- Every request of documents carries the versions of a table that the catalogue had, so that none is sent back as stale.
 use Rattle.std.proofs.Common.{◌≡◌, ◌⊎◌, inl, inr, ℕ, ◌<◌, ◌≤◌, List, ◌++◌, refl, sym, ap, subst, ◌∙◌, append_assoc}
-use Rattle.std.specs.Prelude.{Option, Some, None, true}
+use Rattle.std.specs.Prelude.{Option, Some, None, is_some, true}
 use Rattle.std.specs.List.{AllByRecursion}
 use Rattle.history_model.specs.History.{IsIn}
 use Rattle.history_model.proofs.Lists.{all_at, in_back}
-use Rattle.bson_model.specs.Tree.{Datum}
-use Rattle.value_model.specs.Keys.{is_key}
+use Rattle.bson_model.specs.Tree.{Datum, null_value}
+use Rattle.value_model.specs.Keys.{Span, is_key}
 use Rattle.chunk_model.specs.Changes.{Change, create_change, time_of, known_table}
 use Rattle.chunk_model.specs.Placement.{AreFitting}
 use Rattle.chunk_model.specs.Tables.{Table, first_shard, owner_now, owner_at, table_of}
@@ -13,12 +13,14 @@ use Rattle.chunk_model.specs.Versions.{Version}
 use Rattle.chunk_model.specs.Verdicts.{fits, shard_is_old, router_is_old, sent_by, verdict_of}
 use Rattle.node_model.specs.Letters.{Body, Letter}
 use Rattle.node_model.specs.ShardRows.{Ask, ask_in}
+use Rattle.node_model.specs.RouterRows.{owners_of_span, is_owned_at}
 use Rattle.node_laws.proofs.Views.{View, changes_in}
 use Rattle.node_laws.proofs.Facts.{IsKnownTable, AreMade}
 use Rattle.node_laws.proofs.Lists.{all_behind}
 use Rattle.node_laws.proofs.CatalogueTables.{IsNoCreation, none_created, some_created}
 use Rattle.node_laws.proofs.TableVersions.{known_fits}
-use Rattle.node_laws.proofs.KnownTables.{table_found, known_owned, known_at}
+use Rattle.node_laws.proofs.SpanOwners.{listed_owner}
+use Rattle.node_laws.proofs.KnownTables.{table_found, known_owned, known_owned_at, known_at, known_span}
 use Rattle.node_progress.specs.UnderWay.{IsNotStale}
 
 -- TABLES
@@ -31,10 +33,12 @@ pub record WasHad (changes : List Change) (t : Table) : Type 0 where
   pub known : known_table t.namespace older ≡ Some t
   pub fitting : AreFitting older
 
--- by the table the first shard owns all keys, and it alone owned any before
+-- by the table the first shard owns all keys, and it alone owned any before; each key was owned where the least was, and a span is that of its owner
 pub record IsFirst (t : Table) : Type 0 where
   pub now : (key : Datum) → is_key key ≡ true → owner_now t key ≡ Some first_shard
   pub before : (key : Datum) (at shard : ℕ) → is_key key ≡ true → owner_at t key at ≡ Some shard → shard ≡ first_shard
+  pub owned : (at : ℕ) → is_owned_at t at ≡ is_some (owner_at t null_value at)
+  pub spans : (at : ℕ) (span : List Span) → owners_of_span t at span ≡ listed_owner (owner_at t null_value at)
 
 abbrev pub IsTableOf : List Change → Table → Type 0
 IsTableOf changes t = WasHad changes t × IsFirst t
@@ -42,7 +46,12 @@ IsTableOf changes t = WasHad changes t × IsFirst t
 pub table_had : (v : View) (time : ℕ) (t : Table) → IsKnownTable v time t → IsTableOf (changes_in v) t
 table_had v time t k = (
   record { more = k.more; older = k.older; all = k.all; known = k.known; fitting = k.fitting },
-  record { now = λ key valid. known_owned v time t key k valid; before = λ key at shard valid owns. known_at v time t key at shard k valid owns },
+  record {
+    now = λ key valid. known_owned v time t key k valid;
+    before = λ key at shard valid owns. known_at v time t key at shard k valid owns;
+    owned = λ at. known_owned_at v time t at k;
+    spans = λ at span. known_span v time t at span k;
+  },
 )
 
 had_known : (v : View) (time : ℕ) (t : Table) → AreMade time (changes_in v) → WasHad (changes_in v) t → IsKnownTable v time t

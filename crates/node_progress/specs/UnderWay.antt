@@ -9,9 +9,9 @@ use Rattle.history_model.specs.History.{IsIn}
 use Rattle.reply_model.specs.Exchanges.{Asked}
 use Rattle.node_model.specs.Journal.{Kept}
 use Rattle.node_model.specs.Letters.{At, no_time, at_time, Body, table_ask, table_told, split_ask, split_done, write_ask, write_done, read_ask, half_ask, read_rows, stale, time_ask, time_told, Letter}
-use Rattle.node_model.specs.States.{Shard, Router, Wait, for_time, for_catalogue, for_shards, Work, writing, reading, sharding, splitting, Open, router_state, shard_state}
+use Rattle.node_model.specs.States.{Target, Shard, Router, Wait, for_time, for_catalogue, for_shards, Work, writing, reading, sharding, splitting, Open, router_state, shard_state}
 use Rattle.node_model.specs.ShardRows.{Ask, ask_in}
-use Rattle.node_model.specs.RouterRows.{id_of, shards_of, untold}
+use Rattle.node_model.specs.RouterRows.{id_of, shards_of, untold, awaited}
 use Rattle.node_model.specs.World.{World, Event, deliver_event}
 use Rattle.node_progress.specs.Completion.{IsAnswered, asked_since}
 
@@ -28,7 +28,7 @@ pub data Thing : Type 0 where
   -- the outcomes of the statements of a write, from the one with this index on
   a_run : RequestId → (first : ℕ) → Thing
   -- a shard's part of a read, in a turn
-  a_part : RequestId → (turn : ℕ) → Thing
+  a_part : RequestId → (shard turn : ℕ) → Thing
 
 -- what a request with this left to do waits for from the catalogue
 abbrev pub thing_there : RequestId → (node : ℕ) → (namespace : List ℕ) → Work → Thing
@@ -37,22 +37,22 @@ thing_there id node namespace (reading named at stages telling) = a_table node n
 thing_there id node namespace sharding = a_table node namespace true no_time
 thing_there id node namespace (splitting middle) = a_split id
 
--- and from the shards, where its collection has a table
-abbrev pub thing_stored : RequestId → (node : ℕ) → (namespace : List ℕ) → Work → Thing
-thing_stored id node namespace (writing kind ordered statements answers) = a_run id (length answers)
-thing_stored id node namespace (reading named at stages telling) = a_part id 1
-thing_stored id node namespace sharding = a_table node namespace true no_time
-thing_stored id node namespace (splitting middle) = a_split id
+-- and from the shards, where its collection has a table: a read waits for the parts of these
+abbrev pub things_stored : RequestId → (node : ℕ) → List Target → (namespace : List ℕ) → Work → List Thing
+things_stored id node targets namespace (writing kind ordered statements answers) = a_run id (length answers) ∷ []
+things_stored id node targets namespace (reading named at stages telling) = map (λ (x : Target). a_part id x.shard 1) targets
+things_stored id node targets namespace sharding = a_table node namespace true no_time ∷ []
+things_stored id node targets namespace (splitting middle) = a_split id ∷ []
 
--- what it waits for, where these shards have not returned their time to it
-abbrev pub things_by : RequestId → (node : ℕ) → (shards : List ℕ) → (namespace : List ℕ) → Work → Wait → List Thing
-things_by id node shards namespace work for_time = map (λ shard. a_time id shard) shards
-things_by id node shards namespace work for_catalogue = thing_there id node namespace work ∷ []
-things_by id node shards namespace work for_shards = thing_stored id node namespace work ∷ []
+-- what it waits for, where these shards have not returned their time to it, and these not their parts
+abbrev pub things_by : RequestId → (node : ℕ) → (shards : List ℕ) → List Target → (namespace : List ℕ) → Work → Wait → List Thing
+things_by id node shards targets namespace work for_time = map (λ shard. a_time id shard) shards
+things_by id node shards targets namespace work for_catalogue = thing_there id node namespace work ∷ []
+things_by id node shards targets namespace work for_shards = things_stored id node targets namespace work
 
--- what an open request waits for: a read may wait for the times of several shards, and all else for one thing
+-- what an open request waits for: a read may wait for several shards, and all else for one thing
 abbrev pub things_of : Router → Open → List Thing
-things_of r q = things_by (id_of r q.count) r.me (untold q.told (shards_of r)) q.namespace q.work q.wait
+things_of r q = things_by (id_of r q.count) r.me (untold q.told (shards_of r)) (awaited q.targets q.parts) q.namespace q.work q.wait
 
 -- MESSAGES
 
@@ -69,9 +69,9 @@ Brings t from to (write_ask id turn ordered namespace [] sent) = ⊥
 Brings t from to (write_ask id turn ordered namespace (s ∷ statements) sent) = (t ≡ a_run id s.number.index) × (to ≡ first_shard)
 Brings t from to (write_done id []) = ⊥
 Brings t from to (write_done id (d ∷ dones)) = (t ≡ a_run id d.index) × (to ≡ id.router)
-Brings t from to (read_ask id turn namespace at half sent) = (t ≡ a_part id turn) × (to ≡ first_shard)
-Brings t from to (half_ask id turn namespace at half documents) = (t ≡ a_part id turn) × (to ≡ first_shard)
-Brings t from to (read_rows id turn rows) = (t ≡ a_part id turn) × (to ≡ id.router)
+Brings t from to (read_ask id turn namespace at half sent) = (t ≡ a_part id to turn) × (to ≡ first_shard)
+Brings t from to (half_ask id turn namespace at half documents) = (t ≡ a_part id to turn) × (to ≡ first_shard)
+Brings t from to (read_rows id turn rows) = (t ≡ a_part id from turn) × (to ≡ id.router)
 Brings t from to (stale id turn met) = ⊥
 
 abbrev pub IsFor : Thing → Letter → Type 0

@@ -8,7 +8,7 @@ use Rattle.history_model.specs.History.{Entry, IsIn}
 use Rattle.reply_model.specs.Exchanges.{Asked, Answered}
 use Rattle.reply_model.specs.OneHistory.{ids_asked, ids_told, AreDifferent}
 use Rattle.node_model.specs.Letters.{Input, Effect, Reply}
-use Rattle.node_model.specs.RouterRows.{heard, id_of, next_of, adopted, was_created, open_of, Next, stays, is_told, stay_in, begins, opened_request, RouterRow, router_begin, router_opened, router_plain, router_more, router_no_cursor, router_kill, router_take, router_learn, router_split, router_not_sharded, router_reach, router_hear, router_ahead, router_note, router_wrote, router_read, router_excess, router_overflow, router_late, router_skip, router_moment}
+use Rattle.node_model.specs.RouterRows.{heard, id_of, next_of, adopted, was_created, open_of, Next, stays, is_told, stay_in, begins, opened_request, RouterRow, router_begin, router_opened, router_plain, router_more, router_no_cursor, router_kill, router_take, router_learn, router_split, router_not_sharded, router_reach, router_hear, router_ahead, router_note, router_wrote, router_part, router_read, router_excess, router_overflow, router_late, router_skip, router_moment}
 use Rattle.node_model.specs.States.{Open, Router, without, replaced}
 use Rattle.node_model.specs.World.{asked_by, answered_by}
 use Rattle.node_laws.proofs.Facts.{counts_of, AreDifferentCounts}
@@ -285,12 +285,16 @@ router_once asked history answered now at _ _ _ _ mine one own told once
 router_once asked history answered now at _ _ _ _ mine one own told once
     (router_wrote r m id dones q kind ordered statements answers tells found work news all) =
     closes asked history answered now at r mine own told once _ _ _ q id found refl refl refl refl refl refl
+router_once asked history answered now at _ _ _ _ mine one own told once (router_part r m id rows q named time stages telling tells found work target some) =
+    goes_on asked history answered now at r mine own told once _ _ q _ id found refl refl refl refl refl refl
 router_once asked history answered now at _ _ _ _ mine one own told once
-    (router_read r m id rows q named time stages telling out answer f tells found work merges shown) =
+    (router_read r m id rows q named time stages telling parts out answer f tells found work target whole got merges shown) =
     closes asked history answered now at r mine own told once _ _ _ q id found refl refl refl refl refl refl
-router_once asked history answered now at _ _ _ _ mine one own told once (router_excess r m id n q named time stages telling tells found work) =
+router_once asked history answered now at _ _ _ _ mine one own told once
+    (router_excess r m id rows n q named time stages telling tells found work target whole got) =
     closes asked history answered now at r mine own told once _ _ _ q id found refl refl refl refl refl refl
-router_once asked history answered now at _ _ _ _ mine one own told once (router_overflow r m id q named time stages telling tells found work) =
+router_once asked history answered now at _ _ _ _ mine one own told once
+    (router_overflow r m id rows q named time stages telling tells found work target whole got) =
     closes asked history answered now at r mine own told once _ _ _ q id found refl refl refl refl refl refl
 router_once asked history answered now at _ _ _ _ mine one own told once (router_late r m late) =
     none_told asked history answered now at r mine own told once _ _ refl refl refl refl own.different own.silent

@@ -1,25 +1,26 @@
 -- No message reads at a time that is later than itself, whatever stops.
 use Rattle.std.proofs.Common.{◌≡◌, ◌≢◌, ℕ, ◌+◌, ◌≤◌, List, [], ◌∷◌, ◌++◌, refl, sym, subst, arith, Bool}
-use Rattle.std.specs.Prelude.{max, map, filter, not, true, false, ◌&&◌, Option, Some, None, if◌then◌else◌}
+use Rattle.std.specs.Prelude.{max, map, filter, not, true, false, ◌&&◌, Option, Some, None, Result, if◌then◌else◌}
 use Rattle.std.specs.List.{AllByRecursion, flat_map}
 use Rattle.std.specs.Str.{bytes_eq}
 use Rattle.std.proofs.lemmas.Bool.{ltb-false}
 use Rattle.base_model.specs.Times.{time_of_moment}
 use Rattle.chunk_model.specs.Tables.{Table, table_of}
 use Rattle.chunk_model.specs.Verdicts.{sent_by}
-use Rattle.history_model.proofs.Lists.{all_weaken, all_append, all_filter}
-use Rattle.pipeline_model.specs.Halves.{Half}
+use Rattle.history_model.specs.History.{IsIn}
+use Rattle.history_model.proofs.Lists.{all_weaken, all_append, all_filter, all_at}
+use Rattle.pipeline_model.specs.Halves.{Half, Rows}
 use Rattle.pipeline_model.specs.Split.{split}
 use Rattle.command_model.specs.Answers.{sharded_answer}
 use Rattle.node_model.specs.CatalogueRows.{CatalogueRow, catalogue_create, catalogue_tell, catalogue_split, catalogue_bound, catalogue_none, catalogue_skip, catalogue_moment, catalogue_opened, catalogue_client}
-use Rattle.node_model.specs.Letters.{At, no_time, at_time, Statement, Body, table_ask, table_told, split_ask, split_done, write_ask, write_done, read_ask, half_ask, read_rows, stale, time_ask, time_told, Letter, Input, Effect, Reply}
+use Rattle.node_model.specs.Letters.{At, no_time, at_time, Statement, HalfFault, Body, table_ask, table_told, split_ask, split_done, write_ask, write_done, read_ask, half_ask, read_rows, stale, time_ask, time_told, Letter, Input, Effect, Reply}
 use Rattle.node_model.specs.ShardRows.{heard as heard_there, Ask, ask_in, wants_table, says as says_there, asks_table, asks_again as asks_tables, ShardRow, shard_write, shard_repeat, shard_empty, shard_park, shard_waits, shard_stale, shard_read, shard_read_above, shard_rows, shard_excess, shard_overflow, shard_time, shard_learn, shard_known, shard_skip, shard_moment, shard_opened, shard_client}
-use Rattle.node_model.specs.RouterRows.{heard, id_of, says, run_to, owner_of_statement, asks_to_write, asks_to_read, asks_shards, asks_catalogue, owner_of_span, unanswered, shards_of, untold, asks_times, is_ahead, reached, table_for, wait_by, asks_by, wait_of, asks_for, opened_request, with_told, reply_to, empty_answer, noted, going_on, is_for, Next, stays, is_told, is_for_catalogue, next_waiting, next_of, adopted, was_created, asks_again, RouterRow, router_begin, router_opened, router_plain, router_more, router_no_cursor, router_kill, router_take, router_learn, router_split, router_not_sharded, router_reach, router_hear, router_ahead, router_note, router_wrote, router_read, router_excess, router_overflow, router_late, router_skip, router_moment, begins}
-use Rattle.node_model.specs.States.{Work, writing, reading, sharding, splitting, Wait, for_time, for_catalogue, for_shards, Open, Router, Shard, Catalogue, NodeState, without, replaced}
+use Rattle.node_model.specs.RouterRows.{heard, id_of, says, run_to, owner_of_statement, asks_to_write, asks_to_read, asks_shards, asks_catalogue, targets_at, awaited, unanswered, shards_of, untold, asks_times, is_ahead, reached, table_for, wait_by, asks_by, wait_of, asks_for, opened_request, with_told, with_part, reply_to, empty_answer, noted, going_on, is_for, Next, stays, is_told, is_for_catalogue, next_waiting, next_of, adopted, was_created, asks_again, RouterRow, router_begin, router_opened, router_plain, router_more, router_no_cursor, router_kill, router_take, router_learn, router_split, router_not_sharded, router_reach, router_hear, router_ahead, router_note, router_wrote, router_part, router_read, router_excess, router_overflow, router_late, router_skip, router_moment, begins}
+use Rattle.node_model.specs.States.{Target, Work, writing, reading, sharding, splitting, Wait, for_time, for_catalogue, for_shards, Open, Router, Shard, Catalogue, NodeState, without, replaced}
 use Rattle.node_model.specs.Steps.{Step, catalogue_step, shard_step, router_step, begin_step, other_step}
 use Rattle.node_laws.proofs.Lists.{all_mapped}
 use Rattle.node_laws.proofs.NextRequests.{NextIs, each_next}
-use Rattle.node_laws.proofs.OpenRequests.{all_without, all_replaced}
+use Rattle.node_laws.proofs.OpenRequests.{open_of_found, all_without, all_replaced}
 use Rattle.node_laws.proofs.ServedStatements.{serves_rises}
 use Rattle.node_replay.specs.ReadTimes.{IsNamedBy, ReadsBy, IsInTime, ComesInTime, WorksBy, WaitsBy, OpensBy, KeepsBy, ReadsInTime}
 
@@ -160,19 +161,14 @@ module _ (r : Router) (time count : ℕ) (namespace : List ℕ) where
       by_owner None = tt
       by_owner (Some shard) = (tt, tt)
 
-  read_in_time : (t : Table) (at : ℕ) (half : Half) → at ≤ time → AllByRecursion IsInTime (asks_to_read r time (id_of r count) namespace t at half)
-  read_in_time t at half le = by_owner (owner_of_span t at half.span)
-    where
-      by_owner : (o : Option ℕ) → AllByRecursion IsInTime (elim o as (λ (o : Option ℕ). List Letter) [
-        | None ↦ []
-        | Some shard ↦ says r shard time (read_ask (id_of r count) 1 namespace at half (sent_by t shard)) ∷ []
-      ])
-      by_owner None = tt
-      by_owner (Some shard) = (le, tt)
+  read_in_time : (at : ℕ) (half : Half) (targets : List Target) → at ≤ time
+      → AllByRecursion IsInTime (asks_to_read r time (id_of r count) namespace at half targets)
+  read_in_time at half [] le = tt
+  read_in_time at half (t ∷ targets) le = (le, read_in_time at half targets le)
 
   shards_in_time : (t : Table) (work : Work) → WorksBy time work → AllByRecursion IsInTime (asks_shards r time count namespace t work)
   shards_in_time t (writing kind ordered statements answers) by = write_in_time t ordered (unanswered statements answers)
-  shards_in_time t (reading named at stages telling) by = read_in_time t at (split stages).0 by
+  shards_in_time t (reading named at stages telling) by = read_in_time at (split stages).0 (targets_at t at stages) by
   shards_in_time t sharding by = tt
   shards_in_time t (splitting middle) by = tt
 
@@ -206,22 +202,43 @@ module _ (r : Router) (time count : ℕ) (namespace : List ℕ) where
       by_ahead false is None = not_ahead time work is
       by_ahead false is (Some t) = not_ahead time work is
 
-  again_in_time : (told : List ℕ) (wait : Wait) (work : Work) (o : Option Table) → WaitsBy time wait work
+  -- of shards that have not returned it
+  again_of_shards : (targets : List Target) (work : Work) (o : Option Table) → WorksBy time work
+      → AllByRecursion IsInTime (elim work as (λ (x : Work). List Letter) [
+        | writing kind ordered statements answers ↦
+            elim o as (λ (x : Option Table). List Letter) [ None ↦ [] | Some t ↦ asks_shards r time count namespace t work ]
+        | reading named at stages telling ↦ asks_to_read r time (id_of r count) namespace at (split stages).0 targets
+        | sharding ↦ []
+        | splitting middle ↦ []
+      ])
+  again_of_shards targets (writing kind ordered statements answers) None by = tt
+  again_of_shards targets (writing kind ordered statements answers) (Some t) by = shards_in_time t (writing kind ordered statements answers) by
+  again_of_shards targets (reading named at stages telling) o by = read_in_time at (split stages).0 targets by
+  again_of_shards targets sharding o by = tt
+  again_of_shards targets (splitting middle) o by = tt
+
+  again_in_time : (told : List ℕ) (targets : List Target) (wait : Wait) (work : Work) (o : Option Table) → WaitsBy time wait work
       → AllByRecursion IsInTime (elim wait as (λ (x : Wait). List Letter) [
         | for_time ↦ asks_times r time (id_of r count) told
         | for_catalogue ↦ asks_catalogue r time count namespace work ∷ []
-        | for_shards ↦ elim o as (λ (x : Option Table). List Letter) [ None ↦ [] | Some t ↦ asks_shards r time count namespace t work ]
+        | for_shards ↦ elim work as (λ (x : Work). List Letter) [
+          | writing kind ordered statements answers ↦ elim o as (λ
+              (x : Option Table). List Letter) [ None ↦ [] | Some t ↦ asks_shards r time count namespace t work ]
+          | reading named at stages telling ↦ asks_to_read r time (id_of r count) namespace at (split stages).0 targets
+          | sharding ↦ []
+          | splitting middle ↦ []
+        ]
       ])
-  again_in_time told for_time work o by = times_in_time told
-  again_in_time told for_catalogue work o by = (catalogue_asked work by, tt)
-  again_in_time told for_shards work None by = tt
-  again_in_time told for_shards work (Some t) by = shards_in_time t work by
+  again_in_time told targets for_time work o by = times_in_time told
+  again_in_time told targets for_catalogue work o by = (catalogue_asked work by, tt)
+  again_in_time told targets for_shards work o by = again_of_shards targets work o by
 
 each_again : (r : Router) (time : ℕ) (requests : List Open) → AllByRecursion (OpensBy time) requests
     → AllByRecursion IsInTime (flat_map (λ q. asks_again r time q) requests)
 each_again r time [] all = tt
 each_again r time (q ∷ requests) all =
-    all_append IsInTime (asks_again r time q) _ (again_in_time r time q.count q.namespace q.told q.wait q.work (table_of q.namespace r.tables) all.0)
+    all_append IsInTime (asks_again r time q) _
+    (again_in_time r time q.count q.namespace q.told (awaited q.targets q.parts) q.wait q.work (table_of q.namespace r.tables) all.0)
     (each_again r time requests all.1)
 
 -- WHERE A TABLE ARRIVES
@@ -296,6 +313,13 @@ module _ (r : Router) (all : AllByRecursion (OpensBy r.time) r.requests) where
       all_replaced (OpensBy (heard r m)) (with_told q m.sender) r.requests (subst (λ w. WaitsBy (heard r m) w q.work) (sym waits) tt)
       (all_weaken (OpensBy (heard r m)) (λ (p : Open). p.count ≢ q.count → OpensBy (heard r m) p) r.requests (λ p by apart. by) (now_open m))
 
+  -- a shard returned its part to it
+  one_parted : (m : Letter) (q : Open) (rows : Result Rows HalfFault) → IsIn q r.requests
+      → AllByRecursion (OpensBy (heard r m)) (replaced (with_part q m.sender rows) r.requests)
+  one_parted m q rows there =
+      all_replaced (OpensBy (heard r m)) (with_part q m.sender rows) r.requests (all_at (OpensBy (heard r m)) q r.requests (now_open m) there)
+      (all_weaken (OpensBy (heard r m)) (λ (p : Open). p.count ≢ q.count → OpensBy (heard r m) p) r.requests (λ p by apart. by) (now_open m))
+
   one_more : (more : List Open) → AllByRecursion (OpensBy r.time) more → AllByRecursion (OpensBy r.time) (r.requests ++ more)
   one_more more opens = all_append (OpensBy r.time) r.requests more all opens
 
@@ -335,11 +359,13 @@ router_in_time _ _ _ _ all (router_note r m id dones q kind ordered statements a
 }
 router_in_time _ _ _ _ all (router_wrote r m id dones q kind ordered statements answers tells found work news whole) =
     record { requests = one_closed r all m q; letters = tt }
-router_in_time _ _ _ _ all (router_read r m id rows q named at stages telling out answer f tells found work merges shown) =
+router_in_time _ _ _ _ all (router_part r m id rows q named at stages telling tells found work target some) =
+    record { requests = one_parted r all m q rows (open_of_found r id q found).stands; letters = tt }
+router_in_time _ _ _ _ all (router_read r m id rows q named at stages telling parts out answer f tells found work target whole got merges shown) =
     record { requests = one_closed r all m q; letters = tt }
-router_in_time _ _ _ _ all (router_excess r m id n q named at stages telling tells found work) =
+router_in_time _ _ _ _ all (router_excess r m id rows n q named at stages telling tells found work target whole got) =
     record { requests = one_closed r all m q; letters = tt }
-router_in_time _ _ _ _ all (router_overflow r m id q named at stages telling tells found work) =
+router_in_time _ _ _ _ all (router_overflow r m id rows q named at stages telling tells found work target whole got) =
     record { requests = one_closed r all m q; letters = tt }
 router_in_time _ _ _ _ all (router_late r m late) = record { requests = now_open r all m; letters = tt }
 router_in_time _ _ _ _ all (router_skip r m none) = record { requests = all; letters = tt }

@@ -11,7 +11,7 @@ use Rattle.reply_model.specs.Cursors.{Cursor}
 use Rattle.node_model.specs.Journal.{kept_block, kept_life}
 use Rattle.node_model.specs.Letters.{Input, Effect}
 use Rattle.node_model.specs.States.{Telling, Open, Router, open_with}
-use Rattle.node_model.specs.RouterRows.{heard, id_of, open_of, new_cursor, next_of, stay_in, adopted, was_created, begins, Opened, block_size, Tells, tells_overflow, tells_excess, tells_number, tells_batch, tells_cursor, RouterRow, router_begin, router_opened, router_plain, router_more, router_no_cursor, router_kill, router_take, router_learn, router_split, router_not_sharded, router_reach, router_hear, router_ahead, router_note, router_wrote, router_read, router_excess, router_overflow, router_late, router_skip, router_moment}
+use Rattle.node_model.specs.RouterRows.{heard, id_of, open_of, new_cursor, next_of, stay_in, adopted, was_created, begins, Opened, block_size, Tells, tells_overflow, tells_excess, tells_number, tells_batch, tells_cursor, RouterRow, router_begin, router_opened, router_plain, router_more, router_no_cursor, router_kill, router_take, router_learn, router_split, router_not_sharded, router_reach, router_hear, router_ahead, router_note, router_wrote, router_part as router_parted, router_read, router_excess, router_overflow, router_late, router_skip, router_moment}
 use Rattle.node_replay.specs.Durable.{DurableRouter, durable_router, next_life, router_part}
 use Rattle.node_replay.specs.Replays.{replayed, records_of}
 
@@ -139,12 +139,14 @@ router_follows _ _ _ _ holds (router_note r m id dones q kind ordered statements
     still r _ _ refl refl refl refl refl refl holds.0 (inl (in_life r id q holds.1 found))
 router_follows _ _ _ _ holds (router_wrote r m id dones q kind ordered statements answers tells found work news all) =
     still r _ _ refl refl refl refl refl refl holds.0 (inl (in_life r id q holds.1 found))
-router_follows _ _ _ _ holds (router_read r m id rows q named at stages telling out answer f tells found work merges shown) =
+router_follows _ _ _ _ holds (router_parted r m id rows q named at stages telling tells found work target some) =
+    still r _ _ refl refl refl refl refl refl holds.0 (inl (in_life r id q holds.1 found))
+router_follows _ _ _ _ holds (router_read r m id rows q named at stages telling parts out answer f tells found work target whole got merges shown) =
     let begun : r.begun ≡ true = in_life r id q holds.1 found in
     record { own = refl; shards = refl; leads = opened_follow r q at telling out answer f holds.0 begun shown; holds = (holds.0, inl begun) }
-router_follows _ _ _ _ holds (router_excess r m id n q named at stages telling tells found work) =
+router_follows _ _ _ _ holds (router_excess r m id rows n q named at stages telling tells found work target whole got) =
     still r _ _ refl refl refl refl refl refl holds.0 (inl (in_life r id q holds.1 found))
-router_follows _ _ _ _ holds (router_overflow r m id q named at stages telling tells found work) =
+router_follows _ _ _ _ holds (router_overflow r m id rows q named at stages telling tells found work target whole got) =
     still r _ _ refl refl refl refl refl refl holds.0 (inl (in_life r id q holds.1 found))
 router_follows _ _ _ _ holds (router_late r m late) = still r _ _ refl refl refl refl refl refl holds.0 holds.1
 router_follows _ _ _ _ holds (router_skip r m none) = still r r _ refl refl refl refl refl refl holds.0 holds.1

@@ -1,6 +1,6 @@
 -- Each transition of a router keeps the facts that stay: the rows.
 use Rattle.std.proofs.Common.{◌≡◌, ◌≢◌, inl, inr, ℕ, ℤ, ◌+◌, ◌≤◌, List, [], ◌∷◌, ◌++◌, refl, sym, ap, subst, ◌∙◌, arith, append-nil}
-use Rattle.std.specs.Prelude.{max, Bool, true, false, Some}
+use Rattle.std.specs.Prelude.{max, Bool, true, false, Some, Result}
 use Rattle.std.specs.List.{AllByRecursion, flat_map}
 use Rattle.base_model.specs.Errors.{cursor_not_found, namespace_not_sharded, overflow}
 use Rattle.base_model.specs.Identities.{RequestId}
@@ -11,6 +11,7 @@ use Rattle.command_model.specs.Answers.{Answer, next_answer, killed_answer, chan
 use Rattle.command_model.specs.Command.{command_of}
 use Rattle.command_model.specs.Writes.{WriteCommand, WriteKind}
 use Rattle.history_model.proofs.Lists.{all_weaken, all_append, all_at, in_back, in_first, in_prefix}
+use Rattle.pipeline_model.specs.Halves.{Rows}
 use Rattle.history_model.specs.History.{Entry}
 use Rattle.reply_model.specs.Requests.{Request}
 use Rattle.pipeline_model.specs.Stages.{Stage}
@@ -18,8 +19,8 @@ use Rattle.bson_model.specs.Tree.{Datum}
 use Rattle.reply_model.specs.Exchanges.{Asked}
 use Rattle.reply_model.specs.OneHistory.{ids_asked, AreDifferent}
 use Rattle.reply_model.specs.Outcomes.{Done, answer_of}
-use Rattle.node_model.specs.Letters.{Statement, Input, Effect}
-use Rattle.node_model.specs.RouterRows.{heard, id_of, needs, at_once, needs_batch, needs_end, statements_from, is_answered, asks_for, noted, reply_to, going_on, reached, next_of, adopted, was_created, asks_again, open_of, begins, takes, Next, wait_of, opened_request, with_told, taken_now, too_much, RouterRow, router_begin, router_opened, router_plain, router_more, router_no_cursor, router_kill, router_take, router_learn, router_split, router_not_sharded, router_reach, router_hear, router_ahead, router_note, router_wrote, router_read, router_excess, router_overflow, router_late, router_skip, router_moment}
+use Rattle.node_model.specs.Letters.{Statement, HalfFault, Input, Effect}
+use Rattle.node_model.specs.RouterRows.{heard, id_of, needs, at_once, needs_batch, needs_end, statements_from, is_answered, asks_for, noted, reply_to, going_on, reached, next_of, adopted, was_created, asks_again, open_of, begins, takes, Next, wait_of, targets_for, awaited, opened_request, with_told, with_part, taken_now, too_much, RouterRow, router_begin, router_opened, router_plain, router_more, router_no_cursor, router_kill, router_take, router_learn, router_split, router_not_sharded, router_reach, router_hear, router_ahead, router_note, router_wrote, router_part, router_read, router_excess, router_overflow, router_late, router_skip, router_moment}
 use Rattle.node_model.specs.States.{Telling, Work, writing, reading, splitting, Open, Router, without, replaced}
 use Rattle.node_model.specs.World.{asked_by}
 use Rattle.node_laws.proofs.Facts.{IsBy}
@@ -53,7 +54,8 @@ each_again : (asked : List Asked) (history : List Entry) (r : Router) (time : �
 each_again asked history r time [] all = tt
 each_again asked history r time (q ∷ requests) all =
     all_append (LetterStays asked history) (asks_again r time q) _
-    (again_stays asked history r time q.count q.namespace q.told q.wait q.work (table_of q.namespace r.tables) (working asked history 0 r q all.0))
+    (again_stays asked history r time q.count q.namespace q.told (awaited q.targets q.parts) q.wait q.work
+    (table_of q.namespace r.tables) (working asked history 0 r q all.0))
     (each_again asked history r time requests all.1)
 
 one_more : (asked : List Asked) (a : Asked) → AreDifferent (ids_asked asked) → AllByRecursion (λ (b : Asked). b.id ≢ a.id) asked
@@ -113,7 +115,7 @@ module _ (asked : List Asked) (history : List Entry) (now at : ℕ) (r : Router)
       × AllByRecursion (LetterStays asked history) (asks_for r time q.count q.namespace work)
   proceeds q time work o does = (
     all_replaced (IsOwn asked history now r) (going_on r time q work) r.requests
-        (goes_on asked history now r q (wait_of r time q.namespace work) work o does)
+        (goes_on asked history now r q (wait_of r time q.namespace work) (targets_for r time q.namespace work) work o does)
         (all_weaken (IsOwn asked history now r) (λ (p : Open). p.count ≢ q.count → IsOwn asked history now r p) r.requests (λ p o apart. o) mine.requests),
     asks_stay asked history r time q.count q.namespace work
         (record {
@@ -129,6 +131,14 @@ module _ (asked : List Asked) (history : List Entry) (now at : ℕ) (r : Router)
       → AllByRecursion (IsOwn asked history now r) (replaced (with_told q shard) r.requests)
   hears q shard o =
       all_replaced (IsOwn asked history now r) (with_told q shard) r.requests
+      (record { request = o.request; taken = o.taken; own = o.own; asks = o.asks; work = o.work })
+      (all_weaken (IsOwn asked history now r) (λ (p : Open). p.count ≢ q.count → IsOwn asked history now r p) r.requests (λ p o apart. o) mine.requests)
+
+  -- or for the parts of other shards
+  has_part : (q : Open) (shard : ℕ) (rows : Result Rows HalfFault) → IsOwn asked history now r q
+      → AllByRecursion (IsOwn asked history now r) (replaced (with_part q shard rows) r.requests)
+  has_part q shard rows o =
+      all_replaced (IsOwn asked history now r) (with_part q shard rows) r.requests
       (record { request = o.request; taken = o.taken; own = o.own; asks = o.asks; work = o.work })
       (all_weaken (IsOwn asked history now r) (λ (p : Open). p.count ≢ q.count → IsOwn asked history now r p) r.requests (λ p o apart. o) mine.requests)
 
@@ -375,18 +385,22 @@ router_steps asked history now at _ _ _ _ mine one input (router_wrote r m id do
     (subst (λ b. BodyStays asked history b) tells input) in
     still asked history now at r mine one _ _ refl refl refl refl refl (closed asked history now at r mine one q) tt
     (wrote_told asked history now r q (heard r m) kind ordered statements (noted answers dones) does all, tt)
-router_steps asked history now at _ _ _ _ mine one input (router_read r m id rows q named time stages telling out answer f tells opens_here work merges shown) =
+router_steps asked history now at _ _ _ _ mine one input (router_part r m id rows q named time stages telling tells opens_here work target some) =
+    still asked history now at r mine one _ _ refl refl refl refl refl
+    (has_part asked history now at r mine one q m.sender rows (found asked history now at r mine one id q opens_here)) tt tt
+router_steps asked history now at _ _ _ _ mine one input
+    (router_read r m id rows q named time stages telling all out answer f tells opens_here work target whole got merges shown) =
     let o = found asked history now at r mine one id q opens_here in
     still asked history now at r mine one _ _ refl refl refl refl refl (closed asked history now at r mine one q) tt
     (plain_told asked history now r q (heard r m) answer (read_no_write asked history now at r mine one q named time stages telling work o), tt)
-router_steps asked history now at _ _ _ _ mine one input (router_excess r m id n q named time stages telling tells opens_here work) =
+router_steps asked history now at _ _ _ _ mine one input (router_excess r m id rows n q named time stages telling tells opens_here work target whole got) =
     let o = found asked history now at r mine one id q opens_here in
     still asked history now at r mine one _ _ refl refl refl refl refl (closed asked history now at r mine one q) tt (
       plain_told asked history now r q (heard r m) (refusal_answer (too_much n))
           (read_no_write asked history now at r mine one q named time stages telling work o),
       tt,
     )
-router_steps asked history now at _ _ _ _ mine one input (router_overflow r m id q named time stages telling tells opens_here work) =
+router_steps asked history now at _ _ _ _ mine one input (router_overflow r m id rows q named time stages telling tells opens_here work target whole got) =
     let o = found asked history now at r mine one id q opens_here in
     still asked history now at r mine one _ _ refl refl refl refl refl (closed asked history now at r mine one q) tt (
       plain_told asked history now r q (heard r m) (refusal_answer (without_evidence overflow))

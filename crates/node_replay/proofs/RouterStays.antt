@@ -20,9 +20,9 @@ use Rattle.pipeline_model.specs.Stages.{Stage}
 use Rattle.std.specs.Str.{bytes_eq}
 use Rattle.reply_model.specs.Exchanges.{Asked}
 use Rattle.reply_model.specs.Outcomes.{Done}
-use Rattle.node_model.specs.Letters.{At, Statement, write_ask, read_ask, time_ask, Letter, Reply}
-use Rattle.node_model.specs.RouterRows.{is_on, says, id_of, RequestPlan, at_once, needs, needs_batch, needs_end, plan_of, statements_from, owner_of_statement, run_to, asks_to_write, asks_to_read, asks_shards, asks_catalogue, owner_of_span, unanswered, shards_of, untold, asks_times, is_ahead, table_for, asks_by, asks_for, reply_to, Next, stays, is_told, empty_answer, is_for_catalogue, next_waiting, next_of, is_for, with_work}
-use Rattle.node_model.specs.States.{Telling, Work, writing, reading, sharding, splitting, Wait, for_time, for_catalogue, for_shards, Open, Router}
+use Rattle.node_model.specs.Letters.{At, Statement, write_ask, time_ask, Letter, Reply}
+use Rattle.node_model.specs.RouterRows.{is_on, says, id_of, RequestPlan, at_once, needs, needs_batch, needs_end, plan_of, statements_from, owner_of_statement, run_to, asks_to_write, asks_to_read, asks_shards, asks_catalogue, targets_at, targets_of, unanswered, shards_of, untold, asks_times, is_ahead, table_for, asks_by, asks_for, reply_to, Next, stays, is_told, empty_answer, is_for_catalogue, next_waiting, next_of, is_for, with_work}
+use Rattle.node_model.specs.States.{Target, Telling, Work, writing, reading, sharding, splitting, Wait, for_time, for_catalogue, for_shards, Open, Router}
 use Rattle.node_laws.proofs.RouterAnswers.{as_answered}
 use Rattle.node_laws.proofs.NextRequests.{NextIs}
 use Rattle.node_replay.specs.Acknowledged.{IsStored}
@@ -119,15 +119,9 @@ module _ (asked : List Asked) (history : List Entry) (r : Router) (time count : 
         tt,
       )
 
-  read_stays : (t : Table) (at : ℕ) (half : Half) → Stay (asks_to_read r time (id_of r count) namespace t at half)
-  read_stays t at half = by_owner (owner_of_span t at half.span)
-    where
-      by_owner : (o : Option ℕ) → Stay (elim o as (λ (o : Option ℕ). List Letter) [
-        | None ↦ []
-        | Some shard ↦ says r shard time (read_ask (id_of r count) 1 namespace at half (sent_by t shard)) ∷ []
-      ])
-      by_owner None = tt
-      by_owner (Some shard) = (tt, tt)
+  read_stays : (at : ℕ) (half : Half) (targets : List Target) → Stay (asks_to_read r time (id_of r count) namespace at half targets)
+  read_stays at half [] = tt
+  read_stays at half (t ∷ targets) = (tt, read_stays at half targets)
 
   -- the statements that are left of a write
   left_sent : (kind : WriteKind) (ordered : Bool) (statements : List Statement) (answers : List Done)
@@ -149,7 +143,7 @@ module _ (asked : List Asked) (history : List Entry) (r : Router) (time count : 
   pub shards_stay : (t : Table) (work : Work) → IsWorking asked history (id_of r count) namespace work → Stay (asks_shards r time count namespace t work)
   shards_stay t (writing kind ordered statements answers) w =
       write_stays t ordered (unanswered statements answers) (left_sent kind ordered statements answers w)
-  shards_stay t (reading named at stages telling) w = read_stays t at (split stages).0
+  shards_stay t (reading named at stages telling) w = read_stays at (split stages).0 (targets_at t at stages)
   shards_stay t sharding w = tt
   shards_stay t (splitting middle) w = tt
 
@@ -177,16 +171,26 @@ module _ (asked : List Asked) (history : List Entry) (r : Router) (time count : 
       by_ahead false (Some t) = shards_stay t work w
 
   -- what it waits for is requested again
-  pub again_stays : (told : List ℕ) (wait : Wait) (work : Work) (o : Option Table) → IsWorking asked history (id_of r count) namespace work
+  pub again_stays : (told : List ℕ) (targets : List Target) (wait : Wait) (work : Work) (o : Option Table)
+      → IsWorking asked history (id_of r count) namespace work
       → Stay (elim wait as (λ (x : Wait). List Letter) [
         | for_time ↦ asks_times r time (id_of r count) told
         | for_catalogue ↦ asks_catalogue r time count namespace work ∷ []
-        | for_shards ↦ elim o as (λ (x : Option Table). List Letter) [ None ↦ [] | Some t ↦ asks_shards r time count namespace t work ]
+        | for_shards ↦ elim work as (λ (x : Work). List Letter) [
+          | writing kind ordered statements answers ↦ elim o as (λ
+              (x : Option Table). List Letter) [ None ↦ [] | Some t ↦ asks_shards r time count namespace t work ]
+          | reading named at stages telling ↦ asks_to_read r time (id_of r count) namespace at (split stages).0 targets
+          | sharding ↦ []
+          | splitting middle ↦ []
+        ]
       ])
-  again_stays told for_time work o w = times_stay told
-  again_stays told for_catalogue work o w = (catalogue_stays work w, tt)
-  again_stays told for_shards work None w = tt
-  again_stays told for_shards work (Some t) w = shards_stay t work w
+  again_stays told targets for_time work o w = times_stay told
+  again_stays told targets for_catalogue work o w = (catalogue_stays work w, tt)
+  again_stays told targets for_shards (writing kind ordered statements answers) None w = tt
+  again_stays told targets for_shards (writing kind ordered statements answers) (Some t) w = shards_stay t (writing kind ordered statements answers) w
+  again_stays told targets for_shards (reading named at stages telling) o w = read_stays at (split stages).0 targets
+  again_stays told targets for_shards sharding o w = tt
+  again_stays told targets for_shards (splitting middle) o w = tt
 
 -- OPEN REQUESTS
 
@@ -206,9 +210,10 @@ module _ (asked : List Asked) (history : List Entry) (now : ℕ) (r : Router) wh
   }
 
   -- it proceeds with this work
-  pub goes_on : (q : Open) (wait : Wait) (work : Work) → IsOwn q → WorkStays history (id_of r q.count) q.request q.namespace work
-      → IsOwn (with_work q wait work)
-  goes_on q wait work o does = record { request = o.request; taken = o.taken; own = o.own; asks = o.asks; work = does }
+  pub goes_on : (q : Open) (wait : Wait) (targets : List Target) (work : Work) → IsOwn q
+      → WorkStays history (id_of r q.count) q.request q.namespace work
+      → IsOwn (with_work q wait targets work)
+  goes_on q wait targets work o does = record { request = o.request; taken = o.taken; own = o.own; asks = o.asks; work = does }
 
   -- a reply to no write
   pub plain_told : (q : Open) (time : ℕ) (answer : Answer) → IsNoWrite q.request → IsTold (reply_to r time q answer)
@@ -261,6 +266,6 @@ module _ (asked : List Asked) (history : List Entry) (now : ℕ) (r : Router) wh
       by_test false t = (o, tt)
       by_test true None = without_stays q time made told q.work refl o
       by_test true (Some t) = (
-        goes_on q for_shards q.work o o.work,
+        goes_on q for_shards (targets_of t q.work) q.work o o.work,
         shards_stay asked history r time q.count q.namespace t q.work (working q o),
       )

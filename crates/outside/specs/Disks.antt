@@ -1,6 +1,6 @@
 -- What the calls of a disk do to its file, and what a crash may do between two syncs. A file is the list of its bytes; the files that a crash may result in
 -- are a set (own; POSIX, `write` and `fsync`, fix no more).
-use Rattle.std.specs.Prelude.{◌≡◌, ◌⊎◌, ℕ, ◌+◌, ◌≤◌, min, max, List, length, take, drop}
+use Rattle.std.specs.Prelude.{◌≡◌, ◌⊎◌, ℕ, ◌+◌, ◌<◌, ◌≤◌, min, max, List, length, take, drop}
 
 -- the files that a crash may result in
 abbrev pub Outcomes : Type 1
@@ -40,14 +40,16 @@ Within old new = (c : List ℕ) → new c → old c
 abbrev pub Only : List ℕ → Outcomes → Type 0
 Only file outcomes = (c : List ℕ) → outcomes c → c ≡ file
 
--- Time passes: a crash since t might have resulted in a file that was possible before, or in one that is possible now.
-pub record Elapses (before now : ℕ) (past since : ℕ → Outcomes) (may_leave : Outcomes) : Type 0 where
+-- Time passes by a call. What a crash at a moment up to its start might have resulted in is as it was. A crash at a later moment might have resulted in a file
+-- that was possible at its start, or in one that is possible now.
+pub record Elapses (before now : ℕ) (past at : ℕ → Outcomes) (may_leave : Outcomes) : Type 0 where
   pub later : before ≤ now
-  pub nothing_else : (t : ℕ) (c : List ℕ) → t ≤ before → since t c → past t c ⊎ may_leave c
-  pub keeps : (t : ℕ) (c : List ℕ) → t ≤ before → past t c → since t c
+  pub nothing_else : (t : ℕ) (c : List ℕ) → t ≤ before → at t c → past t c
+  pub keeps : (t : ℕ) (c : List ℕ) → t ≤ before → past t c → at t c
+  pub during : (t : ℕ) (c : List ℕ) → before < t → t ≤ now → at t c → past before c ⊎ may_leave c
 
--- A crash at any moment of a call resulted in a file with P: at each moment since the call's start, and for a sequence of calls that began earlier too.
-pub record LeavesOnly {D : Type 0} (moment : D → ℕ) (left_since : D → ℕ → Outcomes) (old new : D) (P : Outcomes) : Type 0 where
+-- A crash at any moment of a call, its start too, resulted in a file with P. What a crash at a moment up to its start resulted in is as it was.
+pub record LeavesOnly {D : Type 0} (moment : D → ℕ) (left_at : D → ℕ → Outcomes) (old new : D) (P : Outcomes) : Type 0 where
   pub later : moment old ≤ moment new
-  pub each : (c : List ℕ) → left_since new (moment old) c → P c
-  pub before : (t : ℕ) (c : List ℕ) → t ≤ moment old → left_since new t c → left_since old t c ⊎ P c
+  pub each : (t : ℕ) (c : List ℕ) → moment old ≤ t → t ≤ moment new → left_at new t c → P c
+  pub before : (t : ℕ) (c : List ℕ) → t ≤ moment old → left_at new t c → left_at old t c

@@ -18,8 +18,8 @@ pub record LogFacts (L : Type 0) : Type 1 where
   pub finds : List ℕ → List (List ℕ) → Type 0
   -- the moment, by the clock of the log's disk
   pub moment : L → ℕ
-  -- the files that a crash at some moment from that one on might have resulted in
-  pub left_since : L → ℕ → Outcomes
+  -- the files that a crash at that moment might have resulted in
+  pub left_at : L → ℕ → Outcomes
   -- how many faults the log's disk has met
   pub fault_count : L → ℕ
   -- where the log's disk is
@@ -27,7 +27,7 @@ pub record LogFacts (L : Type 0) : Type 1 where
 
 -- a crash at this moment results in a file in which opening finds the log's records
 abbrev pub IsDurable : {L : Type 0} → LogFacts L → L → Type 0
-IsDurable facts log = IsTrue facts.tells → (file : List ℕ) → facts.left_since log (facts.moment log) file → facts.finds file (facts.records log)
+IsDurable facts log = IsTrue facts.tells → (file : List ℕ) → facts.left_at log (facts.moment log) file → facts.finds file (facts.records log)
 
 -- one fact where a disk failed, with its count of faults, and another where memory ran out
 abbrev pub ByFault : LogFault → (ℕ → Type 0) → Type 0 → Type 0

@@ -20,8 +20,8 @@ pub trait Disk: Drop {
     // The moment, by a clock that only the disk's own calls advance.
     ghost moment: { Self → ℕ };
 
-    // The files that a crash at some moment from that one on might have resulted in, during a call or between two.
-    ghost left_since: { Self → ℕ → List ℕ → Type 0 };
+    // The files that a crash at just that moment, of those up to now, might have resulted in, during a call or between two.
+    ghost left_at: { Self → ℕ → List ℕ → Type 0 };
 
     // How many faults the disk has met.
     ghost fault_count: { Self → ℕ };
@@ -38,7 +38,7 @@ pub trait Disk: Drop {
         ensures same { IsTrue tells → content self.new ≡ content self.old }
         ensures crash { IsTrue tells → Within (may_leave self.old) (may_leave self.new) }
         ensures time { IsTrue tells →
-            Elapses (moment self.old) (moment self.new) (left_since self.old) (left_since self.new) (may_leave self.new) }
+            Elapses (moment self.old) (moment self.new) (left_at self.old) (left_at self.new) (may_leave self.new) }
         ensures cause { OnErr result (Rose (fault_count self.old) (fault_count self.new)) }
         ensures calm { OnOk result (fault_count self.new ≡ fault_count self.old) }
         ensures later { fault_count self.old ≤ fault_count self.new }
@@ -58,7 +58,7 @@ pub trait Disk: Drop {
         ensures same { IsTrue tells → content self.new ≡ content self.old }
         ensures crash { IsTrue tells → Within (may_leave self.old) (may_leave self.new) }
         ensures time { IsTrue tells →
-            Elapses (moment self.old) (moment self.new) (left_since self.old) (left_since self.new) (may_leave self.new) }
+            Elapses (moment self.old) (moment self.new) (left_at self.old) (left_at self.new) (may_leave self.new) }
         ensures cause { OnErr result (Rose (fault_count self.old) (fault_count self.new)) }
         ensures calm { OnOk result (fault_count self.new ≡ fault_count self.old) }
         ensures later { fault_count self.old ≤ fault_count self.new }
@@ -73,7 +73,7 @@ pub trait Disk: Drop {
         ensures torn { OnErr result (IsTrue tells → Torn at (length piece.now) (content self.old) (content self.new)) }
         ensures crash { IsTrue tells → Follows (Torn at (length piece.now)) (may_leave self.old) (may_leave self.new) }
         ensures time { IsTrue tells →
-            Elapses (moment self.old) (moment self.new) (left_since self.old) (left_since self.new) (may_leave self.new) }
+            Elapses (moment self.old) (moment self.new) (left_at self.old) (left_at self.new) (may_leave self.new) }
         ensures cause { OnErr result (Rose (fault_count self.old) (fault_count self.new)) }
         ensures calm { OnOk result (fault_count self.new ≡ fault_count self.old) }
         ensures later { fault_count self.old ≤ fault_count self.new }
@@ -88,7 +88,7 @@ pub trait Disk: Drop {
         ensures between { OnErr result (IsTrue tells → Cut len (content self.old) (content self.new)) }
         ensures crash { IsTrue tells → Follows (Cut len) (may_leave self.old) (may_leave self.new) }
         ensures time { IsTrue tells →
-            Elapses (moment self.old) (moment self.new) (left_since self.old) (left_since self.new) (may_leave self.new) }
+            Elapses (moment self.old) (moment self.new) (left_at self.old) (left_at self.new) (may_leave self.new) }
         ensures cause { OnErr result (Rose (fault_count self.old) (fault_count self.new)) }
         ensures calm { OnOk result (fault_count self.new ≡ fault_count self.old) }
         ensures later { fault_count self.old ≤ fault_count self.new }
@@ -104,7 +104,7 @@ pub trait Disk: Drop {
         ensures same { IsTrue tells → content self.new ≡ content self.old }
         ensures crash { IsTrue tells → Within (may_leave self.old) (may_leave self.new) }
         ensures time { IsTrue tells →
-            Elapses (moment self.old) (moment self.new) (left_since self.old) (left_since self.new) (may_leave self.new) }
+            Elapses (moment self.old) (moment self.new) (left_at self.old) (left_at self.new) (may_leave self.new) }
         ensures cause { OnErr result (Rose (fault_count self.old) (fault_count self.new)) }
         ensures calm { OnOk result (fault_count self.new ≡ fault_count self.old) }
         ensures later { fault_count self.old ≤ fault_count self.new }
@@ -114,9 +114,9 @@ pub trait Disk: Drop {
     fn faults(&self) -> u64
         ensures { result ≡ fault_count self.now };
 
-    // This moment is one of those since an earlier one.
-    ghost counts_now: { (disk : Self) (t : ℕ) (c : List ℕ) → t ≤ moment disk → may_leave disk c → left_since disk t c };
+    // A crash at this moment might have resulted in what it may result in now,
+    ghost counts_now: { (disk : Self) (c : List ℕ) → may_leave disk c → left_at disk (moment disk) c };
 
-    // From this moment on there is no other moment yet.
-    ghost only_now: { (disk : Self) (c : List ℕ) → left_since disk (moment disk) c → may_leave disk c };
+    // and in nothing else.
+    ghost only_now: { (disk : Self) (c : List ℕ) → left_at disk (moment disk) c → may_leave disk c };
 }

@@ -1,6 +1,6 @@
 //! The definitions on values that one can check by hand.
 
-ghost use Rattle.std.specs.Prelude.{◌≡◌, ◌⊎◌, ◌≤◌, ℕ, [], ◌∷◌, ◌-◌, ◌^◌, List, false, true};
+ghost use Rattle.std.specs.Prelude.{◌≡◌, ◌⊎◌, ◌≤◌, ℕ, [], ◌∷◌, ◌-◌, ◌^◌, List, false, take, true};
 ghost use Rattle.outside.specs.Causes.{Rose};
 ghost use Rattle.outside.specs.Devices.{SourceGave, SourceIsUntouched, SinkIsUntouched, source_call, sink_call, DisksAreInPlace, NoneFell, OneRose, disks_call};
 ghost use Rattle.outside.specs.Disks.{Cut, Elapses, Follows, Holds, LeavesOnly, Only, Torn, Within};
@@ -79,10 +79,11 @@ pub fn outcomes()
 
 /// Time passes by one call. It neither drops an outcome that was possible before nor adds one.
 pub fn time()
-    ensures goes_on { Elapses 0 1 (λ _ c. c ≡ []) (λ _ c. (c ≡ []) ⊎ (c ≡ 1 ∷ [])) (λ c. c ≡ 1 ∷ []) }
+    ensures goes_on { Elapses 0 1 (λ t c. c ≡ take t (1 ∷ [])) (λ t c. c ≡ take t (1 ∷ [])) (λ c. c ≡ 1 ∷ []) }
     ensures back { Elapses 1 0 (λ _ c. c ≡ []) (λ _ c. c ≡ []) (λ c. c ≡ []) → ⊥ }
     ensures forgets { Elapses 0 0 (λ _ c. c ≡ []) (λ _ _. ⊥) (λ c. c ≡ []) → ⊥ }
     ensures makes_up { Elapses 0 0 (λ _ _. ⊥) (λ _ c. c ≡ []) (λ _. ⊥) → ⊥ }
+    ensures changes_the_past { Elapses 0 1 (λ _ _. ⊥) (λ _ c. c ≡ []) (λ c. c ≡ []) → ⊥ }
 {}
 
 /// A disk, here the number of its moment, whose file was always empty.

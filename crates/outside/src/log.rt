@@ -47,7 +47,7 @@ pub trait Log {
         ensures failed { IfErr result (λ e. ByFault e
             (λ faults. WithOrWithout (facts.holds self.new) (facts.records self.old) (bytes.now ∷ []))
             (self.new ≡ self.old)) }
-        ensures any_moment { IsTrue facts.tells → LeavesOnly facts.moment facts.left_since self.old self.new
+        ensures any_moment { IsTrue facts.tells → LeavesOnly facts.moment facts.left_at self.old self.new
             (λ file. WithOrWithout (facts.finds file) (facts.records self.old) (bytes.now ∷ [])) }
         ensures cause { IfErr result (λ e. ByFault e
             (λ faults. (faults ≡ facts.fault_count self.new) × Rose (facts.fault_count self.old) (facts.fault_count self.new))
@@ -71,7 +71,7 @@ pub trait Log {
         ensures failed { IfErr result (λ e. ByFault e
             (λ faults. WithOrWithout (facts.holds self.new) (facts.records self.old) bodies.now)
             (self.new ≡ self.old)) }
-        ensures any_moment { IsTrue facts.tells → LeavesOnly facts.moment facts.left_since self.old self.new
+        ensures any_moment { IsTrue facts.tells → LeavesOnly facts.moment facts.left_at self.old self.new
             (λ file. WithOrWithout (facts.finds file) (facts.records self.old) bodies.now) }
         ensures cause { IfErr result (λ e. ByFault e
             (λ faults. (faults ≡ facts.fault_count self.new) × Rose (facts.fault_count self.old) (facts.fault_count self.new))

@@ -1,12 +1,11 @@
--- What a crash may leave of a disk in memory, and may have left since a moment.
-use Rattle.std.proofs.Common.{◌≡◌, ◌⊎◌, inl, inr, ℕ, zero, suc, ◌+◌, ◌≤◌, List, [], ◌∷◌, ◌++◌, length, take, drop, max, min, refl, sym, ◌-◌, ◌∙◌, replicate, append_assoc, ap, subst, arith, length-append}
+-- What a crash may leave of a disk in memory, and may have left at a moment.
+use Rattle.std.proofs.Common.{◌≡◌, inr, ℕ, zero, suc, ◌+◌, ◌≤◌, List, [], ◌∷◌, ◌++◌, length, take, drop, max, min, refl, sym, ◌-◌, ◌∙◌, replicate, append_assoc, ap, subst, arith, length-append}
 use Rattle.std.proofs.lemmas.Grind.{common_steps}
 use Rattle.std.proofs.lemmas.List.{take_all, take_at, drop_at, take_min, length-take}
-use Rattle.std.proofs.lemmas.Bool.{cases_lt}
 use Rattle.outside_memory.proofs.Parts.{written_back}
 use Rattle.outside.specs.Disks.{Outcomes, Torn, Cut, Holds, Follows, Within, Only, Elapses, After}
 use Rattle.outside_memory.specs.Memory.{written}
-use Rattle.outside_memory.specs.Calls.{replayed, left_by, left_after, left_after_some}
+use Rattle.outside_memory.specs.Calls.{replayed, left_by, left_after}
 use Rattle.outside_memory.specs.declared.call.Call.{Call}
 use Rattle.outside_memory.specs.declared.call.Call.TheVariants.{Write, Cut as CutTo, Sync}
 
@@ -39,37 +38,15 @@ pub within_same : (start start' : List ℕ) (calls calls' : List Call) → start
 within_same start start' calls calls' same all c left =
     subst (λ xs. left_after start xs c) all (subst (λ s. left_after s calls' c) same left)
 
--- what was left after the calls before one more
-earlier : (start : List ℕ) (calls : List Call) (call : Call) (t k : ℕ) (c : List ℕ) → t ≤ k → k ≤ length calls →
-    left_after start (take k (calls ++ call ∷ [])) c → left_after_some start calls t c
-earlier start calls call t k c le within left = (k, le, subst (λ xs. left_after start xs c) (take_push k calls call within) left)
-
--- what was left before one more call was left before it in a list with that call
-kept : (start : List ℕ) (calls : List Call) (call : Call) (t k : ℕ) (c : List ℕ) → t ≤ length calls → t ≤ k →
-    left_after start (take k calls) c → left_after_some start (calls ++ call ∷ []) t c
-kept start calls call t k c before le left = (
-  min k (length calls),
-  omega arith,
-  subst (λ xs. left_after start xs c)
-      (sym (take_push (min k (length calls)) calls call (omega arith) ∙ take_min k calls)) left,
-)
-
--- what is left after some calls and one more, or after some of the calls
-split : (start : List ℕ) (calls : List Call) (call : Call) (t : ℕ) (c : List ℕ) → t ≤ length calls →
-    left_after_some start (calls ++ call ∷ []) t c → left_after_some start calls t c ⊎ left_after start (calls ++ call ∷ []) c
-split start calls call t c le left = elim (cases_lt (length calls) left.0) [
-  | inl past ↦ inr (subst (λ xs. left_after start xs c)
-      (take_all left.0 (calls ++ call ∷ []) (omega (arith, past, length-append calls (call ∷ [])))) left.2)
-  | inr within ↦ inl (earlier start calls call t left.0 c left.1 within left.2)
-]
-
 -- one moment goes by with a call that is listed
 pub elapses_listed : (start start' : List ℕ) (calls calls' : List Call) (call : Call) → start' ≡ start → calls' ≡ calls ++ call ∷ [] →
-    Elapses (length calls) (length calls') (left_after_some start calls) (left_after_some start' calls') (left_after start' calls')
+    Elapses (length calls) (length calls') (λ t. left_after start (take t calls)) (λ t. left_after start' (take t calls')) (left_after start' calls')
 elapses_listed start start' calls calls' call same all = rw (same, all) record {
   later = omega (arith, length-append calls (call ∷ []));
-  nothing_else = λ t c le left. split start calls call t c le left;
-  keeps = λ t c le left. kept start calls call t left.0 c le left.1 left.2;
+  nothing_else = λ t c le left. subst (λ xs. left_after start xs c) (take_push t calls call le) left;
+  keeps = λ t c le left. subst (λ xs. left_after start xs c) (sym (take_push t calls call le)) left;
+  during = λ t c past le left. inr (subst (λ xs. left_after start xs c)
+      (take_all t (calls ++ call ∷ []) (omega (arith, past, length-append calls (call ∷ [])))) left);
 }
 
 -- what is left after one more call, by what was left before it

@@ -1,5 +1,5 @@
 -- What the calls of a disk in memory make of its bytes, and what a crash may leave after them.
-use Rattle.std.specs.Prelude.{◌≡◌, ℕ, ◌≤◌, List, [], ◌∷◌, length, take}
+use Rattle.std.specs.Prelude.{◌≡◌, ℕ, List, [], ◌∷◌, length, take}
 use Rattle.outside.specs.Disks.{Outcomes, Torn, Cut, After}
 use Rattle.outside_memory.specs.Memory.{DiskState, written}
 use Rattle.outside_memory.specs.declared.call.Call.{Call}
@@ -25,14 +25,10 @@ left_by before bytes (Sync ∷ calls) = left_by (λ c. c ≡ bytes) bytes calls
 abbrev pub left_after : List ℕ → List Call → Outcomes
 left_after start calls = left_by (λ c. c ≡ start) start calls
 
--- what a crash may leave after the first t of these calls, or after more of them
-abbrev pub left_after_some : List ℕ → List Call → ℕ → Outcomes
-left_after_some start calls t c = (k : ℕ) × (t ≤ k) × left_after start (take k calls) c
-
 -- what a crash may leave of a disk
 abbrev pub crash_leaves : DiskState → Outcomes
 crash_leaves d = left_after d.start d.calls
 
--- what a crash may have left of it since the moment t, which is a number of calls
-abbrev pub crash_left_since : DiskState → ℕ → Outcomes
-crash_left_since d = left_after_some d.start d.calls
+-- what a crash may have left of it at the moment t, which is a number of calls
+abbrev pub crash_left_at : DiskState → ℕ → Outcomes
+crash_left_at d t = left_after d.start (take t d.calls)

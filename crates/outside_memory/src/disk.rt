@@ -5,7 +5,7 @@ ghost use Rattle.outside.specs.Causes.{Rose};
 ghost use Rattle.outside.specs.Disks.{Cut, Elapses, Follows, Holds, Only, Torn, Within};
 ghost use Rattle.outside_memory.specs.FaultPlan.{fails_now, after_call, after_fault};
 ghost use Rattle.outside_memory.specs.Memory.{written, read_count, fresh_disk, disk_passed, disk_cut, disk_synced, disk_failed};
-ghost use Rattle.outside_memory.specs.Calls.{replayed, crash_leaves, crash_left_since};
+ghost use Rattle.outside_memory.specs.Calls.{replayed, crash_leaves, crash_left_at};
 ghost use Rattle.outside_memory.specs.declared.call.Call.TheVariants.{Write};
 ghost use Rattle.outside_memory.specs.Moments.{now_counts, now_only};
 
@@ -143,13 +143,13 @@ impl Disk for MemDisk {
 
     ghost moment = { λ d. length d.calls };
 
-    ghost left_since = { crash_left_since };
+    ghost left_at = { crash_left_at };
 
     ghost fault_count = { λ d. d.plan.faults };
 
     ghost place = { λ d. d.start };
 
-    ghost counts_now = { λ disk t c le now. now_counts disk t c le now };
+    ghost counts_now = { λ disk c now. now_counts disk c now };
 
     ghost only_now = { λ disk c left. now_only disk c left };
 
@@ -157,8 +157,8 @@ impl Disk for MemDisk {
         ensures answer { IfOk result (λ n. n ≡ length self.old.bytes) }
         ensures same { self.new.bytes ≡ self.old.bytes }
         ensures crash { Within (crash_leaves self.old) (crash_leaves self.new) }
-        ensures time { Elapses (length self.old.calls) (length self.new.calls) (crash_left_since self.old)
-            (crash_left_since self.new) (crash_leaves self.new) }
+        ensures time { Elapses (length self.old.calls) (length self.new.calls) (crash_left_at self.old)
+            (crash_left_at self.new) (crash_leaves self.new) }
         ensures cause { OnErr result (Rose self.old.plan.faults self.new.plan.faults) }
         ensures calm { OnOk result (self.new.plan.faults ≡ self.old.plan.faults) }
         ensures later { self.old.plan.faults ≤ self.new.plan.faults }
@@ -182,8 +182,8 @@ impl Disk for MemDisk {
         ensures at_end { IfOk result (λ n. 0 < length buf.old → n ≡ 0 → drop at self.old.bytes ≡ []) }
         ensures same { self.new.bytes ≡ self.old.bytes }
         ensures crash { Within (crash_leaves self.old) (crash_leaves self.new) }
-        ensures time { Elapses (length self.old.calls) (length self.new.calls) (crash_left_since self.old)
-            (crash_left_since self.new) (crash_leaves self.new) }
+        ensures time { Elapses (length self.old.calls) (length self.new.calls) (crash_left_at self.old)
+            (crash_left_at self.new) (crash_leaves self.new) }
         ensures cause { OnErr result (Rose self.old.plan.faults self.new.plan.faults) }
         ensures calm { OnOk result (self.new.plan.faults ≡ self.old.plan.faults) }
         ensures later { self.old.plan.faults ≤ self.new.plan.faults }
@@ -213,8 +213,8 @@ impl Disk for MemDisk {
         ensures wrote { OnOk result (Holds at piece.now self.old.bytes self.new.bytes) }
         ensures torn { OnErr result (Torn at (length piece.now) self.old.bytes self.new.bytes) }
         ensures crash { Follows (Torn at (length piece.now)) (crash_leaves self.old) (crash_leaves self.new) }
-        ensures time { Elapses (length self.old.calls) (length self.new.calls) (crash_left_since self.old)
-            (crash_left_since self.new) (crash_leaves self.new) }
+        ensures time { Elapses (length self.old.calls) (length self.new.calls) (crash_left_at self.old)
+            (crash_left_at self.new) (crash_leaves self.new) }
         ensures cause { OnErr result (Rose self.old.plan.faults self.new.plan.faults) }
         ensures calm { OnOk result (self.new.plan.faults ≡ self.old.plan.faults) }
         ensures later { self.old.plan.faults ≤ self.new.plan.faults }
@@ -259,8 +259,8 @@ impl Disk for MemDisk {
         ensures cut { OnOk result (self.new.bytes ≡ take len self.old.bytes) }
         ensures between { OnErr result (Cut len self.old.bytes self.new.bytes) }
         ensures crash { Follows (Cut len) (crash_leaves self.old) (crash_leaves self.new) }
-        ensures time { Elapses (length self.old.calls) (length self.new.calls) (crash_left_since self.old)
-            (crash_left_since self.new) (crash_leaves self.new) }
+        ensures time { Elapses (length self.old.calls) (length self.new.calls) (crash_left_at self.old)
+            (crash_left_at self.new) (crash_leaves self.new) }
         ensures cause { OnErr result (Rose self.old.plan.faults self.new.plan.faults) }
         ensures calm { OnOk result (self.new.plan.faults ≡ self.old.plan.faults) }
         ensures later { self.old.plan.faults ≤ self.new.plan.faults }
@@ -292,8 +292,8 @@ impl Disk for MemDisk {
         ensures stays { OnOk result (crash_leaves self.new self.new.bytes) }
         ensures same { self.new.bytes ≡ self.old.bytes }
         ensures crash { Within (crash_leaves self.old) (crash_leaves self.new) }
-        ensures time { Elapses (length self.old.calls) (length self.new.calls) (crash_left_since self.old)
-            (crash_left_since self.new) (crash_leaves self.new) }
+        ensures time { Elapses (length self.old.calls) (length self.new.calls) (crash_left_at self.old)
+            (crash_left_at self.new) (crash_leaves self.new) }
         ensures cause { OnErr result (Rose self.old.plan.faults self.new.plan.faults) }
         ensures calm { OnOk result (self.new.plan.faults ≡ self.old.plan.faults) }
         ensures later { self.old.plan.faults ≤ self.new.plan.faults }

@@ -1,8 +1,8 @@
 //! The definitions on values that one can check by hand.
 
-ghost use Rattle.std.specs.Prelude.{◌≡◌, [], ◌∷◌};
+ghost use Rattle.std.specs.Prelude.{◌≡◌, [], ◌∷◌, take};
 ghost use Rattle.outside.specs.Disks.{Elapses, Only};
-ghost use Rattle.outside_memory.specs.Calls.{left_after, left_after_some, replayed};
+ghost use Rattle.outside_memory.specs.Calls.{left_after, replayed};
 ghost use Rattle.outside_memory.specs.declared.call.Call.TheVariants.{Cut as CutTo, Sync, Write};
 
 /// A write and a sync stay. A write without a sync leaves any bytes in its range and nothing elsewhere, and a cut without
@@ -18,7 +18,8 @@ pub fn crashes()
 {}
 
 /// Time advances by one call.
+#[tactic(auto, using(crate::proofs::Crashes::elapses_listed))]
 pub fn time()
-    ensures goes_on { Elapses 0 1 (left_after_some [] []) (left_after_some [] (Write 0 (1 ∷ []) ∷ []))
+    ensures goes_on { Elapses 0 1 (λ t. left_after [] (take t [])) (λ t. left_after [] (take t (Write 0 (1 ∷ []) ∷ [])))
         (left_after [] (Write 0 (1 ∷ []) ∷ [])) }
 {}

@@ -13,9 +13,11 @@ use Rattle.node_model.specs.World.{World}
 use Rattle.node_traits.specs.declared.outputs.ToLink.{ToLink}
 use Rattle.driver_steps.specs.declared.seat.Seat.{Seat}
 use Rattle.driver_steps.specs.Crashes.{LeadsTo, LeavesNoLess, Noted, Since, with_notes}
-use Rattle.driver_steps.specs.Seats.{AreDurable, LeaveKept, notes_of, places_of, seat_since}
+use Rattle.driver_steps.specs.Seats.{AreDurable, EachLeaves, HasMore, Hosted, LeaveKept, notes_of, places_of, seat_since}
+use Rattle.driver_steps.specs.Together.{TogetherSince, hosted}
 use Rattle.driver_steps.specs.Worlds.{NetworkView, StandsFor}
 use Rattle.driver_steps.proofs.Crashes.{held_plain, held_since, leads_nowhere, leads_on, note_leaves}
+use Rattle.driver_steps.proofs.Together.{together_noted}
 use Rattle.pipe_driver.specs.Acknowledgements.{AreAcknowledgedBy, AreCovered, AreNoted, IsCovered, IsNotedBefore}
 use Rattle.pipe_driver.specs.Pieces.{IsPrefix}
 use Rattle.pipe_driver.specs.Schedules.{HasServed}
@@ -93,12 +95,17 @@ module _ {N L : Type 0} (facts : LogFacts L) (seats : List (Seat N L)) (w : Worl
       noted_each notes notes' (more told) tells told noted (subst (λ (p : List (List ℕ)). AreNoted tells notes p noted) (sym same) are)
 
   -- the world models the hosted nodes as before
-  pub note_stands : (state : N → NodeState) (since : Since L) (network : NetworkView) (handed : List ToLink) (next : ℕ) → AreDurable facts seats
-      → StandsFor (seat_since state facts since) seats network handed w next
-      → StandsFor (seat_since state facts (with_notes since (now_noted ∷ since.noted))) seats network handed w next
-  note_stands state since network handed next durable s = record {
+  pub note_stands : (state : N → NodeState) (since : Since L) (network : NetworkView) (handed : List ToLink) (next : ℕ) (shows : Bool) (notes notes' : List Note)
+      → AreDurable facts seats → (IsTrue shows → notes' ≡ notes ++ notes_of facts before seats)
+      → StandsFor (seat_since state facts since) (hosted shows facts since notes seats) network handed w next
+      → StandsFor (seat_since state facts (with_notes since (now_noted ∷ since.noted))) (hosted shows facts since notes' seats) network handed w next
+  note_stands state since network handed next shows notes notes' durable more s = record {
     nodes = held_since state facts (with_notes since (now_noted ∷ since.noted)) seats w.nodes (held_plain state facts since seats w.nodes s.nodes);
-    crashes = note_leaves state facts since seats w s.nodes durable before s.crashes;
+    crashes = record {
+      each = note_leaves state facts since seats w s.nodes durable before s.crashes.each;
+      together = λ shown told. subst (λ (l : List Note). TogetherSince facts since l seats w) (sym (more shown))
+          (together_noted facts since notes (notes_of facts before seats) seats w (s.crashes.together shown told));
+    };
     past = s.past;
     sent = s.sent;
     place = s.place;
@@ -107,14 +114,16 @@ module _ {N L : Type 0} (facts : LogFacts L) (seats : List (Seat N L)) (w : Worl
 
 -- so is a round that was served
 abbrev pub note_served : {N L : Type 0} (facts : LogFacts L) (seats : List (Seat N L)) (count : ℕ) (state : N → NodeState) (since : Since L) (network : NetworkView)
-    (handed : List ToLink) (before : World) (next : ℕ) (r : Round) → AreDurable facts seats
-    → (h : HasServed (seat_since state facts since) seats network handed before next r)
-    → HasServed (seat_since state facts (with_notes since (now_noted facts seats h.end count ∷ since.noted))) seats network handed before next r
-note_served facts seats count state since network handed before next r durable h = record {
+    (handed : List ToLink) (before : World) (next : ℕ) (r : Round) (shows : Bool) (notes notes' : List Note) → AreDurable facts seats
+    → (IsTrue shows → notes' ≡ notes ++ notes_of facts count seats)
+    → (h : HasServed (seat_since state facts since) (hosted shows facts since notes seats) network handed before next r)
+    → HasServed (seat_since state facts (with_notes since (now_noted facts seats h.end count ∷ since.noted))) (hosted shows facts since notes' seats) network
+    handed before next r
+note_served facts seats count state since network handed before next r shows notes notes' durable more h = record {
   events = h.events;
   end = h.end;
   round = h.round;
-  stands = note_stands facts seats h.end count state since network handed (length h.end.sent) durable h.stands;
+  stands = note_stands facts seats h.end count state since network handed (length h.end.sent) shows notes notes' durable more h.stands;
 }
 
 -- no note was taken yet
@@ -125,6 +134,19 @@ none_noted tells notes places told k n had = absurd (cc had)
 pub noted_places : (tells : Bool) (notes : List Note) (places others : List (List ℕ)) (noted : List Noted) → others ≡ places
     → AreNoted tells notes places noted → AreNoted tells notes others noted
 noted_places tells notes places others noted same are = subst (λ (p : List (List ℕ)). AreNoted tells notes p noted) (sym same) are
+
+-- there may be more notes
+pub noted_on : (tells : Bool) (notes notes' : List Note) (places : List (List ℕ)) (noted : List Noted) → (IsTrue tells → HasMore notes notes')
+    → AreNoted tells notes places noted → AreNoted tells notes' places noted
+noted_on tells notes notes' places noted more are told k n had at place there =
+    let old = are told k n had at place there in
+    let others = more told in (
+      old.0,
+      old.1,
+      old.2,
+      subst (λ (l : List Note). slice_get l old.1 ≡ Some (record { place = place; moment = old.0; length = n.length })) (sym others.1)
+          (got_left notes others.0 old.1 _ old.3),
+    )
 
 -- BYTES
 
@@ -205,7 +227,7 @@ module _ (output : World → List ℕ → Type 0) (start : World) (held_before :
 module _ {N L : Type 0} (state : N → NodeState) (facts : LogFacts L) (since : Since L) (noted : List Noted) (output : World → List ℕ → Type 0) (start : World)
     (tells : Bool) (notes : List Note) (held_before : List ℕ) (seats : List (Seat N L)) (last : World) (put : List ℕ) where
   -- what was noted was kept since
-  pub acknowledged : LeaveKept (seat_since state facts (with_notes since noted)) seats last → AreNoted tells notes (places_of facts.place seats) noted
+  pub acknowledged : EachLeaves (seat_since state facts (with_notes since noted)) seats last → AreNoted tells notes (places_of facts.place seats) noted
       → (IsTrue tells → AreCovered output start noted held_before put last)
       → AreAcknowledgedBy facts tells output start notes held_before seats last put
   acknowledged leave are covered told files offset below =
@@ -232,9 +254,12 @@ module _ {N L : Type 0} (state : N → NodeState) (facts : LogFacts L) (since : 
       }
 
 -- notes say nothing of the start
-pub without_notes : {N L : Type 0} (state : N → NodeState) (facts : LogFacts L) (since : Since L) (noted : List Noted) (seats : List (Seat N L)) (w : World)
-    → since.noted ≡ [] → LeaveKept (seat_since state facts (with_notes since noted)) seats w → LeaveKept (seat_since state facts since) seats w
-without_notes state facts since noted seats w none leave at s got files = (
-  (leave at s got files).0,
-  λ k n moment had of. absurd (cc (subst (λ (l : List Noted). slice_get l k ≡ Some n) none had)),
-)
+pub without_notes : {N L : Type 0} (state : N → NodeState) (facts : LogFacts L) (since : Since L) (noted : List Noted) (hosts : Hosted (Seat N L)) (w : World)
+    → since.noted ≡ [] → LeaveKept (seat_since state facts (with_notes since noted)) hosts w → LeaveKept (seat_since state facts since) hosts w
+without_notes state facts since noted hosts w none leave = record {
+  each = λ at s got files. (
+    (leave.each at s got files).0,
+    λ k n moment had of. absurd (cc (subst (λ (l : List Noted). slice_get l k ≡ Some n) none had)),
+  );
+  together = leave.together;
+}

@@ -2,7 +2,7 @@
 use Rattle.std.specs.Prelude.{◌≡◌, ◌≢◌, ℕ, ◌+◌, ◌<◌, ◌≤◌, Option, Some, None, Bool, IsTrue, List, [], ◌∷◌, ◌++◌, length}
 use Rattle.std.proofs.Common.{inl, inr, refl, ap, sym, ◌∙◌, subst, arith, append_assoc, append-nil, length-append}
 use Rattle.outside.specs.Streams.{Took}
-use Rattle.outside.specs.Devices.{SourceCall, SinkCall}
+use Rattle.outside.specs.Devices.{SourceCall, SinkCall, sink_call}
 use Rattle.outside.proofs.Relations.{took_then}
 use Rattle.opmsg_frames.specs.Requests.{Request}
 use Rattle.opmsg_frames.specs.Outline.{FrameFault, outline, partial_outline, message_outline, faulty_outline}
@@ -11,7 +11,7 @@ use Rattle.node_model.specs.World.{Held, World}
 use Rattle.node_model.specs.Schedule.{Round}
 use Rattle.node_progress.proofs.Rounds.{piped_requests_are_answered}
 use Rattle.driver_steps.specs.Crashes.{Noted}
-use Rattle.driver_steps.specs.Seats.{SeatView, AreKept, LeaveKept}
+use Rattle.driver_steps.specs.Seats.{Hosted, SeatView, AreKept, LeaveKept}
 use Rattle.driver_steps.specs.Worlds.{NetworkView}
 use Rattle.driver_steps.proofs.Seats.{held_kept}
 use Rattle.pipe_driver.specs.Buffers.{EndsTaking, at_source_end, at_read_fault}
@@ -72,7 +72,7 @@ framed limit count source consumed rest left more fault asked are took most fram
   counted = counted;
 }
 
-module _ {S : Type 0} (view : S → SeatView) (seats : List S) (source : SourceCall) (sink : SinkCall) (gives : ℕ → Type 0) (router : ℕ) (noted : List Noted) (first : World) (limit count : ℕ)
+module _ {S : Type 0} (view : S → SeatView) (hosts : Hosted S) (source : SourceCall) (sink : SinkCall) (gives : ℕ → Type 0) (router : ℕ) (noted : List Noted) (first : World) (limit count : ℕ)
     (status : Status) (consumed rest : List ℕ) where
   -- what the journals owed before bytes were put
   abbrev pub Owed : World → List ℕ → Type 0
@@ -82,13 +82,13 @@ module _ {S : Type 0} (view : S → SeatView) (seats : List S) (source : SourceC
 
   -- all requests had their rounds
   ended : (network : NetworkView) (replied : ℕ) (known : Status) (fault : Option (FrameFault × ℕ)) → status ≡ known
-      → (s : Serving view seats network gives router first sink.tells noted sink.held_before sink.held_after consumed replied)
+      → (s : Serving view hosts network gives router first sink.tells noted sink.held_before sink.held_after consumed replied)
       → Took source.tells source.left_before (consumed ++ rest) source.left_after → length consumed + length rest ≤ limit
       → FramesFrom (0 + length (bytes_asked (requests_of s.rounds))) rest [] rest fault → count ≡ length rest
       → ((put : List ℕ) (requests : List Request) → AllServed first put requests s.rounds s.world
       → Cause limit (IsTrue source.tells → source.left_after ≡ []) (consumed ++ rest) fault (AllServed first put requests s.rounds s.world)
       (SomeServed first gives router put requests s.rounds s.world) (LastCutShort first put requests s.rounds s.world) known)
-      → IsPiped source sink gives router (AreKept view seats) (LeaveKept view seats) Owed first limit status count
+      → IsPiped source sink gives router (AreKept view hosts.seats) (LeaveKept view hosts) Owed first limit status count
   ended network replied known fault is s took most frames counted cause =
       let f = framed limit count source consumed rest rest [] fault (requests_of s.rounds) s.asked took most frames counted in
       record {
@@ -118,7 +118,7 @@ module _ {S : Type 0} (view : S → SeatView) (seats : List S) (source : SourceC
               answered = piped_requests_are_answered first s.rounds s.events s.world s.next s.begins s.pipes;
               replied = refl;
             }));
-        files = held_kept view seats s.world.nodes s.stands.nodes;
+        files = held_kept view hosts.seats s.world.nodes s.stands.nodes;
         last = s.world;
         is_last = inl refl;
         crashes = s.stands.crashes;
@@ -127,10 +127,10 @@ module _ {S : Type 0} (view : S → SeatView) (seats : List S) (source : SourceC
 
   -- the input is at its limit, and the rest is less than a whole message
   pub ended_at_limit : (network : NetworkView) (replied : ℕ) → status ≡ statuses.InputTooLong
-      → Serving view seats network gives router first sink.tells noted sink.held_before sink.held_after consumed replied
+      → Serving view hosts network gives router first sink.tells noted sink.held_before sink.held_after consumed replied
       → Took source.tells source.left_before (consumed ++ rest) source.left_after → length consumed + length rest ≡ limit
       → outline rest ≡ partial_outline → count ≡ length rest
-      → IsPiped source sink gives router (AreKept view seats) (LeaveKept view seats) Owed first limit status count
+      → IsPiped source sink gives router (AreKept view hosts.seats) (LeaveKept view hosts) Owed first limit status count
   ended_at_limit network replied is s took most partial counted =
       let full : length (consumed ++ rest) ≡ limit = omega (arith, most, length-append consumed rest) in
       ended network replied statuses.InputTooLong None is s took (omega (arith, most)) (ends _ rest partial) counted
@@ -138,10 +138,10 @@ module _ {S : Type 0} (view : S → SeatView) (seats : List S) (source : SourceC
 
   -- the rest begins no message
   ended_malformed : (network : NetworkView) (replied : ℕ) → status ≡ statuses.BadInput
-      → Serving view seats network gives router first sink.tells noted sink.held_before sink.held_after consumed replied
+      → Serving view hosts network gives router first sink.tells noted sink.held_before sink.held_after consumed replied
       → Took source.tells source.left_before (consumed ++ rest) source.left_after → length consumed + length rest ≤ limit
       → IsMalformed rest → count ≡ length rest
-      → IsPiped source sink gives router (AreKept view seats) (LeaveKept view seats) Owed first limit status count
+      → IsPiped source sink gives router (AreKept view hosts.seats) (LeaveKept view hosts) Owed first limit status count
   ended_malformed network replied is s took most malformed counted =
       let place : ℕ = 0 + length (bytes_asked (requests_of s.rounds)) in
       ended network replied statuses.BadInput (Some (malformed.0, place)) is s took most (fails place rest malformed.0 malformed.1) counted
@@ -155,13 +155,13 @@ module _ {S : Type 0} (view : S → SeatView) (seats : List S) (source : SourceC
   last_with known is P Q end last (inr (disk, further, e, more)) on = inr (is ∙ disk, on further, e, more)
 
   -- some requests had their rounds, and one more may be under way
-  ended_cut : (known : Status) → status ≡ known → (s : CutShort view seats gives router first sink.tells noted sink.held_before sink.held_after consumed known)
+  ended_cut : (known : Status) → status ≡ known → (s : CutShort view hosts gives router first sink.tells noted sink.held_before sink.held_after consumed known)
       → Took source.tells source.left_before (consumed ++ rest) source.left_after → length consumed + length rest ≤ limit
       → Unframed rest count
       → ((put : List ℕ) (requests : List Request) (fault : Option (FrameFault × ℕ)) → SomeServed first gives router put requests s.rounds s.end
       → Cause limit (IsTrue source.tells → source.left_after ≡ []) (consumed ++ rest) fault (AllServed first put requests s.rounds s.end)
       (SomeServed first gives router put requests s.rounds s.end) (LastCutShort first put requests s.rounds s.end) known)
-      → IsPiped source sink gives router (AreKept view seats) (LeaveKept view seats) Owed first limit status count
+      → IsPiped source sink gives router (AreKept view hosts.seats) (LeaveKept view hosts) Owed first limit status count
   ended_cut known is s took most unframed cause =
       let asked : List Request = requests_of s.rounds ++ s.under_way in
       let found = unframed (0 + length (bytes_asked asked)) in
@@ -196,10 +196,10 @@ module _ {S : Type 0} (view : S → SeatView) (seats : List S) (source : SourceC
       }
 
   -- the replies of the last round were put in part
-  ended_short : status ≡ statuses.WriteFailed → (s : PutShort view seats gives router first sink.tells noted sink.held_before sink.held_after consumed)
+  ended_short : status ≡ statuses.WriteFailed → (s : PutShort view hosts gives router first sink.tells noted sink.held_before sink.held_after consumed)
       → Took source.tells source.left_before (consumed ++ rest) source.left_after → length consumed + length rest ≤ limit
       → Unframed rest count
-      → IsPiped source sink gives router (AreKept view seats) (LeaveKept view seats) Owed first limit status count
+      → IsPiped source sink gives router (AreKept view hosts.seats) (LeaveKept view hosts) Owed first limit status count
   ended_short is s took most unframed =
       let rounds : List Round = s.earlier ++ s.last ∷ [] in
       let asked : List Request = requests_of rounds in
@@ -246,21 +246,21 @@ module _ {S : Type 0} (view : S → SeatView) (seats : List S) (source : SourceC
 
   -- memory ran out, between two rounds
   pub ended_full : (network : NetworkView) (replied : ℕ) → status ≡ statuses.OutOfMemory
-      → Serving view seats network gives router first sink.tells noted sink.held_before sink.held_after consumed replied
+      → Serving view hosts network gives router first sink.tells noted sink.held_before sink.held_after consumed replied
       → Took source.tells source.left_before (consumed ++ rest) source.left_after → length consumed + length rest ≤ limit
       → outline rest ≡ partial_outline → count ≡ length rest
-      → IsPiped source sink gives router (AreKept view seats) (LeaveKept view seats) Owed first limit status count
+      → IsPiped source sink gives router (AreKept view hosts.seats) (LeaveKept view hosts) Owed first limit status count
   ended_full network replied is s took most partial counted =
       ended_cut statuses.OutOfMemory is
-      (cut_between view seats gives router first sink.tells noted sink.held_before sink.held_after consumed network replied s) took most
+      (cut_between view hosts gives router first sink.tells noted sink.held_before sink.held_after consumed network replied s) took most
       (λ place. ([], rest, None, ends place rest partial, counted)) (λ put requests fault some. no_memory some)
 
   -- no more is taken, and the rest is less than a whole message
   pub ended_taking : (network : NetworkView) (replied : ℕ) (told : Status) → status ≡ told → EndsTaking source.tells source.left_after told
-      → Serving view seats network gives router first sink.tells noted sink.held_before sink.held_after consumed replied
+      → Serving view hosts network gives router first sink.tells noted sink.held_before sink.held_after consumed replied
       → Took source.tells source.left_before (consumed ++ rest) source.left_after → length (consumed ++ rest) < limit
       → outline rest ≡ partial_outline → count ≡ length rest
-      → IsPiped source sink gives router (AreKept view seats) (LeaveKept view seats) Owed first limit status count
+      → IsPiped source sink gives router (AreKept view hosts.seats) (LeaveKept view hosts) Owed first limit status count
   ended_taking network replied told is (at_source_end at_end) s took below partial counted =
       ended network replied statuses.InputEnded None is s took (omega (arith, below, length-append consumed rest)) (ends _ rest partial) counted
       (λ put requests all. input_ended at_end below refl all)
@@ -284,9 +284,9 @@ module _ {S : Type 0} (view : S → SeatView) (seats : List S) (source : SourceC
 
   -- no further request is served
   pub ended_serving : (network : NetworkView) (told : Status) → status ≡ told
-      → StopsServing told view seats network gives router first sink.tells noted sink.held_before sink.held_after consumed rest
+      → StopsServing told view hosts network gives router first sink.tells noted sink.held_before sink.held_after consumed rest
       → Took source.tells source.left_before (consumed ++ rest) source.left_after → length consumed + length rest ≤ limit → Unframed rest count
-      → IsPiped source sink gives router (AreKept view seats) (LeaveKept view seats) Owed first limit status count
+      → IsPiped source sink gives router (AreKept view hosts.seats) (LeaveKept view hosts) Owed first limit status count
   ended_serving network told is (inl (bad, malformed, (replied, s))) took most unframed =
       ended_malformed network replied (is ∙ bad) s took most malformed (malformed_left malformed unframed)
   ended_serving network told is (inr (at_write_fault s)) took most unframed = ended_short is s took most unframed
@@ -300,6 +300,18 @@ pub taking_stops : (tells : Bool) (left : List ℕ) (status : Status) → EndsTa
     → (status ≢ statuses.WriteFailed) × (status ≢ statuses.DiskFailed)
 taking_stops tells left status (at_source_end at_end) = (λ e. cc, λ e. cc)
 taking_stops tells left status at_read_fault = (λ e. cc, λ e. cc)
+
+-- a sink whose bytes and count of faults are the same, before and after
+pub same_sink : {K : Type 0} (tells : Bool) (held : K → List ℕ) (faults : K → ℕ) (before before' after after' : K) → held before ≡ held before'
+    → faults before ≡ faults before' → held after ≡ held after' → faults after ≡ faults after'
+    → sink_call tells held faults before after ≡ sink_call tells held faults before' after'
+same_sink tells held faults before before' after after' one two three four = rw (one, two, three, four) refl
+
+pub piped_by : (source : SourceCall) (sink sink' : SinkCall) (gives : ℕ → Type 0) (router : ℕ) (kept : List Held → Type 0) (leaves : World → Type 0)
+    (owed : World → List ℕ → Type 0) (first : World) (limit : ℕ) (status : Status) (rest : ℕ) → sink ≡ sink'
+    → IsPiped source sink gives router kept leaves owed first limit status rest → IsPiped source sink' gives router kept leaves owed first limit status rest
+piped_by source sink sink' gives router kept leaves owed first limit status rest same p =
+    subst (λ (k : SinkCall). IsPiped source k gives router kept leaves owed first limit status rest) same p
 
 -- the same with another view of what the journals store
 pub piped_with : (source : SourceCall) (sink : SinkCall) (gives : ℕ → Type 0) (router : ℕ) (kept plain : List Held → Type 0) (leaves leaves' : World → Type 0)

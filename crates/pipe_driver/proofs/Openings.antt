@@ -14,7 +14,7 @@ use Rattle.node_progress.specs.Firsts.{IsFirst}
 use Rattle.node_progress.proofs.Firsts.{first_rests}
 use Rattle.node_traits.specs.declared.outputs.ToLink.{ToLink}
 use Rattle.driver_steps.specs.declared.network.Network.{Network}
-use Rattle.driver_steps.specs.Seats.{SeatView, AreHeld, LeaveKept}
+use Rattle.driver_steps.specs.Seats.{Hosted, SeatView, AreHeld, LeaveKept}
 use Rattle.driver_steps.specs.Worlds.{StandsFor, network_view, puts_given}
 
 -- NOTHING IS REPLIED
@@ -53,10 +53,10 @@ nothing_told first count w run = run_tells first (openings 0 count) w (openings_
 
 -- AT THE START
 
-pub starts : {S M : Type 0} (view : S → SeatView) (letter : M → Letter) (seats : List S) (first : World) (network : Network M)
-    → IsFirst first → AreHeld view seats first.nodes → LeaveKept view seats first → network.waiting.items ≡ [] → network.replies.items ≡ []
-    → StandsFor view seats (network_view letter network) (puts_given first.answered) first 0
-starts {S} {M} view letter seats first network begins are leave none silent = record {
+pub starts : {S M : Type 0} (view : S → SeatView) (letter : M → Letter) (hosts : Hosted S) (first : World) (network : Network M)
+    → IsFirst first → AreHeld view hosts.seats first.nodes → LeaveKept view hosts first → network.waiting.items ≡ [] → network.replies.items ≡ []
+    → StandsFor view hosts (network_view letter network) (puts_given first.answered) first 0
+starts {S} {M} view letter hosts first network begins are leave none silent = record {
   nodes = are;
   crashes = leave;
   past = [];

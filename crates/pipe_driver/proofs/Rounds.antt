@@ -12,7 +12,7 @@ use Rattle.node_model.proofs.Schedules.{run_then}
 use Rattle.node_progress.proofs.Rounds.{pipes_bag, round_asked}
 use Rattle.node_traits.specs.declared.outputs.StepFault.{StepFault}
 use Rattle.node_traits.specs.declared.outputs.ToLink.{ToLink}
-use Rattle.driver_steps.specs.Seats.{SeatView}
+use Rattle.driver_steps.specs.Seats.{Hosted, SeatView}
 use Rattle.driver_steps.specs.Worlds.{NetworkView, StandsFor}
 use Rattle.driver_steps.specs.Moves.{BeginWith, AreDeliveries, HasHappened, HasRun, HasSettled, HasStopped}
 use Rattle.driver_steps.proofs.Runs.{stopped_behind, up_to_more}
@@ -31,10 +31,10 @@ module _ {S : Type 0} (view : S → SeatView) (handed : List ToLink) (first : Wo
   router_asked given run = run_stays w (moments_given 0 count r.moment) given router run (router_there first router rounds before w next may.there pipes)
 
   -- all messages of the round were delivered
-  pub round_served : (seats : List S) (network : NetworkView) (given asked : World) → Run w (moments_given 0 count r.moment) given
-      → Happens given (client_event r.at r.link r.number r.request) asked → HasSettled view seats network handed asked next
-      → HasServed view seats network handed w next r
-  round_served seats network given asked run came s =
+  pub round_served : (hosts : Hosted S) (network : NetworkView) (given asked : World) → Run w (moments_given 0 count r.moment) given
+      → Happens given (client_event r.at r.link r.number r.request) asked → HasSettled view hosts network handed asked next
+      → HasServed view hosts network handed w next r
+  round_served hosts network given asked run came s =
       let same : moments_given 0 count r.moment ≡ moments_given 0 (length w.nodes) r.moment = ap (λ (n : ℕ). moments_given 0 n r.moment) as_many in
       let moments : Run w (moments_given 0 (length w.nodes) r.moment) given = subst (λ (l : List Event). Run w l given) same run in
       let bag = round_asked w given asked next r (pipes_bag first may.begins rounds before w next pipes) moments came in
@@ -55,9 +55,9 @@ module _ {S : Type 0} (view : S → SeatView) (handed : List ToLink) (first : Wo
 
 -- A ROUND THAT IS CUT SHORT
 
-module _ {S : Type 0} (view : S → SeatView) (seats : List S) (replies handed : List ToLink) (w : World) (count : ℕ) (r : Round) (fault : StepFault) where
-  pub stopped_in_moments : HasStopped view seats replies handed w (λ events. BeginWith events (moments_given 0 count r.moment)) fault
-      → HasStopped view seats replies handed w (IsPart count r) fault
+module _ {S : Type 0} (view : S → SeatView) (hosts : Hosted S) (replies handed : List ToLink) (w : World) (count : ℕ) (r : Round) (fault : StepFault) where
+  pub stopped_in_moments : HasStopped view hosts replies handed w (λ events. BeginWith events (moments_given 0 count r.moment)) fault
+      → HasStopped view hosts replies handed w (IsPart count r) fault
   stopped_in_moments s = record {
     events = s.events;
     end = s.end;
@@ -84,15 +84,15 @@ module _ {S : Type 0} (view : S → SeatView) (seats : List S) (replies handed :
   part_asked (e ∷ f ∷ more) (others, is) = absurd (cc is)
 
   pub stopped_in_asking : (given : World) → Run w (moments_given 0 count r.moment) given
-      → HasStopped view seats replies handed given (λ events. BeginWith events (client_event r.at r.link r.number r.request ∷ [])) fault
-      → HasStopped view seats replies handed w (IsPart count r) fault
+      → HasStopped view hosts replies handed given (λ events. BeginWith events (client_event r.at r.link r.number r.request ∷ [])) fault
+      → HasStopped view hosts replies handed w (IsPart count r) fault
   stopped_in_asking given run s =
-      stopped_behind view seats replies handed w (moments_given 0 count r.moment) given
+      stopped_behind view hosts replies handed w (moments_given 0 count r.moment) given
       (λ events. BeginWith events (client_event r.at r.link r.number r.request ∷ [])) (IsPart count r) fault run part_asked s
 
   pub stopped_in_deliveries : (given asked : World) → Run w (moments_given 0 count r.moment) given
-      → Happens given (client_event r.at r.link r.number r.request) asked → HasStopped view seats replies handed asked AreDeliveries fault
-      → HasStopped view seats replies handed w (IsPart count r) fault
+      → Happens given (client_event r.at r.link r.number r.request) asked → HasStopped view hosts replies handed asked AreDeliveries fault
+      → HasStopped view hosts replies handed w (IsPart count r) fault
   stopped_in_deliveries given asked run came s = record {
     events = moments_given 0 count r.moment ++ client_event r.at r.link r.number r.request ∷ s.events;
     end = s.end;

@@ -15,7 +15,7 @@ use Rattle.node_traits.specs.declared.outputs.StepFault.TheVariants.{Disk, Steps
 use Rattle.node_traits.specs.declared.outputs.ToLink.{ToLink}
 use Rattle.driver_steps.specs.declared.network.Network.{Network}
 use Rattle.driver_steps.specs.Crashes.{LeadsTo, Noted}
-use Rattle.driver_steps.specs.Seats.{SeatView, AreHeld, AreKept, AreHeldOrKept}
+use Rattle.driver_steps.specs.Seats.{Hosted, SeatView, AreHeld, AreKept, AreHeldOrKept}
 use Rattle.driver_steps.specs.Worlds.{NetworkView, StandsFor, network_view, puts_given}
 use Rattle.driver_steps.specs.Moves.{IsUpTo, BeginWith, HasRun, HasStopped}
 use Rattle.driver_steps.proofs.Crashes.{leads_by, leads_nowhere, leads_on}
@@ -36,11 +36,11 @@ use Rattle.pipe_driver.proofs.Rounds.{asked_more, behind_more, one_more, request
 use Rattle.pipe_driver.proofs.Since.{since_more, since_none}
 
 -- what the logs keep after a fault
-pub kept_at : {S : Type 0} (fault : StepFault) (view : S → SeatView) (seats : List S) (w : World) → AreHeldOrKept fault view seats w.nodes
-    → AreKept view seats w.nodes
-kept_at (Disk faults) view seats w are = are
-kept_at Steps view seats w are = held_kept view seats w.nodes are
-kept_at Memory view seats w are = held_kept view seats w.nodes are
+pub kept_at : {S : Type 0} (fault : StepFault) (view : S → SeatView) (hosts : Hosted S) (w : World) → AreHeldOrKept fault view hosts w.nodes
+    → AreKept view hosts.seats w.nodes
+kept_at (Disk faults) view hosts w are = are
+kept_at Steps view hosts w are = held_kept view hosts.seats w.nodes are
+kept_at Memory view hosts w are = held_kept view hosts.seats w.nodes are
 
 -- BY STATUS
 
@@ -63,18 +63,18 @@ last_leads Memory end last P same = subst (λ (w : World). LeadsTo end w) (sym s
 run_one_more : (u : World) (events : List Event) (v : World) (e : Event) (w : World) → Run u events v → Happens v e w → Run u (events ++ e ∷ []) w
 run_one_more u events v e w run more = run_then u events v (e ∷ []) w run (goes v w w e [] more (stands w))
 
-module _ {S : Type 0} (view : S → SeatView) (seats : List S) (gives : ℕ → Type 0) (router : ℕ) (first : World) (tells : Bool) (noted : List Noted) (held_before held consumed : List ℕ) where
+module _ {S : Type 0} (view : S → SeatView) (hosts : Hosted S) (gives : ℕ → Type 0) (router : ℕ) (first : World) (tells : Bool) (noted : List Noted) (held_before held consumed : List ℕ) where
   pub stops_by : (fault : StepFault) (status : Status) → status ≡ status_for fault
-      → CutShort view seats gives router first tells noted held_before held consumed (status_for fault)
-      → StopsAtRequest view seats gives router first tells noted held_before held consumed status
-  stops_by (Disk faults) status is cut = subst (λ (s : Status). StopsAtRequest view seats gives router first tells noted held_before held consumed s) (sym is)
+      → CutShort view hosts gives router first tells noted held_before held consumed (status_for fault)
+      → StopsAtRequest view hosts gives router first tells noted held_before held consumed status
+  stops_by (Disk faults) status is cut = subst (λ (s : Status). StopsAtRequest view hosts gives router first tells noted held_before held consumed s) (sym is)
       (at_disk_fault cut)
-  stops_by Steps status is cut = subst (λ (s : Status). StopsAtRequest view seats gives router first tells noted held_before held consumed s) (sym is) (at_no_memory cut)
-  stops_by Memory status is cut = subst (λ (s : Status). StopsAtRequest view seats gives router first tells noted held_before held consumed s) (sym is) (at_no_memory cut)
+  stops_by Steps status is cut = subst (λ (s : Status). StopsAtRequest view hosts gives router first tells noted held_before held consumed s) (sym is) (at_no_memory cut)
+  stops_by Memory status is cut = subst (λ (s : Status). StopsAtRequest view hosts gives router first tells noted held_before held consumed s) (sym is) (at_no_memory cut)
 
   -- between two rounds
-  pub cut_between : (network : NetworkView) (replied : ℕ) → Serving view seats network gives router first tells noted held_before held consumed replied
-      → CutShort view seats gives router first tells noted held_before held consumed statuses.OutOfMemory
+  pub cut_between : (network : NetworkView) (replied : ℕ) → Serving view hosts network gives router first tells noted held_before held consumed replied
+      → CutShort view hosts gives router first tells noted held_before held consumed statuses.OutOfMemory
   cut_between network replied s = record {
     rounds = s.rounds;
     under_way = [];
@@ -84,7 +84,7 @@ module _ {S : Type 0} (view : S → SeatView) (seats : List S) (gives : ℕ → 
     one = s.one;
     put = s.put;
     asked = subst (λ (l : List Request). AreAsked consumed l) (sym (append-nil (requests_of s.rounds))) s.asked;
-    kept = held_kept view seats s.world.nodes s.stands.nodes;
+    kept = held_kept view hosts.seats s.world.nodes s.stands.nodes;
     last = s.world;
     is_last = inl refl;
     crashes = s.stands.crashes;
@@ -100,10 +100,10 @@ but_for_disks Memory status holds is other given = given
 
 -- THE START
 
-module _ {S : Type 0} (view : S → SeatView) (seats : List S) (gives : ℕ → Type 0) (router : ℕ) (first : World) (tells : Bool) (held : List ℕ) (count : ℕ)
+module _ {S : Type 0} (view : S → SeatView) (hosts : Hosted S) (gives : ℕ → Type 0) (router : ℕ) (first : World) (tells : Bool) (held : List ℕ) (count : ℕ)
     (as_many : count ≡ length first.nodes) where
-  pub opened_serving : (network : NetworkView) → IsFirst first → HasRun view seats network (puts_given first.answered) first 0 (openings 0 count)
-      → Serving view seats network gives router first tells [] held held [] 0
+  pub opened_serving : (network : NetworkView) → IsFirst first → HasRun view hosts network (puts_given first.answered) first 0 (openings 0 count)
+      → Serving view hosts network gives router first tells [] held held [] 0
   opened_serving network begins r =
       let none : r.end.answered ≡ first.answered = nothing_told first count r.end r.run in
       let silent : puts_since first r.end ≡ [] = since_none first r.end none in
@@ -117,7 +117,7 @@ module _ {S : Type 0} (view : S → SeatView) (seats : List S) (gives : ℕ → 
         begins = begins;
         pipes = opens r.end run;
         one = record { moments = tt; routers = tt; links = tt; numbers = tt };
-        stands = subst (λ (l : List ToLink). StandsFor view seats network l r.end 0) (ap puts_given (sym none)) r.stands;
+        stands = subst (λ (l : List ToLink). StandsFor view hosts network l r.end 0) (ap puts_given (sym none)) r.stands;
         put = λ told. sym (ap (λ (l : List ToLink). held ++ bytes_of l) silent ∙ append-nil held);
         asked = record { all = refl; each = tt };
         count = refl;
@@ -125,8 +125,8 @@ module _ {S : Type 0} (view : S → SeatView) (seats : List S) (gives : ℕ → 
       }
 
   pub opening_cut : (replies : List ToLink) (fault : StepFault)
-      → HasStopped view seats replies (puts_given first.answered) first (λ events. BeginWith events (openings 0 count)) fault
-      → CutShort view seats gives router first tells [] held held [] (status_for fault)
+      → HasStopped view hosts replies (puts_given first.answered) first (λ events. BeginWith events (openings 0 count)) fault
+      → CutShort view hosts gives router first tells [] held held [] (status_for fault)
   opening_cut replies fault s = record {
     rounds = [];
     under_way = [];
@@ -136,7 +136,7 @@ module _ {S : Type 0} (view : S → SeatView) (seats : List S) (gives : ℕ → 
     one = record { moments = tt; routers = tt; links = tt; numbers = tt };
     put = λ told. sym (ap (λ (l : List ToLink). held ++ bytes_of l) (since_none first first refl) ∙ append-nil held);
     asked = record { all = refl; each = tt };
-    kept = kept_at fault view seats s.end s.nodes;
+    kept = kept_at fault view hosts s.end s.nodes;
     last = s.last;
     is_last = last_by fault s.end s.last (λ e. BeginWith (s.events ++ e ∷ []) (openings 0 count))
         (λ w. Came first gives router [] [] first w) s.up_to
@@ -156,8 +156,8 @@ round_run u next r events w round =
 
 -- ONE REQUEST
 
-module _ {S : Type 0} (view : S → SeatView) (seats seats_after : List S) (before : NetworkView) (gives : ℕ → Type 0) (router : ℕ) (first : World) (tells : Bool) (noted : List Noted)
-    (held_before held consumed : List ℕ) (replied : ℕ) (s : Serving view seats before gives router first tells noted held_before held consumed replied)
+module _ {S : Type 0} (view : S → SeatView) (hosts hosts_after : Hosted S) (before : NetworkView) (gives : ℕ → Type 0) (router : ℕ) (first : World) (tells : Bool) (noted : List Noted)
+    (held_before held consumed : List ℕ) (replied : ℕ) (s : Serving view hosts before gives router first tells noted held_before held consumed replied)
     (moment : ℕ) (number : ℤ) (asked q : Request) (given : gives moment) (numbered : number ≡ number_behind replied) (same : asked ≡ q) (is : IsRequest q) where
   numbered_behind : number ≡ number_behind (replies_behind 0 (requests_of s.rounds))
   numbered_behind = numbered ∙ ap (λ (n : ℕ). number_behind n) s.count
@@ -186,8 +186,8 @@ module _ {S : Type 0} (view : S → SeatView) (seats seats_after : List S) (befo
 
   -- a step failed
   pub cut_in_round : (count : ℕ) (replies : List ToLink) (fault : StepFault) → count ≡ length s.world.nodes
-      → HasStopped view seats_after replies (puts_given s.world.answered) s.world (IsPart count (round_of router moment number asked)) fault
-      → CutShort view seats_after gives router first tells noted held_before held (consumed ++ q.bytes) (status_for fault)
+      → HasStopped view hosts_after replies (puts_given s.world.answered) s.world (IsPart count (round_of router moment number asked)) fault
+      → CutShort view hosts_after gives router first tells noted held_before held (consumed ++ q.bytes) (status_for fault)
   cut_in_round count replies fault as_many h = record {
     rounds = s.rounds;
     under_way = q ∷ [];
@@ -198,7 +198,7 @@ module _ {S : Type 0} (view : S → SeatView) (seats seats_after : List S) (befo
     one = s.one;
     put = s.put;
     asked = asked_then;
-    kept = kept_at fault view seats_after h.end h.nodes;
+    kept = kept_at fault view hosts_after h.end h.nodes;
     last = h.last;
     is_last = last_by fault h.end h.last (λ e. IsPart count (round_of router moment number asked) (h.events ++ e ∷ []))
         (λ w. Came first gives router s.rounds (q ∷ []) s.world w) h.up_to
@@ -210,7 +210,7 @@ module _ {S : Type 0} (view : S → SeatView) (seats seats_after : List S) (befo
   }
 
   -- the replies of a round are written after one note more of all disks
-  module _ (network : NetworkView) (h : HasServed view seats_after network (puts_given s.world.answered) s.world s.next (round_of router moment number asked))
+  module _ (network : NetworkView) (h : HasServed view hosts_after network (puts_given s.world.answered) s.world s.next (round_of router moment number asked))
       (moments : List ℕ) (told : IsTrue tells) where
     round_from : LeadsTo first s.world
     round_from = (s.events, pipes_run first s.rounds s.events s.world s.next s.pipes)
@@ -233,7 +233,7 @@ module _ {S : Type 0} (view : S → SeatView) (seats seats_after : List S) (befo
         (leads_on first s.world h.end round_from round_on) round_on round_few
 
   module _ {M : Type 0} (letter : M → Letter) (old new : Network M) (after_view : S → SeatView) (noted_after : List Noted)
-      (h : HasServed after_view seats_after (network_view letter old) (puts_given s.world.answered) s.world s.next (round_of router moment number asked))
+      (h : HasServed after_view hosts_after (network_view letter old) (puts_given s.world.answered) s.world s.next (round_of router moment number asked))
       (waits : new.waiting.items ≡ old.waiting.items) (none : new.replies.items ≡ [])
       (covers : IsTrue tells → AreCovered (all_replies first) first noted_after held_before (bytes_of (puts_since first s.world)
       ++ bytes_of old.replies.items) h.end) where
@@ -247,7 +247,7 @@ module _ {S : Type 0} (view : S → SeatView) (seats seats_after : List S) (befo
 
     -- all replies of the round were put
     pub served_one : (held' : List ℕ) (after : ℕ) → Put tells held (bytes_of old.replies.items) held' → after ≡ replies_after q.more replied
-        → Serving after_view seats_after (network_view letter new) gives router first tells noted_after held_before held' (consumed ++ q.bytes) after
+        → Serving after_view hosts_after (network_view letter new) gives router first tells noted_after held_before held' (consumed ++ q.bytes) after
     served_one held' after put counted = record {
       rounds = s.rounds ++ round_of router moment number asked ∷ [];
       events = s.events ++ h.events;
@@ -256,8 +256,8 @@ module _ {S : Type 0} (view : S → SeatView) (seats seats_after : List S) (befo
       begins = s.begins;
       pipes = serves s.rounds (round_of router moment number asked) s.events h.events s.world h.end s.next s.pipes h.round;
       one = rounds_one;
-      stands = subst (λ (l : List ToLink). StandsFor after_view seats_after (network_view letter new) l h.end (length h.end.sent)) (sym puts_are)
-          (handed_on after_view letter seats_after (puts_given s.world.answered) h.end (length h.end.sent) old new h.stands waits none);
+      stands = subst (λ (l : List ToLink). StandsFor after_view hosts_after (network_view letter new) l h.end (length h.end.sent)) (sym puts_are)
+          (handed_on after_view letter hosts_after (puts_given s.world.answered) h.end (length h.end.sent) old new h.stands waits none);
       put = subst (λ (b : List ℕ). Put tells held_before b held') (sym bytes_are)
           (put_then tells held_before (bytes_of (puts_since first s.world)) held (bytes_of old.replies.items) held' s.put put);
       asked = asked_rounds;
@@ -270,7 +270,7 @@ module _ {S : Type 0} (view : S → SeatView) (seats seats_after : List S) (befo
 
     -- a prefix of them was put
     pub put_short : (held' : List ℕ) → PutInPart tells held (bytes_of old.replies.items) held'
-        → PutShort after_view seats_after gives router first tells noted_after held_before held' (consumed ++ q.bytes)
+        → PutShort after_view hosts_after gives router first tells noted_after held_before held' (consumed ++ q.bytes)
     put_short held' (part, (others, prefix), put) = record {
       earlier = s.rounds;
       last = round_of router moment number asked;
@@ -291,7 +291,7 @@ module _ {S : Type 0} (view : S → SeatView) (seats seats_after : List S) (befo
       );
       put = put_then tells held_before (bytes_of (puts_since first s.world)) held part held' s.put put;
       asked = asked_rounds;
-      kept = held_kept after_view seats_after h.end.nodes h.stands.nodes;
+      kept = held_kept after_view hosts_after.seats h.end.nodes h.stands.nodes;
       crashes = h.stands.crashes;
       covered = λ told. covered_part (all_replies first) first held_before noted_after (bytes_of (puts_since first s.world) ++ part)
           (bytes_of (puts_since first s.world) ++ bytes_of old.replies.items) h.end (

@@ -14,7 +14,7 @@ use Rattle.pipe_driver.specs.Pieces.{IsPrefix}
 
 -- A disk, that of the node at a place, was noted when the sink held no more than so many bytes. A crash at any moment from the noted one to now left a
 -- file in which an opening finds what the node kept in the given world or in a later one, up to the last: nothing that it kept by then is lost.
-pub record IsNotedBefore {D : Type 0} (finds : List ℕ → List (List ℕ) → Type 0) (place : D → List ℕ) (moment : D → ℕ) (left_since : D → ℕ → Outcomes)
+pub record IsNotedBefore {D : Type 0} (finds : List ℕ → List (List ℕ) → Type 0) (place : D → List ℕ) (moment : D → ℕ) (left_at : D → ℕ → Outcomes)
     (notes : List Note) (length : ℕ) (given last : World) (at : ℕ) (disk : D) : Type 0 where
   pub which : ℕ
   pub note : Note
@@ -22,11 +22,12 @@ pub record IsNotedBefore {D : Type 0} (finds : List ℕ → List (List ℕ) → 
   pub is_there : note.place ≡ place disk
   pub before : note.length ≤ length
   pub later : note.moment ≤ moment disk
-  pub left : (file : List ℕ) → left_since disk note.moment file → Passes given last (λ v. finds file (spellings (journal_at v.nodes at)))
+  pub left : (t : ℕ) (file : List ℕ) → note.moment ≤ t → t ≤ moment disk → left_at disk t file
+      → Passes given last (λ v. finds file (spellings (journal_at v.nodes at)))
 
 -- The byte at an offset of what was written is acknowledged: in a world on the way of the run all bytes up to it were given, and each disk was noted
 -- before it was written, at a moment from which on the file after a crash has no less than what its node stores in that world.
-pub record IsAcknowledged {D : Type 0} (finds : List ℕ → List (List ℕ) → Type 0) (place : D → List ℕ) (moment : D → ℕ) (left_since : D → ℕ → Outcomes)
+pub record IsAcknowledged {D : Type 0} (finds : List ℕ → List (List ℕ) → Type 0) (place : D → List ℕ) (moment : D → ℕ) (left_at : D → ℕ → Outcomes)
     (output : World → List ℕ → Type 0) (start : World) (notes : List Note) (held_before : List ℕ) (disks : List D) (last : World) (put : List ℕ)
     (offset : ℕ) : Type 0 where
   pub given : World
@@ -36,14 +37,14 @@ pub record IsAcknowledged {D : Type 0} (finds : List ℕ → List (List ℕ) →
   pub outputs : output given out
   pub has : IsPrefix (take (offset + 1) put) out
   pub each : (at : ℕ) (disk : D) → slice_get disks at ≡ Some disk
-      → IsNotedBefore finds place moment left_since notes (length held_before + offset) given last at disk
+      → IsNotedBefore finds place moment left_at notes (length held_before + offset) given last at disk
 
 -- so is each byte, where the bytes of the sink and the files of the disks are observable
 abbrev pub AreAcknowledged : {D : Type 0} → (tells_bytes tells_files : Bool) → (List ℕ → List (List ℕ) → Type 0) → (D → List ℕ) → (D → ℕ)
     → (D → ℕ → Outcomes) → (World → List ℕ → Type 0) → World → List Note → List ℕ → List D → World → List ℕ → Type 0
-AreAcknowledged tells_bytes tells_files finds place moment left_since output start notes held_before disks last put =
+AreAcknowledged tells_bytes tells_files finds place moment left_at output start notes held_before disks last put =
     IsTrue tells_bytes → IsTrue tells_files → (offset : ℕ) → offset < length put
-    → IsAcknowledged finds place moment left_since output start notes held_before disks last put offset
+    → IsAcknowledged finds place moment left_at output start notes held_before disks last put offset
 
 -- WHILE A DRIVER RUNS
 
@@ -80,4 +81,4 @@ abbrev pub AreAcknowledgedBy : {N L : Type 0} → LogFacts L → (tells_bytes : 
     → World → List ℕ → Type 0
 AreAcknowledgedBy {N} {L} facts tells_bytes output start notes held_before seats last put =
     AreAcknowledged tells_bytes facts.tells facts.finds (λ (s : Seat N L). facts.place s.log) (λ (s : Seat N L). facts.moment s.log)
-    (λ (s : Seat N L). facts.left_since s.log) output start notes held_before seats last put
+    (λ (s : Seat N L). facts.left_at s.log) output start notes held_before seats last put

@@ -9,7 +9,7 @@ use Rattle.node_model.specs.World.{World, Event}
 use Rattle.node_model.specs.Schedule.{Round, IsRound, Pipes}
 use Rattle.node_progress.specs.Firsts.{IsFirst}
 use Rattle.driver_steps.specs.Crashes.{Noted}
-use Rattle.driver_steps.specs.Seats.{SeatView, AreKept, LeaveKept}
+use Rattle.driver_steps.specs.Seats.{Hosted, SeatView, AreKept, LeaveKept}
 use Rattle.driver_steps.specs.Worlds.{NetworkView, StandsFor, puts_given}
 use Rattle.pipe_driver.specs.Acknowledgements.{AreCovered}
 use Rattle.pipe_driver.specs.Pieces.{IsPrefix}
@@ -31,7 +31,7 @@ abbrev pub all_replies : (first w : World) → List ℕ → Type 0
 all_replies first w out = out ≡ bytes_of (puts_since first w)
 
 -- These bytes were served, in whole rounds: nodes, logs and messages are those of the world after them, and all replies were put.
-pub record Serving {S : Type 0} (view : S → SeatView) (seats : List S) (network : NetworkView) (gives : ℕ → Type 0) (router : ℕ) (first : World) (tells : Bool) (noted : List Noted)
+pub record Serving {S : Type 0} (view : S → SeatView) (hosted : Hosted S) (network : NetworkView) (gives : ℕ → Type 0) (router : ℕ) (first : World) (tells : Bool) (noted : List Noted)
     (held_before held consumed : List ℕ) (replied : ℕ) : Type 0 where
   pub rounds : List Round
   pub events : List Event
@@ -40,14 +40,14 @@ pub record Serving {S : Type 0} (view : S → SeatView) (seats : List S) (networ
   pub begins : IsFirst first
   pub pipes : Pipes first rounds events world next
   pub one : AreOfOne gives router rounds
-  pub stands : StandsFor view seats network (puts_given world.answered) world next
+  pub stands : StandsFor view hosted network (puts_given world.answered) world next
   pub put : Put tells held_before (bytes_of (puts_since first world)) held
   pub asked : AreAsked consumed (requests_of rounds)
   pub count : replied ≡ replies_behind 0 (requests_of rounds)
   pub covered : IsTrue tells → AreCovered (all_replies first) first noted held_before (bytes_of (puts_since first world)) world
 
 -- These bytes were served, the last request of them maybe in part: all replies of whole rounds were put.
-pub record CutShort {S : Type 0} (view : S → SeatView) (seats : List S) (gives : ℕ → Type 0) (router : ℕ) (first : World) (tells : Bool) (noted : List Noted)
+pub record CutShort {S : Type 0} (view : S → SeatView) (hosted : Hosted S) (gives : ℕ → Type 0) (router : ℕ) (first : World) (tells : Bool) (noted : List Noted)
     (held_before held consumed : List ℕ) (status : Status) : Type 0 where
   pub rounds : List Round
   pub under_way : List Request
@@ -57,14 +57,14 @@ pub record CutShort {S : Type 0} (view : S → SeatView) (seats : List S) (gives
   pub one : AreOfOne gives router rounds
   pub put : Put tells held_before (bytes_of (puts_since first whole)) held
   pub asked : AreAsked consumed (requests_of rounds ++ under_way)
-  pub kept : AreKept view seats end.nodes
+  pub kept : AreKept view hosted.seats end.nodes
   pub last : World
   pub is_last : IsLast status (λ w. Came first gives router rounds under_way whole w) end last
-  pub crashes : LeaveKept view seats last
+  pub crashes : LeaveKept view hosted last
   pub covered : IsTrue tells → AreCovered (all_replies first) first noted held_before (bytes_of (puts_since first whole)) last
 
 -- These bytes were served, in whole rounds: of the replies of the last one a prefix was put, and all others.
-pub record PutShort {S : Type 0} (view : S → SeatView) (seats : List S) (gives : ℕ → Type 0) (router : ℕ) (first : World) (tells : Bool) (noted : List Noted)
+pub record PutShort {S : Type 0} (view : S → SeatView) (hosted : Hosted S) (gives : ℕ → Type 0) (router : ℕ) (first : World) (tells : Bool) (noted : List Noted)
     (held_before held consumed : List ℕ) : Type 0 where
   pub earlier : List Round
   pub last : Round
@@ -81,6 +81,6 @@ pub record PutShort {S : Type 0} (view : S → SeatView) (seats : List S) (gives
   pub in_part : IsPrefix part (bytes_of (puts_since first end))
   pub put : Put tells held_before part held
   pub asked : AreAsked consumed (requests_of (earlier ++ last ∷ []))
-  pub kept : AreKept view seats end.nodes
-  pub crashes : LeaveKept view seats end
+  pub kept : AreKept view hosted.seats end.nodes
+  pub crashes : LeaveKept view hosted end
   pub covered : IsTrue tells → AreCovered (all_replies first) first noted held_before part end

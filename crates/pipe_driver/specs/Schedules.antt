@@ -6,7 +6,7 @@ use Rattle.node_model.specs.World.{World, IsRouter, Event, client_event, Happens
 use Rattle.node_model.specs.Schedule.{openings, moments_given, Round, IsRound, Pipes}
 use Rattle.node_progress.specs.Firsts.{IsFirst}
 use Rattle.node_traits.specs.declared.outputs.ToLink.{ToLink}
-use Rattle.driver_steps.specs.Seats.{SeatView}
+use Rattle.driver_steps.specs.Seats.{Hosted, SeatView}
 use Rattle.driver_steps.specs.Worlds.{NetworkView, StandsFor}
 use Rattle.driver_steps.specs.Moves.{BeginWith, AreDeliveries}
 use Rattle.pipe_driver.specs.Rounds.{first_link, number_behind, replies_behind, requests_of}
@@ -29,12 +29,12 @@ pub data IsPart (count : ℕ) (r : Round) : List Event → Type 0 where
       → IsPart count r (moments_given 0 count r.moment ++ client_event r.at r.link r.number r.request ∷ deliveries)
 
 -- The round happened: nodes and logs, messages and replies are those of the world after it.
-pub record HasServed {S : Type 0} (view : S → SeatView) (seats : List S) (network : NetworkView) (handed : List ToLink) (before : World) (next : ℕ)
+pub record HasServed {S : Type 0} (view : S → SeatView) (hosted : Hosted S) (network : NetworkView) (handed : List ToLink) (before : World) (next : ℕ)
     (r : Round) : Type 0 where
   pub events : List Event
   pub end : World
   pub round : IsRound before next r events end
-  pub stands : StandsFor view seats network handed end (length end.sent)
+  pub stands : StandsFor view hosted network handed end (length end.sent)
 
 -- From the first world the schedule came to an end of rounds, to the world after them (`whole`), and then to the last one (`end`), with no request under way, or with one.
 pub data Came (first : World) (gives : ℕ → Type 0) (router : ℕ) : (rounds : List Round) → (under_way : List Request) → (whole end : World) → Type 0 where

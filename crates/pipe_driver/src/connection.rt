@@ -4,7 +4,8 @@ ghost use Rattle.std.specs.Prelude.{◌≡◌, ◌≢◌, ℕ, ◌<◌, ◌≤�
 ghost use Rattle.outside.specs.Devices.{sink_call, source_call};
 ghost use Rattle.node_model.specs.World.{World};
 ghost use Rattle.driver_steps.specs.Crashes.{Since, with_notes};
-ghost use Rattle.driver_steps.specs.Seats.{AreHeld, AreKept, AreOpen, LeaveKept, faults_of, places_of, seat_since, seat_view, since_then};
+ghost use Rattle.driver_steps.specs.Seats.{AreHeld, AreKept, AreOpen, LeaveKept, faults_of, places_of, seat_since, seat_view, since_noted, since_then};
+ghost use Rattle.driver_steps.specs.Together.{hosted};
 ghost use Rattle.driver_steps.specs.Worlds.{network_view};
 ghost use Rattle.pipe_driver.specs.Acknowledgements.{AreAcknowledgedBy, AreCovered, AreNoted, WithNotes};
 ghost use Rattle.pipe_driver.specs.Counts.{HaveRisenWhere, RoseWhere};
@@ -17,7 +18,7 @@ use crate::requests::answer_all;
 use crate::rest::unframed;
 use crate::status::Status;
 use crate::streams::{PIECE, new_piece, take_more};
-use driver_steps::{Network, Seat, open_all};
+use driver_steps::{Network, Seat, note_cut, open_all};
 use node_traits::Node;
 use opmsg_frames::{Framer, Request};
 use outside::clock::Clock;
@@ -75,7 +76,8 @@ pub fn pipe<
         AreHeld (seat_view N.state L.facts) seats.old.items first.nodes →
         IsPiped (source_call S.tells S.left S.fault_count input.old input.new) (sink_call K.tells K.held K.fault_count out.old out.new)
         (C.gives clock.now) router (AreKept (seat_view N.state L.facts) seats.new.items)
-        (LeaveKept (seat_since N.state L.facts (since_then seats.old.items first)) seats.new.items)
+        (LeaveKept (seat_since N.state L.facts (since_then seats.old.items first))
+        (hosted K.tells L.facts (since_noted seats.old.items first (K.noted out.old)) (K.noted out.new) seats.new.items))
         (AreAcknowledgedBy L.facts K.tells (all_replies first) first (K.noted out.new) (K.held out.old) seats.new.items)
         first limit result.status result.rest }
 
@@ -91,7 +93,8 @@ pub fn pipe<
     ensures places { places_of L.facts.place seats.new.items ≡ places_of L.facts.place seats.old.items }
 {
     let mut network = Network::new(alloc);
-    match open_all(seats, &mut network) {
+    note_cut(out, seats);
+    match open_all(seats, out, &mut network) {
         Ok(()) => serve(rt, alloc, input, out, seats, network, clock, router, limit),
         Err(e) => ended(Status::of(e), 0),
     }
@@ -120,13 +123,13 @@ fn serve<
     requires open { AreOpen L.facts.is_open seats.old.items }
     requires limit { limit ≤ most_taken }
     ensures piped { AreAskedAsRead N.asks → (since : Since L) (first : World) → MayServe first router →
-        Serving (seat_since N.state L.facts since) seats.old.items (network_view (λ m. N.Mail.letter m) network)
+        Serving (seat_since N.state L.facts since) (hosted K.tells L.facts since (K.noted out.old) seats.old.items) (network_view (λ m. N.Mail.letter m) network)
         (C.gives clock.now) router first K.tells since.noted (K.held out.old) (K.held out.old) [] 0 →
         AreNoted K.tells (K.noted out.old) (places_of L.facts.place seats.old.items) since.noted →
         WithNotes K.tells (K.noted out.new) (places_of L.facts.place seats.new.items)
         (λ noted. IsPiped (source_call S.tells S.left S.fault_count input.old input.new) (sink_call K.tells K.held K.fault_count out.old out.new)
         (C.gives clock.now) router (AreKept (seat_since N.state L.facts (with_notes since noted)) seats.new.items)
-        (LeaveKept (seat_since N.state L.facts (with_notes since noted)) seats.new.items)
+        (LeaveKept (seat_since N.state L.facts (with_notes since noted)) (hosted K.tells L.facts since (K.noted out.new) seats.new.items))
         (λ last put. IsTrue K.tells → AreCovered (all_replies first) first noted (K.held out.old) put last) first limit
         result.status result.rest) }
     ensures open { result.status ≢ statuses.DiskFailed → AreOpen L.facts.is_open seats.new.items }

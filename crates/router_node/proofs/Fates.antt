@@ -1,5 +1,5 @@
 -- The transitions for messages that answer an open request.
-use Rattle.std.proofs.Common.{◌≡◌, ◌≢◌, refl, sym, subst, ℕ, ◌<◌, ◌≤◌, List, [], ◌∷◌, Bool, true, false, if◌then◌else◌}
+use Rattle.std.proofs.Common.{◌≡◌, ◌≢◌, refl, sym, subst, ℕ, ◌<◌, ◌≤◌, ◌⊎◌, List, [], ◌∷◌, Bool, true, false, if◌then◌else◌}
 use Rattle.std.specs.Prelude.{Some, None, Result}
 use Rattle.bson_model.specs.Tree.{Datum}
 use Rattle.command_model.specs.Answers.{changed_answer, refusal_answer}
@@ -9,7 +9,7 @@ use Rattle.node_model.specs.Letters as letters
 use Rattle.node_model.specs.Letters.{Letter, HalfFault, letter_input, split_done, write_done, read_rows, time_told, nothing, sends}
 use Rattle.reply_model.specs.Outcomes.{Done, answer_of}
 use Rattle.base_model.specs.Refusals.{time_ahead, without_evidence}
-use Rattle.node_model.specs.RouterRows.{router_split, router_not_sharded, router_reach, router_hear, router_ahead, router_note, router_wrote, heard, knows, open_of, reply_to, noted, is_answered, reached, asks_for, going_on, answers_now, with_work, IsLate, IsNoRead, IsNotAwaited, IsNoSplit, AreNoNews, also_told, shards_of, untold, with_told}
+use Rattle.node_model.specs.RouterRows.{router_split, router_not_sharded, router_reach, router_hear, router_ahead, router_note, router_part, router_wrote, also_part, awaited, is_target, heard, knows, open_of, reply_to, noted, is_answered, reached, asks_for, going_on, answers_now, with_work, IsLate, IsNoRead, IsNotAwaited, IsNoSplit, AreNoNews, also_told, shards_of, untold, with_part, with_told}
 use Rattle.node_model.specs.States.{Telling, Open, Router, Work, for_time, reading, writing, splitting, without, replaced}
 use Rattle.pipeline_model.specs.Halves.{Rows}
 use Rattle.pipeline_model.specs.Stages.{Stage}
@@ -19,35 +19,35 @@ use Rattle.node_traits.specs.declared.outputs.ToLink.{ToLink}
 use Rattle.router_node.specs.Rows.{TookRow}
 
 -- no request is open under it
-pub rows_of_none : (r : Router) (m : Letter) (id : RequestId) (turn : ℕ) (rows : Result Rows HalfFault) → m.body ≡ read_rows id turn rows → open_of r id ≡ None → IsLate r m.body
-rows_of_none r m id turn rows is none = subst (λ b. IsLate r b) (sym is) (subst (λ o. IsNoRead o turn) (sym none) tt)
+pub rows_of_none : (r : Router) (m : Letter) (id : RequestId) (turn : ℕ) (rows : Result Rows HalfFault) → m.body ≡ read_rows id turn rows → open_of r id ≡ None → IsLate r m.sender m.body
+rows_of_none r m id turn rows is none = subst (λ b. IsLate r m.sender b) (sym is) (subst (λ o. IsNoRead o m.sender turn) (sym none) tt)
 
-pub time_of_none : (r : Router) (m : Letter) (id : RequestId) → m.body ≡ time_told id → open_of r id ≡ None → IsLate r m.body
-time_of_none r m id is none = subst (λ b. IsLate r b) (sym is) (subst (λ o. IsNotAwaited o) (sym none) tt)
+pub time_of_none : (r : Router) (m : Letter) (id : RequestId) → m.body ≡ time_told id → open_of r id ≡ None → IsLate r m.sender m.body
+time_of_none r m id is none = subst (λ b. IsLate r m.sender b) (sym is) (subst (λ o. IsNotAwaited o) (sym none) tt)
 
-pub dones_of_none : (r : Router) (m : Letter) (id : RequestId) (dones : List Done) → m.body ≡ write_done id dones → open_of r id ≡ None → IsLate r m.body
-dones_of_none r m id dones is none = subst (λ b. IsLate r b) (sym is) (subst (λ o. AreNoNews o dones) (sym none) tt)
+pub dones_of_none : (r : Router) (m : Letter) (id : RequestId) (dones : List Done) → m.body ≡ write_done id dones → open_of r id ≡ None → IsLate r m.sender m.body
+dones_of_none r m id dones is none = subst (λ b. IsLate r m.sender b) (sym is) (subst (λ o. AreNoNews o dones) (sym none) tt)
 
-pub split_of_none : (r : Router) (m : Letter) (id : RequestId) (found : Bool) → m.body ≡ split_done id found → open_of r id ≡ None → IsLate r m.body
-split_of_none r m id found is none = subst (λ b. IsLate r b) (sym is) (subst (λ o. IsNoSplit o) (sym none) tt)
+pub split_of_none : (r : Router) (m : Letter) (id : RequestId) (found : Bool) → m.body ≡ split_done id found → open_of r id ≡ None → IsLate r m.sender m.body
+split_of_none r m id found is none = subst (λ b. IsLate r m.sender b) (sym is) (subst (λ o. IsNoSplit o) (sym none) tt)
 
 module _ (r : Router) (m : Letter) (id : RequestId) (q : Open) (opened : open_of r id ≡ Some q) where
   -- the open request has work of another kind
-  pub rows_late : (turn : ℕ) (rows : Result Rows HalfFault) (work : Work) → m.body ≡ read_rows id turn rows → q.work ≡ work → IsNoRead (Some (with_work q q.wait work)) turn → IsLate r m.body
+  pub rows_late : (turn : ℕ) (rows : Result Rows HalfFault) (work : Work) → m.body ≡ read_rows id turn rows → q.work ≡ work → IsNoRead (Some (with_work q q.wait q.targets work)) m.sender turn → IsLate r m.sender m.body
   rows_late turn rows work is has other =
-      subst (λ b. IsLate r b) (sym is) (subst (λ o. IsNoRead o turn) (sym opened) (subst (λ (w : Work). IsNoRead (Some (with_work q q.wait w)) turn) (sym has) other))
+      subst (λ b. IsLate r m.sender b) (sym is) (subst (λ o. IsNoRead o m.sender turn) (sym opened) (subst (λ (w : Work). IsNoRead (Some (with_work q q.wait q.targets w)) m.sender turn) (sym has) other))
 
-  pub dones_late : (dones : List Done) (work : Work) → m.body ≡ write_done id dones → q.work ≡ work → AreNoNews (Some (with_work q q.wait work)) dones → IsLate r m.body
+  pub dones_late : (dones : List Done) (work : Work) → m.body ≡ write_done id dones → q.work ≡ work → AreNoNews (Some (with_work q q.wait q.targets work)) dones → IsLate r m.sender m.body
   dones_late dones work is has other =
-      subst (λ b. IsLate r b) (sym is) (subst (λ o. AreNoNews o dones) (sym opened) (subst (λ (w : Work). AreNoNews (Some (with_work q q.wait w)) dones) (sym has) other))
+      subst (λ b. IsLate r m.sender b) (sym is) (subst (λ o. AreNoNews o dones) (sym opened) (subst (λ (w : Work). AreNoNews (Some (with_work q q.wait q.targets w)) dones) (sym has) other))
 
-  pub time_late : (work : Work) → m.body ≡ time_told id → q.work ≡ work → IsNotAwaited (Some (with_work q q.wait work)) → IsLate r m.body
+  pub time_late : (work : Work) → m.body ≡ time_told id → q.work ≡ work → IsNotAwaited (Some (with_work q q.wait q.targets work)) → IsLate r m.sender m.body
   time_late work is has other =
-      subst (λ b. IsLate r b) (sym is) (subst (λ o. IsNotAwaited o) (sym opened) (subst (λ (w : Work). IsNotAwaited (Some (with_work q q.wait w))) (sym has) other))
+      subst (λ b. IsLate r m.sender b) (sym is) (subst (λ o. IsNotAwaited o) (sym opened) (subst (λ (w : Work). IsNotAwaited (Some (with_work q q.wait q.targets w))) (sym has) other))
 
-  pub split_late : (found : Bool) (work : Work) → m.body ≡ split_done id found → q.work ≡ work → IsNoSplit (Some (with_work q q.wait work)) → IsLate r m.body
+  pub split_late : (found : Bool) (work : Work) → m.body ≡ split_done id found → q.work ≡ work → IsNoSplit (Some (with_work q q.wait q.targets work)) → IsLate r m.sender m.body
   split_late found work is has other =
-      subst (λ b. IsLate r b) (sym is) (subst (λ o. IsNoSplit o) (sym opened) (subst (λ (w : Work). IsNoSplit (Some (with_work q q.wait w))) (sym has) other))
+      subst (λ b. IsLate r m.sender b) (sym is) (subst (λ o. IsNoSplit o) (sym opened) (subst (λ (w : Work). IsNoSplit (Some (with_work q q.wait q.targets w))) (sym has) other))
 
   -- a chunk was split, or there is no such collection
   pub split_told : (found : Bool) (middle : Datum) (replies : List ToLink) → m.body ≡ split_done id found → q.work ≡ splitting middle
@@ -69,19 +69,20 @@ module _ (r : Router) (m : Letter) (id : RequestId) (q : Open) (opened : open_of
   }
 
   pub rows_of_write : (turn : ℕ) (rows : Result Rows HalfFault) (kind : WriteKind) (ordered : Bool) (statements : List letters.Statement) (answers : List Done) → m.body ≡ read_rows id turn rows
-      → q.work ≡ writing kind ordered statements answers → IsLate r m.body
+      → q.work ≡ writing kind ordered statements answers → IsLate r m.sender m.body
   rows_of_write turn rows kind ordered statements answers is work = rows_late turn rows (writing kind ordered statements answers) is work tt
 
-  pub rows_of_turn : (turn : ℕ) (rows : Result Rows HalfFault) (named : Bool) (at : ℕ) (stages : List Stage) (telling : Telling) → m.body ≡ read_rows id turn rows → q.work ≡ reading named at stages telling → turn ≢ 1 → IsLate r m.body
+  pub rows_of_turn : (turn : ℕ) (rows : Result Rows HalfFault) (named : Bool) (at : ℕ) (stages : List Stage) (telling : Telling) → m.body ≡ read_rows id turn rows → q.work ≡ reading named at stages telling
+      → (turn ≢ 1) ⊎ (is_target m.sender q.targets ≡ false) → IsLate r m.sender m.body
   rows_of_turn turn rows named at stages telling is work other = rows_late turn rows (reading named at stages telling) is work other
 
-  pub dones_of_read : (dones : List Done) (named : Bool) (at : ℕ) (stages : List Stage) (telling : Telling) → m.body ≡ write_done id dones → q.work ≡ reading named at stages telling → IsLate r m.body
+  pub dones_of_read : (dones : List Done) (named : Bool) (at : ℕ) (stages : List Stage) (telling : Telling) → m.body ≡ write_done id dones → q.work ≡ reading named at stages telling → IsLate r m.sender m.body
   dones_of_read dones named at stages telling is work = dones_late dones (reading named at stages telling) is work tt
 
-  pub time_of_write : (kind : WriteKind) (ordered : Bool) (statements : List letters.Statement) (answers : List Done) → m.body ≡ time_told id → q.work ≡ writing kind ordered statements answers → IsLate r m.body
+  pub time_of_write : (kind : WriteKind) (ordered : Bool) (statements : List letters.Statement) (answers : List Done) → m.body ≡ time_told id → q.work ≡ writing kind ordered statements answers → IsLate r m.sender m.body
   time_of_write kind ordered statements answers is work = time_late (writing kind ordered statements answers) is work tt
 
-  pub time_not_awaited : (named : Bool) (at : ℕ) (stages : List Stage) (telling : Telling) → m.body ≡ time_told id → q.work ≡ reading named at stages telling → q.wait ≢ for_time → IsLate r m.body
+  pub time_not_awaited : (named : Bool) (at : ℕ) (stages : List Stage) (telling : Telling) → m.body ≡ time_told id → q.work ≡ reading named at stages telling → q.wait ≢ for_time → IsLate r m.sender m.body
   time_not_awaited named at stages telling is work other = time_late (reading named at stages telling) is work other
 
   pub time_ahead_told : (named : Bool) (at : ℕ) (stages : List Stage) (telling : Telling) (replies : List ToLink) → m.body ≡ time_told id → q.work ≡ reading named at stages telling → q.wait ≡ for_time → heard r m < at
@@ -94,6 +95,18 @@ module _ (r : Router) (m : Letter) (id : RequestId) (q : Open) (opened : open_of
     written = refl;
     sent = refl;
     told = told;
+  }
+
+  -- others have not returned their parts
+  pub rows_gained : (rows : Result Rows HalfFault) (named : Bool) (at : ℕ) (stages : List Stage) (telling : Telling) → m.body ≡ read_rows id 1 rows → q.work ≡ reading named at stages telling
+      → is_target m.sender q.targets ≡ true → awaited q.targets (also_part q.parts m.sender rows) ≢ []
+      → TookRow r (letter_input m) [] [] (knows r (heard r m) r.tables (replaced (with_part q m.sender rows) r.requests))
+  rows_gained rows named at stages telling is work sent some = record {
+    effect = nothing;
+    row = router_part r m id rows q named at stages telling is opened work sent some;
+    written = refl;
+    sent = refl;
+    told = refl;
   }
 
   -- others have not returned their time
@@ -122,7 +135,7 @@ module _ (r : Router) (m : Letter) (id : RequestId) (q : Open) (opened : open_of
       })
 
   module _ (dones : List Done) (kind : WriteKind) (ordered : Bool) (statements : List letters.Statement) (answers : List Done) (is : m.body ≡ write_done id dones) (work : q.work ≡ writing kind ordered statements answers) where
-    pub dones_no_news : noted answers dones ≡ answers → IsLate r m.body
+    pub dones_no_news : noted answers dones ≡ answers → IsLate r m.sender m.body
     dones_no_news same = dones_late dones (writing kind ordered statements answers) is work same
 
     pub dones_wrote : (replies : List ToLink) → noted answers dones ≢ answers → is_answered ordered statements (noted answers dones) ≡ true

@@ -1,16 +1,21 @@
 -- The plan for a message is a transition.
 use Rattle.std.proofs.Common.{Global, ◌≡◌, refl, ap, sym, subst, ◌∙◌, ℕ, List, [], map, Bool, true, false, if◌then◌else◌}
-use Rattle.std.specs.Prelude.{Option, Some, None}
+use Rattle.std.specs.Prelude.{Option, Some, None, Result}
 use Rattle.base_model.specs.Identities.{RequestId, same_request}
 use Rattle.node_model.specs.Letters as letters
 use Rattle.node_model.specs.Letters.{Letter, Input, letter_input, nothing, Effect}
 use Rattle.reply_model.specs.Outcomes.{Done}
-use Rattle.node_model.specs.RouterRows.{heard, knows, open_of, id_of, reached, with_work, router_late, IsLate, RouterRow}
+use Rattle.node_model.specs.RouterRows.{heard, knows, open_of, id_of, reached, with_part, with_work, router_late, IsLate, RouterRow}
 use Rattle.node_model.specs.States.{Open, Router, Work, writing, reading, sharding, splitting, open_with, replaced}
 use Rattle.command_model.specs.Writes.{WriteKind}
 use Rattle.node_traits.specs.Effects.{AreReadable, puts_of, spellings}
 use Rattle.node_traits.specs.declared.outputs.ToLink.{ToLink}
 use Rattle.cluster_base.specs.declared.identity.NodeId.{NodeId}
+use Rattle.pipeline_eval.specs.declared.rows.Rows.{Rows}
+use Rattle.protocol_model.specs.Bodies.{rows_view}
+use Rattle.protocol_model.specs.declared.reads.HalfFault.{HalfFault}
+use Rattle.read_parts.specs.Parts.{target_view}
+use Rattle.read_parts.specs.declared.parts.Target.{Target}
 use Rattle.router_requests.specs.Works.{numbers_of, told_by, wait_view}
 use Rattle.router_requests.specs.declared.work.Wait.{Wait}
 use Rattle.protocol_model.specs.Statements.{done_view}
@@ -19,7 +24,7 @@ use Rattle.std.specs.declared.vec.Vec.{Vec}
 use Rattle.router_node.specs.Rows.{TookRow}
 use Rattle.router_node.specs.StepPlans.{Follows, FollowsBy, Hears, HearsKeeping, IsHeard, changed}
 use Rattle.router_node.specs.declared.step_plan.Change.{Change}
-use Rattle.router_node.specs.declared.step_plan.Change.TheVariants.{Stays, Reaches, Told, Notes}
+use Rattle.router_node.specs.declared.step_plan.Change.TheVariants.{Stays, Reaches, Told, Gains, Notes}
 use Rattle.router_node.specs.declared.step_plan.StepPlan.{StepPlan}
 
 -- the change that was planned may follow
@@ -53,7 +58,7 @@ module _ (r : Router) (m : Letter) (p : StepPlan) (time : ℕ) (late : time ≡ 
     follows = follows_so r p r.begun change h.begun h.is follows;
   }
 
-  pub heard_late : Hears r time Stays [] [] p → IsLate r m.body → IsHeard r m p
+  pub heard_late : Hears r time Stays [] [] p → IsLate r m.sender m.body → IsHeard r m p
   heard_late h is = heard_by Stays [] [] h (λ e. e) (record { effect = nothing; row = router_late r m is; written = refl; sent = refl; told = refl })
 
 some_open : (b : Bool) (o : Option Open) (q : Open) → (if b then o else None) ≡ Some q → o ≡ Some q
@@ -65,10 +70,10 @@ module _ (r : Router) (id : RequestId) (q : Open) (opened : open_of r id ≡ Som
   found = some_open (same_request id (id_of r id.count)) (open_with id.count r.requests) q opened
 
   -- it waits for this
-  pub reaches_so : (i : Input) (ls : List Letter) (rs : List ToLink) (time : ℕ) (wait : Wait)
-      → TookRow r i ls rs (knows r time r.tables (replaced (with_work q (wait_view wait) (reached time q.work)) r.requests))
-      → TookRow r i ls rs (changed r time r.begun r.moment (Reaches id.count wait))
-  reaches_so i ls rs time wait took =
+  pub reaches_so : (i : Input) (ls : List Letter) (rs : List ToLink) (time : ℕ) (wait : Wait) (targets : Vec Target Global)
+      → TookRow r i ls rs (knows r time r.tables (replaced (with_work q (wait_view wait) (map target_view targets.items) (reached time q.work)) r.requests))
+      → TookRow r i ls rs (changed r time r.begun r.moment (Reaches id.count wait targets))
+  reaches_so i ls rs time wait targets took =
       subst (λ (o : Option Open). TookRow r i ls rs (record {
         me = r.me;
         shards = r.shards;
@@ -78,7 +83,7 @@ module _ (r : Router) (id : RequestId) (q : Open) (opened : open_of r id ≡ Som
         moment = r.moment;
         count = r.count;
         tables = r.tables;
-        requests = elim o as (λ _. List Open) [ None ↦ r.requests | Some x ↦ replaced (with_work x (wait_view wait) (reached time x.work)) r.requests ];
+        requests = elim o as (λ _. List Open) [ None ↦ r.requests | Some x ↦ replaced (with_work x (wait_view wait) (map target_view targets.items) (reached time x.work)) r.requests ];
         cursors = r.cursors;
         blocks = r.blocks;
         gave = r.gave;
@@ -104,10 +109,30 @@ module _ (r : Router) (id : RequestId) (q : Open) (opened : open_of r id ≡ Som
         gave = r.gave;
       })) (sym found) took
 
+  -- this shard returned its part
+  pub gains_so : (i : Input) (ls : List Letter) (rs : List ToLink) (time : ℕ) (shard : NodeId) (rows : Result Rows HalfFault)
+      → TookRow r i ls rs (knows r time r.tables (replaced (with_part q shard.0 (rows_view rows)) r.requests))
+      → TookRow r i ls rs (changed r time r.begun r.moment (Gains id.count shard rows))
+  gains_so i ls rs time shard rows took =
+      subst (λ (o : Option Open). TookRow r i ls rs (record {
+        me = r.me;
+        shards = r.shards;
+        time = time;
+        life = r.life;
+        begun = r.begun;
+        moment = r.moment;
+        count = r.count;
+        tables = r.tables;
+        requests = elim o as (λ _. List Open) [ None ↦ r.requests | Some x ↦ replaced (with_part x shard.0 (rows_view rows)) r.requests ];
+        cursors = r.cursors;
+        blocks = r.blocks;
+        gave = r.gave;
+      })) (sym found) took
+
   -- it has these answers now, and waits for this
   pub notes_so : (i : Input) (ls : List Letter) (rs : List ToLink) (time : ℕ) (wait : Wait) (answers : Vec Done_told Global) (kind : WriteKind) (ordered : Bool) (statements : List letters.Statement) (before : List Done)
       → q.work ≡ writing kind ordered statements before
-      → TookRow r i ls rs (knows r time r.tables (replaced (with_work q (wait_view wait) (writing kind ordered statements (map done_view answers.items))) r.requests))
+      → TookRow r i ls rs (knows r time r.tables (replaced (with_work q (wait_view wait) [] (writing kind ordered statements (map done_view answers.items))) r.requests))
       → TookRow r i ls rs (changed r time r.begun r.moment (Notes id.count wait answers))
   notes_so i ls rs time wait answers kind ordered statements before work took =
       subst (λ (o : Option Open). TookRow r i ls rs (record {
@@ -122,7 +147,7 @@ module _ (r : Router) (id : RequestId) (q : Open) (opened : open_of r id ≡ Som
         requests = elim o as (λ _. List Open) [
           | None ↦ r.requests
           | Some x ↦ elim x.work as (λ _. List Open) [
-            | writing k a s b ↦ replaced (with_work x (wait_view wait) (writing k a s (map done_view answers.items))) r.requests
+            | writing k a s b ↦ replaced (with_work x (wait_view wait) [] (writing k a s (map done_view answers.items))) r.requests
             | reading named at stages telling ↦ r.requests
             | sharding ↦ r.requests
             | splitting middle ↦ r.requests
@@ -141,7 +166,7 @@ module _ (r : Router) (id : RequestId) (q : Open) (opened : open_of r id ≡ Som
         count = r.count;
         tables = r.tables;
         requests = elim w as (λ _. List Open) [
-          | writing k a s b ↦ replaced (with_work q (wait_view wait) (writing k a s (map done_view answers.items))) r.requests
+          | writing k a s b ↦ replaced (with_work q (wait_view wait) [] (writing k a s (map done_view answers.items))) r.requests
           | reading named at stages telling ↦ r.requests
           | sharding ↦ r.requests
           | splitting middle ↦ r.requests

@@ -7,7 +7,6 @@ mod Puts
 mod Rest
 mod Started
 mod Shown
-mod Reached
+mod Sent
 mod Told
-mod Again
 mod Without

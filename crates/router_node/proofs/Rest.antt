@@ -1,10 +1,10 @@
 -- What a write requests after more of its statements are answered.
-use Rattle.std.proofs.Common.{◌≡◌, ◌≢◌, refl, ap, sym, ◌∙◌, ℕ, List, Bool, length, map}
+use Rattle.std.proofs.Common.{◌≡◌, ◌≢◌, refl, ap, sym, ◌∙◌, ℕ, List, [], Bool, length, map}
 use Rattle.std.proofs.lemmas.List.{length-map}
 use Rattle.std.specs.Prelude.{Option, Some, None}
 use Rattle.node_model.specs.Letters.{Letter, Statement}
 use Rattle.reply_model.specs.Outcomes.{Done}
-use Rattle.node_model.specs.RouterRows.{asks_by, asks_for, enough_of, wait_by, wait_of}
+use Rattle.node_model.specs.RouterRows.{asks_by, asks_for, enough_of, targets_by, targets_for, wait_by, wait_of}
 use Rattle.node_model.specs.States.{Router, Wait, writing}
 use Rattle.chunk_model.specs.Tables.{Table, table_of}
 use Rattle.command_model.specs.Writes.{WriteKind}
@@ -23,6 +23,14 @@ module _ (r : Router) (time count : ℕ) (namespace : List ℕ) (kind : WriteKin
   rest_asked letters known is asked =
       asked ∙ asked_alike r time count namespace (writing kind ordered statements answers) known
       ∙ ap (λ (o : Option Table). asks_by r time count namespace (writing kind ordered statements answers) o) (is ∙ sym (enough (table_of namespace r.tables)))
+
+  -- a write is sent to none of the targets of reads
+  no_targets : (o : Option Table) → targets_by o (writing kind ordered statements answers) ≡ []
+  no_targets None = refl
+  no_targets (Some t) = refl
+
+  pub rest_targets : [] ≡ targets_for r time namespace (writing kind ordered statements answers)
+  rest_targets = sym (no_targets (enough_of (table_of namespace r.tables) (writing kind ordered statements answers)))
 
   pub rest_waits : (wait : Wait) (known : Option Table) → known ≡ table_of namespace r.tables → wait ≡ wait_by known
       → wait ≡ wait_of r time namespace (writing kind ordered statements answers)

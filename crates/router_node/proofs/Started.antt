@@ -1,5 +1,5 @@
 -- A transition before which the life begins, if it did not begin.
-use Rattle.std.proofs.Common.{◌≡◌, refl, ap, sym, subst, ◌∙◌, ℕ, ℤ, ◌+◌, List, [], ◌∷◌, ◌++◌, Bool, true, false, append-nil, if◌then◌else◌}
+use Rattle.std.proofs.Common.{◌≡◌, refl, ap, sym, subst, ◌∙◌, ℕ, ℤ, ◌+◌, List, [], ◌∷◌, ◌++◌, Bool, true, false, map, append-nil, if◌then◌else◌}
 use Rattle.std.specs.Prelude.{max, Result, Ok, Err, IfOk}
 use Rattle.std.specs.List.{flat_map}
 use Rattle.command_model.specs.Answers.{Answer, answer_document}
@@ -7,12 +7,13 @@ use Rattle.command_model.specs.Command.{command_of}
 use Rattle.node_model.specs.Journal.{kept_life}
 use Rattle.node_model.specs.Letters.{Letter, Input, client_input, letter_input, moment_input, opened_input, Effect, nothing, sends, writes}
 use Rattle.opmsg_model.specs.Requests.{Request}
-use Rattle.node_model.specs.RouterRows.{RouterRow, router_begin, router_opened, router_plain, router_take, router_moment, router_skip, TellsNothing, begins, takes, plan_of, at_once, needs, id_of, asks_for, asks_times, asks_again, wait_of, opened_request, is_ahead, table_for, taken_now}
-use Rattle.node_model.specs.States.{Router, Work, Wait, Open, router_state}
+use Rattle.node_model.specs.RouterRows.{RouterRow, router_begin, router_opened, router_plain, router_take, router_moment, router_skip, TellsNothing, begins, takes, plan_of, at_once, needs, id_of, asks_for, asks_times, asks_again, wait_of, opened_request, is_ahead, table_for, taken_now, targets_for}
+use Rattle.node_model.specs.States.{Router, Work, Wait, Open, Target, Part, router_state}
 use Rattle.node_model.specs.Steps.{Step, IsFor, BeginsBefore, router_step, begin_step, other_step}
 use Rattle.base_model.specs.Times.{time_of_moment}
 use Rattle.node_traits.specs.Effects.{AreReadable, puts_of, spellings}
 use Rattle.node_traits.specs.declared.outputs.ToLink.{ToLink}
+use Rattle.read_parts.specs.Parts.{part_view, target_view}
 use Rattle.router_requests.proofs.Askers.{asked_alike}
 use Rattle.router_requests.specs.Works.{numbers_of, open_view, wait_view, work_view}
 use Rattle.router_requests.specs.declared.work.OpenRequest.{OpenRequest}
@@ -21,7 +22,7 @@ use Rattle.router_node.specs.Rows.{TookRow, started, life_kept}
 use Rattle.router_node.proofs.Heard.{follows_so}
 use Rattle.router_node.specs.StepPlans.{FollowsBy, Hears, IsHeard, IsPlanned, Starts, changed, count_then, router_then}
 use Rattle.router_node.specs.declared.step_plan.Change.{Change}
-use Rattle.router_node.specs.declared.step_plan.Change.TheVariants.{Stays, Counts, Opens, Closes, Reaches, Told, Notes, Learns, Shelves, Advances, Ends}
+use Rattle.router_node.specs.declared.step_plan.Change.TheVariants.{Stays, Counts, Opens, Closes, Reaches, Told, Gains, Notes, Learns, Shelves, Advances, Ends}
 use Rattle.router_node.specs.declared.step_plan.StepPlan.{StepPlan}
 
 -- the effect with the record of a life that begins
@@ -150,6 +151,13 @@ asked_started r time count namespace work =
     ap (λ (l : List Letter). if is_ahead time work then asks_times r time (id_of r count) [] else l)
     (sym (asked_alike (started r) time count namespace work (table_for r.tables namespace work)) ∙ asked_alike r time count namespace work (table_for r.tables namespace work))
 
+-- by its parts
+same_open : (link : ℕ) (number : ℤ) (request : Request) (namespace : List ℕ) (work : Work) (a b : ℕ) (w v : Wait) (s t : List ℕ) (x y : List Target) (p q : List Part)
+    → a ≡ b → w ≡ v → s ≡ t → x ≡ y → p ≡ q
+    → ◌≡◌ {A = Open} (record { count = a; link = link; number = number; request = request; namespace = namespace; wait = w; told = s; targets = x; parts = p; work = work })
+    (record { count = b; link = link; number = number; request = request; namespace = namespace; wait = v; told = t; targets = y; parts = q; work = work })
+same_open link number request namespace work a b w v s t x y p q count waits told targets parts = rw (count, waits, told, targets, parts) refl
+
 module _ (r : Router) (o : OpenRequest) (next : o.count ≡ r.count + 1) where
   abbrev work : Work
   work = work_view (id_of r o.count) o.work
@@ -157,11 +165,11 @@ module _ (r : Router) (o : OpenRequest) (next : o.count ≡ r.count + 1) where
   abbrev request : Request
   request = head_request o.head
 
-  opens : numbers_of o.told.items ≡ [] → wait_view o.wait ≡ wait_of r r.time o.namespace work → open_view r.me r.life o ≡ opened_request (started r) o.link o.number request o.namespace work
-  opens none waits =
-      ap (λ (n : ℕ). record { count = n; link = o.link; number = o.number; request = request; namespace = o.namespace; wait = wait_view o.wait; told = numbers_of o.told.items; work = work }) next
-      ∙ ap (λ (l : List ℕ). record { count = r.count + 1; link = o.link; number = o.number; request = request; namespace = o.namespace; wait = wait_view o.wait; told = l; work = work }) none
-      ∙ ap (λ (w : Wait). record { count = r.count + 1; link = o.link; number = o.number; request = request; namespace = o.namespace; wait = w; told = []; work = work }) waits
+  opens : numbers_of o.told.items ≡ [] → wait_view o.wait ≡ wait_of r r.time o.namespace work → map target_view o.targets.items ≡ targets_for r r.time o.namespace work → map part_view o.parts.items ≡ []
+      → open_view r.me r.life o ≡ opened_request (started r) o.link o.number request o.namespace work
+  opens none waits sent no_parts =
+      same_open o.link o.number request o.namespace work o.count (r.count + 1) (wait_view o.wait) (wait_of r r.time o.namespace work) (numbers_of o.told.items) []
+      (map target_view o.targets.items) (targets_for r r.time o.namespace work) (map part_view o.parts.items) [] next waits none sent no_parts
 
   abbrev effect : Effect
   effect = record { written = []; mail = asks_for (started r) r.time (r.count + 1) o.namespace work; taken = taken_now (started r) o.link o.number request ∷ []; replies = [] }
@@ -171,10 +179,12 @@ module _ (r : Router) (o : OpenRequest) (next : o.count ≡ r.count + 1) where
       → letters ≡ asks_for r r.time o.count o.namespace (work_view (id_of r o.count) o.work)
       → numbers_of o.told.items ≡ []
       → wait_view o.wait ≡ wait_of r r.time o.namespace (work_view (id_of r o.count) o.work)
+      → map target_view o.targets.items ≡ targets_for r r.time o.namespace (work_view (id_of r o.count) o.work)
+      → map part_view o.parts.items ≡ []
       → TookRow (started r) (client_input o.link o.number (head_request o.head)) letters [] (changed r r.time true r.moment (Opens o))
-  took_open letters plan asked none waits = record {
+  took_open letters plan asked none waits sent no_parts = record {
     effect = effect;
-    row = subst (λ (x : Open). RouterRow (started r) (client_input o.link o.number request) effect (takes (started r) (x ∷ []))) (sym (opens none waits))
+    row = subst (λ (x : Open). RouterRow (started r) (client_input o.link o.number request) effect (takes (started r) (x ∷ []))) (sym (opens none waits sent no_parts))
         (router_take (started r) o.link o.number request o.namespace work refl
         (subst (λ (n : ℕ). plan_of (started r) (id_of r n) request.more (command_of request) ≡ needs o.namespace work) next plan));
     written = refl;
@@ -225,10 +235,11 @@ quiet_then r begun Stays quiet follows not_begun = quiet (follows not_begun)
 quiet_then r begun Counts quiet follows not_begun = absurd (cc (sym follows.0 ∙ not_begun))
 quiet_then r begun (Opens q) quiet follows not_begun = absurd (cc (sym follows.0 ∙ not_begun))
 quiet_then r begun (Closes count) quiet follows not_begun = quiet (follows not_begun)
-quiet_then r begun (Reaches count wait) quiet follows not_begun = quiet (follows.0 not_begun)
+quiet_then r begun (Reaches count wait targets) quiet follows not_begun = quiet (follows.0 not_begun)
 quiet_then r begun (Told count told) quiet follows not_begun = quiet (follows.0 not_begun)
+quiet_then r begun (Gains count shard rows) quiet follows not_begun = quiet (follows.0 not_begun)
 quiet_then r begun (Notes count wait answers) quiet follows not_begun = quiet (follows.0 not_begun)
-quiet_then r begun (Learns namespace made at table) quiet follows not_begun = quiet (follows not_begun)
+quiet_then r begun (Learns table fates) quiet follows not_begun = quiet (follows not_begun)
 quiet_then r begun (Shelves count opened) quiet follows not_begun = quiet (follows.0 not_begun)
 quiet_then r begun (Advances number shown) quiet follows not_begun = absurd (cc (sym follows.0 ∙ not_begun))
 quiet_then r begun (Ends numbers) quiet follows not_begun = absurd (cc (sym follows.0 ∙ not_begun))

@@ -1,6 +1,6 @@
 -- The answers that reads may get.
 use Rattle.std.proofs.Common.{◌≡◌, ◌≢◌, ap, sym, subst, ◌∙◌, ℕ, ◌<◌, ◌-◌, ◌^◌, ◌⊎◌, inl, inr, ⊎_elim, List, [], ◌∷◌, ◌++◌, drop, length, Bool, true, false, arith}
-use Rattle.std.specs.Prelude.{codes, min, option_map, Option, Some, None, Ok, Err, pos}
+use Rattle.std.specs.Prelude.{codes, min, option_map, Option, Some, None, Result, Ok, Err, pos}
 use Rattle.group_accum.specs.Sizes.{capped}
 use Rattle.command_model.specs.Answers.{Answer, count_answer, first_answer, refusal_answer}
 use Rattle.pipeline_model.specs.Batches.{IsBatch}
@@ -8,16 +8,16 @@ use Rattle.base_model.specs.Errors.{overflow}
 use Rattle.base_model.specs.Identities.{RequestId}
 use Rattle.pipeline_model.specs.Halves.{Merge, Rows, MergesInTurn}
 use Rattle.pipeline_model.specs.Lengths.{excess_of_answer}
-use Rattle.node_model.specs.Letters.{Letter, half_excess, half_overflow, read_rows}
+use Rattle.node_model.specs.Letters.{Letter, HalfFault, half_excess, half_overflow}
 use Rattle.base_model.specs.Refusals.{without_evidence}
-use Rattle.node_model.specs.RouterRows.{as_before, batch_of, gives_number, new_cursor, next_number, open_of, router_excess, router_overflow, router_read, tells_batch, tells_cursor, tells_excess, tells_number, tells_overflow, too_much}
+use Rattle.node_model.specs.RouterRows.{also_part, as_before, awaited, batch_of, gives_number, new_cursor, next_number, rows_of, router_excess, router_overflow, router_read, tells_batch, tells_cursor, tells_excess, tells_number, tells_overflow, too_much}
 use Rattle.pipeline_model.specs.Runs.{Outcome, count_documents, listed, overflowed}
 use Rattle.pipeline_model.specs.Split.{split}
 use Rattle.pipeline_model.specs.Stages.{Stage}
 use Rattle.node_model.specs.States.{Telling, as_number, in_batches, Open, Router, reading}
 use Rattle.bson_model.specs.Tree.{Fields}
 use Rattle.router_cursors.specs.Marks.{is_left}
-use Rattle.router_node.specs.Tellings.{MayTell, MayTellOf}
+use Rattle.router_node.specs.Tellings.{IsPart, MayTell, MayTellMerged, MayTellOf}
 
 -- an excess that fits into 64 bits
 pub not_capped : (excess : Option ℕ) (bytes : ℕ) → option_map capped excess ≡ Some bytes → bytes < 2 ^ 64 - 1 → excess ≡ Some bytes
@@ -33,11 +33,6 @@ not_capped (Some n) bytes e low =
 left_some : (documents : List Fields) → is_left documents ≡ true → documents ≢ []
 left_some [] e = absurd (cc e)
 left_some (d ∷ documents) e = λ none. absurd (cc none)
-
--- one part was merged
-pub merged_one : (by merge : Merge) (parts : List Rows) (rows : Rows) (out : Outcome) → by ≡ merge → parts ≡ rows ∷ [] → MergesInTurn by parts out → MergesInTurn merge (rows ∷ []) out
-merged_one by merge parts rows out same one merges =
-    subst (λ (x : Merge). MergesInTurn x (rows ∷ []) out) same (subst (λ (l : List Rows). MergesInTurn by l out) one merges)
 
 module _ (r : Router) (m : Letter) (q : Open) (at : ℕ) where
   module _ (size : ℕ) (single : Bool) (documents batch rest : List Fields) (short : excess_of_answer documents ≡ None) (is : IsBatch (Some size) documents batch) (left : rest ≡ drop (length batch) documents)
@@ -70,22 +65,28 @@ module _ (r : Router) (m : Letter) (q : Open) (at : ℕ) where
       subst (λ (a : Answer). MayTell r m q a (as_before r)) (sym told)
       (may (refusal_answer (too_much bytes)) (as_before r) (tells_excess telling documents bytes (not_capped (excess_of_answer documents) bytes excess low)))
 
-module _ (r : Router) (m : Letter) (id : RequestId) (q : Open) (named : Bool) (at : ℕ) (stages : List Stage) (telling : Telling) (opened : open_of r id ≡ Some q) (work : q.work ≡ reading named at stages telling) where
-  -- what its rows merge to
-  pub may_merged : (rows : Rows) (out : Outcome) → m.body ≡ read_rows id 1 (Ok rows) → MergesInTurn (split stages).1 (rows ∷ []) out → MayTellOf r m q at telling out
-  may_merged rows out is merges = λ answer f tells. router_read r m id rows q named at stages telling out answer f is opened work merges tells
+-- the rows of a read merge to this
+pub may_tell : (r : Router) (m : Letter) (q : Open) (at : ℕ) (telling : Telling) (by merge : Merge) (all : List Rows) (out : Outcome) → by ≡ merge → MayTellMerged r m q at telling merge all
+    → MergesInTurn by all out → MayTellOf r m q at telling out
+may_tell r m q at telling by merge all out same may merges = may out (subst (λ (x : Merge). MergesInTurn x all out) same merges)
 
-  pub may_overflow : (rows : Rows) (answer : Answer) → m.body ≡ read_rows id 1 (Ok rows) → MergesInTurn (split stages).1 (rows ∷ []) overflowed → answer ≡ refusal_answer (without_evidence overflow)
-      → MayTell r m q answer (as_before r)
-  may_overflow rows answer is merges told =
-      subst (λ (a : Answer). MayTell r m q a (as_before r)) (sym told)
-      (may_merged rows overflowed is merges (refusal_answer (without_evidence overflow)) (as_before r) (tells_overflow telling))
+pub may_overflow : (r : Router) (m : Letter) (q : Open) (at : ℕ) (telling : Telling) (answer : Answer) → MayTellOf r m q at telling overflowed → answer ≡ refusal_answer (without_evidence overflow)
+    → MayTell r m q answer (as_before r)
+may_overflow r m q at telling answer may told =
+    subst (λ (a : Answer). MayTell r m q a (as_before r)) (sym told) (may (refusal_answer (without_evidence overflow)) (as_before r) (tells_overflow telling))
 
-  -- that there are none
-  pub may_fail : (answer : Answer) → m.body ≡ read_rows id 1 (Err half_overflow) → answer ≡ refusal_answer (without_evidence overflow) → MayTell r m q answer (as_before r)
-  may_fail answer is told =
-      subst (λ (a : Answer). MayTell r m q a (as_before r)) (sym told) (router_overflow r m id q named at stages telling is opened work)
+-- all parts of an open read have come
+module _ (r : Router) (m : Letter) (id : RequestId) (q : Open) (told : Result Rows HalfFault) (named : Bool) (at : ℕ) (stages : List Stage) (telling : Telling) (part : IsPart r m id q told)
+    (work : q.work ≡ reading named at stages telling) (last : awaited q.targets (also_part q.parts m.sender told) ≡ []) where
+  pub may_merged : (all : List Rows) → rows_of q.targets (also_part q.parts m.sender told) ≡ Ok all → MayTellMerged r m q at telling (split stages).1 all
+  may_merged all gathered = λ out merges answer f tells.
+      router_read r m id told q named at stages telling all out answer f part.body part.opened work part.sent last gathered merges tells
 
-  pub may_exceed : (bytes : ℕ) (answer : Answer) → m.body ≡ read_rows id 1 (Err (half_excess bytes)) → answer ≡ refusal_answer (too_much bytes) → MayTell r m q answer (as_before r)
-  may_exceed bytes answer is told =
-      subst (λ (a : Answer). MayTell r m q a (as_before r)) (sym told) (router_excess r m id bytes q named at stages telling is opened work)
+  -- one has no rows
+  pub may_fail : (answer : Answer) → rows_of q.targets (also_part q.parts m.sender told) ≡ Err half_overflow → answer ≡ refusal_answer (without_evidence overflow) → MayTell r m q answer (as_before r)
+  may_fail answer gathered is =
+      subst (λ (a : Answer). MayTell r m q a (as_before r)) (sym is) (router_overflow r m id told q named at stages telling part.body part.opened work part.sent last gathered)
+
+  pub may_exceed : (bytes : ℕ) (answer : Answer) → rows_of q.targets (also_part q.parts m.sender told) ≡ Err (half_excess bytes) → answer ≡ refusal_answer (too_much bytes) → MayTell r m q answer (as_before r)
+  may_exceed bytes answer gathered is =
+      subst (λ (a : Answer). MayTell r m q a (as_before r)) (sym is) (router_excess r m id told bytes q named at stages telling part.body part.opened work part.sent last gathered)

@@ -1,21 +1,22 @@
 -- The router after a step, and that the step is one of its transitions.
 use Rattle.std.specs.Prelude.{◌≡◌, ◌<◌, ◌≤◌, ◌-◌, ◌^◌, ℕ, ◌+◌, pos, Bool, true, false, List, [], ◌∷◌, ◌++◌, Some, None, IfSome, map}
 use Rattle.std.specs.Arc.{arc_value}
-use Rattle.std.specs.List.{flat_map}
 use Rattle.std.specs.Option.{option_map}
 use Rattle.reply_model.specs.Cursors.{Cursor}
 use Rattle.node_model.specs.Journal.{Kept}
 use Rattle.node_model.specs.Letters.{Letter, Statement, Input, letter_input, Effect}
 use Rattle.reply_model.specs.Outcomes.{Done}
-use Rattle.node_model.specs.RouterRows.{RouterRow, adopted, id_of, next_number, reached, with_work, stay_in, next_of}
+use Rattle.node_model.specs.RouterRows.{RouterRow, adopted, id_of, next_number, reached, with_part, with_work}
 use Rattle.node_model.specs.States.{Open, Router, router_state, writing, reading, sharding, splitting, open_with, without, replaced}
 use Rattle.chunk_model.specs.Tables.{Table}
 use Rattle.command_model.specs.Writes.{WriteKind}
 use Rattle.node_traits.specs.Effects.{AreReadable, StepPlanned, puts_of, spellings}
 use Rattle.node_traits.specs.declared.outputs.ToLink.{ToLink}
-use Rattle.router_requests.specs.Lists.{has_room}
+use Rattle.read_parts.specs.Parts.{target_view}
+use Rattle.router_requests.specs.Fates.{fated}
+use Rattle.router_requests.specs.Lists.{has_room, has_room_for_part}
 use Rattle.router_requests.specs.Works.{numbers_of, open_view, told_by, wait_view}
-use Rattle.protocol_model.specs.Bodies.{at_view}
+use Rattle.protocol_model.specs.Bodies.{rows_view}
 use Rattle.protocol_model.specs.Messages.{letter_of}
 use Rattle.protocol_model.specs.Statements.{done_view}
 use Rattle.router_cursors.specs.CursorLists as cursors
@@ -26,7 +27,7 @@ use Rattle.router_node.specs.RouterStates.{router_of}
 use Rattle.router_node.specs.Rows.{life_kept}
 use Rattle.router_node.specs.declared.node.RouterNode.{RouterNode}
 use Rattle.router_node.specs.declared.step_plan.Change.{Change}
-use Rattle.router_node.specs.declared.step_plan.Change.TheVariants.{Stays, Counts, Opens, Closes, Reaches, Told, Notes, Learns, Shelves, Advances, Ends}
+use Rattle.router_node.specs.declared.step_plan.Change.TheVariants.{Stays, Counts, Opens, Closes, Reaches, Told, Gains, Notes, Learns, Shelves, Advances, Ends}
 use Rattle.router_node.specs.declared.step_plan.StepPlan.{StepPlan}
 
 -- how many requests were taken afterwards
@@ -35,10 +36,11 @@ count_then Stays count = count
 count_then Counts count = count + 1
 count_then (Opens q) count = count + 1
 count_then (Closes closed) count = count
-count_then (Reaches waiting wait) count = count
+count_then (Reaches waiting wait targets) count = count
 count_then (Told waiting told) count = count
+count_then (Gains waiting shard rows) count = count
 count_then (Notes waiting wait answers) count = count
-count_then (Learns namespace made at table) count = count
+count_then (Learns table fates) count = count
 count_then (Shelves told opened) count = count
 count_then (Advances number shown) count = count + 1
 count_then (Ends numbers) count = count + 1
@@ -49,10 +51,11 @@ tables_then Stays tables = tables
 tables_then Counts tables = tables
 tables_then (Opens q) tables = tables
 tables_then (Closes closed) tables = tables
-tables_then (Reaches waiting wait) tables = tables
+tables_then (Reaches waiting wait targets) tables = tables
 tables_then (Told waiting told) tables = tables
+tables_then (Gains waiting shard rows) tables = tables
 tables_then (Notes waiting wait answers) tables = tables
-tables_then (Learns namespace made at table) tables = adopted (option_map (λ t. arc_value t) table) tables
+tables_then (Learns table fates) tables = adopted (option_map (λ t. arc_value t) table) tables
 tables_then (Shelves told opened) tables = tables
 tables_then (Advances number shown) tables = tables
 tables_then (Ends numbers) tables = tables
@@ -63,26 +66,29 @@ opens_then r time Stays = r.requests
 opens_then r time Counts = r.requests
 opens_then r time (Opens q) = r.requests ++ open_view r.me r.life q ∷ []
 opens_then r time (Closes count) = without count r.requests
-opens_then r time (Reaches count wait) = elim (open_with count r.requests) [
+opens_then r time (Reaches count wait targets) = elim (open_with count r.requests) [
   | None ↦ r.requests
-  | Some q ↦ replaced (with_work q (wait_view wait) (reached time q.work)) r.requests
+  | Some q ↦ replaced (with_work q (wait_view wait) (map target_view targets.items) (reached time q.work)) r.requests
 ]
 opens_then r time (Told count told) = elim (open_with count r.requests) [
   | None ↦ r.requests
   | Some q ↦ replaced (told_by q (numbers_of told.items)) r.requests
 ]
+opens_then r time (Gains count shard rows) = elim (open_with count r.requests) [
+  | None ↦ r.requests
+  | Some q ↦ replaced (with_part q shard.0 (rows_view rows)) r.requests
+]
 opens_then r time (Notes count wait answers) = elim (open_with count r.requests) [
   | None ↦ r.requests
   | Some q ↦ elim q.work [
     | writing kind ordered statements before ↦
-        replaced (with_work q (wait_view wait) (writing kind ordered statements (map done_view answers.items))) r.requests
+        replaced (with_work q (wait_view wait) [] (writing kind ordered statements (map done_view answers.items))) r.requests
     | reading named at stages telling ↦ r.requests
     | sharding ↦ r.requests
     | splitting middle ↦ r.requests
   ]
 ]
-opens_then r time (Learns namespace made at table) =
-    flat_map (λ q. stay_in (next_of r time (adopted (option_map (λ t. arc_value t) table) r.tables) namespace made (at_view at) q)) r.requests
+opens_then r time (Learns table fates) = fated r.requests fates.items
 opens_then r time (Shelves count opened) = without count r.requests
 opens_then r time (Advances number shown) = r.requests
 opens_then r time (Ends numbers) = r.requests
@@ -93,10 +99,11 @@ cursors_then r Stays = r.cursors
 cursors_then r Counts = r.cursors
 cursors_then r (Opens q) = r.cursors
 cursors_then r (Closes count) = r.cursors
-cursors_then r (Reaches count wait) = r.cursors
+cursors_then r (Reaches count wait targets) = r.cursors
 cursors_then r (Told count told) = r.cursors
+cursors_then r (Gains count shard rows) = r.cursors
 cursors_then r (Notes count wait answers) = r.cursors
-cursors_then r (Learns namespace made at table) = r.cursors
+cursors_then r (Learns table fates) = r.cursors
 cursors_then r (Shelves count opened) = r.cursors ++ record {
   router = r.me;
   life = r.life;
@@ -114,10 +121,11 @@ blocks_after r Stays = r.blocks
 blocks_after r Counts = r.blocks
 blocks_after r (Opens q) = r.blocks
 blocks_after r (Closes count) = r.blocks
-blocks_after r (Reaches count wait) = r.blocks
+blocks_after r (Reaches count wait targets) = r.blocks
 blocks_after r (Told count told) = r.blocks
+blocks_after r (Gains count shard rows) = r.blocks
 blocks_after r (Notes count wait answers) = r.blocks
-blocks_after r (Learns namespace made at table) = r.blocks
+blocks_after r (Learns table fates) = r.blocks
 blocks_after r (Shelves count opened) = blocks_then r.blocks r.gave
 blocks_after r (Advances number shown) = r.blocks
 blocks_after r (Ends numbers) = r.blocks
@@ -127,10 +135,11 @@ gave_after r Stays = r.gave
 gave_after r Counts = r.gave
 gave_after r (Opens q) = r.gave
 gave_after r (Closes count) = r.gave
-gave_after r (Reaches count wait) = r.gave
+gave_after r (Reaches count wait targets) = r.gave
 gave_after r (Told count told) = r.gave
+gave_after r (Gains count shard rows) = r.gave
 gave_after r (Notes count wait answers) = r.gave
-gave_after r (Learns namespace made at table) = r.gave
+gave_after r (Learns table fates) = r.gave
 gave_after r (Shelves count opened) = next_number r
 gave_after r (Advances number shown) = r.gave
 gave_after r (Ends numbers) = r.gave
@@ -193,12 +202,13 @@ FollowsBy r begun Stays = begun ≡ false → r.begun ≡ false
 FollowsBy r begun Counts = (begun ≡ true) × (r.count < 2 ^ 64 - 1)
 FollowsBy r begun (Opens q) = (begun ≡ true) × (r.count < 2 ^ 64 - 1) × (q.count ≡ r.count + 1)
 FollowsBy r begun (Closes count) = begun ≡ false → r.begun ≡ false
-FollowsBy r begun (Reaches count wait) = (begun ≡ false → r.begun ≡ false) × (q : Open) × (open_with count r.requests ≡ Some q)
+FollowsBy r begun (Reaches count wait targets) = (begun ≡ false → r.begun ≡ false) × (q : Open) × (open_with count r.requests ≡ Some q)
 FollowsBy r begun (Told count told) = (begun ≡ false → r.begun ≡ false) × (q : Open) × (open_with count r.requests ≡ Some q)
+FollowsBy r begun (Gains count shard rows) = (begun ≡ false → r.begun ≡ false) × (q : Open) × (open_with count r.requests ≡ Some q)
 FollowsBy r begun (Notes count wait answers) =
     (begun ≡ false → r.begun ≡ false) × (q : Open) × (kind : WriteKind) × (ordered : Bool) × (statements : List Statement) × (before : List Done)
     × (open_with count r.requests ≡ Some q) × (q.work ≡ writing kind ordered statements before)
-FollowsBy r begun (Learns namespace made at table) = begun ≡ false → r.begun ≡ false
+FollowsBy r begun (Learns table fates) = begun ≡ false → r.begun ≡ false
 FollowsBy r begun (Shelves count opened) = (begun ≡ false → r.begun ≡ false) × (is_left (map (λ d. arc_value d) opened.rest.items) ≡ true)
 FollowsBy r begun (Advances number shown) = (begun ≡ true) × (r.count < 2 ^ 64 - 1)
 FollowsBy r begun (Ends numbers) = (begun ≡ true) × (r.count < 2 ^ 64 - 1)
@@ -227,10 +237,11 @@ HasRoomFor n Stays = Unit {0}
 HasRoomFor n Counts = Unit {0}
 HasRoomFor n (Opens q) = has_room n.requests ≡ true
 HasRoomFor n (Closes count) = Unit {0}
-HasRoomFor n (Reaches count wait) = Unit {0}
+HasRoomFor n (Reaches count wait targets) = Unit {0}
 HasRoomFor n (Told count told) = Unit {0}
+HasRoomFor n (Gains count shard rows) = has_room_for_part count n.requests ≡ true
 HasRoomFor n (Notes count wait answers) = Unit {0}
-HasRoomFor n (Learns namespace made at table) = IfSome table (λ t. 1 ≤ n.tables.room)
+HasRoomFor n (Learns table fates) = IfSome table (λ t. 1 ≤ n.tables.room)
 HasRoomFor n (Shelves count opened) = cursors.HasRoomFor n.cursors opened.namespace opened.time.0
 HasRoomFor n (Advances number shown) = Unit {0}
 HasRoomFor n (Ends numbers) = Unit {0}

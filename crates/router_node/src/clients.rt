@@ -62,7 +62,7 @@ impl RouterNode {
             ≡ rows.needs namespace (work_view (rows.id_of (router_of self.now) count) work) }
         ensures { IfOk result (λ p. IsPlanned (router_of self.now) (client_input asked.link asked.number (head_request asked.head)) p) }
     {
-        let (wait, mail) = self.asks_for(self.time, count, &namespace, &work)?;
+        let sends = self.sends_for(self.time, count, &namespace, &work)?;
         let Asked { link, number, head } = asked;
         let opened = OpenRequest {
             count,
@@ -70,11 +70,14 @@ impl RouterNode {
             number,
             head,
             namespace,
-            wait,
+            wait: sends.wait,
             told: Vec::new(self.alloc),
+            targets: sends.targets,
+            parts: Vec::new(self.alloc),
             work,
         };
-        self.starts(self.time, self.moment, Change::Opens(opened), mail, None)
+        let change = Change::Opens(opened);
+        self.starts(self.time, self.moment, change, sends.mail, None)
     }
 
     // Returns the plan for a request that arrives on a link; the number is that of its reply. Returns `Memory` if memory runs out.

@@ -11,7 +11,7 @@ use cluster_base::Time;
 use node_traits::{MailList, ReplyList, ToLink};
 use protocol_model::{Message, TableTold};
 use router_replies::{empty_answer, sharded_answer};
-use router_requests::{Next, OpenRequest, next_of, was_created};
+use router_requests::{Fate, Next, OpenRequest, add_all, next_of, was_created};
 
 /// Returns the first of two tables where it is longer, else the other.
 fn longer_of<'a>(table: &'a Table, other: &'a Table) -> &'a Table
@@ -25,7 +25,7 @@ fn longer_of<'a>(table: &'a Table, other: &'a Table) -> &'a Table
 }
 
 impl RouterNode {
-    ghost use Rattle.std.specs.Prelude.{◌≡◌, ◌++◌, IfOk, OnOk, map};
+    ghost use Rattle.std.specs.Prelude.{◌≡◌, ◌++◌, ℕ, IfOk, OnOk, map};
     ghost use Rattle.std.specs.List.{flat_map};
     ghost use Rattle.std.specs.Option.{option_map};
     ghost use Rattle.node_model.specs.Letters.{Letter};
@@ -33,7 +33,7 @@ impl RouterNode {
     ghost use Rattle.chunk_model.specs.Tables.{table_of};
     ghost use Rattle.node_traits.specs.Effects.{puts_of};
     ghost use Rattle.node_traits.specs.Lists.{listed};
-    ghost use Rattle.router_requests.specs.Askers.{letters_of};
+    ghost use Rattle.router_requests.specs.Fates.{fated};
     ghost use Rattle.router_requests.specs.Works.{open_view};
     ghost use Rattle.protocol_model.specs.Bodies.{table_told_view};
     ghost use Rattle.protocol_model.specs.Messages.{letter_of};
@@ -60,22 +60,22 @@ impl RouterNode {
         }
     }
 
-    // Returns the message that an open request sends after a table arrived, by the one that is then known. Returns `Memory` if memory runs out.
+    // Returns the messages that an open request sends after a table arrived, by the one that is then known. Returns `Memory` if memory runs out.
     fn asks_next(
         &self,
         time: Time,
         told: &TableTold,
         known: Option<&Table>,
         request: &OpenRequest,
-    ) -> Result<Option<Message>, Memory>
+    ) -> Result<Vec<Message>, Memory>
         requires { table_of told.now.namespace (tables_told told.now self.now.tables.tables) ≡ option_map (λ t. t.now) known }
-        ensures { IfOk result (λ m. letters_of m
+        ensures { IfOk result (λ asks. map (λ m. letter_of m) asks.items
             ≡ rows.letters_in (next_at (router_of self.now) time.0 told.now (open_view self.now.me.0 self.now.life request.now))) }
     {
         match next_of(&told.namespace, was_created(told), told.at, known, request) {
-            Next::Stays => Ok(None),
-            Next::IsTold(..) => Ok(None),
-            Next::IsSharded => Ok(None),
+            Next::Stays => Ok(Vec::new(self.alloc)),
+            Next::IsTold(..) => Ok(Vec::new(self.alloc)),
+            Next::IsSharded => Ok(Vec::new(self.alloc)),
             Next::GoesOn => match known {
                 Some(table) => self.asker().asks_shards(
                     self.alloc,
@@ -85,7 +85,7 @@ impl RouterNode {
                     table,
                     &request.work,
                 ),
-                None => Ok(None),
+                None => Ok(Vec::new(self.alloc)),
             },
         }
     }
@@ -116,7 +116,7 @@ impl RouterNode {
         }
     }
 
-    // Appends the message that an open request sends. Returns `Memory` if memory runs out.
+    // Appends the messages that an open request sends. Returns `Memory` if memory runs out.
     fn add_next(
         &self,
         mail: &mut MailList<Message>,
@@ -129,10 +129,9 @@ impl RouterNode {
         ensures { OnOk result (map (λ m. letter_of m) mail.new ≡ map (λ m. letter_of m) mail.old
             ++ rows.letters_in (next_at (router_of self.now) time.0 told.now (open_view self.now.me.0 self.now.life request.now))) }
     {
-        match self.asks_next(time, told, known, request)? {
-            Some(message) => mail.push(message),
-            None => Ok(()),
-        }
+        let asks = self.asks_next(time, told, known, request)?;
+        add_all(mail, asks)?;
+        Ok(())
     }
 
     // Appends the reply to an open request. Returns `Memory` if memory runs out.
@@ -193,6 +192,17 @@ impl RouterNode {
         Ok(replies)
     }
 
+    // Returns what becomes of the open requests after a table arrived, or `Memory` if memory runs out.
+    fn fates_next(&self, told: &TableTold) -> Result<Vec<Fate>, Memory>
+        ensures { (time : ℕ) → IfOk result (λ fates. fated (router_of self.now).requests fates.items
+            ≡ flat_map (λ q. rows.stay_in (next_at (router_of self.now) time told.now q)) (router_of self.now).requests) }
+    {
+        let known = self.known_after(told);
+        let made = was_created(told);
+        self.requests
+            .fates(self.alloc, &told.namespace, made, told.at, known)
+    }
+
     // Returns the plan for a table that arrives, or `Memory` if memory runs out.
     pub(crate) fn plan_table(&self, time: Time, told: TableTold) -> Result<StepPlan, Memory>
         ensures { (m : Letter) → m.body ≡ table_told_view told → time.0 ≡ rows.heard (router_of self.now) m →
@@ -201,14 +211,8 @@ impl RouterNode {
         let requests = self.requests.as_slice();
         let mail = self.mail_next(time, &told, requests)?;
         let replies = self.replies_next(time, &told, requests)?;
-        let made = was_created(&told);
-        let TableTold {
-            namespace,
-            create: _,
-            at,
-            table,
-        } = told;
-        let change = Change::Learns(namespace, made, at, table);
+        let fates = self.fates_next(&told)?;
+        let change = Change::Learns(told.table, fates);
         Ok(self.hears_all(time, change, mail, replies))
     }
 }

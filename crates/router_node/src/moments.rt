@@ -5,7 +5,7 @@ use bson_values::Memory;
 use cluster_base::Time;
 use node_traits::MailList;
 use protocol_model::Message;
-use router_requests::{OpenRequest, Wait, add_all, list_of};
+use router_requests::{OpenRequest, add_all};
 
 impl RouterNode {
     ghost use Rattle.std.specs.Prelude.{◌≡◌, ◌++◌, map, IfOk, OnOk};
@@ -17,39 +17,6 @@ impl RouterNode {
     ghost use Rattle.router_node.specs.RouterStates.{router_of};
     ghost use Rattle.router_node.specs.Rows.{started};
 
-    // Returns the messages that an open request sends again for what it waits for. Returns `Memory` if memory runs out.
-    #[tactic(auto, using(router_requests::proofs::Askers::shards_alike, router_requests::proofs::Askers::table_alike))]
-    fn asks_again(&self, time: Time, request: &OpenRequest) -> Result<Vec<Message>, Memory>
-        ensures { IfOk result (λ asks. map (λ m. letter_of m) asks.items ≡ rows.asks_again (started (router_of self.now)) time.0 (open_view self.now.me.0 self.now.life request.now)) }
-    {
-        let asker = self.asker();
-        let count = request.count;
-        let namespace = &request.namespace;
-        match request.wait {
-            Wait::ForTime => asker.asks_times(self.alloc, time, count, &request.told),
-            Wait::ForCatalogue => {
-                let letter = asker.asks_catalogue(time, count, namespace, &request.work)?;
-                let asks = list_of(self.alloc, Some(letter))?;
-                Ok(asks)
-            }
-            Wait::ForShards => match self.table_of(namespace) {
-                Some(table) => {
-                    let letter = asker.asks_shards(
-                        self.alloc,
-                        time,
-                        count,
-                        namespace,
-                        table,
-                        &request.work,
-                    )?;
-                    let asks = list_of(self.alloc, letter)?;
-                    Ok(asks)
-                }
-                None => Ok(Vec::new(self.alloc)),
-            },
-        }
-    }
-
     // Appends the messages that an open request sends again for what it waits for. Returns `Memory` if memory runs out.
     fn add_asked(
         &self,
@@ -60,7 +27,8 @@ impl RouterNode {
         ensures { OnOk result (map (λ m. letter_of m) mail.new
             ≡ map (λ m. letter_of m) mail.old ++ rows.asks_again (started (router_of self.now)) time.0 (open_view self.now.me.0 self.now.life request.now)) }
     {
-        let asks = self.asks_again(time, request)?;
+        let table = self.table_of(&request.namespace);
+        let asks = self.asker().asks_again(self.alloc, time, request, table)?;
         add_all(mail, asks)?;
         Ok(())
     }

@@ -1,33 +1,18 @@
 //! The router.
 
 ghost use Rattle.std.specs.Prelude.{◌≡◌, false};
-ghost use Rattle.std.specs.Option.{option_map};
-ghost use Rattle.chunk_model.specs.Tables.{table_of};
-ghost use Rattle.node_model.specs.RouterRows as rows;
 ghost use Rattle.router_requests.specs.Lists.{taken_of};
-ghost use Rattle.router_requests.specs.Works.{wait_view};
 
-use crate::mail::mail_of;
 use bson_values::Memory;
 use chunk_table::Table;
 use cluster_base::{Namespace, NodeId, RequestId, Time};
 use known_tables::TableList;
-use node_traits::{MailList, StepCount};
-use protocol_model::Message;
+use node_traits::StepCount;
+use read_parts::is_owned;
 use router_cursors::CursorList;
 use router_replies::known_in;
-use router_requests::{Asker, OpenList, OpenRead, OpenRequest, Wait, Work, add_all, is_enough};
+use router_requests::{Asker, OpenList, OpenRequest, Sends, Work};
 use std::alloc::Global;
-
-/// Returns what a request waits for, given its table, if there is one: for the shards, or else for the catalogue.
-pub(crate) fn wait_by(table: Option<&Table>) -> Wait
-    ensures { wait_view result ≡ rows.wait_by (option_map (λ t. t.now) table.entry) }
-{
-    match table {
-        None => Wait::ForCatalogue,
-        Some(_) => Wait::ForShards,
-    }
-}
 
 /// A router of a cluster.
 #[derive(Drop)]
@@ -50,15 +35,17 @@ pub struct RouterNode {
 }
 
 impl RouterNode {
-    ghost use Rattle.std.specs.Prelude.{◌≡◌, IfOk, Some, false, map};
+    ghost use Rattle.std.specs.Prelude.{◌≡◌, IfOk, Bool, List};
     ghost use Rattle.std.specs.Option.{option_map};
     ghost use Rattle.chunk_model.specs.Tables.{table_of};
     ghost use Rattle.base_model.specs.Identities as identities;
     ghost use Rattle.node_model.specs.RouterRows as rows;
+    ghost use Rattle.node_model.specs.States.{Telling, reading};
     ghost use Rattle.node_traits.specs.Ids.{id_view};
-    ghost use Rattle.protocol_model.specs.Messages.{letter_of};
+    ghost use Rattle.pipeline_model.specs.Stages.{Stage};
     ghost use Rattle.router_requests.specs.Askers.{asker_view};
-    ghost use Rattle.router_requests.specs.Works.{open_view, read_at, wait_view, work_view};
+    ghost use Rattle.router_requests.specs.Sends.{IsSentBy};
+    ghost use Rattle.router_requests.specs.Works.{open_view, work_view};
     ghost use Rattle.router_node.specs.RouterStates.{router_of};
 
     // Returns itself, as the sender of requests.
@@ -90,17 +77,13 @@ impl RouterNode {
         known_in(&self.tables, namespace)
     }
 
-    // Returns the table by which a read can proceed at a time.
-    pub(crate) fn table_at(
-        &self,
-        namespace: &Namespace,
-        read: &OpenRead,
-        at: Time,
-    ) -> Option<&Table>
-        ensures { option_map (λ t. t.now) result ≡ rows.table_for self.now.tables.tables namespace.now (read_at read.now at.0) }
+    // Returns the table by which a read of this collection can proceed at a time.
+    pub(crate) fn table_at(&self, namespace: &Namespace, at: Time) -> Option<&Table>
+        ensures { (named : Bool) (stages : List Stage) (telling : Telling) → option_map (λ t. t.now) result
+            ≡ rows.table_for self.now.tables.tables namespace.now (reading named at.0 stages telling) }
     {
         let table = self.tables.find(namespace)?;
-        if is_enough(table, at, read.parts.half()) {
+        if is_owned(table, at) {
             Some(table)
         } else {
             None
@@ -114,47 +97,24 @@ impl RouterNode {
     {
         match work {
             Work::Writing { .. } => self.table_of(namespace),
-            Work::Reading(read) => self.table_at(namespace, read, read.at),
+            Work::Reading(read) => self.table_at(namespace, read.at),
             Work::Sharding => None,
             Work::Splitting(_) => None,
         }
     }
 
-    // Returns whether work reads at a time that is not reached.
-    fn is_ahead(time: Time, work: &Work) -> bool
-        ensures { (id : identities.RequestId) → result ≡ rows.is_ahead time.0 (work_view id work.now) }
-    {
-        match work {
-            Work::Writing { .. } => false,
-            Work::Reading(read) => time.0 < read.at.0,
-            Work::Sharding => false,
-            Work::Splitting(_) => false,
-        }
-    }
-
-    // Returns what work waits for at a time, and the messages that it sends. Returns `Memory` if memory runs out.
-    pub(crate) fn asks_for(
+    // Returns what work waits for at a time, the shards that it is sent to, and the messages. Returns `Memory` if memory runs out.
+    pub(crate) fn sends_for(
         &self,
         time: Time,
         count: u64,
         namespace: &Namespace,
         work: &Work,
-    ) -> Result<(Wait, MailList<Message>), Memory>
-        ensures wait { (id : identities.RequestId) → IfOk result (λ asked. wait_view asked.0
-            ≡ rows.wait_of (router_of self.now) time.0 namespace.now (work_view id work.now)) }
-        ensures letters { IfOk result (λ asked. map (λ m. letter_of m) asked.1
-            ≡ rows.asks_for (router_of self.now) time.0 count namespace.now (work_view (rows.id_of (router_of self.now) count) work.now)) }
+    ) -> Result<Sends, Memory>
+        ensures { IfOk result (λ s. IsSentBy (router_of self.now) time.0 count namespace.now (work_view (rows.id_of (router_of self.now) count) work.now) s) }
     {
-        let asker = self.asker();
-        if RouterNode::is_ahead(time, work) {
-            let mut mail = MailList::new(self.alloc);
-            let asks = asker.asks_times(self.alloc, time, count, &[])?;
-            add_all(&mut mail, asks)?;
-            return Ok((Wait::ForTime, mail));
-        }
         let table = self.table_for(namespace, work);
-        let wait = wait_by(table);
-        let letter = asker.asks_by(self.alloc, time, count, namespace, work, table)?;
-        Ok((wait, mail_of(self.alloc, letter)))
+        self.asker()
+            .sends_for(self.alloc, time, count, namespace, work, table)
     }
 }

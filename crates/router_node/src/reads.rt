@@ -1,30 +1,27 @@
 //! The steps of open reads.
 
-ghost use Rattle.std.specs.Prelude.{◌≡◌, ◌≢◌, ◌≤◌, ◌<◌, true, false};
+ghost use Rattle.std.specs.Prelude.{◌≡◌, ◌≢◌, ◌⊎◌, true, false, map};
+ghost use Rattle.node_model.specs.RouterRows as rows;
+ghost use Rattle.read_parts.specs.Parts.{target_view};
 
-use crate::node::{RouterNode, wait_by};
+use crate::node::RouterNode;
 use crate::step_plan::{Change, StepPlan};
 use bson_values::Memory;
 use cluster_base::{NodeId, RequestId, Time};
 use command_replies::Answer;
+use node_traits::ReplyList;
 use protocol_model::{ReadRows, TimeTold};
+use read_parts::{Target, is_target};
 use router_replies::{reply_to, time_ahead};
-use router_requests::{OpenRead, OpenRequest, Wait, Work, also_told};
+use router_requests::{OpenRead, OpenRequest, Wait, Work, also_told, has_come};
 
-/// Returns whether a turn is the first, which is currently the only one.
-fn is_first(turn: u32) -> bool
+/// Returns whether rows are a part of a read that was sent to these shards: they are of the first turn, which is currently the only one, and from one of them.
+fn is_part(turn: u32, sender: NodeId, targets: &[Target]) -> bool
     ensures first { result ≡ true → turn ≡ 1 }
-    ensures other { result ≡ false → turn ≢ 1 }
+    ensures sent { result ≡ true → rows.is_target sender.0 (map target_view targets.now) ≡ true }
+    ensures other { result ≡ false → (turn ≢ 1) ⊎ (rows.is_target sender.0 (map target_view targets.now) ≡ false) }
 {
-    turn == 1
-}
-
-/// Returns whether a time is at most another.
-fn has_come(at: Time, time: Time) -> bool
-    ensures come { result ≡ true → at.0 ≤ time.0 }
-    ensures ahead { result ≡ false → time.0 < at.0 }
-{
-    at.0 <= time.0
+    turn == 1 && is_target(sender, targets)
 }
 
 impl RouterNode {
@@ -38,9 +35,14 @@ impl RouterNode {
     ghost use Rattle.router_node.specs.RouterStates.{router_of};
     ghost use Rattle.router_node.specs.StepPlans.{IsHeard};
 
-    // Returns the plan for the rows of a read, or `Memory` if memory runs out.
-    pub(crate) fn plan_rows(&self, time: Time, told: ReadRows) -> Result<StepPlan, Memory>
-        ensures { (m : Letter) → m.body ≡ read_rows_view told → time.0 ≡ rows.heard (router_of self.now) m →
+    // Returns the plan for the rows of a read that a shard returned, or `Memory` if memory runs out.
+    pub(crate) fn plan_rows(
+        &self,
+        sender: NodeId,
+        time: Time,
+        told: ReadRows,
+    ) -> Result<StepPlan, Memory>
+        ensures { (m : Letter) → m.sender ≡ sender.0 → m.body ≡ read_rows_view told → time.0 ≡ rows.heard (router_of self.now) m →
             IfOk result (λ p. IsHeard (router_of self.now) m p) }
     {
         match self.open_of(told.id) {
@@ -50,8 +52,8 @@ impl RouterNode {
                 Work::Sharding => Ok(self.late(time)),
                 Work::Splitting(_) => Ok(self.late(time)),
                 Work::Reading(read) => {
-                    if is_first(told.turn) {
-                        self.plan_told(time, request, read, told.rows)
+                    if is_part(told.turn, sender, &request.targets) {
+                        self.plan_part(sender, time, told.id, request, read, told.rows)
                     } else {
                         Ok(self.late(time))
                     }
@@ -76,12 +78,19 @@ impl RouterNode {
             IfOk result (λ p. IsHeard (router_of self.now) m p) }
     {
         let at = read.at_reached(time);
-        let table = self.table_at(&request.namespace, read, at);
-        let wait = wait_by(table);
-        let message = self
-            .asker()
-            .asks_read(time, request.count, &request.namespace, read, at, table)?;
-        Ok(self.hears(time, Change::Reaches(id.count, wait), message, None))
+        let table = self.table_at(&request.namespace, at);
+        let sends = self.asker().sends_read(
+            self.alloc,
+            time,
+            request.count,
+            &request.namespace,
+            read,
+            at,
+            table,
+        )?;
+        let change = Change::Reaches(id.count, sends.wait, sends.targets);
+        let replies = ReplyList::new(self.alloc);
+        Ok(self.hears_all(time, change, sends.mail, replies))
     }
 
     // Returns the plan to refuse an open read of a time that is ahead of every shard, at a time of the router. Returns `Memory` if memory runs out.
@@ -97,7 +106,8 @@ impl RouterNode {
         requires waits { (open_view self.now.me.0 self.now.life request.now).wait ≡ for_time }
         requires work { (open_view self.now.me.0 self.now.life request.now).work ≡ read_view read.now }
         requires ahead { time.0 < read.now.at.0 }
-        requires all { rows.untold (rows.also_told (open_view self.now.me.0 self.now.life request.now).told sender.0) (rows.shards_of (router_of self.now)) ≡ [] }
+        requires all { rows.untold (rows.also_told (open_view self.now.me.0 self.now.life request.now).told sender.0)
+            (rows.shards_of (router_of self.now)) ≡ [] }
         ensures { (m : Letter) → m.sender ≡ sender.0 → m.body ≡ time_told (id_view id) → time.0 ≡ rows.heard (router_of self.now) m →
             IfOk result (λ p. IsHeard (router_of self.now) m p) }
     {

@@ -9,8 +9,10 @@ use bson_values::{Blob, Document, Memory};
 use chunk_table::Table;
 use cluster_base::{Namespace, NodeId, Time};
 use node_traits::{MailList, ReplyList, ToLink};
-use protocol_model::{At, DoneList, Message};
-use router_requests::{OpenRequest, Wait};
+use pipeline_eval::Rows;
+use protocol_model::{DoneList, HalfFault, Message};
+use read_parts::Target;
+use router_requests::{Fate, OpenRequest, Wait};
 use std::alloc::Global;
 use std::collections::VecDeque;
 use std::sync::Arc;
@@ -26,15 +28,16 @@ pub(crate) enum Change {
     Opens(OpenRequest),
     /// The one with this count is answered.
     Closes(u64),
-    /// The read with this count reads at the time that is reached, unless it named one, and waits for this.
-    Reaches(u64, Wait),
+    /// The read with this count reads at the time that is reached, unless it named one, and waits for this; it was sent to these shards.
+    Reaches(u64, Wait, Vec<Target>),
     /// These shards have returned their time to the read with this count.
     Told(u64, Vec<NodeId>),
+    /// This shard has returned its part to the read with this count.
+    Gains(u64, NodeId, Result<Rows, HalfFault>),
     /// The write with this count has these answers, and waits for this.
     Notes(u64, Wait, DoneList),
-    /// Those that wait for the table of this collection proceed with it, or are answered: that nothing exists, where it was requested for their time, or that
-    /// it was created, where it was to be. A table that arrived is stored.
-    Learns(Namespace, bool, At, Option<Arc<Table, Global>>),
+    /// A table that arrived is stored, if there is one, and this becomes of the open requests, in their order.
+    Learns(Option<Arc<Table, Global>>, Vec<Fate>),
     /// The one with this count is answered with its first batch, and a cursor has the other documents.
     Shelves(u64, NewCursor),
     /// One more request was taken, and is answered with this number of documents of the cursor of this number.

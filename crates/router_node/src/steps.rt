@@ -21,13 +21,14 @@ impl RouterNode {
 
     // Returns the plan for a message from a node to this router, at the time that it carries. Returns `Memory` if memory runs out.
     fn plan_body(&self, sender: NodeId, time: Time, body: Body) -> Result<StepPlan, Memory>
-        ensures { (m : Letter) → m.sender ≡ sender.0 → m.body ≡ body_view body → time.0 ≡ rows.heard (router_of self.now) m → IfOk result (λ p. IsHeard (router_of self.now) m p) }
+        ensures { (m : Letter) → m.sender ≡ sender.0 → m.body ≡ body_view body → time.0 ≡ rows.heard (router_of self.now) m →
+            IfOk result (λ p. IsHeard (router_of self.now) m p) }
     {
         match body {
             Body::TableTold(told) => self.plan_table(time, told),
             Body::SplitDone(told) => self.plan_split_done(time, told),
             Body::WriteDone(told) => self.plan_dones(time, &told),
-            Body::ReadRows(told) => self.plan_rows(time, told),
+            Body::ReadRows(told) => self.plan_rows(sender, time, told),
             Body::TimeTold(told) => self.plan_time(sender, time, &told),
             Body::Stale(_) => Ok(self.late(time)),
             Body::TableAsk(_) => Ok(self.late(self.time)),
@@ -96,6 +97,7 @@ impl RouterNode {
             Change::Closes(_) => {}
             Change::Reaches(..) => {}
             Change::Told(..) => {}
+            Change::Gains(count, ..) => self.requests.reserve_part(*count)?,
             Change::Notes(..) => {}
             Change::Learns(..) => self.tables.reserve()?,
             Change::Shelves(_, opened) => self.cursors.make_room(&opened.namespace, opened.time)?,

@@ -27,17 +27,15 @@ impl RouterNode {
             Change::Counts => self.requests.count_one(),
             Change::Opens(request) => self.requests.push(request),
             Change::Closes(count) => self.requests.remove(count),
-            Change::Reaches(count, wait) => self.requests.reach(count, time, wait),
+            Change::Reaches(count, wait, targets) => {
+                self.requests.reach(count, time, wait, targets)
+            }
             Change::Told(count, told) => self.requests.hear(count, told),
+            Change::Gains(count, shard, rows) => self.requests.note_part(count, shard, rows),
             Change::Notes(count, wait, answers) => self.requests.set_answers(count, wait, answers),
-            Change::Learns(namespace, made, at, table) => learn(
-                &mut self.tables,
-                &mut self.requests,
-                &namespace,
-                made,
-                at,
-                table,
-            ),
+            Change::Learns(table, fates) => {
+                learn(&mut self.tables, &mut self.requests, table, fates)
+            }
             Change::Shelves(count, opened) => {
                 self.requests.remove(count);
                 let NewCursor {

@@ -3,12 +3,13 @@
 use crate::node::RouterNode;
 use crate::step_plan::{Change, NewCursor, StepPlan};
 use bson_values::Memory;
-use cluster_base::Time;
+use cluster_base::{NodeId, RequestId, Time};
 use command_replies::Answer;
 use cursor_shelf::{FirstBatch, first_batch};
 use group_merge::merge;
 use pipeline_eval::{EvalFault, Rows};
 use protocol_model::HalfFault;
+use read_parts::{gather, have_all_come};
 use router_replies::{
     DocumentList, batch_answer, block_records, count_told, excess_answer, is_only, overflow_answer,
     reply_to,
@@ -16,7 +17,7 @@ use router_replies::{
 use router_requests::{OpenRead, OpenRequest, Telling};
 
 impl RouterNode {
-    ghost use Rattle.std.specs.Prelude.{◌≡◌, [], ◌∷◌, ◌++◌, ◌<◌, ◌-◌, pos, ℕ, List, IfOk, None, Some, Ok, Err, drop, length, map, option_map, true};
+    ghost use Rattle.std.specs.Prelude.{◌≡◌, [], ◌∷◌, ◌++◌, ◌<◌, ◌-◌, pos, ℕ, List, IfOk, None, Some, drop, length, map, option_map, true};
     ghost use Rattle.group_accum.specs.Sizes.{capped};
     ghost use Rattle.pipeline_model.specs.Batches.{IsBatch};
     ghost use Rattle.bson_model.specs.Tree.{Fields};
@@ -26,17 +27,20 @@ impl RouterNode {
     ghost use Rattle.command_model.specs.Answers.{first_answer};
     ghost use Rattle.base_model.specs.Identities as identities;
     ghost use Rattle.pipeline_model.specs.Lengths.{excess_of_answer};
-    ghost use Rattle.node_model.specs.Letters.{Letter, read_rows};
+    ghost use Rattle.node_model.specs.Letters.{Letter};
+    ghost use Rattle.node_traits.specs.Ids.{id_view};
+    ghost use Rattle.pipeline_model.specs.Split.{split};
     ghost use Rattle.node_model.specs.RouterRows as rows;
     ghost use Rattle.node_model.specs.RouterRows.{as_before, batch_of, gives_number, new_cursor, next_number};
     ghost use Rattle.pipeline_model.specs.Runs.{listed};
     ghost use Rattle.node_model.specs.States as states;
-    ghost use Rattle.router_requests.specs.Works.{open_view, read_view, telling_view};
-    ghost use Rattle.protocol_model.specs.Bodies.{half_fault_view, rows_view};
+    ghost use Rattle.read_parts.specs.Parts.{part_view, target_view};
+    ghost use Rattle.router_requests.specs.Works.{open_view, read_view, stages_of, telling_view};
+    ghost use Rattle.protocol_model.specs.Bodies.{rows_view};
     ghost use Rattle.router_cursors.specs.Marks.{is_left};
     ghost use Rattle.router_node.specs.RouterStates.{router_of};
     ghost use Rattle.router_node.specs.StepPlans.{IsHeard};
-    ghost use Rattle.router_node.specs.Tellings.{MayTell, MayTellOf};
+    ghost use Rattle.router_node.specs.Tellings.{IsPart, MayTell, MayTellMerged, MayTellOf};
 
     // Returns the plan to answer an open read, at a time of the router, without a cursor. Returns `Memory` if memory runs out.
     fn plan_answer(
@@ -180,22 +184,21 @@ impl RouterNode {
         self.plan_answer(time, request, &excess_answer(bytes))
     }
 
-    // Returns the plan for the rows of an open read, at a time of the router. Returns `Memory` if memory runs out.
+    // Returns the plan to answer an open read with what these rows merge to, at a time of the router. Returns `Memory` if memory runs out.
     fn plan_merged(
         &self,
         time: Time,
         request: &OpenRequest,
         read: &OpenRead,
-        shown: Rows,
+        all: Vec<Rows>,
     ) -> Result<StepPlan, Memory>
-        ensures { (m : Letter) (id : identities.RequestId) → m.body ≡ read_rows id 1 (Ok (rows_of shown)) → time.0 ≡ rows.heard (router_of self.now) m →
-            rows.open_of (router_of self.now) id ≡ Some (open_view self.now.me.0 self.now.life request.now) →
-            (open_view self.now.me.0 self.now.life request.now).work ≡ read_view read.now → IfOk result (λ p. IsHeard (router_of self.now) m p) }
+        ensures { (m : Letter) → time.0 ≡ rows.heard (router_of self.now) m →
+            MayTellMerged (router_of self.now) m (open_view self.now.me.0 self.now.life request.now) read.now.at.0 (telling_view read.now.telling)
+            (split (stages_of read.now.parts)).1 (map rows_of all.items) →
+            IfOk result (λ p. IsHeard (router_of self.now) m p) }
     {
-        let mut parts = Vec::new(self.alloc);
-        parts.push(shown)?;
         let by = read.parts.merge();
-        match merge(self.alloc, by, parts) {
+        match merge(self.alloc, by, all) {
             Ok(documents) => self.plan_documents(time, request, read, documents),
             Err(EvalFault::Overflow) => self.plan_answer(time, request, &overflow_answer()),
             Err(EvalFault::TooMuch { bytes }) => self.plan_excess(time, request, bytes),
@@ -203,39 +206,49 @@ impl RouterNode {
         }
     }
 
-    // Returns the plan for an open read without rows, at a time of the router. Returns `Memory` if memory runs out.
-    fn plan_fault(
+    // Returns the plan for an open read whose last part arrived, at a time of the router. Returns `Memory` if memory runs out.
+    fn plan_gathered(
         &self,
-        time: Time,
-        request: &OpenRequest,
-        read: &OpenRead,
-        fault: HalfFault,
-    ) -> Result<StepPlan, Memory>
-        ensures { (m : Letter) (id : identities.RequestId) → m.body ≡ read_rows id 1 (Err (half_fault_view fault)) → time.0 ≡ rows.heard (router_of self.now) m →
-            rows.open_of (router_of self.now) id ≡ Some (open_view self.now.me.0 self.now.life request.now) →
-            (open_view self.now.me.0 self.now.life request.now).work ≡ read_view read.now → IfOk result (λ p. IsHeard (router_of self.now) m p) }
-    {
-        match fault {
-            HalfFault::Overflow => self.plan_answer(time, request, &overflow_answer()),
-            HalfFault::TooMuch { bytes } => self.plan_answer(time, request, &excess_answer(bytes)),
-        }
-    }
-
-    // Returns the plan for an open read whose rows arrived, or the reason that there are none, at a time of the router. Returns `Memory` if memory runs out.
-    pub(crate) fn plan_told(
-        &self,
+        sender: NodeId,
         time: Time,
         request: &OpenRequest,
         read: &OpenRead,
         told: Result<Rows, HalfFault>,
     ) -> Result<StepPlan, Memory>
-        ensures { (m : Letter) (id : identities.RequestId) → m.body ≡ read_rows id 1 (rows_view told) → time.0 ≡ rows.heard (router_of self.now) m →
-            rows.open_of (router_of self.now) id ≡ Some (open_view self.now.me.0 self.now.life request.now) →
+        ensures { (m : Letter) (id : identities.RequestId) → m.sender ≡ sender.0 → time.0 ≡ rows.heard (router_of self.now) m →
+            IsPart (router_of self.now) m id (open_view self.now.me.0 self.now.life request.now) (rows_view told) →
+            rows.awaited (map target_view request.now.targets.items) (rows.also_part (map part_view request.now.parts.items) sender.0 (rows_view told)) ≡ [] →
             (open_view self.now.me.0 self.now.life request.now).work ≡ read_view read.now → IfOk result (λ p. IsHeard (router_of self.now) m p) }
     {
-        match told {
-            Ok(shown) => self.plan_merged(time, request, read, shown),
-            Err(fault) => self.plan_fault(time, request, read, fault),
+        match gather(self.alloc, &request.targets, &request.parts, sender, told) {
+            Ok(all) => self.plan_merged(time, request, read, all),
+            Err(EvalFault::Overflow) => self.plan_answer(time, request, &overflow_answer()),
+            Err(EvalFault::TooMuch { bytes }) => {
+                self.plan_answer(time, request, &excess_answer(bytes))
+            }
+            Err(EvalFault::Memory) => Err(Memory),
+        }
+    }
+
+    // Returns the plan for a part of an open read that a shard returned, at a time of the router. Returns `Memory` if memory runs out.
+    pub(crate) fn plan_part(
+        &self,
+        sender: NodeId,
+        time: Time,
+        id: RequestId,
+        request: &OpenRequest,
+        read: &OpenRead,
+        told: Result<Rows, HalfFault>,
+    ) -> Result<StepPlan, Memory>
+        ensures { (m : Letter) → m.sender ≡ sender.0 → time.0 ≡ rows.heard (router_of self.now) m →
+            IsPart (router_of self.now) m (id_view id) (open_view self.now.me.0 self.now.life request.now) (rows_view told) →
+            (open_view self.now.me.0 self.now.life request.now).work ≡ read_view read.now → IfOk result (λ p. IsHeard (router_of self.now) m p) }
+    {
+        if have_all_come(&request.targets, &request.parts, sender) {
+            self.plan_gathered(sender, time, request, read, told)
+        } else {
+            let change = Change::Gains(id.count, sender, told);
+            Ok(self.hears(time, change, None, None))
         }
     }
 }

@@ -9,7 +9,7 @@ ghost use Rattle.reply_model.specs.Outcomes as outcomes;
 ghost use Rattle.node_model.specs.RouterRows as rows;
 ghost use Rattle.protocol_model.specs.Statements.{done_view, statement_view};
 
-use crate::node::{RouterNode, wait_by};
+use crate::node::RouterNode;
 use crate::step_plan::{Change, StepPlan};
 use bson_values::Memory;
 use chunk_table::Table;
@@ -17,7 +17,7 @@ use cluster_base::{RequestId, Time};
 use command_replies::{Answer, ClientNumber, WriteKind};
 use protocol_model::{DoneList, Message, StatementList, WriteDone};
 use router_replies::reply_to;
-use router_requests::{OpenRequest, Work};
+use router_requests::{OpenRequest, Work, wait_by};
 use router_writes::{answer_of, is_answered, note};
 use std::alloc::Global;
 

@@ -1,44 +1,20 @@
 -- What becomes of an open request after a table arrives.
-use Rattle.std.proofs.Common.{◌≡◌, refl, ap, sym, subst, ◌∙◌, ℕ, List, [], Bool, true, false, ◌&&◌, if◌then◌else◌}
+use Rattle.std.proofs.Common.{◌≡◌, refl, ap, ◌∙◌, ℕ, List, [], Bool, true, false, ◌&&◌, if◌then◌else◌}
 use Rattle.std.proofs.lemmas.Slice.Eq.{bytes_eq-Decides}
 use Rattle.std.specs.Prelude.{Option, Some, None, is_some}
 use Rattle.std.specs.Str.{bytes_eq}
 use Rattle.bson_model.proofs.Booleans.{both}
-use Rattle.pipeline_model.specs.Halves.{Half}
 use Rattle.node_model.specs.Letters.{At}
-use Rattle.pipeline_model.specs.Split.{split}
-use Rattle.pipeline_model.specs.Stages.{Stage}
-use Rattle.node_model.specs.RouterRows.{Next, owner_of_span, stays, next_of, next_waiting, next_without, enough_of, is_enough, is_for_catalogue, with_work, asks_shards}
-use Rattle.node_model.specs.States.{Telling, Open, Router, Work, for_shards, reading}
+use Rattle.node_model.specs.RouterRows.{Next, stays, next_of, next_waiting, next_without, enough_of, is_enough, is_for_catalogue, with_work, asks_shards, targets_of}
+use Rattle.node_model.specs.States.{Open, Router, for_shards}
 use Rattle.chunk_model.specs.Tables.{Table, table_of}
 use Rattle.router_requests.specs.Nexts.{IsNext}
 use Rattle.router_requests.specs.declared.tables.Next as becomes
 use Rattle.router_requests.specs.declared.tables.Next.TheVariants.{Stays, GoesOn, IsTold, IsSharded}
 
-pub some_owner : (owner : Option ℕ) → (elim owner as (λ (o : Option ℕ). Bool) [ None ↦ false | Some shard ↦ true ]) ≡ is_some owner
-some_owner None = refl
-some_owner (Some shard) = refl
-
--- a table is enough for a read where it says who had the span of its half
-pub enough_is : (t : Table) (named : Bool) (at : ℕ) (stages : List Stage) (telling : Telling) (half : Half) (b : Bool) → half ≡ (split stages).0 → b ≡ is_some (owner_of_span t at half.span)
-    → is_enough t (reading named at stages telling) ≡ b
-enough_is t named at stages telling half b same is =
-    some_owner (owner_of_span t at (split stages).0.span) ∙ sym (subst (λ (h : Half). b ≡ is_some (owner_of_span t at h.span)) same is)
-
-pub can_go : (known : Option Table) (t : Table) (work : Work) (b : Bool) → known ≡ Some t → is_enough t work ≡ b → b ≡ is_some (enough_of known work)
-can_go known t work b is enough =
-    by b ∙ ap (λ (x : Bool). is_some (if x then Some t else None)) (sym enough) ∙ ap (λ (o : Option Table). is_some (enough_of o work)) (sym is) where
-      by : (x : Bool) → x ≡ is_some (if x then Some t else None)
-      by true = refl
-      by false = refl
-
-pub enough_some : (known : Option Table) (t : Table) (work : Work) → known ≡ Some t → is_enough t work ≡ true → Some t ≡ enough_of known work
-enough_some known t work is enough =
-    ap (λ (x : Bool). if x then Some t else None) (sym enough) ∙ ap (λ (o : Option Table). enough_of o work) (sym is)
-
-pub enough_none : (known : Option Table) (t : Table) (work : Work) → known ≡ Some t → is_enough t work ≡ false → None ≡ enough_of known work
-enough_none known t work is enough =
-    ap (λ (x : Bool). if x then Some t else None) (sym enough) ∙ ap (λ (o : Option Table). enough_of o work) (sym is)
+pub if_enough : (t : Table) (b : Bool) → is_some (if b then Some t else None) ≡ b
+if_enough t true = refl
+if_enough t false = refl
 
 module _ (r : Router) (time : ℕ) (after : List Table) (namespace : List ℕ) (made : Bool) (told : At) (q : Open) where
   -- one that does not wait for it
@@ -54,11 +30,11 @@ module _ (r : Router) (time : ℕ) (after : List Table) (namespace : List ℕ) (
       ∙ ap (λ (o : Option Table). next_waiting r time made told q (enough_of o q.work)) is
 
   goes : (known : Option Table) → is_some (enough_of known q.work) ≡ true
-      → (t : Table) × (known ≡ Some t) × (next_waiting r time made told q (enough_of known q.work) ≡ stays (with_work q for_shards q.work) (asks_shards r time q.count q.namespace t q.work))
+      → (t : Table) × (known ≡ Some t) × (next_waiting r time made told q (enough_of known q.work) ≡ stays (with_work q for_shards (targets_of t q.work) q.work) (asks_shards r time q.count q.namespace t q.work))
   goes None e = absurd (cc e)
   goes (Some t) e = by_enough (is_enough t q.work) e where
     by_enough : (b : Bool) → is_some (if b then Some t else None) ≡ true
-        → (u : Table) × (Some t ≡ Some u) × (next_waiting r time made told q (if b then Some t else None) ≡ stays (with_work q for_shards q.work) (asks_shards r time q.count q.namespace u q.work))
+        → (u : Table) × (Some t ≡ Some u) × (next_waiting r time made told q (if b then Some t else None) ≡ stays (with_work q for_shards (targets_of u q.work) q.work) (asks_shards r time q.count q.namespace u q.work))
     by_enough true e = (t, refl, refl)
     by_enough false e = absurd (cc e)
 
@@ -69,7 +45,7 @@ module _ (r : Router) (time : ℕ) (after : List Table) (namespace : List ℕ) (
   -- one that can proceed
   pub goes_on : (known : Option Table) → table_of namespace after ≡ known
       → (is_for_catalogue q.wait && bytes_eq q.namespace namespace) ≡ true → is_some (enough_of known q.work) ≡ true
-      → (t : Table) × (known ≡ Some t) × (next_of r time after namespace made told q ≡ stays (with_work q for_shards q.work) (asks_shards r time q.count q.namespace t q.work))
+      → (t : Table) × (known ≡ Some t) × (next_of r time after namespace made told q ≡ stays (with_work q for_shards (targets_of t q.work) q.work) (asks_shards r time q.count q.namespace t q.work))
   goes_on known is meets some = let g = goes known some in (g.0, g.1, waiting known is meets ∙ g.2)
 
   -- one that can't

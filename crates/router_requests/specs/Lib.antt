@@ -4,4 +4,7 @@ pub mod Askers
 pub mod Lists
 pub mod Order
 pub mod Nexts
+pub mod Fates
+pub mod Sends
+pub mod Again
 pub mod Turns

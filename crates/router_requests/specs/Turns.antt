@@ -1,7 +1,9 @@
--- A list of which the first items have had their turn.
+-- A list of open requests of which the first have had their fates.
 use Rattle.std.specs.Prelude.{ℕ, List, ◌++◌, take, drop, map}
-use Rattle.std.specs.List.{flat_map}
+use Rattle.node_model.specs.States.{Open}
+use Rattle.router_requests.specs.Fates.{fated}
+use Rattle.router_requests.specs.declared.fates.Fate.{Fate}
 
--- those before the place as they are, and what the others become
-abbrev pub settled : {X Y : Type 0} → (X → Y) → (Y → List Y) → ℕ → List X → List Y
-settled meant becomes place items = map meant (take place items) ++ flat_map becomes (map meant (drop place items))
+-- those before the place as they are, and what the others become by these fates
+abbrev pub settled : {X : Type 0} → (X → Open) → ℕ → List X → List Fate → List Open
+settled meant place items fates = map meant (take place items) ++ fated (map meant (drop place items)) fates

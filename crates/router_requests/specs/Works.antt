@@ -8,6 +8,7 @@ use Rattle.node_model.specs.States.{in_batches, as_number, writing, reading, sha
 use Rattle.command_replies.specs.Kinds.{given_view, kind_view}
 use Rattle.protocol_model.specs.Heads.{head_request}
 use Rattle.protocol_model.specs.Statements.{done_view, statement_view}
+use Rattle.read_parts.specs.Parts.{part_view, target_view}
 use Rattle.router_requests.specs.declared.read.Parts.{Parts}
 use Rattle.router_requests.specs.declared.read.OpenRead.{OpenRead}
 use Rattle.router_requests.specs.declared.read.Telling.{Telling}
@@ -60,10 +61,12 @@ open_view router life q = record {
   namespace = q.namespace;
   wait = wait_view q.wait;
   told = numbers_of q.told.items;
+  targets = map target_view q.targets.items;
+  parts = map part_view q.parts.items;
   work = work_view (record { router = router; life = life; count = q.count }) q.work;
 }
 
 -- the open request, to which these shards returned their time
 abbrev pub told_by : states.Open → (told : List ℕ) → states.Open
 told_by q told =
-    record { count = q.count; link = q.link; number = q.number; request = q.request; namespace = q.namespace; wait = q.wait; told = told; work = q.work }
+    record { count = q.count; link = q.link; number = q.number; request = q.request; namespace = q.namespace; wait = q.wait; told = told; targets = q.targets; parts = q.parts; work = q.work }

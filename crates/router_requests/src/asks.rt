@@ -7,27 +7,21 @@ ghost use Rattle.base_model.specs.Identities as identities;
 ghost use Rattle.node_model.specs.RouterRows as rows;
 ghost use Rattle.node_model.specs.States as states;
 ghost use Rattle.command_model.specs.Writes as writes;
-ghost use Rattle.pipeline_lang.specs.Halves.{half_of};
-ghost use Rattle.std.specs.Arc.{arc_value};
 ghost use Rattle.protocol_model.specs.Statements.{done_view, statement_view};
+ghost use Rattle.protocol_model.specs.Messages.{letter_of};
 ghost use Rattle.router_requests.specs.Askers.{asker_view, letters_of};
-ghost use Rattle.router_requests.specs.Works.{read_at, work_view};
+ghost use Rattle.router_requests.specs.Works.{work_view};
 
-use crate::asker::Asker;
-use crate::owners::{owner_of_half, owner_of_statement};
-use crate::read::OpenRead;
+use crate::asker::{Asker, FIRST_TURN};
+use crate::mail::list_of;
+use crate::owners::owner_of_statement;
 use crate::work::Work;
 use bson_values::Memory;
 use chunk_table::{Sent, Table};
 use cluster_base::{Namespace, NodeId, Time};
 use command_replies::ClientNumber;
-use pipeline_lang::Half;
-use protocol_model::{Body, Done, Message, ReadAsk, Statement, StatementList, WriteAsk};
+use protocol_model::{Body, Done, Message, Statement, StatementList, WriteAsk};
 use std::alloc::Global;
-use std::sync::Arc;
-
-/// The turn of a request that met no stale table.
-const FIRST_TURN: u32 = 1;
 
 /// Returns whether a statement goes to a shard, or `Memory` if memory runs out.
 fn goes_to(
@@ -111,33 +105,6 @@ impl Asker {
         Ok(Some(self.says(shard, time, Body::WriteAsk(ask))))
     }
 
-    /// Returns what a read requests of the shard that had what it reads, if one had it. Returns `Memory` if memory runs out.
-    pub(crate) fn asks_to_read(
-        self,
-        time: Time,
-        count: u64,
-        namespace: &Namespace,
-        table: &Table,
-        at: Time,
-        half: &Arc<Half, Global>,
-    ) -> Result<Option<Message>, Memory>
-        ensures { IfOk result (λ m. letters_of m
-            ≡ rows.asks_to_read (asker_view self) time.0 (rows.id_of (asker_view self) count) namespace.now table.now at.0 (half_of (arc_value half.now))) }
-    {
-        let Some(shard) = owner_of_half(table, at, half) else {
-            return Ok(None);
-        };
-        let ask = ReadAsk {
-            id: self.id(count),
-            turn: FIRST_TURN,
-            namespace: namespace.copy()?,
-            at,
-            half: Arc::try_clone(half)?,
-            sent: Sent::of(table, shard),
-        };
-        Ok(Some(self.says(shard, time, Body::ReadAsk(ask))))
-    }
-
     /// Returns what work requests of the shards, by a table. Returns `Memory` if memory runs out.
     pub fn asks_shards(
         self,
@@ -147,8 +114,8 @@ impl Asker {
         namespace: &Namespace,
         table: &Table,
         work: &Work,
-    ) -> Result<Option<Message>, Memory>
-        ensures { IfOk result (λ m. letters_of m
+    ) -> Result<Vec<Message>, Memory>
+        ensures { IfOk result (λ ms. map (λ m. letter_of m) ms.items
             ≡ rows.asks_shards (asker_view self) time.0 count namespace.now table.now (work_view (rows.id_of (asker_view self) count) work.now)) }
     {
         match work {
@@ -160,15 +127,15 @@ impl Asker {
                 answers,
             } => {
                 let statements = unanswered(statements, answers);
-                self.asks_to_write(
+                let message = self.asks_to_write(
                     alloc, time, count, namespace, table, *number, *ordered, statements,
-                )
+                )?;
+                let messages = list_of(alloc, message)?;
+                Ok(messages)
             }
-            Work::Reading(read) => {
-                self.asks_to_read(time, count, namespace, table, read.at, read.parts.half())
-            }
-            Work::Sharding => Ok(None),
-            Work::Splitting(_) => Ok(None),
+            Work::Reading(read) => self.asks_owners(alloc, time, count, namespace, table, read),
+            Work::Sharding => Ok(Vec::new(alloc)),
+            Work::Splitting(_) => Ok(Vec::new(alloc)),
         }
     }
 
@@ -219,49 +186,6 @@ impl Asker {
                     alloc, time, count, namespace, table, number, ordered, statements,
                 )
             }
-        }
-    }
-
-    /// Returns what a read requests at a time by the table that it can proceed with, if that is there: of the shards, or else of the catalogue. Returns
-    /// `Memory` if memory runs out.
-    pub fn asks_read(
-        self,
-        time: Time,
-        count: u64,
-        namespace: &Namespace,
-        read: &OpenRead,
-        at: Time,
-        table: Option<&Table>,
-    ) -> Result<Option<Message>, Memory>
-        ensures { IfOk result (λ m. letters_of m
-            ≡ rows.asks_by (asker_view self) time.0 count namespace.now (read_at read.now at.0) (option_map (λ t. t.now) table.entry)) }
-    {
-        match table {
-            None => Ok(Some(self.asks_table_at(time, namespace, at)?)),
-            Some(table) => {
-                self.asks_to_read(time, count, namespace, table, at, read.parts.half())
-            }
-        }
-    }
-
-    /// Returns what work requests by the table that it can proceed with, if that is there: of the shards, or else of the catalogue. Returns
-    /// `Memory` if memory runs out.
-    pub fn asks_by(
-        self,
-        alloc: Global,
-        time: Time,
-        count: u64,
-        namespace: &Namespace,
-        work: &Work,
-        table: Option<&Table>,
-    ) -> Result<Option<Message>, Memory>
-        ensures { IfOk result (λ m. letters_of m
-            ≡ rows.asks_by (asker_view self) time.0 count namespace.now (work_view (rows.id_of (asker_view self) count) work.now)
-            (option_map (λ t. t.now) table.entry)) }
-    {
-        match table {
-            None => Ok(Some(self.asks_catalogue(time, count, namespace, work)?)),
-            Some(table) => self.asks_shards(alloc, time, count, namespace, table, work),
         }
     }
 }

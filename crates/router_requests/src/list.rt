@@ -3,12 +3,14 @@
 ghost use Rattle.std.specs.Prelude.{◌≡◌, true};
 ghost use Rattle.router_requests.specs.Order.{place_of, rises};
 
-use crate::tables::{Next, next_of};
+use crate::fates::{Fate, fate_after};
 use crate::work::{OpenRequest, Wait};
 use bson_values::Memory;
 use chunk_table::Table;
 use cluster_base::{Namespace, NodeId, Time};
-use protocol_model::{At, DoneList};
+use pipeline_eval::Rows;
+use protocol_model::{At, DoneList, HalfFault};
+use read_parts::Target;
 use std::alloc::Global;
 
 /// The open requests of a router in one of its lives, in the order in which it took them.
@@ -21,7 +23,7 @@ pub struct OpenList {
 }
 
 impl OpenList {
-    ghost use Rattle.std.specs.Prelude.{◌≡◌, ◌<◌, ◌≤◌, ◌^◌, ◌-◌, ◌+◌, ◌++◌, ◌∷◌, [], ℕ, List, Bool, Some, true, map, length, OnOk};
+    ghost use Rattle.std.specs.Prelude.{◌≡◌, ◌<◌, ◌^◌, ◌-◌, ◌+◌, ◌++◌, ◌∷◌, [], ℕ, List, Bool, Some, true, map, IfOk, OnOk};
     ghost use Rattle.std.specs.List.{flat_map};
     ghost use Rattle.std.specs.Option.{option_map};
     ghost use Rattle.node_model.specs.Letters as letters;
@@ -30,11 +32,14 @@ impl OpenList {
     ghost use Rattle.node_model.specs.States as states;
     ghost use Rattle.chunk_model.specs.Tables as tables;
     ghost use Rattle.command_model.specs.Writes as writes;
-    ghost use Rattle.protocol_model.specs.Bodies.{at_view};
+    ghost use Rattle.protocol_model.specs.Bodies.{at_view, rows_view};
     ghost use Rattle.protocol_model.specs.Statements.{done_view};
-    ghost use Rattle.router_requests.specs.Lists.{has_room, opens_of, taken_of};
+    ghost use Rattle.read_parts.specs.Parts.{target_view};
+    ghost use Rattle.router_requests.specs.Fates.{fated};
+    ghost use Rattle.router_requests.specs.Lists.{has_room, has_room_for_part, opens_of, taken_of};
     ghost use Rattle.router_requests.specs.Turns.{settled};
     ghost use Rattle.router_requests.specs.Works.{numbers_of, open_view, told_by, wait_view};
+    ghost use Rattle.router_requests.specs.declared.fates.Fate.{Fate};
 
     /// Returns the list before a request was taken.
     pub fn new(alloc: Global) -> OpenList
@@ -131,15 +136,43 @@ impl OpenList {
         }
     }
 
-    /// The read with this count is of this time now, unless one was named, and waits for this.
-    pub fn reach(&mut self, count: u64, time: Time, wait: Wait)
+    /// Makes room for one part more of the request with this count. Returns `Memory` if memory runs out. The requests are the same either way.
+    pub fn reserve_part(&mut self, count: u64) -> Result<(), Memory>
+        ensures room { OnOk result (has_room_for_part count self.new ≡ true) }
         ensures taken { taken_of self.new ≡ taken_of self.old }
-        ensures opens { (router life : ℕ) (q : states.Open) → states.open_with count (opens_of router life self.old) ≡ Some q →
-            opens_of router life self.new ≡ states.replaced (rows.with_work q (wait_view wait) (rows.reached time.0 q.work)) (opens_of router life self.old) }
+        ensures opens { (router life : ℕ) → opens_of router life self.new ≡ opens_of router life self.old }
     {
         let place = self.place(count);
         if place < self.requests.len() {
-            self.requests[place].reach(time, wait);
+            self.requests[place].reserve_part()?;
+        }
+        Ok(())
+    }
+
+    /// A shard returned its part of the read with this count, for which there is room. It is noted if it is the first of that shard. Takes no memory.
+    pub fn note_part(&mut self, count: u64, shard: NodeId, told: Result<Rows, HalfFault>)
+        requires room { has_room_for_part count self.old ≡ true }
+        ensures taken { taken_of self.new ≡ taken_of self.old }
+        ensures opens { (router life : ℕ) (q : states.Open) → states.open_with count (opens_of router life self.old) ≡ Some q →
+            opens_of router life self.new ≡ states.replaced (rows.with_part q shard.0 (rows_view told)) (opens_of router life self.old) }
+    {
+        let place = self.place(count);
+        if place < self.requests.len() {
+            self.requests[place].note(shard, told);
+        }
+    }
+
+    /// The read with this count is of this time now, unless one was named, and waits for this; it was sent to these shards.
+    pub fn reach(&mut self, count: u64, time: Time, wait: Wait, targets: Vec<Target>)
+        ensures taken { taken_of self.new ≡ taken_of self.old }
+        ensures opens { (router life : ℕ) (q : states.Open) → states.open_with count (opens_of router life self.old) ≡ Some q →
+            opens_of router life self.new
+            ≡ states.replaced (rows.with_work q (wait_view wait) (map target_view targets.items) (rows.reached time.0 q.work))
+            (opens_of router life self.old) }
+    {
+        let place = self.place(count);
+        if place < self.requests.len() {
+            self.requests[place].reach(time, wait, targets);
         }
     }
 
@@ -162,7 +195,7 @@ impl OpenList {
             (before : List outcomes.Done) →
             states.open_with count (opens_of router life self.old) ≡ Some q → q.work ≡ states.writing kind ordered statements before →
             opens_of router life self.new
-            ≡ states.replaced (rows.with_work q (wait_view wait) (states.writing kind ordered statements (map done_view answers.items)))
+            ≡ states.replaced (rows.with_work q (wait_view wait) [] (states.writing kind ordered statements (map done_view answers.items)))
             (opens_of router life self.old) }
     {
         let place = self.place(count);
@@ -171,54 +204,59 @@ impl OpenList {
         }
     }
 
-    // The request at a place has its turn, after a table of this collection arrived for a time, where this is the one that is known then.
-    // Returns the place of the next one.
-    fn learn_at(
-        &mut self,
-        place: usize,
+    /// Returns what becomes of each open request after a table of this collection arrived for a time, where this is the one that is known then: those that can
+    /// proceed with it wait for the shards, and those that are answered leave; `made` where the collection was to be created, and there it is. Returns
+    /// `Memory` if memory runs out.
+    pub fn fates(
+        &self,
+        alloc: Global,
         namespace: &Namespace,
         made: bool,
         told: At,
         known: Option<&Table>,
-    ) -> usize
-        requires { place < length self.old.requests.items }
-        ensures taken { taken_of self.new ≡ taken_of self.old }
-        ensures inside { result ≤ length self.new.requests.items }
-        ensures nearer { length self.new.requests.items + place < length self.old.requests.items + result }
-        ensures opens { (r : states.Router) (time : ℕ) (after : List tables.Table) → tables.table_of namespace.now after ≡ option_map (λ t. t.now) known.entry →
-            settled (λ q. open_view r.me r.life q) (λ q. rows.stay_in (rows.next_of r time after namespace.now made (at_view told) q)) result
-            self.new.requests.items
-            ≡ settled (λ q. open_view r.me r.life q) (λ q. rows.stay_in (rows.next_of r time after namespace.now made (at_view told) q)) place
-            self.old.requests.items }
+    ) -> Result<Vec<Fate>, Memory>
+        ensures { (r : states.Router) (time : ℕ) (after : List tables.Table) → tables.table_of namespace.now after ≡ option_map (λ t. t.now) known.entry →
+            IfOk result (λ fates. fated (opens_of r.me r.life self.now) fates.items
+            ≡ flat_map (λ q. rows.stay_in (rows.next_of r time after namespace.now made (at_view told) q)) (opens_of r.me r.life self.now)) }
     {
-        match next_of(namespace, made, told, known, &self.requests[place]) {
-            Next::Stays => place + 1,
-            Next::GoesOn => {
-                self.requests[place].wait = Wait::ForShards;
+        let mut fates = Vec::with_capacity(alloc, self.requests.len())?;
+        for request in &self.requests {
+            fates.push(fate_after(alloc, namespace, made, told, known, request)?)?;
+        }
+        Ok(fates)
+    }
+
+    // The request at a place has its fate, if one is there. Returns the place of the next one. Takes no memory.
+    fn settle_at(&mut self, place: usize, fate: Fate) -> usize
+        ensures taken { taken_of self.new ≡ taken_of self.old }
+        ensures opens { (router life : ℕ) (fates : List Fate) →
+            settled (λ q. open_view router life q) result self.new.requests.items fates
+            ≡ settled (λ q. open_view router life q) place self.old.requests.items (fate ∷ fates) }
+    {
+        if place >= self.requests.len() {
+            return place;
+        }
+        match fate {
+            Fate::Stays => place + 1,
+            Fate::GoesOn(targets) => {
+                self.requests[place].wait_for_shards(targets);
                 place + 1
             }
-            Next::IsTold(..) => {
-                let _ = self.requests.remove(place);
-                place
-            }
-            Next::IsSharded => {
+            Fate::Leaves => {
                 let _ = self.requests.remove(place);
                 place
             }
         }
     }
 
-    /// A table of this collection arrived for a time, and this is the one that is known then, if one is: requests that can proceed with it
-    /// wait for the shards, and those that are answered are removed; `made` where the collection was to be created, and there it is.
-    pub fn learn(&mut self, namespace: &Namespace, made: bool, told: At, known: Option<&Table>)
+    /// The open requests have these fates, in their order. Takes no memory.
+    pub fn settle(&mut self, fates: Vec<Fate>)
         ensures taken { taken_of self.new ≡ taken_of self.old }
-        ensures opens { (r : states.Router) (time : ℕ) (after : List tables.Table) → tables.table_of namespace.now after ≡ option_map (λ t. t.now) known.entry →
-            opens_of r.me r.life self.new
-            ≡ flat_map (λ q. rows.stay_in (rows.next_of r time after namespace.now made (at_view told) q)) (opens_of r.me r.life self.old) }
+        ensures opens { (router life : ℕ) → opens_of router life self.new ≡ fated (opens_of router life self.old) fates.items }
     {
         let mut place = 0;
-        while place < self.requests.len() {
-            place = self.learn_at(place, namespace, made, told, known);
+        for fate in fates {
+            place = self.settle_at(place, fate);
         }
     }
 }

@@ -28,3 +28,12 @@ pub fn add_all<T: Drop>(list: &mut SpareList<T>, items: Vec<T>) -> Result<(), Me
     }
     Ok(())
 }
+
+/// Returns the list of these items. Returns `Memory` if memory runs out.
+pub fn spare_list<T: Drop>(alloc: Global, items: Vec<T>) -> Result<SpareList<T>, Memory>
+    ensures { IfOk result (λ list. list ≡ items.items) }
+{
+    let mut list = SpareList::new(alloc);
+    add_all(&mut list, items)?;
+    Ok(list)
+}

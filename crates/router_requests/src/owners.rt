@@ -1,7 +1,7 @@
-//! Which shards have what requests are of.
+//! Which shards have what statements write.
 
 ghost use Rattle.std.specs.Prelude.{◌≡◌, Option, Some, IfOk, true};
-ghost use Rattle.std.specs.Option.{option_map, is_some};
+ghost use Rattle.std.specs.Option.{option_map};
 ghost use Rattle.bson_model.specs.Tree.{Datum};
 ghost use Rattle.bson_values.specs.View.{datum_of};
 ghost use Rattle.command_model.specs.Statements.{key_asked_by};
@@ -9,7 +9,6 @@ ghost use Rattle.command_model.specs.Writes.{ClientNumber};
 ghost use Rattle.base_model.specs.Identities as identities;
 ghost use Rattle.history_model.specs.History.{key_written};
 ghost use Rattle.node_model.specs.RouterRows as rows;
-ghost use Rattle.pipeline_lang.specs.Halves.{half_of};
 ghost use Rattle.protocol_model.specs.Statements as protocol;
 ghost use Rattle.protocol_model.specs.Statements.{statement_view};
 ghost use Rattle.statement_views.specs.Views.{operation_view};
@@ -17,9 +16,8 @@ ghost use Rattle.value_model.specs.Keys.{is_key};
 
 use bson_values::{Memory, Value};
 use chunk_table::Table;
-use cluster_base::{NodeId, Time};
+use cluster_base::NodeId;
 use match_expr::key_asked_in;
-use pipeline_lang::Half;
 use protocol_model::{NewChange, Operation, Statement};
 use std::alloc::Global;
 use value_compare::{Key, OpWords, key_of};
@@ -97,18 +95,4 @@ pub(crate) fn owner_of_statement(
     }
     let key = key_of_operation(alloc, &statement.operation)?;
     Ok(table.owner_now(&key))
-}
-
-/// Returns the shard that had what a half is of at a time, if one had it: currently one shard has all keys.
-pub fn owner_of_half(table: &Table, at: Time, _half: &Half) -> Option<NodeId>
-    ensures { option_map (λ shard. shard.0) result ≡ rows.owner_of_span table.now at.0 (half_of _half.now).span }
-{
-    table.owner_of_value(&Value::Null, at)
-}
-
-/// Returns whether a table says who had what a half is of at a time.
-pub fn is_enough(table: &Table, at: Time, half: &Half) -> bool
-    ensures { result ≡ is_some (rows.owner_of_span table.now at.0 (half_of half.now).span) }
-{
-    owner_of_half(table, at, half).is_some()
 }

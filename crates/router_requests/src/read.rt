@@ -81,13 +81,14 @@ pub struct OpenRead {
 }
 
 impl OpenRead {
-    ghost use Rattle.std.specs.Prelude.{◌≡◌};
+    ghost use Rattle.std.specs.Prelude.{◌≡◌, ◌≤◌};
     ghost use Rattle.node_model.specs.RouterRows as rows;
     ghost use Rattle.router_requests.specs.Works.{read_at, read_view};
 
     /// Returns the time that it reads at, where the router's has come to this: its own, where that was named.
     pub fn at_reached(&self, time: Time) -> Time
-        ensures { read_at self.now result.0 ≡ rows.reached time.0 (read_view self.now) }
+        ensures read { read_at self.now result.0 ≡ rows.reached time.0 (read_view self.now) }
+        ensures come { self.now.at.0 ≤ time.0 → result.0 ≤ time.0 }
     {
         if self.named { self.at } else { time }
     }

@@ -12,12 +12,12 @@ ghost use Rattle.protocol_model.specs.Bodies.{at_view};
 ghost use Rattle.router_requests.specs.Nexts.{IsNext};
 ghost use Rattle.router_requests.specs.Works.{open_view, wait_view, work_view};
 
-use crate::owners::is_enough;
 use crate::read::Telling;
 use crate::work::{OpenRequest, Wait, Work};
 use chunk_table::Table;
 use cluster_base::{Namespace, Time};
 use protocol_model::{At, TableTold};
+use read_parts::is_owned;
 
 /// What becomes of an open request after a table arrives.
 #[derive(Clone, Copy, Debug, PartialEq, Eq)]
@@ -60,7 +60,7 @@ fn waits_for(request: &OpenRequest, namespace: &Namespace) -> bool
 }
 
 /// Returns whether work can proceed with this table, if it is known.
-#[tactic(auto, using(crate::proofs::Nexts::some_owner))]
+#[tactic(auto, using(crate::proofs::Nexts::if_enough))]
 fn can_go_on(known: Option<&Table>, work: &Work) -> bool
     ensures { (id : identities.RequestId) → result ≡ is_some (rows.enough_of (option_map (λ t. t.now) known.entry) (work_view id work.now)) }
 {
@@ -68,7 +68,7 @@ fn can_go_on(known: Option<&Table>, work: &Work) -> bool
         None => false,
         Some(table) => match work {
             Work::Writing { .. } => true,
-            Work::Reading(read) => is_enough(table, read.at, read.parts.half()),
+            Work::Reading(read) => is_owned(table, read.at),
             Work::Sharding => false,
             Work::Splitting(_) => false,
         },

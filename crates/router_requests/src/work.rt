@@ -1,9 +1,12 @@
 //! Open requests.
 
 use crate::read::OpenRead;
+use bson_values::Memory;
 use cluster_base::{Namespace, NodeId, Time};
 use command_replies::{ClientNumber, WriteKind};
-use protocol_model::{DoneList, Head, StatementList};
+use pipeline_eval::Rows;
+use protocol_model::{DoneList, HalfFault, Head, StatementList};
+use read_parts::{Part, Target, has_part};
 use value_compare::Key;
 
 /// What a request has to do before it is answered.
@@ -53,17 +56,24 @@ pub struct OpenRequest {
     pub wait: Wait,
     /// The shards that returned their time, in the order in which they did.
     pub told: Vec<NodeId>,
+    /// The shards that a read was sent to, in order of their numbers.
+    pub targets: Vec<Target>,
+    /// What they returned, in the order in which they did.
+    pub parts: Vec<Part>,
     pub work: Work,
 }
 
 impl OpenRequest {
-    ghost use Rattle.std.specs.Prelude.{◌≡◌, ℕ, List, Bool, map};
+    ghost use Rattle.std.specs.Prelude.{◌≡◌, ℕ, List, [], Bool, true, map, OnOk};
     ghost use Rattle.node_model.specs.Letters as letters;
     ghost use Rattle.reply_model.specs.Outcomes as outcomes;
     ghost use Rattle.node_model.specs.RouterRows as rows;
     ghost use Rattle.node_model.specs.States as states;
     ghost use Rattle.command_model.specs.Writes as writes;
     ghost use Rattle.protocol_model.specs.Statements.{done_view};
+    ghost use Rattle.protocol_model.specs.Bodies.{rows_view};
+    ghost use Rattle.read_parts.specs.Parts.{target_view};
+    ghost use Rattle.router_requests.specs.Lists.{has_part_room};
     ghost use Rattle.router_requests.specs.Works.{numbers_of, open_view, told_by, wait_view};
 
     // A write has these answers now, and waits for this.
@@ -72,9 +82,11 @@ impl OpenRequest {
         ensures work { (router life : ℕ) (kind : writes.WriteKind) (ordered : Bool) (statements : List letters.Statement) (before : List outcomes.Done) →
             (open_view router life self.old).work ≡ states.writing kind ordered statements before →
             open_view router life self.new
-            ≡ rows.with_work (open_view router life self.old) (wait_view wait) (states.writing kind ordered statements (map done_view answers.items)) }
+            ≡ rows.with_work (open_view router life self.old) (wait_view wait) [] (states.writing kind ordered statements (map done_view answers.items)) }
     {
         self.wait = wait;
+        self.targets.clear();
+        self.parts.clear();
         match &mut self.work {
             Work::Writing {
                 answers: before,
@@ -94,13 +106,48 @@ impl OpenRequest {
         self.told = told;
     }
 
-    // A read is of this time now, unless one is named, and waits for this.
-    pub(crate) fn reach(&mut self, time: Time, wait: Wait)
+    // A shard returned its part, which is noted if it is the first. Takes no memory.
+    pub(crate) fn note(&mut self, shard: NodeId, told: Result<Rows, HalfFault>)
+        requires room { has_part_room self.old ≡ true }
+        ensures count { self.new.count ≡ self.old.count }
+        ensures part { (router life : ℕ) → open_view router life self.new ≡ rows.with_part (open_view router life self.old) shard.0 (rows_view told) }
+    {
+        if !has_part(shard, &self.parts) {
+            self.parts.push_reserved(Part { shard, rows: told });
+        }
+    }
+
+    // Makes room for one part more. Returns `Memory` if memory runs out. The request is the same either way.
+    pub(crate) fn reserve_part(&mut self) -> Result<(), Memory>
+        ensures room { OnOk result (has_part_room self.new ≡ true) }
+        ensures count { self.new.count ≡ self.old.count }
+        ensures same { (router life : ℕ) → open_view router life self.new ≡ open_view router life self.old }
+    {
+        self.parts.reserve(1)?;
+        Ok(())
+    }
+
+    // It waits for these shards now, which it was sent to.
+    pub(crate) fn wait_for_shards(&mut self, targets: Vec<Target>)
+        ensures count { self.new.count ≡ self.old.count }
+        ensures waits { (router life : ℕ) → open_view router life self.new
+            ≡ rows.with_work (open_view router life self.old) states.for_shards (map target_view targets.items) (open_view router life self.old).work }
+    {
+        self.wait = Wait::ForShards;
+        self.targets = targets;
+        self.parts.clear();
+    }
+
+    // A read is of this time now, unless one is named, and waits for this; it was sent to these shards.
+    pub(crate) fn reach(&mut self, time: Time, wait: Wait, targets: Vec<Target>)
         ensures count { self.new.count ≡ self.old.count }
         ensures work { (router life : ℕ) → open_view router life self.new
-            ≡ rows.with_work (open_view router life self.old) (wait_view wait) (rows.reached time.0 (open_view router life self.old).work) }
+            ≡ rows.with_work (open_view router life self.old) (wait_view wait) (map target_view targets.items)
+            (rows.reached time.0 (open_view router life self.old).work) }
     {
         self.wait = wait;
+        self.targets = targets;
+        self.parts.clear();
         match &mut self.work {
             Work::Writing { .. } => {}
             Work::Reading(read) => read.reach(time),

@@ -9,7 +9,7 @@ use Rattle.node_model.specs.World.{World, IsRouter, Event, client_event, Happens
 use Rattle.node_model.proofs.Schedules.{run_then}
 use Rattle.node_traits.specs.declared.outputs.StepFault.{StepFault}
 use Rattle.node_traits.specs.declared.outputs.ToLink.{ToLink}
-use Rattle.driver_steps.specs.Seats.{SeatView}
+use Rattle.driver_steps.specs.Seats.{Hosted, SeatView}
 use Rattle.driver_steps.specs.Worlds.{NetworkView, StandsFor}
 use Rattle.driver_steps.specs.Moves.{BeginWith, HasHappened, HasStopped}
 use Rattle.pipe_driver.specs.Progress.{AreAsked}
@@ -30,7 +30,7 @@ events_more at link replied (p ∷ requests) q =
     ap (λ (l : List Event). client_event at link (number_behind replied) p ∷ l) (events_more at link (replies_after p.more replied) requests q)
 
 -- after some of the requests
-pub record AreAsking {S : Type 0} (view : S → SeatView) (seats : List S) (network : NetworkView) (handed : List ToLink) (before : World)
+pub record AreAsking {S : Type 0} (view : S → SeatView) (hosts : Hosted S) (network : NetworkView) (handed : List ToLink) (before : World)
     (at link replied_before : ℕ) (bytes left : List ℕ) (replied : ℕ) : Type 0 where
   pub consumed : List ℕ
   pub requests : List Request
@@ -40,12 +40,12 @@ pub record AreAsking {S : Type 0} (view : S → SeatView) (seats : List S) (netw
   pub run : Run before (client_events at link replied_before requests) end
   pub count : replied ≡ replies_behind replied_before requests
   pub router : IsRouter end.nodes at
-  pub stands : StandsFor view seats network handed end 0
+  pub stands : StandsFor view hosts network handed end 0
 
 module _ {S : Type 0} (view : S → SeatView) (handed : List ToLink) (w : World) (at link replied_before : ℕ) (bytes : List ℕ) where
-  pub asking_none : (seats : List S) (network : NetworkView) → IsRouter w.nodes at → StandsFor view seats network handed w 0
-      → AreAsking view seats network handed w at link replied_before bytes bytes replied_before
-  asking_none seats network router s = record {
+  pub asking_none : (hosts : Hosted S) (network : NetworkView) → IsRouter w.nodes at → StandsFor view hosts network handed w 0
+      → AreAsking view hosts network handed w at link replied_before bytes bytes replied_before
+  asking_none hosts network router s = record {
     consumed = [];
     requests = [];
     end = w;
@@ -57,11 +57,11 @@ module _ {S : Type 0} (view : S → SeatView) (handed : List ToLink) (w : World)
     stands = s;
   }
 
-  module _ (seats : List S) (network : NetworkView) (left : List ℕ) (replied : ℕ)
-      (a : AreAsking view seats network handed w at link replied_before bytes left replied) where
+  module _ (hosts : Hosted S) (network : NetworkView) (left : List ℕ) (replied : ℕ)
+      (a : AreAsking view hosts network handed w at link replied_before bytes left replied) where
     -- the framer gave no more
     pub asking_ends : (rest : List ℕ) → rest ≡ left → outline rest ≡ partial_outline
-        → HasAsked view seats network handed w at link replied_before bytes rest replied false
+        → HasAsked view hosts network handed w at link replied_before bytes rest replied false
     asking_ends rest same partial = record {
       requests = a.requests ++ [];
       fault = None;
@@ -78,7 +78,7 @@ module _ {S : Type 0} (view : S → SeatView) (handed : List ToLink) (w : World)
         whole = a.all ∙ (ap (λ (b : List ℕ). b ++ left) a.asked.all ∙ ap (λ (b : List ℕ). bytes_of a.requests ++ b) (sym same))
 
     -- what is left is no request
-    pub asking_fails : (rest : List ℕ) → rest ≡ left → IsMalformed rest → HasAsked view seats network handed w at link replied_before bytes rest replied true
+    pub asking_fails : (rest : List ℕ) → rest ≡ left → IsMalformed rest → HasAsked view hosts network handed w at link replied_before bytes rest replied true
     asking_fails rest same malformed = record {
       requests = a.requests ++ [];
       fault = Some (malformed.0, 0 + length (bytes_of a.requests));
@@ -96,9 +96,9 @@ module _ {S : Type 0} (view : S → SeatView) (handed : List ToLink) (w : World)
         whole = a.all ∙ (ap (λ (b : List ℕ). b ++ left) a.asked.all ∙ ap (λ (b : List ℕ). bytes_of a.requests ++ b) (sym same))
 
     -- memory ran out for the next one
-    pub asking_cut : (status : Status) → IsCut view seats w (IsFirstAsked at link replied_before bytes) status
+    pub asking_cut : (status : Status) → IsCut view hosts w (IsFirstAsked at link replied_before bytes) status
     asking_cut status =
-        cut_here view seats w (client_events at link replied_before a.requests) a.end (IsFirstAsked at link replied_before bytes) status a.run
+        cut_here view hosts w (client_events at link replied_before a.requests) a.end (IsFirstAsked at link replied_before bytes) status a.run
         (record {
           consumed = a.consumed;
           rest = left;
@@ -106,7 +106,7 @@ module _ {S : Type 0} (view : S → SeatView) (handed : List ToLink) (w : World)
           all = a.all;
           asked = a.asked;
           first = ([], sym (append-nil (client_events at link replied_before a.requests)));
-        }) (still view seats network handed a.end a.stands)
+        }) (still view hosts network handed a.end a.stands)
 
     module _ (q asked : Request) (behind : List ℕ) (number : ℤ) (split : left ≡ q.bytes ++ behind) (is : IsRequest q) (same : asked ≡ q)
         (numbered : number ≡ number_behind replied) where
@@ -118,11 +118,11 @@ module _ {S : Type 0} (view : S → SeatView) (handed : List ToLink) (w : World)
       all_then = a.all ∙ (ap (λ (b : List ℕ). a.consumed ++ b) split ∙ sym (append_assoc a.consumed q.bytes behind))
 
       -- one request more came
-      pub asking_more : (seats_after : List S) (post_after : NetworkView) (after : ℕ)
-          → HasHappened view seats_after post_after handed a.end 0 (client_event at link number asked)
+      pub asking_more : (hosts_after : Hosted S) (post_after : NetworkView) (after : ℕ)
+          → HasHappened view hosts_after post_after handed a.end 0 (client_event at link number asked)
           → after ≡ replies_after q.more replied
-          → AreAsking view seats_after post_after handed w at link replied_before bytes behind after
-      asking_more seats_after post_after after h counted = record {
+          → AreAsking view hosts_after post_after handed w at link replied_before bytes behind after
+      asking_more hosts_after post_after after h counted = record {
         consumed = a.consumed ++ q.bytes;
         requests = a.requests ++ q ∷ [];
         end = h.end;
@@ -156,10 +156,10 @@ module _ {S : Type 0} (view : S → SeatView) (handed : List ToLink) (w : World)
       }
 
       -- its step failed
-      pub asking_stopped : (seats_after : List S) (replies : List ToLink) (fault : StepFault) (status : Status) → status ≡ status_for fault
-          → HasStopped view seats_after replies handed a.end (λ events. BeginWith events (client_event at link number asked ∷ [])) fault
-          → IsCut view seats_after w (IsFirstAsked at link replied_before bytes) status
-      asking_stopped seats_after replies fault status is_for s =
-          cut_behind view seats_after replies handed w (client_events at link replied_before a.requests) a.end
+      pub asking_stopped : (hosts_after : Hosted S) (replies : List ToLink) (fault : StepFault) (status : Status) → status ≡ status_for fault
+          → HasStopped view hosts_after replies handed a.end (λ events. BeginWith events (client_event at link number asked ∷ [])) fault
+          → IsCut view hosts_after w (IsFirstAsked at link replied_before bytes) status
+      asking_stopped hosts_after replies fault status is_for s =
+          cut_behind view hosts_after replies handed w (client_events at link replied_before a.requests) a.end
           (λ events. BeginWith events (client_event at link number asked ∷ [])) (IsFirstAsked at link replied_before bytes) fault status is_for
           a.run first_then s

@@ -7,7 +7,7 @@ use Rattle.std.proofs.lemmas.Option.{slice_get_within}
 use Rattle.node_model.specs.Letters.{Letter}
 use Rattle.node_model.specs.World.{World, Event, deliver_event, Happens, delivers, Run, stands, goes}
 use Rattle.node_traits.specs.declared.outputs.ToLink.{ToLink}
-use Rattle.driver_steps.specs.Seats.{SeatView}
+use Rattle.driver_steps.specs.Seats.{Hosted, SeatView}
 use Rattle.driver_steps.specs.Worlds.{NetworkView, StandsFor}
 use Rattle.driver_steps.specs.Moves.{DeliversOrLoses}
 use Rattle.pipe_driver.specs.declared.status.Status.{Status}
@@ -75,26 +75,26 @@ passes_by sent at m n except ds first second is =
 -- AFTER SOME OF THEM
 
 -- all that waits was ever sent
-pub all_sent : {S : Type 0} (view : S → SeatView) (seats : List S) (network : NetworkView) (handed : List ToLink) (u : World)
-    → StandsFor view seats network handed u 0 → u.sent ≡ network.waiting
-all_sent view seats network handed u s = s.sent ∙ ap (λ (l : List Letter). l ++ network.waiting) (empty s.past s.place)
+pub all_sent : {S : Type 0} (view : S → SeatView) (hosts : Hosted S) (network : NetworkView) (handed : List ToLink) (u : World)
+    → StandsFor view hosts network handed u 0 → u.sent ≡ network.waiting
+all_sent view hosts network handed u s = s.sent ∙ ap (λ (l : List Letter). l ++ network.waiting) (empty s.past s.place)
   where
     empty : (past : List Letter) → length past ≡ 0 → past ≡ []
     empty [] none = refl
     empty (m ∷ past) none = absurd (omega (arith, none))
 
-pub record IsSettling {S : Type 0} (view : S → SeatView) (seats : List S) (network : NetworkView) (handed : List ToLink) (before : World)
+pub record IsSettling {S : Type 0} (view : S → SeatView) (hosts : Hosted S) (network : NetworkView) (handed : List ToLink) (before : World)
     (except : Option (List ℕ)) (ds es : List Bool) (later : ℕ) : Type 0 where
   pub events : List Event
   pub end : World
   pub settles : SettlesBut except before ds 0 events end es later
   pub within : later ≤ length end.sent
-  pub stands : StandsFor view seats network handed end 0
+  pub stands : StandsFor view hosts network handed end 0
 
-pub settling_none : {S : Type 0} (view : S → SeatView) (seats : List S) (network : NetworkView) (handed : List ToLink) (u : World)
-    (except : Option (List ℕ)) (ds : List Bool) (first : ℕ) → AreDelivered first ds → length ds ≤ length u.sent → StandsFor view seats network handed u 0
-    → IsSettling view seats network handed u except ds ds first
-settling_none view seats network handed u except ds first all within s =
+pub settling_none : {S : Type 0} (view : S → SeatView) (hosts : Hosted S) (network : NetworkView) (handed : List ToLink) (u : World)
+    (except : Option (List ℕ)) (ds : List Bool) (first : ℕ) → AreDelivered first ds → length ds ≤ length u.sent → StandsFor view hosts network handed u 0
+    → IsSettling view hosts network handed u except ds ds first
+settling_none view hosts network handed u except ds first all within s =
     let inside : first ≤ length u.sent = omega (arith, within, delivered_length first ds all) in
     record { events = []; end = u; settles = passed_before except u ds first inside all; within = inside; stands = s }
 
@@ -102,15 +102,15 @@ deliver_grows : (u v : World) (at which : ℕ) → Happens u (deliver_event at w
 deliver_grows _ _ _ _ (delivers u v at which m got to moves) =
     subst (λ (x : World). length u.sent ≤ length x.sent) (sym moves.then) (omega (arith, length-append u.sent moves.f.mail))
 
-module _ {S : Type 0} (view : S → SeatView) (seats_after : List S) (post_after : NetworkView) (handed : List ToLink) (u : World)
+module _ {S : Type 0} (view : S → SeatView) (hosts_after : Hosted S) (post_after : NetworkView) (handed : List ToLink) (u : World)
     (except : Option (List ℕ)) (ds es : List Bool) (later : ℕ) where
-  settling_on : (seats : List S) (network : NetworkView) → (s : IsSettling view seats network handed u except ds es later)
-      → (d : HasDeliveredOne view seats_after post_after handed s.end later) → is_passed except es later d.message ≡ false
-      → IsSettling view seats_after post_after handed u except ds (marked later es) (later + 1)
-  settling_on seats network s d new = by_kind d.delivers
+  settling_on : (hosts : Hosted S) (network : NetworkView) → (s : IsSettling view hosts network handed u except ds es later)
+      → (d : HasDeliveredOne view hosts_after post_after handed s.end later) → is_passed except es later d.message ≡ false
+      → IsSettling view hosts_after post_after handed u except ds (marked later es) (later + 1)
+  settling_on hosts network s d new = by_kind d.delivers
     where
       by_kind : DeliversOrLoses s.end later d.message.receiver d.end
-          → IsSettling view seats_after post_after handed u except ds (marked later es) (later + 1)
+          → IsSettling view hosts_after post_after handed u except ds (marked later es) (later + 1)
       by_kind (inl h) = record {
         events = s.events ++ deliver_event d.message.receiver later ∷ [];
         end = d.end;
@@ -129,25 +129,25 @@ module _ {S : Type 0} (view : S → SeatView) (seats_after : List S) (post_after
         stands = d.stands;
       }
 
-  pub settling_step : (seats : List S) (network : NetworkView) (fs : List Bool) → (s : IsSettling view seats network handed u except ds es later)
-      → PassesOrDelivers view seats_after post_after handed s.end except later es fs
-      → IsSettling view seats_after post_after handed u except ds fs (later + 1)
-  settling_step seats network fs s (has_passed m got is there same) =
-      subst (λ (l : List Bool). IsSettling view seats_after post_after handed u except ds l (later + 1)) (sym same) (record {
+  pub settling_step : (hosts : Hosted S) (network : NetworkView) (fs : List Bool) → (s : IsSettling view hosts network handed u except ds es later)
+      → PassesOrDelivers view hosts_after post_after handed s.end except later es fs
+      → IsSettling view hosts_after post_after handed u except ds fs (later + 1)
+  settling_step hosts network fs s (has_passed m got is there same) =
+      subst (λ (l : List Bool). IsSettling view hosts_after post_after handed u except ds l (later + 1)) (sym same) (record {
         events = s.events;
         end = s.end;
         settles = passed_more except u ds 0 s.events s.end es later m s.settles got is;
         within = omega (arith, slice_get_within s.end.sent later m got);
         stands = there;
       })
-  settling_step seats network fs s (has_delivered d new same) =
-      subst (λ (l : List Bool). IsSettling view seats_after post_after handed u except ds l (later + 1)) (sym same) (settling_on seats network s d new)
+  settling_step hosts network fs s (has_delivered d new same) =
+      subst (λ (l : List Bool). IsSettling view hosts_after post_after handed u except ds l (later + 1)) (sym same) (settling_on hosts network s d new)
 
-pub settling_cut : {S : Type 0} (view : S → SeatView) (seats seats_after : List S) (network : NetworkView) (handed : List ToLink) (u : World)
-    (except : Option (List ℕ)) (ds es : List Bool) (later : ℕ) (status : Status) → (s : IsSettling view seats network handed u except ds es later)
-    → IsCut view seats_after s.end (IsPartOfDelivery s.end later) status → IsCut view seats_after u (IsPartOfSettling except u ds) status
-settling_cut view seats seats_after network handed u except ds es later status s c =
-    cut_then view seats_after u s.events s.end (IsPartOfDelivery s.end later) (IsPartOfSettling except u ds) status
+pub settling_cut : {S : Type 0} (view : S → SeatView) (hosts hosts_after : Hosted S) (network : NetworkView) (handed : List ToLink) (u : World)
+    (except : Option (List ℕ)) (ds es : List Bool) (later : ℕ) (status : Status) → (s : IsSettling view hosts network handed u except ds es later)
+    → IsCut view hosts_after s.end (IsPartOfDelivery s.end later) status → IsCut view hosts_after u (IsPartOfSettling except u ds) status
+settling_cut view hosts hosts_after network handed u except ds es later status s c =
+    cut_then view hosts_after u s.events s.end (IsPartOfDelivery s.end later) (IsPartOfSettling except u ds) status
     (but_run except u ds 0 s.events s.end es later s.settles)
     (λ more part. record {
       before = s.events;
@@ -162,19 +162,19 @@ settling_cut view seats seats_after network handed u except ds es later status s
     }) c
 
 -- a message was delivered, and memory ran out when it was noted
-pub delivered_cut : {S : Type 0} (view : S → SeatView) (seats : List S) (network : NetworkView) (handed : List ToLink) (w : World) (which : ℕ) (status : Status)
-    → HasDeliveredOne view seats network handed w which → IsCut view seats w (IsPartOfDelivery w which) status
-delivered_cut view seats network handed w which status d = by_kind d.delivers
+pub delivered_cut : {S : Type 0} (view : S → SeatView) (hosts : Hosted S) (network : NetworkView) (handed : List ToLink) (w : World) (which : ℕ) (status : Status)
+    → HasDeliveredOne view hosts network handed w which → IsCut view hosts w (IsPartOfDelivery w which) status
+delivered_cut view hosts network handed w which status d = by_kind d.delivers
   where
-    by_kind : DeliversOrLoses w which d.message.receiver d.end → IsCut view seats w (IsPartOfDelivery w which) status
+    by_kind : DeliversOrLoses w which d.message.receiver d.end → IsCut view hosts w (IsPartOfDelivery w which) status
     by_kind (inl h) =
-        cut_here view seats w (deliver_event d.message.receiver which ∷ []) d.end (IsPartOfDelivery w which) status
+        cut_here view hosts w (deliver_event d.message.receiver which ∷ []) d.end (IsPartOfDelivery w which) status
         (goes w d.end d.end (deliver_event d.message.receiver which) [] h (stands d.end))
-        (record { message = d.message; got = d.got; first = ([], refl) }) (still view seats network handed d.end d.stands)
+        (record { message = d.message; got = d.got; first = ([], refl) }) (still view hosts network handed d.end d.stands)
     by_kind (inr (same, none)) =
-        cut_here view seats w [] d.end (IsPartOfDelivery w which) status (subst (λ (x : World). Run w [] x) (sym same) (stands w))
+        cut_here view hosts w [] d.end (IsPartOfDelivery w which) status (subst (λ (x : World). Run w [] x) (sym same) (stands w))
         (record { message = d.message; got = d.got; first = (deliver_event d.message.receiver which ∷ [], refl) })
-        (still view seats network handed d.end d.stands)
+        (still view hosts network handed d.end d.stands)
 
 -- a delivery leaves less to do, and a place that is passed too
 pub less_to_do : {M : Type 0} (left left_after at count count_after : ℕ) (waiting after : List M)
@@ -186,11 +186,11 @@ less_to_do {M} left left_after at count count_after waiting after (inr (same, st
     let as_many : length after ≡ length waiting = ap (λ (l : List M). length l) stays in
     omega arith
 
-pub settling_end : {S : Type 0} (view : S → SeatView) (seats : List S) (network : NetworkView) (handed : List ToLink) (u : World)
-    (except : Option (List ℕ)) (ds es : List Bool) (later : ℕ) → IsSettling view seats network handed u except ds es later
-    → length network.waiting ≤ later → HasSettledBut view seats network handed u except ds es
-settling_end view seats network handed u except ds es later s past =
-    let all = ap (λ (l : List Letter). length l) (all_sent view seats network handed s.end s.stands) in
+pub settling_end : {S : Type 0} (view : S → SeatView) (hosts : Hosted S) (network : NetworkView) (handed : List ToLink) (u : World)
+    (except : Option (List ℕ)) (ds es : List Bool) (later : ℕ) → IsSettling view hosts network handed u except ds es later
+    → length network.waiting ≤ later → HasSettledBut view hosts network handed u except ds es
+settling_end view hosts network handed u except ds es later s past =
+    let all = ap (λ (l : List Letter). length l) (all_sent view hosts network handed s.end s.stands) in
     let end : later ≡ length s.end.sent = omega (arith, all, past, s.within) in
     record {
       events = s.events;

@@ -5,7 +5,7 @@ use Rattle.outside.specs.Streams.{Took}
 use Rattle.outside.specs.Devices.{SourceCall, SinkCall}
 use Rattle.node_model.specs.World.{Held, World}
 use Rattle.driver_steps.specs.Crashes.{Noted}
-use Rattle.driver_steps.specs.Seats.{SeatView, AreKept, LeaveKept}
+use Rattle.driver_steps.specs.Seats.{Hosted, SeatView, AreKept, LeaveKept}
 use Rattle.driver_steps.specs.Worlds.{NetworkView}
 use Rattle.driver_steps.proofs.Seats.{held_kept}
 use Rattle.outside.proofs.Relations.{took_then}
@@ -24,7 +24,7 @@ use Rattle.sim_driver.specs.Simulations.{line_refused, line_unended, too_long, I
 use Rattle.sim_driver.specs.Progress.{Playing, StopsAt, at_refused_line, at_write_fault, at_disk_fault, at_no_memory, Stopped, HasStoppedIn}
 use Rattle.sim_driver.proofs.Settled.{ends_answered}
 
-module _ {S : Type 0} (view : S → SeatView) (seats : List S) (source : SourceCall) (sink : SinkCall) (noted : List Noted) (first_router : ℕ) (first : World)
+module _ {S : Type 0} (view : S → SeatView) (hosts : Hosted S) (source : SourceCall) (sink : SinkCall) (noted : List Noted) (first_router : ℕ) (first : World)
     (limit : ℕ)
     (status : Status) (consumed left : List ℕ) where
   -- what the journals owed before bytes were put
@@ -40,11 +40,11 @@ module _ {S : Type 0} (view : S → SeatView) (seats : List S) (source : SourceC
 
   -- all whole lines were played
   ended : (network : NetworkView) (s : ScriptView) (known : Status) → status ≡ known
-      → (p : Playing view seats network first_router first sink.tells noted sink.held_before sink.held_after s consumed)
+      → (p : Playing view hosts network first_router first sink.tells noted sink.held_before sink.held_after s consumed)
       → Took source.tells source.left_before (consumed ++ left) source.left_after → length consumed + length left ≤ limit
       → (AllPlayed first_router first p.lines p.out p.world
       → Cause first_router first limit (IsTrue source.tells → source.left_after ≡ []) (consumed ++ left) p.lines left p.out p.world known)
-      → IsSimulated source sink first_router (AreKept view seats) (LeaveKept view seats) Owed first limit status
+      → IsSimulated source sink first_router (AreKept view hosts.seats) (LeaveKept view hosts) Owed first limit status
   ended network s known is p took most cause = record {
     taken = consumed ++ left;
     put = p.out;
@@ -62,7 +62,7 @@ module _ {S : Type 0} (view : S → SeatView) (seats : List S) (source : SourceC
       played = p.plays;
       answered = ends_answered first_router first p.begins p.lines p.events p.world s p.out p.plays;
     }));
-    files = held_kept view seats p.world.nodes p.stands.nodes;
+    files = held_kept view hosts.seats p.world.nodes p.stands.nodes;
     last = p.world;
     is_last = inl refl;
     crashes = p.stands.crashes;
@@ -71,9 +71,9 @@ module _ {S : Type 0} (view : S → SeatView) (seats : List S) (source : SourceC
 
   -- the script stopped at the line that is next, or before it
   pub ended_stopped : (told : Status) → status ≡ told
-      → Stopped view seats first_router first sink.tells noted sink.held_before sink.held_after consumed left told
+      → Stopped view hosts first_router first sink.tells noted sink.held_before sink.held_after consumed left told
       → Took source.tells source.left_before (consumed ++ left) source.left_after → length consumed + length left ≤ limit
-      → IsSimulated source sink first_router (AreKept view seats) (LeaveKept view seats) Owed first limit status
+      → IsSimulated source sink first_router (AreKept view hosts.seats) (LeaveKept view hosts) Owed first limit status
   ended_stopped told is s took most = record {
     taken = consumed ++ left;
     put = s.out;
@@ -101,11 +101,11 @@ module _ {S : Type 0} (view : S → SeatView) (seats : List S) (source : SourceC
       by_cause _ (at_no_memory came) = no_memory came
 
   module _ (network : NetworkView) (s : ScriptView)
-      (p : Playing view seats network first_router first sink.tells noted sink.held_before sink.held_after s consumed)
+      (p : Playing view hosts network first_router first sink.tells noted sink.held_before sink.held_after s consumed)
       (took : Took source.tells source.left_before (consumed ++ left) source.left_after) (none : HasNone newline left) where
     -- the input is at its limit
     pub ended_at_limit : status ≡ statuses.InputTooLong → length consumed + length left ≡ limit
-        → IsSimulated source sink first_router (AreKept view seats) (LeaveKept view seats) Owed first limit status
+        → IsSimulated source sink first_router (AreKept view hosts.seats) (LeaveKept view hosts) Owed first limit status
     ended_at_limit is full =
         ended network s statuses.InputTooLong is p took (omega (arith, full))
         (λ all. too_long (omega (arith, full, length-append consumed left)) none all)
@@ -117,7 +117,7 @@ module _ {S : Type 0} (view : S → SeatView) (seats : List S) (source : SourceC
       below = omega (arith, most, length-append consumed left)
 
       at_end : (b : List ℕ) → left ≡ b → told ≡ statuses.InputEnded → (IsTrue source.tells → source.left_after ≡ [])
-          → IsSimulated source sink first_router (AreKept view seats) (LeaveKept view seats) Owed first limit status
+          → IsSimulated source sink first_router (AreKept view hosts.seats) (LeaveKept view hosts) Owed first limit status
       at_end [] is ends source_end =
           ended network s statuses.InputEnded (whole is ∙ ends) p took (omega (arith, most)) (λ all. input_ended source_end below is all)
       at_end (x ∷ b) is ends source_end =
@@ -125,26 +125,26 @@ module _ {S : Type 0} (view : S → SeatView) (seats : List S) (source : SourceC
           ended network s statuses.BadInput (begun some ends) p took (omega (arith, most)) (λ all. line_unended source_end below some none all)
 
       by_taking : (n : Status) → told ≡ n → EndsTaking source.tells source.left_after n
-          → IsSimulated source sink first_router (AreKept view seats) (LeaveKept view seats) Owed first limit status
+          → IsSimulated source sink first_router (AreKept view hosts.seats) (LeaveKept view hosts) Owed first limit status
       by_taking _ is (at_source_end source_end) = at_end left refl is source_end
       by_taking _ is at_read_fault =
           ended network s statuses.ReadFailed (other (λ e. let clash : statuses.ReadFailed ≡ statuses.InputEnded = sym is ∙ e in absurd (cc clash)) ∙ is) p took
           (omega (arith, most)) (λ all. read_failed below none all)
 
       pub ended_taking : EndsTaking source.tells source.left_after told
-          → IsSimulated source sink first_router (AreKept view seats) (LeaveKept view seats) Owed first limit status
+          → IsSimulated source sink first_router (AreKept view hosts.seats) (LeaveKept view hosts) Owed first limit status
       ended_taking taking = by_taking told refl taking
 
 -- the script stopped within a piece
-pub ended_within : {S : Type 0} (view : S → SeatView) (seats : List S) (source : SourceCall) (sink : SinkCall) (noted : List Noted) (first_router : ℕ)
+pub ended_within : {S : Type 0} (view : S → SeatView) (hosts : Hosted S) (source : SourceCall) (sink : SinkCall) (noted : List Noted) (first_router : ℕ)
     (first : World) (limit : ℕ)
-    (status : Status) (bytes : List ℕ) → HasStoppedIn view seats first_router first sink.tells noted sink.held_before sink.held_after bytes status
+    (status : Status) (bytes : List ℕ) → HasStoppedIn view hosts first_router first sink.tells noted sink.held_before sink.held_after bytes status
     → Took source.tells source.left_before bytes source.left_after → length bytes ≤ limit
-    → IsSimulated source sink first_router (AreKept view seats) (LeaveKept view seats)
+    → IsSimulated source sink first_router (AreKept view hosts.seats) (LeaveKept view hosts)
     (λ last put. IsTrue sink.tells → AreCovered (all_printed first_router first) first noted sink.held_before put last) first limit status
-ended_within view seats source sink noted first_router first limit status bytes h took most =
+ended_within view hosts source sink noted first_router first limit status bytes h took most =
     let size : length h.consumed + length h.left ≤ limit = omega (arith, most, ap (λ (b : List ℕ). length b) h.whole, length-append h.consumed h.left) in
-    ended_stopped view seats source sink noted first_router first limit status h.consumed h.left status refl h.stopped
+    ended_stopped view hosts source sink noted first_router first limit status h.consumed h.left status refl h.stopped
     (subst (λ (b : List ℕ). Took source.tells source.left_before b source.left_after) h.whole took) size
 
 -- what is said of the nodes' journals, said otherwise
@@ -170,6 +170,12 @@ simulated_as source sink first_router kept other leaves leaves' owed owed' first
   crashes = weaker s.last s.crashes;
   acknowledged = pays s.last s.put s.crashes s.acknowledged;
 }
+
+pub simulated_by : (source : SourceCall) (sink sink' : SinkCall) (first_router : ℕ) (kept : List Held → Type 0) (leaves : World → Type 0)
+    (owed : World → List ℕ → Type 0) (first : World) (limit : ℕ) (status : Status) → sink ≡ sink'
+    → IsSimulated source sink first_router kept leaves owed first limit status → IsSimulated source sink' first_router kept leaves owed first limit status
+simulated_by source sink sink' first_router kept leaves owed first limit status same s =
+    subst (λ (k : SinkCall). IsSimulated source k first_router kept leaves owed first limit status) same s
 
 -- BYTES THAT ARE TAKEN
 

@@ -5,7 +5,7 @@ use Rattle.node_model.proofs.Schedules.{run_then}
 use Rattle.node_traits.specs.declared.outputs.StepFault.{StepFault}
 use Rattle.node_traits.specs.declared.outputs.StepFault.TheVariants.{Disk, Steps, Memory}
 use Rattle.node_traits.specs.declared.outputs.ToLink.{ToLink}
-use Rattle.driver_steps.specs.Seats.{SeatView}
+use Rattle.driver_steps.specs.Seats.{Hosted, SeatView}
 use Rattle.driver_steps.specs.Worlds.{NetworkView, StandsFor}
 use Rattle.driver_steps.specs.Moves.{HasStopped, IsUpTo}
 use Rattle.driver_steps.proofs.Seats.{held_kept}
@@ -16,9 +16,9 @@ use Rattle.pipe_driver.proofs.Serving.{kept_at}
 use Rattle.sim_driver.specs.Moves.{AreStill, IsCut, IsLastOf}
 
 -- nothing happened where the world models all
-pub still : {S : Type 0} (view : S → SeatView) (seats : List S) (network : NetworkView) (handed : List ToLink) (w : World)
-    → StandsFor view seats network handed w 0 → AreStill view seats w
-still view seats network handed w s = record { nodes = s.nodes; crashes = s.crashes }
+pub still : {S : Type 0} (view : S → SeatView) (hosts : Hosted S) (network : NetworkView) (handed : List ToLink) (w : World)
+    → StandsFor view hosts network handed w 0 → AreStill view hosts w
+still view hosts network handed w s = record { nodes = s.nodes; crashes = s.crashes }
 
 -- one event more
 pub run_more : (u : World) (events : List Event) (v : World) (e : Event) (w : World) → Run u events v → Happens v e w → Run u (events ++ e ∷ []) w
@@ -43,37 +43,37 @@ behind : (es more : List Event) (e : Event) (Q : List Event → Type 0) → Q (e
 behind es more e Q has = subst (λ (l : List Event). Q l) (sym (append_assoc es more (e ∷ []))) has
 
 -- events, and then a fault of a step
-pub cut_behind : {S : Type 0} (view : S → SeatView) (seats : List S) (replies handed : List ToLink) (u : World) (es : List Event) (w : World)
+pub cut_behind : {S : Type 0} (view : S → SeatView) (hosts : Hosted S) (replies handed : List ToLink) (u : World) (es : List Event) (w : World)
     (P Q : List Event → Type 0) (fault : StepFault) (status : Status) → status ≡ status_for fault → Run u es w
-    → ((more : List Event) → P more → Q (es ++ more)) → HasStopped view seats replies handed w P fault → IsCut view seats u Q status
-cut_behind view seats replies handed u es w P Q fault status is run all s = record {
+    → ((more : List Event) → P more → Q (es ++ more)) → HasStopped view hosts replies handed w P fault → IsCut view hosts u Q status
+cut_behind view hosts replies handed u es w P Q fault status is run all s = record {
   events = es ++ s.events;
   end = s.end;
   which = all s.events s.which;
   run = run_then u es w s.events s.end run s.run;
-  kept = kept_at fault view seats s.end s.nodes;
+  kept = kept_at fault view hosts s.end s.nodes;
   last = s.last;
   is_last = last_of fault status is s.end s.last s.events (es ++ s.events) P Q (λ e has. behind es s.events e Q (all (s.events ++ e ∷ []) has)) s.up_to;
   crashes = s.crashes;
 }
 
 -- events, and then a fault that is none of a step
-pub cut_here : {S : Type 0} (view : S → SeatView) (seats : List S) (u : World) (es : List Event) (w : World) (Q : List Event → Type 0) (status : Status)
-    → Run u es w → Q es → AreStill view seats w → IsCut view seats u Q status
-cut_here view seats u es w Q status run which are = record {
+pub cut_here : {S : Type 0} (view : S → SeatView) (hosts : Hosted S) (u : World) (es : List Event) (w : World) (Q : List Event → Type 0) (status : Status)
+    → Run u es w → Q es → AreStill view hosts w → IsCut view hosts u Q status
+cut_here view hosts u es w Q status run which are = record {
   events = es;
   end = w;
   which = which;
   run = run;
-  kept = held_kept view seats w.nodes are.nodes;
+  kept = held_kept view hosts.seats w.nodes are.nodes;
   last = w;
   is_last = inl refl;
   crashes = are.crashes;
 }
 
-pub cut_then : {S : Type 0} (view : S → SeatView) (seats : List S) (u : World) (es : List Event) (w : World) (P Q : List Event → Type 0) (status : Status)
-    → Run u es w → ((more : List Event) → P more → Q (es ++ more)) → IsCut view seats w P status → IsCut view seats u Q status
-cut_then view seats u es w P Q status run all c = record {
+pub cut_then : {S : Type 0} (view : S → SeatView) (hosts : Hosted S) (u : World) (es : List Event) (w : World) (P Q : List Event → Type 0) (status : Status)
+    → Run u es w → ((more : List Event) → P more → Q (es ++ more)) → IsCut view hosts w P status → IsCut view hosts u Q status
+cut_then view hosts u es w P Q status run all c = record {
   events = es ++ c.events;
   end = c.end;
   which = all c.events c.which;
@@ -85,9 +85,9 @@ cut_then view seats u es w P Q status run all c = record {
 }
 
 -- the same events, said otherwise
-pub cut_as : {S : Type 0} (view : S → SeatView) (seats : List S) (u : World) (P Q : List Event → Type 0) (status : Status)
-    → ((events : List Event) → P events → Q events) → IsCut view seats u P status → IsCut view seats u Q status
-cut_as view seats u P Q status says c = record {
+pub cut_as : {S : Type 0} (view : S → SeatView) (hosts : Hosted S) (u : World) (P Q : List Event → Type 0) (status : Status)
+    → ((events : List Event) → P events → Q events) → IsCut view hosts u P status → IsCut view hosts u Q status
+cut_as view hosts u P Q status says c = record {
   events = c.events;
   end = c.end;
   which = says c.events c.which;

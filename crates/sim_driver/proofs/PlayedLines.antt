@@ -1,7 +1,8 @@
 -- A line is played.
-use Rattle.std.proofs.Common.{◌≡◌, ◌⊎◌, inl, inr, ℕ, zero, suc, ◌+◌, ◌<◌, Bool, true, false, List, [], ◌∷◌, ◌++◌, length, refl, sym, ap, subst, ◌∙◌, arith}
+use Rattle.std.proofs.Common.{◌≡◌, ◌⊎◌, inl, inr, ℕ, zero, suc, ◌+◌, ◌<◌, Bool, IsTrue, true, false, List, [], ◌∷◌, ◌++◌, length, refl, sym, ap, subst, ◌∙◌, arith}
 use Rattle.std.specs.Prelude.{Option, Some, None}
 use Rattle.outside.specs.Logs.{LogFacts}
+use Rattle.outside.specs.Notes.{Note}
 use Rattle.opmsg_frames.specs.Outline.{FrameFault}
 use Rattle.opmsg_frames.specs.Frames.{FramesFrom}
 use Rattle.std.specs.List.{slice_get, slice_set}
@@ -11,7 +12,8 @@ use Rattle.node_model.specs.World.{World, Event, deliver_event, moment_event, Ha
 use Rattle.node_traits.specs.declared.outputs.ToLink.{ToLink}
 use Rattle.driver_steps.specs.declared.seat.Seat.{Seat}
 use Rattle.driver_steps.specs.Crashes.{Since, with_notes}
-use Rattle.driver_steps.specs.Seats.{AreDurable, SeatView, seat_since}
+use Rattle.driver_steps.specs.Seats.{Hosted, AreDurable, SeatView, notes_of, seat_since}
+use Rattle.driver_steps.specs.Together.{hosted}
 use Rattle.driver_steps.specs.Worlds.{NetworkView}
 use Rattle.driver_steps.specs.Moves.{BeginWith, DeliversOrLoses, HasHappened}
 use Rattle.script_lines.specs.Lines.{Line, Says, client_line, deliver_line, moment_line, settle_line, next_line}
@@ -34,27 +36,27 @@ use Rattle.sim_driver.proofs.Plays.{client_is_part}
 pub is_of_line : (status : Status) → (status ≡ statuses.DiskFailed) ⊎ (status ≡ statuses.OutOfMemory) → IsOfLine status
 is_of_line status either = inr either
 
-pub stops_either : {S : Type 0} (view : S → SeatView) (seats : List S) (w : World) (line : Line) (old : ScriptView) (status : Status)
-    → (status ≡ statuses.DiskFailed) ⊎ (status ≡ statuses.OutOfMemory) → IsCut view seats w (IsPartOfLine w old line) status
-    → StopsLine view seats w line old status
-stops_either view seats w line old status (inl is) cut =
-    subst (λ (n : Status). StopsLine view seats w line old n) (sym is)
-    (stops_at_disk (subst (λ (n : Status). IsCut view seats w (IsPartOfLine w old line) n) is cut))
-stops_either view seats w line old status (inr is) cut =
-    subst (λ (n : Status). StopsLine view seats w line old n) (sym is)
-    (stops_at_memory (subst (λ (n : Status). IsCut view seats w (IsPartOfLine w old line) n) is cut))
+pub stops_either : {S : Type 0} (view : S → SeatView) (hosts : Hosted S) (w : World) (line : Line) (old : ScriptView) (status : Status)
+    → (status ≡ statuses.DiskFailed) ⊎ (status ≡ statuses.OutOfMemory) → IsCut view hosts w (IsPartOfLine w old line) status
+    → StopsLine view hosts w line old status
+stops_either view hosts w line old status (inl is) cut =
+    subst (λ (n : Status). StopsLine view hosts w line old n) (sym is)
+    (stops_at_disk (subst (λ (n : Status). IsCut view hosts w (IsPartOfLine w old line) n) is cut))
+stops_either view hosts w line old status (inr is) cut =
+    subst (λ (n : Status). StopsLine view hosts w line old n) (sym is)
+    (stops_at_memory (subst (λ (n : Status). IsCut view hosts w (IsPartOfLine w old line) n) is cut))
 
 -- REQUESTS
 
-module _ {S : Type 0} (view : S → SeatView) (seats : List S) (network : NetworkView) (handed : List ToLink) (w : World) (s : ScriptView)
+module _ {S : Type 0} (view : S → SeatView) (hosts : Hosted S) (network : NetworkView) (handed : List ToLink) (w : World) (s : ScriptView)
     (router : ℕ) (link : LinkView) (here : slice_get s.links router ≡ Some link) (bytes left : List ℕ) (replied : ℕ) where
-  pub client_played : HasAsked view seats network handed w (s.first_router + router) link.number link.replied (link.left ++ bytes) left replied false
-      → HasPlayed view seats network handed w (client_line router bytes) s
+  pub client_played : HasAsked view hosts network handed w (s.first_router + router) link.number link.replied (link.left ++ bytes) left replied false
+      → HasPlayed view hosts network handed w (client_line router bytes) s
       (with_link s router (record { number = link.number; left = left; replied = replied })) None
   client_played a = by_fault a.fault a.frames a.ends
     where
       by_fault : (fault : Option (FrameFault × ℕ)) → FramesFrom 0 (link.left ++ bytes) a.requests left fault → HasFault fault false
-          → HasPlayed view seats network handed w (client_line router bytes) s
+          → HasPlayed view hosts network handed w (client_line router bytes) s
           (with_link s router (record { number = link.number; left = left; replied = replied })) None
       by_fault (Some fault) frames e = absurd (cc e)
       by_fault None frames e = record {
@@ -67,12 +69,12 @@ module _ {S : Type 0} (view : S → SeatView) (seats : List S) (network : Networ
         stands = a.stands;
       }
 
-  pub client_closed : HasAsked view seats network handed w (s.first_router + router) link.number link.replied (link.left ++ bytes) left replied true
-      → HasPlayed view seats network handed w (client_line router bytes) s (reopened s router) (Some router)
+  pub client_closed : HasAsked view hosts network handed w (s.first_router + router) link.number link.replied (link.left ++ bytes) left replied true
+      → HasPlayed view hosts network handed w (client_line router bytes) s (reopened s router) (Some router)
   client_closed a = by_fault a.fault a.frames a.ends
     where
       by_fault : (fault : Option (FrameFault × ℕ)) → FramesFrom 0 (link.left ++ bytes) a.requests left fault → HasFault fault true
-          → HasPlayed view seats network handed w (client_line router bytes) s (reopened s router) (Some router)
+          → HasPlayed view hosts network handed w (client_line router bytes) s (reopened s router) (Some router)
       by_fault None frames e = absurd (cc e)
       by_fault (Some fault) frames e = record {
         events = events_on s.first_router router link a.requests;
@@ -83,12 +85,12 @@ module _ {S : Type 0} (view : S → SeatView) (seats : List S) (network : Networ
       }
 
   -- a link can't be numbered any more
-  pub client_full : HasAsked view seats network handed w (s.first_router + router) link.number link.replied (link.left ++ bytes) left replied true
-      → IsCut view seats w (IsPartOfLine w s (client_line router bytes)) statuses.OutOfMemory
+  pub client_full : HasAsked view hosts network handed w (s.first_router + router) link.number link.replied (link.left ++ bytes) left replied true
+      → IsCut view hosts w (IsPartOfLine w s (client_line router bytes)) statuses.OutOfMemory
   client_full a =
-      cut_here view seats w (events_on s.first_router router link a.requests) a.end (IsPartOfLine w s (client_line router bytes)) statuses.OutOfMemory a.run
+      cut_here view hosts w (events_on s.first_router router link a.requests) a.end (IsPartOfLine w s (client_line router bytes)) statuses.OutOfMemory a.run
       (client_is_part w s router link bytes left a.requests a.fault here a.frames)
-      (still view seats network handed a.end a.stands)
+      (still view hosts network handed a.end a.stands)
 
 pub client_part : (w : World) (s : ScriptView) (router : ℕ) (link : LinkView) (bytes : List ℕ) → slice_get s.links router ≡ Some link
     → (events : List Event) → IsFirstAsked (s.first_router + router) link.number link.replied (link.left ++ bytes) events
@@ -96,11 +98,11 @@ pub client_part : (w : World) (s : ScriptView) (router : ℕ) (link : LinkView) 
 client_part w s router link bytes here events f = part_of_client router link bytes f.consumed f.rest f.requests events here f.all f.asked f.first
 
 -- what the script has, said otherwise
-pub played_to : {S : Type 0} (view : S → SeatView) (seats : List S) (network : NetworkView) (handed : List ToLink) (w : World) (line : Line)
-    (s t other : ScriptView) (closed : Option ℕ) → t ≡ other → HasPlayed view seats network handed w line s t closed
-    → HasPlayed view seats network handed w line s other closed
-played_to view seats network handed w line s t other closed same h =
-    subst (λ (x : ScriptView). HasPlayed view seats network handed w line s x closed) same h
+pub played_to : {S : Type 0} (view : S → SeatView) (hosts : Hosted S) (network : NetworkView) (handed : List ToLink) (w : World) (line : Line)
+    (s t other : ScriptView) (closed : Option ℕ) → t ≡ other → HasPlayed view hosts network handed w line s t closed
+    → HasPlayed view hosts network handed w line s other closed
+played_to view hosts network handed w line s t other closed same h =
+    subst (λ (x : ScriptView). HasPlayed view hosts network handed w line s x closed) same h
 
 -- a link that is set twice
 pub set_twice : {A : Type 0} (items : List A) (at : ℕ) (first last : A) → slice_set (slice_set items at first) at last ≡ slice_set items at last
@@ -110,7 +112,7 @@ set_twice {A} (a ∷ items) (suc at) first last = ap (λ (l : List A). a ∷ l) 
 
 -- DELIVERIES
 
-module _ {S : Type 0} (view : S → SeatView) (seats : List S) (network : NetworkView) (handed : List ToLink) (w : World) (s : ScriptView) where
+module _ {S : Type 0} (view : S → SeatView) (hosts : Hosted S) (network : NetworkView) (handed : List ToLink) (w : World) (s : ScriptView) where
   -- the message at the place of the k-th message to a node goes to that node
   pub goes_there : (node k which : ℕ) (m : Letter) → place_from 0 node k w.sent ≡ Some which → slice_get w.sent which ≡ Some m → m.receiver ≡ node
   goes_there node k which m place got =
@@ -121,14 +123,14 @@ module _ {S : Type 0} (view : S → SeatView) (seats : List S) (network : Networ
       ap (λ (l : Letter). l.receiver) (sym one) ∙ there.4
 
   pub deliver_played : (node k which : ℕ) (ds : List Bool) → ds ≡ marked which s.delivered → place_from 0 node k w.sent ≡ Some which
-      → node < length w.nodes → HasDeliveredOne view seats network handed w which
-      → HasPlayed view seats network handed w (deliver_line node k) s (with_delivered s ds) None
+      → node < length w.nodes → HasDeliveredOne view hosts network handed w which
+      → HasPlayed view hosts network handed w (deliver_line node k) s (with_delivered s ds) None
   deliver_played node k which ds noted place inside d = by_kind d.delivers
     where
       to : d.message.receiver ≡ node
       to = goes_there node k which d.message place d.got
 
-      by_kind : DeliversOrLoses w which d.message.receiver d.end → HasPlayed view seats network handed w (deliver_line node k) s (with_delivered s ds) None
+      by_kind : DeliversOrLoses w which d.message.receiver d.end → HasPlayed view hosts network handed w (deliver_line node k) s (with_delivered s ds) None
       by_kind (inl h) =
           let there : Happens w (deliver_event node which) d.end = subst (λ (n : ℕ). Happens w (deliver_event n which) d.end) to h in
           record {
@@ -148,10 +150,10 @@ module _ {S : Type 0} (view : S → SeatView) (seats : List S) (network : Networ
       (subst (λ (n : ℕ). BeginWith events (deliver_event n which ∷ [])) (goes_there node k which p.message place p.got) p.first)
 
   pub next_played : (kind : List ℕ) (which : ℕ) (ds : List Bool) → ds ≡ marked which s.delivered → next_from 0 kind s.delivered w.sent ≡ Some which
-      → HasDeliveredOne view seats network handed w which → HasPlayed view seats network handed w (next_line kind) s (with_delivered s ds) None
+      → HasDeliveredOne view hosts network handed w which → HasPlayed view hosts network handed w (next_line kind) s (with_delivered s ds) None
   next_played kind which ds noted place d = by_kind d.delivers
     where
-      by_kind : DeliversOrLoses w which d.message.receiver d.end → HasPlayed view seats network handed w (next_line kind) s (with_delivered s ds) None
+      by_kind : DeliversOrLoses w which d.message.receiver d.end → HasPlayed view hosts network handed w (next_line kind) s (with_delivered s ds) None
       by_kind (inl h) = record {
         events = deliver_event d.message.receiver which ∷ [];
         end = d.end;
@@ -173,8 +175,8 @@ module _ {S : Type 0} (view : S → SeatView) (seats : List S) (network : Networ
       → IsPartOfLine w s (next_line kind) events
   next_part kind which events place p = part_of_next kind which p.message events place p.got p.first
 
-  pub settle_played : (except : Option (List ℕ)) (ds : List Bool) → (h : HasSettledBut view seats network handed w except s.delivered ds)
-      → HasPlayed view seats network handed w (settle_line except) s (with_delivered s ds) None
+  pub settle_played : (except : Option (List ℕ)) (ds : List Bool) → (h : HasSettledBut view hosts network handed w except s.delivered ds)
+      → HasPlayed view hosts network handed w (settle_line except) s (with_delivered s ds) None
   settle_played except ds h = record {
     events = h.events;
     end = h.end;
@@ -185,8 +187,8 @@ module _ {S : Type 0} (view : S → SeatView) (seats : List S) (network : Networ
 
   -- MOMENTS
 
-  pub moment_played : (node moment : ℕ) → HasHappened view seats network handed w 0 (moment_event node moment)
-      → HasPlayed view seats network handed w (moment_line node moment) s s None
+  pub moment_played : (node moment : ℕ) → HasHappened view hosts network handed w 0 (moment_event node moment)
+      → HasPlayed view hosts network handed w (moment_line node moment) s s None
   moment_played node moment h = record {
     events = moment_event node moment ∷ [];
     end = h.end;
@@ -197,38 +199,39 @@ module _ {S : Type 0} (view : S → SeatView) (seats : List S) (network : Networ
 
 -- THE BYTES OF A LINE
 
-pub bytes_stop : {S : Type 0} (view : S → SeatView) (seats : List S) (w : World) (bytes : List ℕ) (line : Line) (old : ScriptView) (status : Status)
-    → Says bytes line → StopsLine view seats w line old status → StopsBytes view seats w bytes old status
-bytes_stop view seats w bytes line old _ says (stops_unplayed names are) = bytes_refused (names_nothing line says names) are
-bytes_stop view seats w bytes line old _ says (stops_at_disk c) =
-    bytes_at_disk (cut_as view seats w (IsPartOfLine w old line) (IsPartOfBytes w old bytes) statuses.DiskFailed
+pub bytes_stop : {S : Type 0} (view : S → SeatView) (hosts : Hosted S) (w : World) (bytes : List ℕ) (line : Line) (old : ScriptView) (status : Status)
+    → Says bytes line → StopsLine view hosts w line old status → StopsBytes view hosts w bytes old status
+bytes_stop view hosts w bytes line old _ says (stops_unplayed names are) = bytes_refused (names_nothing line says names) are
+bytes_stop view hosts w bytes line old _ says (stops_at_disk c) =
+    bytes_at_disk (cut_as view hosts w (IsPartOfLine w old line) (IsPartOfBytes w old bytes) statuses.DiskFailed
     (λ events p. part_read line events says p) c)
-bytes_stop view seats w bytes line old _ says (stops_at_memory c) =
-    bytes_at_memory (cut_as view seats w (IsPartOfLine w old line) (IsPartOfBytes w old bytes) statuses.OutOfMemory
+bytes_stop view hosts w bytes line old _ says (stops_at_memory c) =
+    bytes_at_memory (cut_as view hosts w (IsPartOfLine w old line) (IsPartOfBytes w old bytes) statuses.OutOfMemory
     (λ events p. part_read line events says p) c)
 
-pub bytes_unread : {S : Type 0} (view : S → SeatView) (seats : List S) (w : World) (bytes : List ℕ) (old : ScriptView) → AreStill view seats w
-    → StopsBytes view seats w bytes old statuses.OutOfMemory
-bytes_unread view seats w bytes old are =
-    bytes_at_memory (cut_here view seats w [] w (IsPartOfBytes w old bytes) statuses.OutOfMemory (stands w) part_unread are)
+pub bytes_unread : {S : Type 0} (view : S → SeatView) (hosts : Hosted S) (w : World) (bytes : List ℕ) (old : ScriptView) → AreStill view hosts w
+    → StopsBytes view hosts w bytes old statuses.OutOfMemory
+bytes_unread view hosts w bytes old are =
+    bytes_at_memory (cut_here view hosts w [] w (IsPartOfBytes w old bytes) statuses.OutOfMemory (stands w) part_unread are)
 
 -- the same of a line that is known
-pub played_as : {S : Type 0} (view : S → SeatView) (seats : List S) (network : NetworkView) (handed : List ToLink) (w : World) (known line : Line)
-    (s t : ScriptView) (closed : Option ℕ) → known ≡ line → HasPlayed view seats network handed w known s t closed
-    → HasPlayed view seats network handed w line s t closed
-played_as view seats network handed w known line s t closed same h = subst (λ (l : Line). HasPlayed view seats network handed w l s t closed) same h
+pub played_as : {S : Type 0} (view : S → SeatView) (hosts : Hosted S) (network : NetworkView) (handed : List ToLink) (w : World) (known line : Line)
+    (s t : ScriptView) (closed : Option ℕ) → known ≡ line → HasPlayed view hosts network handed w known s t closed
+    → HasPlayed view hosts network handed w line s t closed
+played_as view hosts network handed w known line s t closed same h = subst (λ (l : Line). HasPlayed view hosts network handed w l s t closed) same h
 
-pub stops_as : {S : Type 0} (view : S → SeatView) (seats : List S) (w : World) (known line : Line) (old : ScriptView) (status : Status) → known ≡ line
-    → StopsLine view seats w known old status → StopsLine view seats w line old status
-stops_as view seats w known line old status same stops = subst (λ (l : Line). StopsLine view seats w l old status) same stops
+pub stops_as : {S : Type 0} (view : S → SeatView) (hosts : Hosted S) (w : World) (known line : Line) (old : ScriptView) (status : Status) → known ≡ line
+    → StopsLine view hosts w known old status → StopsLine view hosts w line old status
+stops_as view hosts w known line old status same stops = subst (λ (l : Line). StopsLine view hosts w l old status) same stops
 
 -- a line that was played, with one note more of all disks after it
 abbrev pub note_played : {N L : Type 0} (facts : LogFacts L) (seats : List (Seat N L)) (count : ℕ) (state : N → NodeState) (since : Since L)
-    (network : NetworkView) (handed : List ToLink) (before : World) (bytes : List ℕ) (old new : ScriptView) (closed : Option ℕ) → AreDurable facts seats
-    → (h : HasPlayedBytes (seat_since state facts since) seats network handed before bytes old new closed)
-    → HasPlayedBytes (seat_since state facts (with_notes since (now_noted facts seats h.played.end count ∷ since.noted))) seats network handed before bytes
-    old new closed
-note_played facts seats count state since network handed before bytes old new closed durable h = record {
+    (network : NetworkView) (handed : List ToLink) (before : World) (bytes : List ℕ) (old new : ScriptView) (closed : Option ℕ) (shows : Bool)
+    (notes notes' : List Note) → AreDurable facts seats → (IsTrue shows → notes' ≡ notes ++ notes_of facts count seats)
+    → (h : HasPlayedBytes (seat_since state facts since) (hosted shows facts since notes seats) network handed before bytes old new closed)
+    → HasPlayedBytes (seat_since state facts (with_notes since (now_noted facts seats h.played.end count ∷ since.noted)))
+    (hosted shows facts since notes' seats) network handed before bytes old new closed
+note_played facts seats count state since network handed before bytes old new closed shows notes notes' durable more h = record {
   line = h.line;
   says = h.says;
   played = record {
@@ -236,6 +239,6 @@ note_played facts seats count state since network handed before bytes old new cl
     end = h.played.end;
     run = h.played.run;
     played = h.played.played;
-    stands = note_stands facts seats h.played.end count state since network handed 0 durable h.played.stands;
+    stands = note_stands facts seats h.played.end count state since network handed 0 shows notes notes' durable more h.played.stands;
   };
 }

@@ -13,7 +13,7 @@ use Rattle.node_traits.specs.declared.outputs.StepFault.TheVariants.{Disk, Steps
 use Rattle.node_traits.specs.declared.outputs.ToLink.{ToLink}
 use Rattle.driver_steps.specs.declared.network.Network.{Network}
 use Rattle.driver_steps.specs.Crashes.{LeadsTo, Noted}
-use Rattle.driver_steps.specs.Seats.{SeatView}
+use Rattle.driver_steps.specs.Seats.{Hosted, SeatView}
 use Rattle.driver_steps.specs.Worlds.{NetworkView, StandsFor, network_view, puts_given}
 use Rattle.driver_steps.specs.Moves.{BeginWith, HasRun, HasStopped, IsUpTo}
 use Rattle.driver_steps.proofs.Crashes.{leads_by, leads_nowhere, leads_on}
@@ -67,10 +67,10 @@ last_in_line status end last events P goes_on on (inr (is, e, has, h)) = inr (is
 
 -- THE START
 
-module _ {S : Type 0} (view : S → SeatView) (seats : List S) (first_router : ℕ) (first : World) (tells : Bool) (held : List ℕ) (count : ℕ)
+module _ {S : Type 0} (view : S → SeatView) (hosts : Hosted S) (first_router : ℕ) (first : World) (tells : Bool) (held : List ℕ) (count : ℕ)
     (as_many : count ≡ length first.nodes) where
-  pub opened_playing : (network : NetworkView) → IsFirst first → HasRun view seats network (puts_given first.answered) first 0 (openings 0 count)
-      → Playing view seats network first_router first tells [] held held (new_script first_router (router_count first_router first)) []
+  pub opened_playing : (network : NetworkView) → IsFirst first → HasRun view hosts network (puts_given first.answered) first 0 (openings 0 count)
+      → Playing view hosts network first_router first tells [] held held (new_script first_router (router_count first_router first)) []
   opened_playing network begins r =
       let none : r.end.answered ≡ first.answered = nothing_told first count r.end r.run in
       let run : Run first (openings 0 (length first.nodes)) r.end =
@@ -82,7 +82,7 @@ module _ {S : Type 0} (view : S → SeatView) (seats : List S) (first_router : �
         out = [];
         begins = begins;
         plays = plays_none r.end run;
-        stands = subst (λ (l : List ToLink). StandsFor view seats network l r.end 0) (ap puts_given (sym none)) r.stands;
+        stands = subst (λ (l : List ToLink). StandsFor view hosts network l r.end 0) (ap puts_given (sym none)) r.stands;
         put = λ told. sym (append-nil held);
         all = refl;
         each = tt;
@@ -90,7 +90,7 @@ module _ {S : Type 0} (view : S → SeatView) (seats : List S) (first_router : �
       }
 
   opening_came : (left : List ℕ) (replies : List ToLink) (fault : StepFault)
-      → (s : HasStopped view seats replies (puts_given first.answered) first (λ events. BeginWith events (openings 0 count)) fault)
+      → (s : HasStopped view hosts replies (puts_given first.answered) first (λ events. BeginWith events (openings 0 count)) fault)
       → CameTo first_router first [] left [] s.end
   opening_came left replies fault s =
       came_opening left s.events s.end (subst (λ (n : ℕ). BeginWith s.events (openings 0 n)) as_many s.which) s.run
@@ -103,8 +103,8 @@ module _ {S : Type 0} (view : S → SeatView) (seats : List S) (first_router : �
   stops_by Memory status is lines left put end came = subst (λ (n : Status). StopsAt first_router first lines left put end n) (sym is) (at_no_memory came)
 
   pub opening_stopped : (left : List ℕ) (replies : List ToLink) (fault : StepFault) (status : Status) → status ≡ status_for fault
-      → HasStopped view seats replies (puts_given first.answered) first (λ events. BeginWith events (openings 0 count)) fault
-      → Stopped view seats first_router first tells [] held held [] left status
+      → HasStopped view hosts replies (puts_given first.answered) first (λ events. BeginWith events (openings 0 count)) fault
+      → Stopped view hosts first_router first tells [] held held [] left status
   opening_stopped left replies fault status is s = record {
     lines = [];
     end = s.end;
@@ -113,7 +113,7 @@ module _ {S : Type 0} (view : S → SeatView) (seats : List S) (first_router : �
     put = λ told. sym (append-nil held);
     all = refl;
     each = tt;
-    kept = kept_at fault view seats s.end s.nodes;
+    kept = kept_at fault view hosts s.end s.nodes;
     last = s.last;
     is_last = last_by fault status is s.end s.last s.events (λ events. BeginWith events (openings 0 count)) (λ w. CameTo first_router first [] left [] w)
         (λ e begun h.
@@ -125,9 +125,9 @@ module _ {S : Type 0} (view : S → SeatView) (seats : List S) (first_router : �
 
 -- ONE LINE
 
-module _ {S : Type 0} (view : S → SeatView) (seats seats_after : List S) (before : NetworkView) (first_router : ℕ) (first : World) (tells : Bool)
+module _ {S : Type 0} (view : S → SeatView) (hosts hosts_after : Hosted S) (before : NetworkView) (first_router : ℕ) (first : World) (tells : Bool)
     (noted : List Noted)
-    (held_before held consumed : List ℕ) (s : ScriptView) (p : Playing view seats before first_router first tells noted held_before held s consumed)
+    (held_before held consumed : List ℕ) (s : ScriptView) (p : Playing view hosts before first_router first tells noted held_before held s consumed)
     (bytes : List ℕ) (none : HasNone newline bytes) where
   came_in : (others : List ℕ) (events : List Event) (end : World) → IsPartOfBytes p.world s bytes events → Run p.world events end
       → CameTo first_router first p.lines (bytes ++ newline ∷ others) p.out end
@@ -135,9 +135,9 @@ module _ {S : Type 0} (view : S → SeatView) (seats seats_after : List S) (befo
       came_part p.lines p.events events (bytes ++ newline ∷ others) p.out bytes others p.world end s p.plays (next_line bytes others none) part run
 
   -- the script stops within the line, of which nothing was put
-  stops_within : (others : List ℕ) (status : Status) → (c : IsCut view seats_after p.world (IsPartOfBytes p.world s bytes) status)
+  stops_within : (others : List ℕ) (status : Status) → (c : IsCut view hosts_after p.world (IsPartOfBytes p.world s bytes) status)
       → StopsAt first_router first p.lines (bytes ++ newline ∷ others) p.out c.end status
-      → Stopped view seats_after first_router first tells noted held_before held consumed (bytes ++ newline ∷ others) status
+      → Stopped view hosts_after first_router first tells noted held_before held consumed (bytes ++ newline ∷ others) status
   stops_within others status c cause = record {
     lines = p.lines;
     end = c.end;
@@ -158,7 +158,7 @@ module _ {S : Type 0} (view : S → SeatView) (seats seats_after : List S) (befo
 
   -- the script stops where nothing is cut short, and of the line nothing was put
   stops_here : (others : List ℕ) (status : Status) (end : World) → StopsAt first_router first p.lines (bytes ++ newline ∷ others) p.out end status
-      → AreStill view seats_after end → LeadsTo p.world end → Stopped view seats_after first_router first tells noted held_before held consumed
+      → AreStill view hosts_after end → LeadsTo p.world end → Stopped view hosts_after first_router first tells noted held_before held consumed
       (bytes ++ newline ∷ others) status
   stops_here others status end cause are on = record {
     lines = p.lines;
@@ -168,15 +168,15 @@ module _ {S : Type 0} (view : S → SeatView) (seats seats_after : List S) (befo
     put = p.put;
     all = p.all;
     each = p.each;
-    kept = held_kept view seats_after end.nodes are.nodes;
+    kept = held_kept view hosts_after.seats end.nodes are.nodes;
     last = end;
     is_last = inl refl;
     crashes = are.crashes;
     covered = λ told. covered_on (all_printed first_router first) first held_before noted p.out p.world end (p.covered told) on;
   }
 
-  pub line_stopped : (others : List ℕ) (status : Status) → StopsBytes view seats_after p.world bytes s status
-      → Stopped view seats_after first_router first tells noted held_before held consumed (bytes ++ newline ∷ others) status
+  pub line_stopped : (others : List ℕ) (status : Status) → StopsBytes view hosts_after p.world bytes s status
+      → Stopped view hosts_after first_router first tells noted held_before held consumed (bytes ++ newline ∷ others) status
   line_stopped others _ (bytes_refused refused are) =
       stops_here others statuses.BadInput p.world
       (at_refused_line bytes others (next_line bytes others none) (record {
@@ -189,18 +189,18 @@ module _ {S : Type 0} (view : S → SeatView) (seats seats_after : List S) (befo
   line_stopped others _ (bytes_at_memory c) = stops_within others statuses.OutOfMemory c (at_no_memory (came_in others c.events c.end c.which c.run))
 
   module _ {M : Type 0} (letter : M → Letter) (old new : Network M) (t : ScriptView) (closed : Option ℕ)
-      (h : HasPlayedBytes view seats_after (network_view letter old) (puts_given p.world.answered) p.world bytes s t closed) where
+      (h : HasPlayedBytes view hosts_after (network_view letter old) (puts_given p.world.answered) p.world bytes s t closed) where
     puts_are : puts_given h.played.end.answered ≡ puts_given p.world.answered ++ old.replies.items
     puts_are = h.played.stands.given
 
     -- memory ran out for what it prints
-    pub line_unprinted : (others : List ℕ) → Stopped view seats_after first_router first tells noted held_before held consumed
+    pub line_unprinted : (others : List ℕ) → Stopped view hosts_after first_router first tells noted held_before held consumed
         (bytes ++ newline ∷ others) statuses.OutOfMemory
     line_unprinted others =
         stops_here others statuses.OutOfMemory h.played.end
         (at_no_memory (came_in others h.played.events h.played.end
         (part_read h.line h.played.events h.says (whole_is_part p.world s h.line h.played.events h.played.end t closed h.played.played)) h.played.run))
-        (still view seats_after (network_view letter old) (puts_given p.world.answered) h.played.end h.played.stands) (h.played.events, h.played.run)
+        (still view hosts_after (network_view letter old) (puts_given p.world.answered) h.played.end h.played.stands) (h.played.events, h.played.run)
 
     -- it is written after one note more of all disks
     line_few : IsTrue tells → length held ≤ length held_before + length p.out
@@ -233,7 +233,7 @@ module _ {S : Type 0} (view : S → SeatView) (seats seats_after : List S) (befo
         (leads_on first p.world h.played.end (p.events, plays_run first_router first p.lines p.events p.world s p.out p.plays) line_on) line_on (line_few told)
 
   module _ {M : Type 0} (letter : M → Letter) (old new : Network M) (t : ScriptView) (closed : Option ℕ) (after_view : S → SeatView) (noted_after : List Noted)
-      (h : HasPlayedBytes after_view seats_after (network_view letter old) (puts_given p.world.answered) p.world bytes s t closed)
+      (h : HasPlayedBytes after_view hosts_after (network_view letter old) (puts_given p.world.answered) p.world bytes s t closed)
       (covers : IsTrue tells → AreCovered (all_printed first_router first) first noted_after held_before (p.out ++ printed s.links old.replies.items closed)
       h.played.end) where
     gave : puts_given h.played.end.answered ≡ puts_given p.world.answered ++ old.replies.items
@@ -242,7 +242,7 @@ module _ {S : Type 0} (view : S → SeatView) (seats seats_after : List S) (befo
     -- what it prints was put
     pub line_answered : (held' : List ℕ) → new.waiting.items ≡ old.waiting.items → new.replies.items ≡ []
         → Put tells held (printed s.links old.replies.items closed) held'
-        → Playing after_view seats_after (network_view letter new) first_router first tells noted_after held_before held' t
+        → Playing after_view hosts_after (network_view letter new) first_router first tells noted_after held_before held' t
         (consumed ++ (bytes ++ newline ∷ []))
     line_answered held' waits silent put = record {
       lines = p.lines ++ bytes ∷ [];
@@ -252,8 +252,8 @@ module _ {S : Type 0} (view : S → SeatView) (seats seats_after : List S) (befo
       begins = p.begins;
       plays = plays_more p.lines p.events h.played.events p.world h.played.end s t p.out bytes h.line closed old.replies.items p.plays h.says
           h.played.played gave;
-      stands = subst (λ (l : List ToLink). StandsFor after_view seats_after (network_view letter new) l h.played.end 0) (sym gave)
-          (handed_on after_view letter seats_after (puts_given p.world.answered) h.played.end 0 old new h.played.stands waits silent);
+      stands = subst (λ (l : List ToLink). StandsFor after_view hosts_after (network_view letter new) l h.played.end 0) (sym gave)
+          (handed_on after_view letter hosts_after (puts_given p.world.answered) h.played.end 0 old new h.played.stands waits silent);
       put = put_then tells held_before p.out held (printed s.links old.replies.items closed) held' p.put put;
       all = ap (λ (b : List ℕ). b ++ (bytes ++ newline ∷ [])) p.all ∙ sym (lines_more p.lines bytes);
       each = all_more (HasNone newline) p.lines bytes p.each none;
@@ -262,7 +262,7 @@ module _ {S : Type 0} (view : S → SeatView) (seats seats_after : List S) (befo
 
     -- a prefix of what it prints was put
     pub line_put_short : (others held' : List ℕ) → PutInPart tells held (printed s.links old.replies.items closed) held'
-        → Stopped after_view seats_after first_router first tells noted_after held_before held' consumed (bytes ++ newline ∷ others) statuses.WriteFailed
+        → Stopped after_view hosts_after first_router first tells noted_after held_before held' consumed (bytes ++ newline ∷ others) statuses.WriteFailed
     line_put_short others held' (part, prefix, put) = record {
       lines = p.lines;
       end = h.played.end;
@@ -291,7 +291,7 @@ module _ {S : Type 0} (view : S → SeatView) (seats seats_after : List S) (befo
       put = put_then tells held_before p.out held part held' p.put put;
       all = p.all;
       each = p.each;
-      kept = held_kept after_view seats_after h.played.end.nodes h.played.stands.nodes;
+      kept = held_kept after_view hosts_after.seats h.played.end.nodes h.played.stands.nodes;
       last = h.played.end;
       is_last = inl refl;
       crashes = h.played.stands.crashes;
@@ -305,12 +305,12 @@ module _ {S : Type 0} (view : S → SeatView) (seats seats_after : List S) (befo
 -- BETWEEN LINES
 
 -- memory ran out for the next line
-pub playing_full : {S : Type 0} (view : S → SeatView) (seats : List S) (network : NetworkView) (first_router : ℕ) (first : World) (tells : Bool)
+pub playing_full : {S : Type 0} (view : S → SeatView) (hosts : Hosted S) (network : NetworkView) (first_router : ℕ) (first : World) (tells : Bool)
     (noted : List Noted)
     (held_before held consumed left : List ℕ)
-    (s : ScriptView) → Playing view seats network first_router first tells noted held_before held s consumed
-    → Stopped view seats first_router first tells noted held_before held consumed left statuses.OutOfMemory
-playing_full view seats network first_router first tells noted held_before held consumed left s p = record {
+    (s : ScriptView) → Playing view hosts network first_router first tells noted held_before held s consumed
+    → Stopped view hosts first_router first tells noted held_before held consumed left statuses.OutOfMemory
+playing_full view hosts network first_router first tells noted held_before held consumed left s p = record {
   lines = p.lines;
   end = p.world;
   out = p.out;
@@ -323,7 +323,7 @@ playing_full view seats network first_router first tells noted held_before held 
   put = p.put;
   all = p.all;
   each = p.each;
-  kept = held_kept view seats p.world.nodes p.stands.nodes;
+  kept = held_kept view hosts.seats p.world.nodes p.stands.nodes;
   last = p.world;
   is_last = inl refl;
   crashes = p.stands.crashes;
@@ -351,17 +351,17 @@ bytes_next all more begun rest first behind grown whole cut grows =
     ∙ ap (λ (b : List ℕ). more ++ (b ++ newline ∷ behind)) (sym grows)))
 
 -- what the script has, said otherwise
-pub playing_from : {S : Type 0} (view : S → SeatView) (seats : List S) (network : NetworkView) (first_router : ℕ) (first : World) (tells : Bool)
+pub playing_from : {S : Type 0} (view : S → SeatView) (hosts : Hosted S) (network : NetworkView) (first_router : ℕ) (first : World) (tells : Bool)
     (noted : List Noted) (held_before held consumed : List ℕ)
-    (s t : ScriptView) → s ≡ t → Playing view seats network first_router first tells noted held_before held s consumed
-    → Playing view seats network first_router first tells noted held_before held t consumed
-playing_from view seats network first_router first tells noted held_before held consumed s t same p =
-    subst (λ (x : ScriptView). Playing view seats network first_router first tells noted held_before held x consumed) same p
+    (s t : ScriptView) → s ≡ t → Playing view hosts network first_router first tells noted held_before held s consumed
+    → Playing view hosts network first_router first tells noted held_before held t consumed
+playing_from view hosts network first_router first tells noted held_before held consumed s t same p =
+    subst (λ (x : ScriptView). Playing view hosts network first_router first tells noted held_before held x consumed) same p
 
 -- so many routers there are
-pub routers_are : {S : Type 0} (view : S → SeatView) (seats : List S) (network : NetworkView) (first_router : ℕ) (first : World) (tells : Bool)
+pub routers_are : {S : Type 0} (view : S → SeatView) (hosts : Hosted S) (network : NetworkView) (first_router : ℕ) (first : World) (tells : Bool)
     (noted : List Noted)
-    (held_before held consumed : List ℕ) (s : ScriptView) → Playing view seats network first_router first tells noted held_before held s consumed
-    → (count : ℕ) → count ≡ length seats → router_count first_router first ≡ count - first_router
-routers_are view seats network first_router first tells noted held_before held consumed s p count counted =
-    omega (arith, counted, held_len view seats p.world.nodes p.stands.nodes, plays_count first_router first p.lines p.events p.world s p.out p.plays)
+    (held_before held consumed : List ℕ) (s : ScriptView) → Playing view hosts network first_router first tells noted held_before held s consumed
+    → (count : ℕ) → count ≡ length hosts.seats → router_count first_router first ≡ count - first_router
+routers_are view hosts network first_router first tells noted held_before held consumed s p count counted =
+    omega (arith, counted, held_len view hosts.seats p.world.nodes p.stands.nodes, plays_count first_router first p.lines p.events p.world s p.out p.plays)

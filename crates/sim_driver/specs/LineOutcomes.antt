@@ -2,7 +2,7 @@
 use Rattle.std.specs.Prelude.{◌≡◌, ◌⊎◌, ℕ, List, [], Option}
 use Rattle.node_model.specs.World.{World, Event, Run}
 use Rattle.node_traits.specs.declared.outputs.ToLink.{ToLink}
-use Rattle.driver_steps.specs.Seats.{SeatView}
+use Rattle.driver_steps.specs.Seats.{Hosted, SeatView}
 use Rattle.driver_steps.specs.Worlds.{NetworkView, StandsFor}
 use Rattle.pipe_driver.specs.declared.status.Status.{Status}
 use Rattle.pipe_driver.specs.declared.status.Status.TheVariants as statuses
@@ -11,20 +11,20 @@ use Rattle.sim_driver.specs.Scripts.{ScriptView}
 use Rattle.sim_driver.specs.Plays.{IsPlayed, IsPartOfLine, NamesNothing}
 use Rattle.sim_driver.specs.Moves.{AreStill, IsCut}
 
-pub record HasPlayed {S : Type 0} (view : S → SeatView) (seats : List S) (network : NetworkView) (handed : List ToLink) (before : World) (line : Line)
+pub record HasPlayed {S : Type 0} (view : S → SeatView) (hosted : Hosted S) (network : NetworkView) (handed : List ToLink) (before : World) (line : Line)
     (old new : ScriptView) (closed : Option ℕ) : Type 0 where
   pub events : List Event
   pub end : World
   pub run : Run before events end
   pub played : IsPlayed before old line events end new closed
-  pub stands : StandsFor view seats network handed end 0
+  pub stands : StandsFor view hosted network handed end 0
 
 -- why a line is not played to its end
-pub data StopsLine {S : Type 0} (view : S → SeatView) (seats : List S) (before : World) (line : Line) (old : ScriptView) : Status → Type 0 where
+pub data StopsLine {S : Type 0} (view : S → SeatView) (hosted : Hosted S) (before : World) (line : Line) (old : ScriptView) : Status → Type 0 where
   -- it names what is not there, and nothing happened
-  stops_unplayed : NamesNothing before old line → AreStill view seats before → StopsLine view seats before line old statuses.BadInput
-  stops_at_disk : IsCut view seats before (IsPartOfLine before old line) statuses.DiskFailed → StopsLine view seats before line old statuses.DiskFailed
-  stops_at_memory : IsCut view seats before (IsPartOfLine before old line) statuses.OutOfMemory → StopsLine view seats before line old statuses.OutOfMemory
+  stops_unplayed : NamesNothing before old line → AreStill view hosted before → StopsLine view hosted before line old statuses.BadInput
+  stops_at_disk : IsCut view hosted before (IsPartOfLine before old line) statuses.DiskFailed → StopsLine view hosted before line old statuses.DiskFailed
+  stops_at_memory : IsCut view hosted before (IsPartOfLine before old line) statuses.OutOfMemory → StopsLine view hosted before line old statuses.OutOfMemory
 
 abbrev pub IsOfLine : Status → Type 0
 IsOfLine status = (status ≡ statuses.BadInput) ⊎ ((status ≡ statuses.DiskFailed) ⊎ (status ≡ statuses.OutOfMemory))
@@ -32,11 +32,11 @@ IsOfLine status = (status ≡ statuses.BadInput) ⊎ ((status ≡ statuses.DiskF
 -- THE BYTES OF A LINE
 
 -- the bytes say a line, which was played
-pub record HasPlayedBytes {S : Type 0} (view : S → SeatView) (seats : List S) (network : NetworkView) (handed : List ToLink) (before : World) (bytes : List ℕ)
+pub record HasPlayedBytes {S : Type 0} (view : S → SeatView) (hosted : Hosted S) (network : NetworkView) (handed : List ToLink) (before : World) (bytes : List ℕ)
     (old new : ScriptView) (closed : Option ℕ) : Type 0 where
   pub line : Line
   pub says : Says bytes line
-  pub played : HasPlayed view seats network handed before line old new closed
+  pub played : HasPlayed view hosted network handed before line old new closed
 
 -- the bytes say no line, or one that names what is not there
 pub data IsRefused (u : World) (s : ScriptView) (bytes : List ℕ) : Type 0 where
@@ -49,8 +49,8 @@ pub data IsPartOfBytes (u : World) (s : ScriptView) (bytes : List ℕ) : List Ev
   part_read : (line : Line) (events : List Event) → Says bytes line → IsPartOfLine u s line events → IsPartOfBytes u s bytes events
 
 -- why the bytes of a line are not played to their end
-pub data StopsBytes {S : Type 0} (view : S → SeatView) (seats : List S) (before : World) (bytes : List ℕ) (old : ScriptView) : Status → Type 0 where
-  bytes_refused : IsRefused before old bytes → AreStill view seats before → StopsBytes view seats before bytes old statuses.BadInput
-  bytes_at_disk : IsCut view seats before (IsPartOfBytes before old bytes) statuses.DiskFailed → StopsBytes view seats before bytes old statuses.DiskFailed
-  bytes_at_memory : IsCut view seats before (IsPartOfBytes before old bytes) statuses.OutOfMemory
-      → StopsBytes view seats before bytes old statuses.OutOfMemory
+pub data StopsBytes {S : Type 0} (view : S → SeatView) (hosted : Hosted S) (before : World) (bytes : List ℕ) (old : ScriptView) : Status → Type 0 where
+  bytes_refused : IsRefused before old bytes → AreStill view hosted before → StopsBytes view hosted before bytes old statuses.BadInput
+  bytes_at_disk : IsCut view hosted before (IsPartOfBytes before old bytes) statuses.DiskFailed → StopsBytes view hosted before bytes old statuses.DiskFailed
+  bytes_at_memory : IsCut view hosted before (IsPartOfBytes before old bytes) statuses.OutOfMemory
+      → StopsBytes view hosted before bytes old statuses.OutOfMemory

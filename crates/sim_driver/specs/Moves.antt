@@ -8,7 +8,7 @@ use Rattle.node_model.specs.Requests.{Request}
 use Rattle.node_model.specs.World.{World, IsRouter, Event, deliver_event, Happens, Run}
 use Rattle.node_progress.specs.Firsts.{IsFirst}
 use Rattle.node_traits.specs.declared.outputs.ToLink.{ToLink}
-use Rattle.driver_steps.specs.Seats.{SeatView, AreHeld, AreKept, LeaveKept}
+use Rattle.driver_steps.specs.Seats.{Hosted, SeatView, AreHeld, AreKept, LeaveKept}
 use Rattle.driver_steps.specs.Worlds.{NetworkView, StandsFor}
 use Rattle.driver_steps.specs.Moves.{BeginWith, DeliversOrLoses}
 use Rattle.pipe_driver.specs.Progress.{AreAsked}
@@ -19,13 +19,13 @@ use Rattle.sim_driver.specs.Plays.{SettlesBut, client_events, is_passed}
 use Rattle.sim_driver.specs.Scripts.{is_delivered, is_of_kind, marked}
 
 -- the message at a place among all that were sent was delivered, or lost where it goes to no node
-pub record HasDeliveredOne {S : Type 0} (view : S → SeatView) (seats : List S) (network : NetworkView) (handed : List ToLink) (before : World)
+pub record HasDeliveredOne {S : Type 0} (view : S → SeatView) (hosted : Hosted S) (network : NetworkView) (handed : List ToLink) (before : World)
     (which : ℕ) : Type 0 where
   pub message : Letter
   pub end : World
   pub got : slice_get before.sent which ≡ Some message
   pub delivers : DeliversOrLoses before which message.receiver end
-  pub stands : StandsFor view seats network handed end 0
+  pub stands : StandsFor view hosted network handed end 0
 
 -- the message at a place is delivered, or is about to be
 pub record IsPartOfDelivery (u : World) (which : ℕ) (events : List Event) : Type 0 where
@@ -34,25 +34,25 @@ pub record IsPartOfDelivery (u : World) (which : ℕ) (events : List Event) : Ty
   pub first : BeginWith events (deliver_event message.receiver which ∷ [])
 
 -- the message at a place was passed over, or delivered
-pub data PassesOrDelivers {S : Type 0} (view : S → SeatView) (seats : List S) (network : NetworkView) (handed : List ToLink) (before : World)
+pub data PassesOrDelivers {S : Type 0} (view : S → SeatView) (hosted : Hosted S) (network : NetworkView) (handed : List ToLink) (before : World)
     (except : Option (List ℕ)) (which : ℕ) (old new : List Bool) : Type 0 where
-  has_passed : (m : Letter) → slice_get before.sent which ≡ Some m → is_passed except old which m ≡ true → StandsFor view seats network handed before 0
-      → new ≡ old → PassesOrDelivers view seats network handed before except which old new
-  has_delivered : (d : HasDeliveredOne view seats network handed before which) → is_passed except old which d.message ≡ false → new ≡ marked which old
-      → PassesOrDelivers view seats network handed before except which old new
+  has_passed : (m : Letter) → slice_get before.sent which ≡ Some m → is_passed except old which m ≡ true → StandsFor view hosted network handed before 0
+      → new ≡ old → PassesOrDelivers view hosted network handed before except which old new
+  has_delivered : (d : HasDeliveredOne view hosted network handed before which) → is_passed except old which d.message ≡ false → new ≡ marked which old
+      → PassesOrDelivers view hosted network handed before except which old new
 
 -- all that was not delivered was, but for the messages that are passed over
-pub record HasSettledBut {S : Type 0} (view : S → SeatView) (seats : List S) (network : NetworkView) (handed : List ToLink) (before : World)
+pub record HasSettledBut {S : Type 0} (view : S → SeatView) (hosted : Hosted S) (network : NetworkView) (handed : List ToLink) (before : World)
     (except : Option (List ℕ)) (old new : List Bool) : Type 0 where
   pub events : List Event
   pub end : World
   pub settles : SettlesBut except before old 0 events end new (length end.sent)
-  pub stands : StandsFor view seats network handed end 0
+  pub stands : StandsFor view hosted network handed end 0
 
 -- nothing happened
-pub record AreStill {S : Type 0} (view : S → SeatView) (seats : List S) (w : World) : Type 0 where
-  pub nodes : AreHeld view seats w.nodes
-  pub crashes : LeaveKept view seats w
+pub record AreStill {S : Type 0} (view : S → SeatView) (hosted : Hosted S) (w : World) : Type 0 where
+  pub nodes : AreHeld view hosted.seats w.nodes
+  pub crashes : LeaveKept view hosted w
 
 -- The world up to which a crash may have left what the nodes keep: the end, and where a disk failed maybe one event more, with which P holds too.
 abbrev pub IsLastOf : Status → (events : List Event) → (List Event → Type 0) → (end last : World) → Type 0
@@ -60,15 +60,15 @@ IsLastOf status events P end last =
     (last ≡ end) ⊎ ((status ≡ statuses.DiskFailed) × (e : Event) × P (events ++ e ∷ []) × Happens end e last)
 
 -- Events happened, of which P holds, and then a fault came, with this status: the logs keep what the journals of that world keep.
-pub record IsCut {S : Type 0} (view : S → SeatView) (seats : List S) (before : World) (P : List Event → Type 0) (status : Status) : Type 0 where
+pub record IsCut {S : Type 0} (view : S → SeatView) (hosted : Hosted S) (before : World) (P : List Event → Type 0) (status : Status) : Type 0 where
   pub events : List Event
   pub end : World
   pub which : P events
   pub run : Run before events end
-  pub kept : AreKept view seats end.nodes
+  pub kept : AreKept view hosted.seats end.nodes
   pub last : World
   pub is_last : IsLastOf status events P end last
-  pub crashes : LeaveKept view seats last
+  pub crashes : LeaveKept view hosted last
 
 -- whether there is a fault
 abbrev pub HasFault : Option (FrameFault × ℕ) → Bool → Type 0
@@ -76,7 +76,7 @@ HasFault None malformed = malformed ≡ false
 HasFault (Some fault) malformed = malformed ≡ true
 
 -- the whole requests in the bytes of a link came to the router at a place
-pub record HasAsked {S : Type 0} (view : S → SeatView) (seats : List S) (network : NetworkView) (handed : List ToLink) (before : World)
+pub record HasAsked {S : Type 0} (view : S → SeatView) (hosted : Hosted S) (network : NetworkView) (handed : List ToLink) (before : World)
     (at link replied_before : ℕ) (bytes left : List ℕ) (replied : ℕ) (malformed : Bool) : Type 0 where
   pub requests : List Request
   pub fault : Option (FrameFault × ℕ)
@@ -85,7 +85,7 @@ pub record HasAsked {S : Type 0} (view : S → SeatView) (seats : List S) (netwo
   pub run : Run before (client_events at link replied_before requests) end
   pub count : replied ≡ replies_behind replied_before requests
   pub ends : HasFault fault malformed
-  pub stands : StandsFor view seats network handed end 0
+  pub stands : StandsFor view hosted network handed end 0
 
 -- first requests of these bytes came
 pub record IsFirstAsked (at link replied : ℕ) (bytes : List ℕ) (events : List Event) : Type 0 where

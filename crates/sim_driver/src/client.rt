@@ -1,10 +1,11 @@
 //! Requests that come on a link.
 
-ghost use Rattle.std.specs.Prelude.{◌≡◌, ◌≢◌, ◌⊎◌, ◌<◌, List, None, false, vec_len, IfErr, IfOk, Err};
+ghost use Rattle.std.specs.Prelude.{◌≡◌, ◌≢◌, ◌⊎◌, ◌<◌, List, None, false, vec_len, IfErr, IfOk, Err, IsTrue};
 ghost use Rattle.node_model.specs.World.{IsRouter, World};
 ghost use Rattle.node_traits.specs.declared.outputs.ToLink.{ToLink};
 ghost use Rattle.driver_steps.specs.Crashes.{Since};
-ghost use Rattle.driver_steps.specs.Seats.{AreOpen, faults_of, places_of, seat_since};
+ghost use Rattle.driver_steps.specs.Seats.{AreOpen, HasMore, faults_of, places_of, seat_since};
+ghost use Rattle.driver_steps.specs.Together.{hosted};
 ghost use Rattle.driver_steps.specs.Worlds.{StandsFor, network_view};
 ghost use Rattle.pipe_driver.specs.Counts.{HaveRisenWhere};
 ghost use Rattle.pipe_driver.specs.Progress.{AreAskedAsRead};
@@ -15,6 +16,7 @@ use driver_steps::{Network, Seat, ask};
 use node_traits::Node;
 use opmsg_frames::{FrameFault, Framer, Request};
 use outside::log::Log;
+use outside::witness::Witness;
 use pipe_driver::{Status, next_number, replied_after};
 
 /// So many replies are not counted on one link.
@@ -32,9 +34,10 @@ pub struct Asked {
 /// # Errors
 /// - `Status::DiskFailed` if a disk failed.
 /// - `Status::OutOfMemory` if out of memory, or where a node is at its last step, or 2^62 requests of the link got a reply.
-pub fn ask_all<N: Node<Request = Request>, L: Log>(
+pub fn ask_all<N: Node<Request = Request>, L: Log, K: Witness<L::Of>>(
     framer: &mut Framer,
     seats: &mut Vec<Seat<N, L>>,
+    out: &mut K,
     network: &mut Network<N::Mail>,
     at: usize,
     link: u32,
@@ -44,19 +47,24 @@ pub fn ask_all<N: Node<Request = Request>, L: Log>(
     requires open { AreOpen L.facts.is_open seats.old.items }
     requires fault { framer.old.fault ≡ None }
     ensures asked { AreAskedAsRead N.asks → (since : Since L) (w : World) (handed : List ToLink) → IsRouter w.nodes at →
-        StandsFor (seat_since N.state L.facts since) seats.old.items (network_view
+        StandsFor (seat_since N.state L.facts since) (hosted K.tells L.facts since (K.noted out.old) seats.old.items) (network_view
         (λ m. N.Mail.letter m) network.old) handed w 0 →
-        IfOk result (λ asked. HasAsked (seat_since N.state L.facts since) seats.new.items (network_view
+        IfOk result (λ asked. HasAsked (seat_since N.state L.facts since) (hosted K.tells L.facts since (K.noted out.new) seats.new.items) (network_view
         (λ m. N.Mail.letter m) network.new) handed w
         at link replied framer.old.bytes framer.new.bytes asked.replied asked.malformed) }
     ensures cut { AreAskedAsRead N.asks → (since : Since L) (w : World) (handed : List ToLink) → IsRouter w.nodes at →
-        StandsFor (seat_since N.state L.facts since) seats.old.items (network_view
+        StandsFor (seat_since N.state L.facts since) (hosted K.tells L.facts since (K.noted out.old) seats.old.items) (network_view
         (λ m. N.Mail.letter m) network.old) handed w 0 →
-        IfErr result (λ status. IsCut (seat_since N.state L.facts since) seats.new.items w
+        IfErr result (λ status. IsCut (seat_since N.state L.facts since) (hosted K.tells L.facts since (K.noted out.new) seats.new.items) w
         (IsFirstAsked at link replied framer.old.bytes) status) }
     ensures fault { IfOk result (λ asked. asked.malformed ≡ false → framer.new.fault ≡ None) }
     ensures len { vec_len seats.new ≡ vec_len seats.old }
     ensures open { result ≢ Err statuses.DiskFailed → AreOpen L.facts.is_open seats.new.items }
+
+    // Of the sink: notes alone.
+    ensures held { K.held out.new ≡ K.held out.old }
+    ensures sink { K.fault_count out.new ≡ K.fault_count out.old }
+    ensures noted { IsTrue K.tells → HasMore (K.noted out.old) (K.noted out.new) }
 
     // Of the logs' disks.
     ensures other { IfErr result (λ status. (status ≡ statuses.DiskFailed) ⊎ (status ≡ statuses.OutOfMemory)) }
@@ -82,7 +90,7 @@ pub fn ask_all<N: Node<Request = Request>, L: Log>(
         }
         let more = request.more;
         let number = next_number(replied);
-        match ask(seats, network, at, link, number, request) {
+        match ask(seats, out, network, at, link, number, request) {
             Ok(()) => replied = replied_after(more, replied),
             Err(e) => return Err(Status::of(e)),
         }

@@ -1,12 +1,13 @@
 //! Messages that are delivered, each of all that were ever sent.
 
-ghost use Rattle.std.specs.Prelude.{◌≡◌, ◌≢◌, ◌⊎◌, ◌+◌, ◌<◌, ◌≤◌, List, Some, length, map, option_map, vec_len, IfErr, IfOk, IfSome, OnOk, Err};
+ghost use Rattle.std.specs.Prelude.{◌≡◌, ◌≢◌, ◌⊎◌, ◌+◌, ◌<◌, ◌≤◌, List, Some, length, map, option_map, vec_len, IfErr, IfOk, IfSome, OnOk, Err, IsTrue};
 ghost use Rattle.std.specs.List.{slice_get};
 ghost use Rattle.std.specs.VecDeque.{deque_len};
 ghost use Rattle.node_model.specs.World.{World};
 ghost use Rattle.node_traits.specs.declared.outputs.ToLink.{ToLink};
 ghost use Rattle.driver_steps.specs.Crashes.{Since};
-ghost use Rattle.driver_steps.specs.Seats.{AreOpen, faults_of, left_of, places_of, seat_since};
+ghost use Rattle.driver_steps.specs.Seats.{AreOpen, HasMore, faults_of, left_of, places_of, seat_since};
+ghost use Rattle.driver_steps.specs.Together.{hosted};
 ghost use Rattle.driver_steps.specs.Worlds.{StandsFor, network_view};
 ghost use Rattle.pipe_driver.specs.Counts.{HaveRisenWhere};
 ghost use Rattle.pipe_driver.specs.declared.status.Status.TheVariants as statuses;
@@ -19,6 +20,7 @@ use bson_values::Memory;
 use driver_steps::{Network, Seat, deliver};
 use node_traits::{Mail, Node};
 use outside::log::Log;
+use outside::witness::Witness;
 use pipe_driver::Status;
 use std::alloc::Global;
 use std::collections::VecDeque;
@@ -73,29 +75,35 @@ pub fn find<M: Mail>(sent: &VecDeque<M>, node: u64, k: u64) -> Option<usize>
 /// # Errors
 /// - `Status::DiskFailed` if a disk failed.
 /// - `Status::OutOfMemory` if out of memory, or where a node is at its last step.
-pub fn deliver_at<R: Threads + Sync, N: Node, L: Log>(
+pub fn deliver_at<R: Threads + Sync, N: Node, L: Log, K: Witness<L::Of>>(
     rt: &R,
     alloc: Global,
     seats: &mut Vec<Seat<N, L>>,
+    out: &mut K,
     network: &mut Network<N::Mail>,
     at: usize,
 ) -> Result<(), Status>
     requires at { at < deque_len network.old.waiting }
     requires open { AreOpen L.facts.is_open seats.old.items }
     ensures delivered { (since : Since L) (w : World) (handed : List ToLink) →
-        StandsFor (seat_since N.state L.facts since) seats.old.items (network_view
+        StandsFor (seat_since N.state L.facts since) (hosted K.tells L.facts since (K.noted out.old) seats.old.items) (network_view
         (λ m. N.Mail.letter m) network.old) handed w 0 →
-        OnOk result (HasDeliveredOne (seat_since N.state L.facts since) seats.new.items
+        OnOk result (HasDeliveredOne (seat_since N.state L.facts since) (hosted K.tells L.facts since (K.noted out.new) seats.new.items)
         (network_view (λ m. N.Mail.letter m) network.new) handed w at) }
     ensures cut { (since : Since L) (w : World) (handed : List ToLink) →
-        StandsFor (seat_since N.state L.facts since) seats.old.items (network_view
+        StandsFor (seat_since N.state L.facts since) (hosted K.tells L.facts since (K.noted out.old) seats.old.items) (network_view
         (λ m. N.Mail.letter m) network.old) handed w 0 →
-        IfErr result (λ status. IsCut (seat_since N.state L.facts since) seats.new.items w
+        IfErr result (λ status. IsCut (seat_since N.state L.facts since) (hosted K.tells L.facts since (K.noted out.new) seats.new.items) w
         (IsPartOfDelivery w at) status) }
     ensures len { vec_len seats.new ≡ vec_len seats.old }
     ensures open { result ≢ Err statuses.DiskFailed → AreOpen L.facts.is_open seats.new.items }
     ensures falls { OnOk result ((left_of N.steps seats.new.items + 1 ≡ left_of N.steps seats.old.items) ⊎
         ((left_of N.steps seats.new.items ≡ left_of N.steps seats.old.items) × (network.new.waiting.items ≡ network.old.waiting.items))) }
+
+    // Of the sink: notes alone.
+    ensures held { K.held out.new ≡ K.held out.old }
+    ensures sink { K.fault_count out.new ≡ K.fault_count out.old }
+    ensures noted { IsTrue K.tells → HasMore (K.noted out.old) (K.noted out.new) }
 
     // Of the logs' disks.
     ensures other { IfErr result (λ status. (status ≡ statuses.DiskFailed) ⊎ (status ≡ statuses.OutOfMemory)) }
@@ -106,7 +114,7 @@ pub fn deliver_at<R: Threads + Sync, N: Node, L: Log>(
         Ok(message) => message,
         Err(_) => return Err(Status::OutOfMemory),
     };
-    match deliver(rt, alloc, seats, network, message) {
+    match deliver(rt, alloc, seats, out, network, message) {
         Ok(()) => Ok(()),
         Err(e) => Err(Status::of(e)),
     }
@@ -178,10 +186,11 @@ pub fn find_next<M: Mail>(
 ///
 /// # Errors
 /// As `deliver_at` has them; `Status::OutOfMemory` also if memory runs out for the note.
-pub fn deliver_and_mark<R: Threads + Sync, N: Node, L: Log>(
+pub fn deliver_and_mark<R: Threads + Sync, N: Node, L: Log, K: Witness<L::Of>>(
     rt: &R,
     alloc: Global,
     seats: &mut Vec<Seat<N, L>>,
+    out: &mut K,
     network: &mut Network<N::Mail>,
     at: usize,
     delivered: &mut Delivered,
@@ -189,27 +198,32 @@ pub fn deliver_and_mark<R: Threads + Sync, N: Node, L: Log>(
     requires at { at < deque_len network.old.waiting }
     requires open { AreOpen L.facts.is_open seats.old.items }
     ensures delivered { (since : Since L) (w : World) (handed : List ToLink) →
-        StandsFor (seat_since N.state L.facts since) seats.old.items (network_view
+        StandsFor (seat_since N.state L.facts since) (hosted K.tells L.facts since (K.noted out.old) seats.old.items) (network_view
         (λ m. N.Mail.letter m) network.old) handed w 0 →
-        OnOk result (HasDeliveredOne (seat_since N.state L.facts since) seats.new.items
+        OnOk result (HasDeliveredOne (seat_since N.state L.facts since) (hosted K.tells L.facts since (K.noted out.new) seats.new.items)
         (network_view (λ m. N.Mail.letter m) network.new) handed w at) }
     ensures marked { OnOk result (delivered.new ≡ marked at delivered.old) }
     ensures cut { (since : Since L) (w : World) (handed : List ToLink) →
-        StandsFor (seat_since N.state L.facts since) seats.old.items (network_view
+        StandsFor (seat_since N.state L.facts since) (hosted K.tells L.facts since (K.noted out.old) seats.old.items) (network_view
         (λ m. N.Mail.letter m) network.old) handed w 0 →
-        IfErr result (λ status. IsCut (seat_since N.state L.facts since) seats.new.items w
+        IfErr result (λ status. IsCut (seat_since N.state L.facts since) (hosted K.tells L.facts since (K.noted out.new) seats.new.items) w
         (IsPartOfDelivery w at) status) }
     ensures len { vec_len seats.new ≡ vec_len seats.old }
     ensures open { result ≢ Err statuses.DiskFailed → AreOpen L.facts.is_open seats.new.items }
     ensures falls { OnOk result ((left_of N.steps seats.new.items + 1 ≡ left_of N.steps seats.old.items) ⊎
         ((left_of N.steps seats.new.items ≡ left_of N.steps seats.old.items) × (network.new.waiting.items ≡ network.old.waiting.items))) }
 
+    // Of the sink: notes alone.
+    ensures held { K.held out.new ≡ K.held out.old }
+    ensures sink { K.fault_count out.new ≡ K.fault_count out.old }
+    ensures noted { IsTrue K.tells → HasMore (K.noted out.old) (K.noted out.new) }
+
     // Of the logs' disks.
     ensures other { IfErr result (λ status. (status ≡ statuses.DiskFailed) ⊎ (status ≡ statuses.OutOfMemory)) }
     ensures disk_fault { HaveRisenWhere (result ≡ Err statuses.DiskFailed) (faults_of L.facts.fault_count seats.old.items) (faults_of L.facts.fault_count seats.new.items) }
     ensures places { places_of L.facts.place seats.new.items ≡ places_of L.facts.place seats.old.items }
 {
-    match deliver_at(rt, alloc, seats, network, at) {
+    match deliver_at(rt, alloc, seats, out, network, at) {
         Ok(()) => {}
         Err(status) => return Err(status),
     }
@@ -223,10 +237,11 @@ pub fn deliver_and_mark<R: Threads + Sync, N: Node, L: Log>(
 ///
 /// # Errors
 /// As `deliver_and_mark` has them.
-fn deliver_unless<R: Threads + Sync, N: Node, L: Log>(
+fn deliver_unless<R: Threads + Sync, N: Node, L: Log, K: Witness<L::Of>>(
     rt: &R,
     alloc: Global,
     seats: &mut Vec<Seat<N, L>>,
+    out: &mut K,
     network: &mut Network<N::Mail>,
     at: usize,
     except: Option<&[u8]>,
@@ -235,19 +250,24 @@ fn deliver_unless<R: Threads + Sync, N: Node, L: Log>(
     requires at { at < deque_len network.old.waiting }
     requires open { AreOpen L.facts.is_open seats.old.items }
     ensures delivered { (since : Since L) (w : World) (handed : List ToLink) →
-        StandsFor (seat_since N.state L.facts since) seats.old.items (network_view
+        StandsFor (seat_since N.state L.facts since) (hosted K.tells L.facts since (K.noted out.old) seats.old.items) (network_view
         (λ m. N.Mail.letter m) network.old) handed w 0 →
-        OnOk result (PassesOrDelivers (seat_since N.state L.facts since) seats.new.items
+        OnOk result (PassesOrDelivers (seat_since N.state L.facts since) (hosted K.tells L.facts since (K.noted out.new) seats.new.items)
         (network_view (λ m. N.Mail.letter m) network.new) handed w (option_map (λ k. k.now) except.entry) at delivered.old delivered.new) }
     ensures cut { (since : Since L) (w : World) (handed : List ToLink) →
-        StandsFor (seat_since N.state L.facts since) seats.old.items (network_view
+        StandsFor (seat_since N.state L.facts since) (hosted K.tells L.facts since (K.noted out.old) seats.old.items) (network_view
         (λ m. N.Mail.letter m) network.old) handed w 0 →
-        IfErr result (λ status. IsCut (seat_since N.state L.facts since) seats.new.items w
+        IfErr result (λ status. IsCut (seat_since N.state L.facts since) (hosted K.tells L.facts since (K.noted out.new) seats.new.items) w
         (IsPartOfDelivery w at) status) }
     ensures len { vec_len seats.new ≡ vec_len seats.old }
     ensures open { result ≢ Err statuses.DiskFailed → AreOpen L.facts.is_open seats.new.items }
     ensures falls { OnOk result ((left_of N.steps seats.new.items + 1 ≡ left_of N.steps seats.old.items) ⊎
         ((left_of N.steps seats.new.items ≡ left_of N.steps seats.old.items) × (network.new.waiting.items ≡ network.old.waiting.items))) }
+
+    // Of the sink: notes alone.
+    ensures held { K.held out.new ≡ K.held out.old }
+    ensures sink { K.fault_count out.new ≡ K.fault_count out.old }
+    ensures noted { IsTrue K.tells → HasMore (K.noted out.old) (K.noted out.new) }
 
     // Of the logs' disks.
     ensures other { IfErr result (λ status. (status ≡ statuses.DiskFailed) ⊎ (status ≡ statuses.OutOfMemory)) }
@@ -257,7 +277,7 @@ fn deliver_unless<R: Threads + Sync, N: Node, L: Log>(
     if is_passed(&network.waiting, at, except, delivered) {
         return Ok(());
     }
-    match deliver_and_mark(rt, alloc, seats, network, at, delivered) {
+    match deliver_and_mark(rt, alloc, seats, out, network, at, delivered) {
         Ok(()) => Ok(()),
         Err(status) => Err(status),
     }
@@ -268,10 +288,11 @@ fn deliver_unless<R: Threads + Sync, N: Node, L: Log>(
 ///
 /// # Errors
 /// The first of a delivery, as `deliver_and_mark` has it.
-pub fn settle_but<R: Threads + Sync, N: Node, L: Log>(
+pub fn settle_but<R: Threads + Sync, N: Node, L: Log, K: Witness<L::Of>>(
     rt: &R,
     alloc: Global,
     seats: &mut Vec<Seat<N, L>>,
+    out: &mut K,
     network: &mut Network<N::Mail>,
     first: usize,
     except: Option<&[u8]>,
@@ -280,17 +301,22 @@ pub fn settle_but<R: Threads + Sync, N: Node, L: Log>(
     requires open { AreOpen L.facts.is_open seats.old.items }
     requires first { AreDelivered first delivered.old }
     ensures settled { (since : Since L) (w : World) (handed : List ToLink) → length delivered.old ≤ length w.sent →
-        StandsFor (seat_since N.state L.facts since) seats.old.items (network_view
+        StandsFor (seat_since N.state L.facts since) (hosted K.tells L.facts since (K.noted out.old) seats.old.items) (network_view
         (λ m. N.Mail.letter m) network.old) handed w 0 →
-        OnOk result (HasSettledBut (seat_since N.state L.facts since) seats.new.items
+        OnOk result (HasSettledBut (seat_since N.state L.facts since) (hosted K.tells L.facts since (K.noted out.new) seats.new.items)
         (network_view (λ m. N.Mail.letter m) network.new) handed w (option_map (λ k. k.now) except.entry) delivered.old delivered.new) }
     ensures cut { (since : Since L) (w : World) (handed : List ToLink) → length delivered.old ≤ length w.sent →
-        StandsFor (seat_since N.state L.facts since) seats.old.items (network_view
+        StandsFor (seat_since N.state L.facts since) (hosted K.tells L.facts since (K.noted out.old) seats.old.items) (network_view
         (λ m. N.Mail.letter m) network.old) handed w 0 →
-        IfErr result (λ status. IsCut (seat_since N.state L.facts since) seats.new.items w
+        IfErr result (λ status. IsCut (seat_since N.state L.facts since) (hosted K.tells L.facts since (K.noted out.new) seats.new.items) w
         (IsPartOfSettling (option_map (λ k. k.now) except.entry) w delivered.old) status) }
     ensures len { vec_len seats.new ≡ vec_len seats.old }
     ensures open { result ≢ Err statuses.DiskFailed → AreOpen L.facts.is_open seats.new.items }
+
+    // Of the sink: notes alone.
+    ensures held { K.held out.new ≡ K.held out.old }
+    ensures sink { K.fault_count out.new ≡ K.fault_count out.old }
+    ensures noted { IsTrue K.tells → HasMore (K.noted out.old) (K.noted out.new) }
 
     // Of the logs' disks.
     ensures other { IfErr result (λ status. (status ≡ statuses.DiskFailed) ⊎ (status ≡ statuses.OutOfMemory)) }
@@ -299,7 +325,7 @@ pub fn settle_but<R: Threads + Sync, N: Node, L: Log>(
 {
     let mut at = first;
     'messages: while at < network.waiting.len() {
-        match deliver_unless(rt, alloc, seats, network, at, except, delivered) {
+        match deliver_unless(rt, alloc, seats, out, network, at, except, delivered) {
             Ok(()) => at += 1,
             Err(status) => return Err(status),
         }

@@ -4,6 +4,7 @@ ghost use Rattle.std.specs.Prelude.{◌≡◌, ◌≢◌, ℕ, ◌+◌, ◌<◌,
 ghost use Rattle.node_model.specs.World.{World};
 ghost use Rattle.driver_steps.specs.Crashes.{Since, with_notes};
 ghost use Rattle.driver_steps.specs.Seats.{AreOpen, faults_of, places_of, seat_since};
+ghost use Rattle.driver_steps.specs.Together.{hosted};
 ghost use Rattle.driver_steps.specs.Worlds.{network_view};
 ghost use Rattle.pipe_driver.specs.Acknowledgements.{AreNoted, WithNotes};
 ghost use Rattle.pipe_driver.specs.Counts.{HaveRisenWhere, RoseWhere};
@@ -51,20 +52,20 @@ pub fn answer_line<R: Threads + Sync, N: Node<Request = Request>, L: Log, K: Wit
     requires line { HasNone newline line.now }
     ensures answered { AreAskedAsRead N.asks → (since : Since L) (first_router : ℕ) (first : World) → MayPlay first_router first →
         (held_before consumed : List ℕ) →
-        Playing (seat_since N.state L.facts since) seats.old.items (network_view (λ m. N.Mail.letter m) network.old)
+        Playing (seat_since N.state L.facts since) (hosted K.tells L.facts since (K.noted out.old) seats.old.items) (network_view (λ m. N.Mail.letter m) network.old)
         first_router first K.tells since.noted held_before (K.held out.old) (script_view script.old) consumed →
         AreNoted K.tells (K.noted out.old) (places_of L.facts.place seats.old.items) since.noted →
         OnOk result (WithNotes K.tells (K.noted out.new) (places_of L.facts.place seats.new.items)
-        (λ noted. Playing (seat_since N.state L.facts (with_notes since noted)) seats.new.items (network_view
+        (λ noted. Playing (seat_since N.state L.facts (with_notes since noted)) (hosted K.tells L.facts since (K.noted out.new) seats.new.items) (network_view
         (λ m. N.Mail.letter m) network.new)
         first_router first K.tells noted held_before (K.held out.new) (script_view script.new) (consumed ++ (line.now ++ newline ∷ [])))) }
     ensures stopped { AreAskedAsRead N.asks → (since : Since L) (first_router : ℕ) (first : World) → MayPlay first_router first →
         (held_before consumed others : List ℕ) →
-        Playing (seat_since N.state L.facts since) seats.old.items (network_view (λ m. N.Mail.letter m) network.old)
+        Playing (seat_since N.state L.facts since) (hosted K.tells L.facts since (K.noted out.old) seats.old.items) (network_view (λ m. N.Mail.letter m) network.old)
         first_router first K.tells since.noted held_before (K.held out.old) (script_view script.old) consumed →
         AreNoted K.tells (K.noted out.old) (places_of L.facts.place seats.old.items) since.noted →
         IfErr result (λ status. WithNotes K.tells (K.noted out.new) (places_of L.facts.place seats.new.items)
-        (λ noted. Stopped (seat_since N.state L.facts (with_notes since noted)) seats.new.items first_router first K.tells noted held_before
+        (λ noted. Stopped (seat_since N.state L.facts (with_notes since noted)) (hosted K.tells L.facts since (K.noted out.new) seats.new.items) first_router first K.tells noted held_before
         (K.held out.new) consumed
         (line.now ++ newline ∷ others) status)) }
     ensures router { script.new.first_router ≡ script.old.first_router }
@@ -82,7 +83,7 @@ pub fn answer_line<R: Threads + Sync, N: Node<Request = Request>, L: Log, K: Wit
         Ok(numbers) => numbers,
         Err(_) => return Err(Status::OutOfMemory),
     };
-    let closed = match play_line(rt, alloc, line, seats, network, script) {
+    let closed = match play_line(rt, alloc, line, seats, out, network, script) {
         Ok(closed) => closed,
         Err(status) => return Err(status),
     };
@@ -117,20 +118,20 @@ pub fn play_piece<R: Threads + Sync, N: Node<Request = Request>, L: Log, K: Witn
     requires begun { HasNone newline begun.old.items }
     ensures played { AreAskedAsRead N.asks → (since : Since L) (first_router : ℕ) (first : World) → MayPlay first_router first →
         (held_before consumed : List ℕ) →
-        Playing (seat_since N.state L.facts since) seats.old.items (network_view (λ m. N.Mail.letter m) network.old)
+        Playing (seat_since N.state L.facts since) (hosted K.tells L.facts since (K.noted out.old) seats.old.items) (network_view (λ m. N.Mail.letter m) network.old)
         first_router first K.tells since.noted held_before (K.held out.old) (script_view script.old) consumed →
         AreNoted K.tells (K.noted out.old) (places_of L.facts.place seats.old.items) since.noted →
         OnOk result (WithNotes K.tells (K.noted out.new) (places_of L.facts.place seats.new.items)
-        (λ noted. HasPlayedLines (seat_since N.state L.facts (with_notes since noted)) seats.new.items (network_view
+        (λ noted. HasPlayedLines (seat_since N.state L.facts (with_notes since noted)) (hosted K.tells L.facts since (K.noted out.new) seats.new.items) (network_view
         (λ m. N.Mail.letter m) network.new)
         first_router first K.tells noted held_before (K.held out.new) (script_view script.new) (consumed ++ (begun.old.items ++ piece.now)) begun.new.items)) }
     ensures stopped { AreAskedAsRead N.asks → (since : Since L) (first_router : ℕ) (first : World) → MayPlay first_router first →
         (held_before consumed : List ℕ) →
-        Playing (seat_since N.state L.facts since) seats.old.items (network_view (λ m. N.Mail.letter m) network.old)
+        Playing (seat_since N.state L.facts since) (hosted K.tells L.facts since (K.noted out.old) seats.old.items) (network_view (λ m. N.Mail.letter m) network.old)
         first_router first K.tells since.noted held_before (K.held out.old) (script_view script.old) consumed →
         AreNoted K.tells (K.noted out.old) (places_of L.facts.place seats.old.items) since.noted →
         IfErr result (λ status. WithNotes K.tells (K.noted out.new) (places_of L.facts.place seats.new.items)
-        (λ noted. HasStoppedIn (seat_since N.state L.facts (with_notes since noted)) seats.new.items first_router first K.tells noted
+        (λ noted. HasStoppedIn (seat_since N.state L.facts (with_notes since noted)) (hosted K.tells L.facts since (K.noted out.new) seats.new.items) first_router first K.tells noted
         held_before (K.held out.new)
         (consumed ++ (begun.old.items ++ piece.now)) status)) }
     ensures begun { OnOk result (HasNone newline begun.new.items) }

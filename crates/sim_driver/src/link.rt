@@ -1,10 +1,11 @@
 //! The link of a router that is open.
 
-ghost use Rattle.std.specs.Prelude.{◌≡◌, ◌≢◌, ◌⊎◌, ℕ, ◌++◌, ◌<◌, List, Ok, true, false, vec_len, IfErr, IfOk, OnOk, Err};
+ghost use Rattle.std.specs.Prelude.{◌≡◌, ◌≢◌, ◌⊎◌, ℕ, ◌++◌, ◌<◌, List, Ok, true, false, vec_len, IfErr, IfOk, OnOk, Err, IsTrue};
 ghost use Rattle.node_model.specs.World.{IsRouter, World};
 ghost use Rattle.node_traits.specs.declared.outputs.ToLink.{ToLink};
 ghost use Rattle.driver_steps.specs.Crashes.{Since};
-ghost use Rattle.driver_steps.specs.Seats.{AreOpen, faults_of, places_of, seat_since};
+ghost use Rattle.driver_steps.specs.Seats.{AreOpen, HasMore, faults_of, places_of, seat_since};
+ghost use Rattle.driver_steps.specs.Together.{hosted};
 ghost use Rattle.driver_steps.specs.Worlds.{StandsFor, network_view};
 ghost use Rattle.pipe_driver.specs.Counts.{HaveRisenWhere};
 ghost use Rattle.pipe_driver.specs.Progress.{AreAskedAsRead};
@@ -17,6 +18,7 @@ use driver_steps::{Network, Seat};
 use node_traits::Node;
 use opmsg_frames::{Framer, Request};
 use outside::log::Log;
+use outside::witness::Witness;
 use pipe_driver::Status;
 use std::alloc::Global;
 use std::marker::Model;
@@ -66,36 +68,42 @@ impl Link {
     ///
     /// # Errors
     /// As `ask_all` has them; `Status::OutOfMemory` also if memory runs out for the bytes.
-    pub fn take<N: Node<Request = Request>, L: Log>(
+    pub fn take<N: Node<Request = Request>, L: Log, K: Witness<L::Of>>(
         &mut self,
         alloc: Global,
         at: usize,
         bytes: &[u8],
         seats: &mut Vec<Seat<N, L>>,
+        out: &mut K,
         network: &mut Network<N::Mail>,
     ) -> Result<bool, Status>
         requires at { at < vec_len seats.old }
         requires open { AreOpen L.facts.is_open seats.old.items }
         ensures asked { AreAskedAsRead N.asks → (since : Since L) (w : World) (handed : List ToLink) → IsRouter w.nodes at →
-            StandsFor (seat_since N.state L.facts since) seats.old.items (network_view
+            StandsFor (seat_since N.state L.facts since) (hosted K.tells L.facts since (K.noted out.old) seats.old.items) (network_view
             (λ m. N.Mail.letter m) network.old) handed w 0 →
-            result ≡ Ok false → HasAsked (seat_since N.state L.facts since) seats.new.items (network_view
+            result ≡ Ok false → HasAsked (seat_since N.state L.facts since) (hosted K.tells L.facts since (K.noted out.new) seats.new.items) (network_view
             (λ m. N.Mail.letter m) network.new) handed w
             at self.old.number self.old.replied (self.old.left ++ bytes.now) self.new.left self.new.replied false }
         ensures malformed { AreAskedAsRead N.asks → (since : Since L) (w : World) (handed : List ToLink) → IsRouter w.nodes at →
-            StandsFor (seat_since N.state L.facts since) seats.old.items (network_view
+            StandsFor (seat_since N.state L.facts since) (hosted K.tells L.facts since (K.noted out.old) seats.old.items) (network_view
             (λ m. N.Mail.letter m) network.old) handed w 0 →
-            result ≡ Ok true → (left : List ℕ) × (replied : ℕ) × HasAsked (seat_since N.state L.facts since) seats.new.items (network_view
+            result ≡ Ok true → (left : List ℕ) × (replied : ℕ) × HasAsked (seat_since N.state L.facts since) (hosted K.tells L.facts since (K.noted out.new) seats.new.items) (network_view
             (λ m. N.Mail.letter m) network.new) handed w
             at self.old.number self.old.replied (self.old.left ++ bytes.now) left replied true }
         ensures cut { AreAskedAsRead N.asks → (since : Since L) (w : World) (handed : List ToLink) → IsRouter w.nodes at →
-            StandsFor (seat_since N.state L.facts since) seats.old.items (network_view
+            StandsFor (seat_since N.state L.facts since) (hosted K.tells L.facts since (K.noted out.old) seats.old.items) (network_view
             (λ m. N.Mail.letter m) network.old) handed w 0 →
-            IfErr result (λ status. IsCut (seat_since N.state L.facts since) seats.new.items w
+            IfErr result (λ status. IsCut (seat_since N.state L.facts since) (hosted K.tells L.facts since (K.noted out.new) seats.new.items) w
             (IsFirstAsked at self.old.number self.old.replied (self.old.left ++ bytes.now)) status) }
         ensures number { self.new.number ≡ self.old.number }
         ensures len { vec_len seats.new ≡ vec_len seats.old }
         ensures open { result ≢ Err statuses.DiskFailed → AreOpen L.facts.is_open seats.new.items }
+
+        // Of the sink: notes alone.
+        ensures held { K.held out.new ≡ K.held out.old }
+        ensures sink { K.fault_count out.new ≡ K.fault_count out.old }
+        ensures noted { IsTrue K.tells → HasMore (K.noted out.old) (K.noted out.new) }
 
         // Of the logs' disks.
         ensures other { IfErr result (λ status. (status ≡ statuses.DiskFailed) ⊎ (status ≡ statuses.OutOfMemory)) }
@@ -107,7 +115,15 @@ impl Link {
             Ok(()) => {}
             Err(_) => return Err(Status::OutOfMemory),
         }
-        let asked = match ask_all(&mut framer, seats, network, at, self.number, self.replied) {
+        let asked = match ask_all(
+            &mut framer,
+            seats,
+            out,
+            network,
+            at,
+            self.number,
+            self.replied,
+        ) {
             Ok(asked) => asked,
             Err(status) => return Err(status),
         };

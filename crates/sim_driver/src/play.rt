@@ -1,10 +1,11 @@
 //! Lines that are played.
 
-ghost use Rattle.std.specs.Prelude.{◌≡◌, ◌≢◌, ◌+◌, ◌≤◌, List, length, vec_len, IfErr, IfOk, Err};
+ghost use Rattle.std.specs.Prelude.{◌≡◌, ◌≢◌, ◌+◌, ◌≤◌, List, length, vec_len, IfErr, IfOk, Err, IsTrue};
 ghost use Rattle.node_model.specs.World.{World};
 ghost use Rattle.node_traits.specs.declared.outputs.ToLink.{ToLink};
 ghost use Rattle.driver_steps.specs.Crashes.{Since};
-ghost use Rattle.driver_steps.specs.Seats.{AreOpen, faults_of, places_of, seat_since};
+ghost use Rattle.driver_steps.specs.Seats.{AreOpen, HasMore, faults_of, places_of, seat_since};
+ghost use Rattle.driver_steps.specs.Together.{hosted};
 ghost use Rattle.driver_steps.specs.Worlds.{StandsFor, network_view};
 ghost use Rattle.pipe_driver.specs.Counts.{HaveRisenWhere};
 ghost use Rattle.pipe_driver.specs.Progress.{AreAskedAsRead};
@@ -21,6 +22,7 @@ use driver_steps::{Network, Seat};
 use node_traits::Node;
 use opmsg_frames::Request;
 use outside::log::Log;
+use outside::witness::Witness;
 use pipe_driver::Status;
 use script_lines::{Line, LineFault, read_line};
 use std::alloc::Global;
@@ -31,11 +33,12 @@ use std::thread::Threads;
 ///
 /// # Errors
 /// As `play_client`, `play_deliver`, `play_moment`, `play_settle` and `play_next` have them.
-pub fn play_said<R: Threads + Sync, N: Node<Request = Request>, L: Log>(
+pub fn play_said<R: Threads + Sync, N: Node<Request = Request>, L: Log, K: Witness<L::Of>>(
     rt: &R,
     alloc: Global,
     line: Line,
     seats: &mut Vec<Seat<N, L>>,
+    out: &mut K,
     network: &mut Network<N::Mail>,
     script: &mut Script,
 ) -> Result<Option<u64>, Status>
@@ -43,16 +46,16 @@ pub fn play_said<R: Threads + Sync, N: Node<Request = Request>, L: Log>(
     requires links { script.old.first_router + vec_len script.old.links ≡ vec_len seats.old }
     ensures played { AreAskedAsRead N.asks → (since : Since L) (w : World) (handed : List ToLink) → HasRouters script.old.first_router w →
         length script.old.delivered ≤ length w.sent →
-        StandsFor (seat_since N.state L.facts since) seats.old.items (network_view
+        StandsFor (seat_since N.state L.facts since) (hosted K.tells L.facts since (K.noted out.old) seats.old.items) (network_view
         (λ m. N.Mail.letter m) network.old) handed w 0 →
-        IfOk result (λ closed. HasPlayed (seat_since N.state L.facts since) seats.new.items (network_view
+        IfOk result (λ closed. HasPlayed (seat_since N.state L.facts since) (hosted K.tells L.facts since (K.noted out.new) seats.new.items) (network_view
         (λ m. N.Mail.letter m) network.new) handed w
         (meaning_of line) (script_view script.old) (script_view script.new) closed) }
     ensures stops { AreAskedAsRead N.asks → (since : Since L) (w : World) (handed : List ToLink) → HasRouters script.old.first_router w →
         length script.old.delivered ≤ length w.sent →
-        StandsFor (seat_since N.state L.facts since) seats.old.items (network_view
+        StandsFor (seat_since N.state L.facts since) (hosted K.tells L.facts since (K.noted out.old) seats.old.items) (network_view
         (λ m. N.Mail.letter m) network.old) handed w 0 →
-        IfErr result (StopsLine (seat_since N.state L.facts since) seats.new.items w (meaning_of line)
+        IfErr result (StopsLine (seat_since N.state L.facts since) (hosted K.tells L.facts since (K.noted out.new) seats.new.items) w (meaning_of line)
         (script_view script.old)) }
     ensures len { vec_len seats.new ≡ vec_len seats.old }
     ensures router { script.new.first_router ≡ script.old.first_router }
@@ -60,38 +63,61 @@ pub fn play_said<R: Threads + Sync, N: Node<Request = Request>, L: Log>(
     ensures open { result ≢ Err statuses.DiskFailed → AreOpen L.facts.is_open seats.new.items }
     ensures other { IfErr result IsOfLine }
 
+    // Of the sink: notes alone.
+    ensures held { K.held out.new ≡ K.held out.old }
+    ensures sink { K.fault_count out.new ≡ K.fault_count out.old }
+    ensures noted { IsTrue K.tells → HasMore (K.noted out.old) (K.noted out.new) }
+
     // Of the logs' disks.
     ensures disk_fault { HaveRisenWhere (result ≡ Err statuses.DiskFailed) (faults_of L.facts.fault_count seats.old.items) (faults_of L.facts.fault_count seats.new.items) }
     ensures places { places_of L.facts.place seats.new.items ≡ places_of L.facts.place seats.old.items }
 {
     match line {
         Line::Client { router, bytes } => {
-            match play_client(alloc, router, &bytes, seats, network, script) {
+            match play_client(alloc, router, &bytes, seats, out, network, script) {
                 Ok(closed) => Ok(closed),
                 Err(status) => Err(status),
             }
         }
         Line::Deliver { node, k } => match play_deliver(
-            rt, alloc, node, k, seats, network, script,
+            rt, alloc, node, k, seats, out, network, script,
         ) {
             Ok(()) => Ok(None),
             Err(status) => Err(status),
         },
-        Line::Moment { node, moment } => match play_moment(node, moment, seats, network, script) {
+        Line::Moment { node, moment } => match play_moment(
+            node, moment, seats, out, network, script,
+        ) {
             Ok(()) => Ok(None),
             Err(status) => Err(status),
         },
-        Line::Settle => match play_settle(rt, alloc, None, seats, network, script) {
+        Line::Settle => match play_settle(rt, alloc, None, seats, out, network, script) {
             Ok(()) => Ok(None),
             Err(status) => Err(status),
         },
         Line::SettleExcept { kind } => {
-            match play_settle(rt, alloc, Some(kind.as_slice()), seats, network, script) {
+            match play_settle(
+                rt,
+                alloc,
+                Some(kind.as_slice()),
+                seats,
+                out,
+                network,
+                script,
+            ) {
                 Ok(()) => Ok(None),
                 Err(status) => Err(status),
             }
         }
-        Line::Next { kind } => match play_next(rt, alloc, kind.as_slice(), seats, network, script) {
+        Line::Next { kind } => match play_next(
+            rt,
+            alloc,
+            kind.as_slice(),
+            seats,
+            out,
+            network,
+            script,
+        ) {
             Ok(()) => Ok(None),
             Err(status) => Err(status),
         },
@@ -104,11 +130,12 @@ pub fn play_said<R: Threads + Sync, N: Node<Request = Request>, L: Log>(
 /// - `Status::BadInput` if the bytes say no line, or one that names what does not exist; nothing happened.
 /// - `Status::DiskFailed` if a disk failed.
 /// - `Status::OutOfMemory` if out of memory, or where a node is at its last step, or links or replies can't be counted.
-pub fn play_line<R: Threads + Sync, N: Node<Request = Request>, L: Log>(
+pub fn play_line<R: Threads + Sync, N: Node<Request = Request>, L: Log, K: Witness<L::Of>>(
     rt: &R,
     alloc: Global,
     line: &[u8],
     seats: &mut Vec<Seat<N, L>>,
+    out: &mut K,
     network: &mut Network<N::Mail>,
     script: &mut Script,
 ) -> Result<Option<u64>, Status>
@@ -116,16 +143,16 @@ pub fn play_line<R: Threads + Sync, N: Node<Request = Request>, L: Log>(
     requires links { script.old.first_router + vec_len script.old.links ≡ vec_len seats.old }
     ensures played { AreAskedAsRead N.asks → (since : Since L) (w : World) (handed : List ToLink) → HasRouters script.old.first_router w →
         length script.old.delivered ≤ length w.sent →
-        StandsFor (seat_since N.state L.facts since) seats.old.items (network_view
+        StandsFor (seat_since N.state L.facts since) (hosted K.tells L.facts since (K.noted out.old) seats.old.items) (network_view
         (λ m. N.Mail.letter m) network.old) handed w 0 →
-        IfOk result (λ closed. HasPlayedBytes (seat_since N.state L.facts since) seats.new.items (network_view
+        IfOk result (λ closed. HasPlayedBytes (seat_since N.state L.facts since) (hosted K.tells L.facts since (K.noted out.new) seats.new.items) (network_view
         (λ m. N.Mail.letter m) network.new) handed w
         line.now (script_view script.old) (script_view script.new) closed) }
     ensures stops { AreAskedAsRead N.asks → (since : Since L) (w : World) (handed : List ToLink) → HasRouters script.old.first_router w →
         length script.old.delivered ≤ length w.sent →
-        StandsFor (seat_since N.state L.facts since) seats.old.items (network_view
+        StandsFor (seat_since N.state L.facts since) (hosted K.tells L.facts since (K.noted out.old) seats.old.items) (network_view
         (λ m. N.Mail.letter m) network.old) handed w 0 →
-        IfErr result (StopsBytes (seat_since N.state L.facts since) seats.new.items w line.now
+        IfErr result (StopsBytes (seat_since N.state L.facts since) (hosted K.tells L.facts since (K.noted out.new) seats.new.items) w line.now
         (script_view script.old)) }
     ensures len { vec_len seats.new ≡ vec_len seats.old }
     ensures router { script.new.first_router ≡ script.old.first_router }
@@ -133,12 +160,17 @@ pub fn play_line<R: Threads + Sync, N: Node<Request = Request>, L: Log>(
     ensures open { result ≢ Err statuses.DiskFailed → AreOpen L.facts.is_open seats.new.items }
     ensures other { IfErr result IsOfLine }
 
+    // Of the sink: notes alone.
+    ensures held { K.held out.new ≡ K.held out.old }
+    ensures sink { K.fault_count out.new ≡ K.fault_count out.old }
+    ensures noted { IsTrue K.tells → HasMore (K.noted out.old) (K.noted out.new) }
+
     // Of the logs' disks.
     ensures disk_fault { HaveRisenWhere (result ≡ Err statuses.DiskFailed) (faults_of L.facts.fault_count seats.old.items) (faults_of L.facts.fault_count seats.new.items) }
     ensures places { places_of L.facts.place seats.new.items ≡ places_of L.facts.place seats.old.items }
 {
     match read_line(alloc, line) {
-        Ok(said) => match play_said(rt, alloc, said, seats, network, script) {
+        Ok(said) => match play_said(rt, alloc, said, seats, out, network, script) {
             Ok(closed) => Ok(closed),
             Err(status) => Err(status),
         },

@@ -4,7 +4,8 @@ ghost use Rattle.std.specs.Prelude.{◌≡◌, ◌≢◌, ◌⊎◌, ℕ, ◌<�
 ghost use Rattle.outside.specs.Devices.{sink_call, source_call};
 ghost use Rattle.node_model.specs.World.{World};
 ghost use Rattle.driver_steps.specs.Crashes.{Since, with_notes};
-ghost use Rattle.driver_steps.specs.Seats.{AreHeld, AreKept, AreOpen, LeaveKept, faults_of, places_of, seat_since, seat_view, since_then};
+ghost use Rattle.driver_steps.specs.Seats.{AreHeld, AreKept, AreOpen, LeaveKept, faults_of, places_of, seat_since, seat_view, since_noted, since_then};
+ghost use Rattle.driver_steps.specs.Together.{hosted};
 ghost use Rattle.driver_steps.specs.Worlds.{network_view};
 ghost use Rattle.pipe_driver.specs.Acknowledgements.{AreAcknowledgedBy, AreCovered, AreNoted, WithNotes};
 ghost use Rattle.pipe_driver.specs.Counts.{HaveRisenWhere, RoseWhere};
@@ -17,7 +18,7 @@ ghost use Rattle.sim_driver.specs.Simulations.{IsSimulated, all_printed, router_
 
 use crate::lines::play_piece;
 use crate::script::Script;
-use driver_steps::{Network, Seat, open_all};
+use driver_steps::{Network, Seat, note_cut, open_all};
 use node_traits::Node;
 use opmsg_frames::Request;
 use outside::log::Log;
@@ -68,7 +69,8 @@ pub fn simulate<
         AreHeld (seat_view N.state L.facts) seats.old.items first.nodes →
         IsSimulated (source_call S.tells S.left S.fault_count input.old input.new) (sink_call K.tells K.held K.fault_count out.old out.new)
         first_router (AreKept (seat_view N.state L.facts) seats.new.items)
-        (LeaveKept (seat_since N.state L.facts (since_then seats.old.items first)) seats.new.items)
+        (LeaveKept (seat_since N.state L.facts (since_then seats.old.items first))
+        (hosted K.tells L.facts (since_noted seats.old.items first (K.noted out.old)) (K.noted out.new) seats.new.items))
         (AreAcknowledgedBy L.facts K.tells (all_printed first_router first) first (K.noted out.new) (K.held out.old) seats.new.items)
         first limit result }
 
@@ -83,7 +85,8 @@ pub fn simulate<
     ensures places { places_of L.facts.place seats.new.items ≡ places_of L.facts.place seats.old.items }
 {
     let mut network = Network::new(alloc);
-    match open_all(seats, &mut network) {
+    note_cut(out, seats);
+    match open_all(seats, out, &mut network) {
         Ok(()) => play_all(rt, alloc, input, out, seats, network, first_router, limit),
         Err(e) => Status::of(e),
     }
@@ -103,13 +106,13 @@ fn play_all<R: Threads + Sync, N: Node<Request = Request>, L: Log, S: Source, K:
     requires at { first_router < vec_len seats.old }
     requires open { AreOpen L.facts.is_open seats.old.items }
     ensures simulated { AreAskedAsRead N.asks → (since : Since L) (first : World) → MayPlay first_router first →
-        Playing (seat_since N.state L.facts since) seats.old.items (network_view (λ m. N.Mail.letter m) network)
+        Playing (seat_since N.state L.facts since) (hosted K.tells L.facts since (K.noted out.old) seats.old.items) (network_view (λ m. N.Mail.letter m) network)
         first_router first K.tells since.noted (K.held out.old) (K.held out.old) (new_script first_router (router_count first_router first)) [] →
         AreNoted K.tells (K.noted out.old) (places_of L.facts.place seats.old.items) since.noted →
         WithNotes K.tells (K.noted out.new) (places_of L.facts.place seats.new.items)
         (λ noted. IsSimulated (source_call S.tells S.left S.fault_count input.old input.new) (sink_call K.tells K.held K.fault_count out.old out.new)
         first_router (AreKept (seat_since N.state L.facts (with_notes since noted)) seats.new.items)
-        (LeaveKept (seat_since N.state L.facts (with_notes since noted)) seats.new.items)
+        (LeaveKept (seat_since N.state L.facts (with_notes since noted)) (hosted K.tells L.facts since (K.noted out.new) seats.new.items))
         (λ last put. IsTrue K.tells → AreCovered (all_printed first_router first) first noted (K.held out.old) put last) first limit result) }
     ensures open { result ≢ statuses.DiskFailed → AreOpen L.facts.is_open seats.new.items }
     ensures len { vec_len seats.new ≡ vec_len seats.old }

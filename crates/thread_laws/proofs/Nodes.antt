@@ -11,14 +11,16 @@ use Rattle.command_replies.proofs.answer.ClientNumber.TheSendSync.{the_field_sen
 use Rattle.command_replies.proofs.answer.WriteKind.TheSendSync.{the_field_send as WriteKind-send}
 use Rattle.ghost_list.proofs.list.GhostList.TheSendSync.{the_send as GhostList-send}
 use Rattle.node_traits.proofs.count.StepCount.TheSendSync.{the_send as StepCount-send}
+use Rattle.read_parts.proofs.parts.Target.TheSendSync.{the_field_send as Target-send}
 use Rattle.router_cursors.proofs.mark.Mark.TheSendSync.{the_field_send as Mark-send}
 use Rattle.router_requests.proofs.read.Telling.TheSendSync.{the_field_send as Telling-send}
 use Rattle.router_requests.proofs.work.Wait.TheSendSync.{the_field_send as Wait-send}
 use Rattle.shard_store.proofs.fault.WriteFault.TheSendSync.{the_field_send as WriteFault-send}
 use Rattle.thread_laws.proofs.Chunks.{Catalogue-send, TableList-send}
 use Rattle.thread_laws.proofs.History.{Book-send, Collection-send}
+use Rattle.protocol_model.proofs.reads.HalfFault.TheSendSync.{the_field_send as HalfFault-send}
 use Rattle.thread_laws.proofs.Messages.{Done-send, Head-send, Message-send, Statement-send}
-use Rattle.thread_laws.proofs.Pipelines.{Half-send, Half-sync, Merge-send, Pipeline-send, Shelf-send}
+use Rattle.thread_laws.proofs.Pipelines.{Half-send, Half-sync, Merge-send, Pipeline-send, Rows-send, Shelf-send}
 use Rattle.thread_laws.proofs.Values.{Document-send, Document-sync, Key-send, OpWords-send, OpWords-sync, Reply-send}
 use Rattle.shard_store.specs.contracts.collections.Collections as Collections
 use Rattle.shard_store.specs.contracts.entry.Words as Words
@@ -28,6 +30,7 @@ use Rattle.shard_store.specs.contracts.entry.Planned as Planned
 use Rattle.shard_store.specs.contracts.store.ShardStore as ShardStore
 use Rattle.config_node.specs.contracts.state.ConfigNode as ConfigNode
 use Rattle.router_cursors.specs.contracts.list.CursorList as CursorList
+use Rattle.read_parts.specs.contracts.parts.Part as Part
 use Rattle.router_requests.specs.contracts.read.Parts as Parts
 use Rattle.router_requests.specs.contracts.read.OpenRead as OpenRead
 use Rattle.router_requests.specs.contracts.work.Work as Work
@@ -70,8 +73,11 @@ OpenRead-send = search (sendable, crosses, Time-send, Parts-send, Telling-send) 
 pub Work-send : IsSend Work.the_field.row
 Work-send = search (sendable, crosses, WriteKind-send, ClientNumber-send, Statement-send, Done-send, OpenRead-send, Key-send) depth 30
 
+pub Part-send : IsSend Part.the_field.row
+Part-send = search (sendable, crosses, NodeId-send, Rows-send, HalfFault-send) depth 30
+
 pub OpenRequest-send : IsSend OpenRequest.the_field.row
-OpenRequest-send = search (sendable, crosses, Head-send, Namespace-send, NodeId-send, Wait-send, Work-send) depth 30
+OpenRequest-send = search (sendable, crosses, Head-send, Namespace-send, NodeId-send, Wait-send, Target-send, Part-send, Work-send) depth 30
 
 pub OpenList-send : IsSend OpenList.the_field.row
 OpenList-send = search (sendable, crosses, OpenRequest-send) depth 30

@@ -60,13 +60,13 @@ impl<R: Files + Drop> Disk for FileDisk<R> {
 
     ghost moment = { λ _. 0 };
 
-    ghost left_since = { λ _ _ _. Unit {0} };
+    ghost left_at = { λ _ _ _. Unit {0} };
 
     ghost fault_count = { λ d. d.faults };
 
     ghost place = { λ d. string_bytes d.path };
 
-    ghost counts_now = { λ _ _ _ _ _. tt };
+    ghost counts_now = { λ _ _ _. tt };
 
     ghost only_now = { λ _ _ _. tt };
 

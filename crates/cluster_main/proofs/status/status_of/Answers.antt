@@ -11,7 +11,7 @@ returns-in-Err-Unreadable-clause-disks g c =
     let never : ¬ IsOkAnd c.args.words (λ given. IsSome (node_count_of given.items)) = rw c.in-Err-Unreadable.is (λ started. absurd started) in
     let unread : command_in c.args.words (λ given. given.items) ≡ None = rw c.in-Err-Unreadable.is refl in (
       0,
-      rw c.unstarted.ensures.disks (as_they_were _ _ _ (source_call g.S.Source.tells g.S.Source.left g.S.Source.fault_count c.args.input.now c.args.input.now) (sink_call g.K.Sink.tells g.K.Sink.held g.K.Sink.fault_count c.args.out.now c.args.out.now) _ _ _ c.args.disks.items never unread (λ told. refl, refl) (λ told. sym (append-nil (g.K.Sink.held c.args.out.now)), refl) (inl c.unstarted.ensures.status)),
+      rw c.unstarted.ensures.disks (as_they_were _ _ _ (source_call g.S.Source.tells g.S.Source.left g.S.Source.fault_count c.args.input.now c.args.input.now) (sink_call g.K.Sink.tells g.K.Sink.held g.K.Sink.fault_count c.args.out.now c.args.out.now) _ _ _ _ c.args.disks.items never unread (λ told. refl, refl) (λ told. sym (append-nil (g.K.Sink.held c.args.out.now)), refl) (inl c.unstarted.ensures.status)),
     )
 
 pub returns-in-Err-Memory-clause-disks : goal.returns-in-Err-Memory-clause-disks
@@ -19,7 +19,7 @@ returns-in-Err-Memory-clause-disks g c =
     let never : ¬ IsOkAnd c.args.words (λ given. IsSome (node_count_of given.items)) = rw c.in-Err-Memory.is (λ started. absurd started) in
     let unread : command_in c.args.words (λ given. given.items) ≡ None = rw c.in-Err-Memory.is refl in (
       0,
-      rw c.unstarted-in-Err-Memory.ensures.disks (as_they_were _ _ _ (source_call g.S.Source.tells g.S.Source.left g.S.Source.fault_count c.args.input.now c.args.input.now) (sink_call g.K.Sink.tells g.K.Sink.held g.K.Sink.fault_count c.args.out.now c.args.out.now) _ _ _ c.args.disks.items never unread (λ told. refl, refl) (λ told. sym (append-nil (g.K.Sink.held c.args.out.now)), refl) (inr c.unstarted-in-Err-Memory.ensures.status)),
+      rw c.unstarted-in-Err-Memory.ensures.disks (as_they_were _ _ _ (source_call g.S.Source.tells g.S.Source.left g.S.Source.fault_count c.args.input.now c.args.input.now) (sink_call g.K.Sink.tells g.K.Sink.held g.K.Sink.fault_count c.args.out.now c.args.out.now) _ _ _ _ c.args.disks.items never unread (λ told. refl, refl) (λ told. sym (append-nil (g.K.Sink.held c.args.out.now)), refl) (inr c.unstarted-in-Err-Memory.ensures.status)),
     )
 
 pub returns-clause-disks : goal.returns-clause-disks

@@ -4,7 +4,7 @@ use Rattle.cluster_service.proofs.disks.open_one.Goals as goal
 
 pub returns-in-Ok-clause-opened : goal.returns-in-Ok-clause-opened
 returns-in-Ok-clause-opened g c =
-    let facts = disk_facts g.D.Disk.tells g.D.Disk.content g.D.Disk.may_leave g.D.Disk.moment g.D.Disk.left_since g.D.Disk.place g.D.Disk.fault_count in
+    let facts = disk_facts g.D.Disk.tells g.D.Disk.content g.D.Disk.may_leave g.D.Disk.moment g.D.Disk.left_at g.D.Disk.place g.D.Disk.fault_count in
     let ensured = c.in-Ok.ensures in
     record {
       had = ensured.found;
@@ -16,7 +16,7 @@ returns-in-Ok-clause-opened g c =
 
 pub returns-in-Err-Disk-clause-unopened : goal.returns-in-Err-Disk-clause-unopened
 returns-in-Err-Disk-clause-unopened g c =
-    let facts = disk_facts g.D.Disk.tells g.D.Disk.content g.D.Disk.may_leave g.D.Disk.moment g.D.Disk.left_since g.D.Disk.place g.D.Disk.fault_count in
+    let facts = disk_facts g.D.Disk.tells g.D.Disk.content g.D.Disk.may_leave g.D.Disk.moment g.D.Disk.left_at g.D.Disk.place g.D.Disk.fault_count in
     let ensured = c.in-Err-Disk.ensures in
     unopened_by_disk facts c.args.disk _ _ c.in-Err-Disk.field-0-is (record {
       was = is_as_it_was facts g.met.D.Disk.counts_now c.args.disk _ ensured.same ensured.as_damaged ensured.any_moment;
@@ -29,7 +29,7 @@ returns-in-Err-Disk-clause-unopened g c =
 
 pub returns-in-Err-Damaged-clause-unopened : goal.returns-in-Err-Damaged-clause-unopened
 returns-in-Err-Damaged-clause-unopened g c =
-    let facts = disk_facts g.D.Disk.tells g.D.Disk.content g.D.Disk.may_leave g.D.Disk.moment g.D.Disk.left_since g.D.Disk.place g.D.Disk.fault_count in
+    let facts = disk_facts g.D.Disk.tells g.D.Disk.content g.D.Disk.may_leave g.D.Disk.moment g.D.Disk.left_at g.D.Disk.place g.D.Disk.fault_count in
     let ensured = c.in-Err-Damaged.ensures in
     unopened_by_damage facts c.args.disk _ _ _ c.in-Err-Damaged.field-0-is (record {
       was = is_as_it_was facts g.met.D.Disk.counts_now c.args.disk _ ensured.same ensured.as_damaged ensured.any_moment;
@@ -42,7 +42,7 @@ returns-in-Err-Damaged-clause-unopened g c =
 
 pub returns-in-Err-Memory-clause-unopened : goal.returns-in-Err-Memory-clause-unopened
 returns-in-Err-Memory-clause-unopened g c =
-    let facts = disk_facts g.D.Disk.tells g.D.Disk.content g.D.Disk.may_leave g.D.Disk.moment g.D.Disk.left_since g.D.Disk.place g.D.Disk.fault_count in
+    let facts = disk_facts g.D.Disk.tells g.D.Disk.content g.D.Disk.may_leave g.D.Disk.moment g.D.Disk.left_at g.D.Disk.place g.D.Disk.fault_count in
     let ensured = c.in-Err-Memory.ensures in
     unopened_by_memory facts c.args.disk _ _ c.in-Err-Memory.field-0-is (record {
       was = is_as_it_was facts g.met.D.Disk.counts_now c.args.disk _ ensured.same ensured.as_damaged ensured.any_moment;

@@ -13,7 +13,7 @@ loop-disk-init g c =
     let no_disk : c.args.unopened.now.items ≡ [] = c.requires.unopened in
     record {
       so_far = rw (all, c.requires.journals, c.requires.found, c.requires.unopened) (up_to_start
-          (disk_facts g.D.Disk.tells g.D.Disk.content g.D.Disk.may_leave g.D.Disk.moment g.D.Disk.left_since g.D.Disk.place g.D.Disk.fault_count)
+          (disk_facts g.D.Disk.tells g.D.Disk.content g.D.Disk.may_leave g.D.Disk.moment g.D.Disk.left_at g.D.Disk.place g.D.Disk.fault_count)
           c.args.disks.items);
       count = omega (
         arith,
@@ -44,7 +44,7 @@ loop-disk-preserved-in-Some-stopped g c =
     record {
       so_far = rw (c.push_reserved.ensures.items, c.in-Some-stopped.is)
           (up_to_left
-          (disk_facts g.D.Disk.tells g.D.Disk.content g.D.Disk.may_leave g.D.Disk.moment g.D.Disk.left_since g.D.Disk.place g.D.Disk.fault_count)
+          (disk_facts g.D.Disk.tells g.D.Disk.content g.D.Disk.may_leave g.D.Disk.moment g.D.Disk.left_at g.D.Disk.place g.D.Disk.fault_count)
           c.args.disks.items c.in-Some.disk (into_iter_items c.next.new.self) c.loop-disk.journals.items c.loop-disk.found.items
           c.loop-disk.unopened.items _
           (rw (first, c.in-Some-stopped.is) at c.loop-disk.invariant.so_far));
@@ -63,7 +63,7 @@ loop-disk-preserved-in-Ok g c =
     record {
       so_far = rw (c.push_reserved-in-Ok.ensures.items, c.push_reserved-in-Ok-2.ensures.items, c.in-None-stopped.is)
           (up_to_opened
-          (disk_facts g.D.Disk.tells g.D.Disk.content g.D.Disk.may_leave g.D.Disk.moment g.D.Disk.left_since g.D.Disk.place g.D.Disk.fault_count)
+          (disk_facts g.D.Disk.tells g.D.Disk.content g.D.Disk.may_leave g.D.Disk.moment g.D.Disk.left_at g.D.Disk.place g.D.Disk.fault_count)
           c.args.disks.items c.in-Some.disk (into_iter_items c.next.new.self) c.loop-disk.journals.items c.loop-disk.found.items
           c.loop-disk.unopened.items
           c.in-Ok.journal c.in-Ok.records (rw (first, c.in-None-stopped.is) at c.loop-disk.invariant.so_far) c.in-Ok.ensures.opened);
@@ -82,7 +82,7 @@ loop-disk-preserved g c =
     record {
       so_far = rw c.push_reserved-in-Err.ensures.items
           (up_to_stopped
-          (disk_facts g.D.Disk.tells g.D.Disk.content g.D.Disk.may_leave g.D.Disk.moment g.D.Disk.left_since g.D.Disk.place g.D.Disk.fault_count)
+          (disk_facts g.D.Disk.tells g.D.Disk.content g.D.Disk.may_leave g.D.Disk.moment g.D.Disk.left_at g.D.Disk.place g.D.Disk.fault_count)
           c.args.disks.items c.in-Some.disk (into_iter_items c.next.new.self) c.loop-disk.journals.items c.loop-disk.found.items
           c.loop-disk.unopened.items
           c.in-Err.u.disk c.in-Err.u.status (rw (first, c.in-None-stopped.is) at c.loop-disk.invariant.so_far) c.in-Err.ensures.unopened);

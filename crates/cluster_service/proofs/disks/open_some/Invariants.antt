@@ -8,7 +8,7 @@ use Rattle.cluster_service.proofs.disks.open_some.Given as goal
 abbrev pub invariant-loop-disk : goal.invariant-loop-disk
 invariant-loop-disk g l = record {
   so_far : AreOpenedUpTo
-      (disk_facts g.D.Disk.tells g.D.Disk.content g.D.Disk.may_leave g.D.Disk.moment g.D.Disk.left_since g.D.Disk.place g.D.Disk.fault_count)
+      (disk_facts g.D.Disk.tells g.D.Disk.content g.D.Disk.may_leave g.D.Disk.moment g.D.Disk.left_at g.D.Disk.place g.D.Disk.fault_count)
       l.fn.disks.items (into_iter_items l.disk-iterator) l.stopped l.journals.items l.found.items l.unopened.items;
   count : (vec_len l.journals + vec_len l.unopened) + length (into_iter_items l.disk-iterator) ≤ vec_len l.fn.disks;
   found_count : vec_len l.found ≡ vec_len l.journals;

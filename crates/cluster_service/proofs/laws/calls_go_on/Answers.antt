@@ -1,11 +1,11 @@
 use Rattle.std.specs.Prelude.{map}
-use Rattle.cluster_service.specs.Crashes.{AreDurableBefore, LeaveTheWay}
+use Rattle.cluster_service.specs.Crashes.{AreDurableBefore, LeaveAll}
 use Rattle.cluster_service.proofs.Composed.{calls_go_on}
 use Rattle.cluster_service.proofs.laws.calls_go_on.Goals as goal
 
 pub returns : goal.returns
-returns g c = λ command befores afters first source sink notes held clock ending rest told begins headline.
+returns g c = λ command befores afters first source sink before notes held clock ending rest told begins headline.
     calls_go_on g.D.Disk.tells command (map g.D.Disk.content befores) (map g.D.Disk.content afters) first source sink
-    (LeaveTheWay first g.D.Disk.tells g.D.Disk.moment g.D.Disk.left_since befores afters)
-    (AreDurableBefore g.K.Sink.tells g.D.Disk.tells g.D.Disk.place g.D.Disk.moment g.D.Disk.left_since command first notes held afters)
+    (LeaveAll first g.K.Sink.tells g.D.Disk.tells g.D.Disk.place g.D.Disk.moment g.D.Disk.left_at before notes befores afters)
+    (AreDurableBefore g.K.Sink.tells g.D.Disk.tells g.D.Disk.place g.D.Disk.moment g.D.Disk.left_at command first notes held afters)
     (g.C.Clock.gives clock) ending rest told begins headline

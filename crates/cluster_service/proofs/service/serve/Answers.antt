@@ -4,18 +4,20 @@ use Rattle.outside.specs.Devices.{NoneFell, sink_call, source_call}
 use Rattle.outside.proofs.Relations.{none_fell_self}
 use Rattle.journal_frames.specs.Views.{journal_facts}
 use Rattle.pipe_driver.specs.Acknowledgements.{AreAcknowledgedBy}
-use Rattle.driver_steps.specs.Seats.{AreHeld, AreKept, LeaveKept, seat_since, seat_view, since_then}
+use Rattle.driver_steps.specs.Seats.{AreHeld, AreKept, LeaveKept, seat_since, seat_view, since_noted, since_then}
+use Rattle.driver_steps.specs.Together.{hosted}
 use Rattle.node_model.specs.World.{Held, World}
 use Rattle.pipe_driver.proofs.Counts.{still}
 use Rattle.cluster_service.specs.Counts.{OneRoseWhere}
-use Rattle.cluster_service.specs.Crashes.{AreDurableBefore, IsOfTheWay, LeaveSuch, LeaveTheWay}
+use Rattle.cluster_service.specs.Crashes.{AreDurableBefore, IsOfWorld, LeaveAll, LeaveSuch}
 use Rattle.cluster_service.specs.Drivers.{output_of}
 use Rattle.journal_starts.specs.Journals.{AreJournals}
 use Rattle.cluster_service.specs.OpenJournals.{disks_of}
 use Rattle.cluster_service.specs.declared.status.Status.TheVariants as statuses
 use Rattle.pipe_driver.specs.declared.status.Status.TheVariants as ended
 use Rattle.cluster_service.proofs.Counts.{all_still}
-use Rattle.cluster_service.proofs.Crashes.{IsOfWorld, disks_owed, first_leaves, none_owed, seats_leave}
+use Rattle.cluster_service.proofs.Crashes.{disks_owed, first_leaves_all, none_owed}
+use Rattle.cluster_service.proofs.Together.{seats_leave_all}
 use Rattle.cluster_service.proofs.SeatFacts.{driven_as, has_ending, held_from, kept_in_files, later_of, moved, of_no_other, one_rose_of, open_files}
 use Rattle.cluster_service.proofs.SeatFacts.{rose_of, seat_disks, seats_open, told_after, told_before}
 use Rattle.cluster_service.proofs.NotServed.{headline_of, unopened}
@@ -27,12 +29,14 @@ returns-then-is_err-clause-headline g c = λ asked first may same are disks earl
     rw (c.unserved.ensures.disks, c.unserved.ensures.status, c.close_all.ensures.disks)
     (unopened (source_call g.S.Source.tells g.S.Source.left g.S.Source.fault_count c.args.input.now c.args.input.now)
     (sink_call g.K.Sink.tells g.K.Sink.held g.K.Sink.fault_count c.args.out.now c.args.out.now) g.D.Disk.tells (map g.D.Disk.content left)
-    (LeaveTheWay first g.D.Disk.tells g.D.Disk.moment g.D.Disk.left_since disks left)
-    (AreDurableBefore g.K.Sink.tells g.D.Disk.tells g.D.Disk.place g.D.Disk.moment g.D.Disk.left_since c.args.command first (g.K.Sink.noted c.args.out.now)
+    (LeaveAll first g.K.Sink.tells g.D.Disk.tells g.D.Disk.place g.D.Disk.moment g.D.Disk.left_at (g.K.Sink.noted c.args.out.now) (g.K.Sink.noted c.args.out.now)
+    disks left)
+    (AreDurableBefore g.K.Sink.tells g.D.Disk.tells g.D.Disk.place g.D.Disk.moment g.D.Disk.left_at c.args.command first (g.K.Sink.noted c.args.out.now)
     (g.K.Sink.held c.args.out.now) left) (g.C.Clock.gives c.args.clock.now) _ first c.unserved.ensures.rest (λ told. refl)
     (λ told. sym (append-nil (g.K.Sink.held c.args.out.now))) (open_files g.D.Disk.tells g.D.Disk.content c.args.journals.items first.nodes are)
-    (λ told. first_leaves g.D.Disk.moment g.D.Disk.left_since first disks left (early told))
-    (none_owed g.K.Sink.tells g.D.Disk.tells g.D.Disk.place g.D.Disk.moment g.D.Disk.left_since c.args.command first (g.K.Sink.noted c.args.out.now)
+    (first_leaves_all first g.K.Sink.tells g.D.Disk.tells g.D.Disk.place g.D.Disk.moment g.D.Disk.left_at (g.K.Sink.noted c.args.out.now)
+    (g.K.Sink.noted c.args.out.now) disks left early)
+    (none_owed g.K.Sink.tells g.D.Disk.tells g.D.Disk.place g.D.Disk.moment g.D.Disk.left_at c.args.command first (g.K.Sink.noted c.args.out.now)
     (g.K.Sink.held c.args.out.now) left first) c.args.command c.requires.driver may.begins statuses.OutOfMemory (inr refl))
 
 pub returns-then-is_err-clause-status : goal.returns-then-is_err-clause-status
@@ -73,39 +77,42 @@ pub returns-clause-headline : goal.returns-clause-headline
 returns-clause-headline g c = λ asked first may same are disks early.
     let source = (source_call g.S.Source.tells g.S.Source.left g.S.Source.fault_count c.args.input.now c.drive-ending.new.input) in
     let sink = (sink_call g.K.Sink.tells g.K.Sink.held g.K.Sink.fault_count c.args.out.now c.drive-ending.new.out) in
-    let facts = journal_facts g.D.Disk.tells g.D.Disk.content g.D.Disk.moment g.D.Disk.left_since g.D.Disk.fault_count g.D.Disk.place in
+    let facts = journal_facts g.D.Disk.tells g.D.Disk.content g.D.Disk.moment g.D.Disk.left_at g.D.Disk.fault_count g.D.Disk.place in
     let view = seat_view g.N.Node.state facts in
     let seats = c.put_in.new.seats.items in
     let after = c.drive-ending.new.seats.items in
     let back = c.take_disks.new.back.items in
     let files : List g.row.D.Denot → List Held → Type 0 = λ ds nodes. AreJournals (map g.D.Disk.content ds) nodes in
-    let way : List g.row.D.Denot → World → Type 0 = λ ds w. LeaveTheWay first g.D.Disk.tells g.D.Disk.moment g.D.Disk.left_since disks ds w in
+    let way : List g.row.D.Denot → World → Type 0 = λ ds w. LeaveAll first g.K.Sink.tells g.D.Disk.tells g.D.Disk.place g.D.Disk.moment g.D.Disk.left_at
+    (g.K.Sink.noted c.args.out.now) (g.K.Sink.noted c.drive-ending.new.out) disks ds w in
     let owed : List g.row.D.Denot → World → List ℕ → Type 0 = λ ds w put.
-    AreDurableBefore g.K.Sink.tells g.D.Disk.tells g.D.Disk.place g.D.Disk.moment g.D.Disk.left_since c.args.command first
+    AreDurableBefore g.K.Sink.tells g.D.Disk.tells g.D.Disk.place g.D.Disk.moment g.D.Disk.left_at c.args.command first
     (g.K.Sink.noted c.drive-ending.new.out) (g.K.Sink.held c.args.out.now) ds w put in
     let begun : AreHeld view seats first.nodes =
     subst (λ seats. AreHeld view seats first.nodes) (sym c.put_in.ensures.items)
-    (held_from g.N.Node.state g.D.Disk.tells g.D.Disk.content g.D.Disk.moment g.D.Disk.left_since g.D.Disk.fault_count g.D.Disk.place c.args.nodes.items
+    (held_from g.N.Node.state g.D.Disk.tells g.D.Disk.content g.D.Disk.moment g.D.Disk.left_at g.D.Disk.fault_count g.D.Disk.place c.args.nodes.items
     c.args.journals.items first.nodes same are) in
     let kept : (nodes : List Held) → AreKept view after nodes → IsTrue g.D.Disk.tells → files back nodes = λ nodes keeps told.
     subst (λ (ds : List g.row.D.Denot). files ds nodes) (sym c.take_disks.ensures.disks)
-    (kept_in_files g.N.Node.state g.D.Disk.tells g.D.Disk.content g.D.Disk.moment g.D.Disk.left_since g.D.Disk.fault_count g.D.Disk.place
+    (kept_in_files g.N.Node.state g.D.Disk.tells g.D.Disk.content g.D.Disk.moment g.D.Disk.left_at g.D.Disk.fault_count g.D.Disk.place
     after nodes keeps told) in
-    let leaves : (w : World) → LeaveKept (seat_since g.N.Node.state facts (since_then seats first)) after w → way back w = λ w leave told.
-    subst (λ (ds : List g.row.D.Denot). LeaveSuch g.D.Disk.moment g.D.Disk.left_since (λ at file. IsOfTheWay first w at file) disks ds) (sym c.take_disks.ensures.disks)
-    (seats_leave g.N.Node.state g.D.Disk.tells g.D.Disk.content g.D.Disk.moment g.D.Disk.left_since g.D.Disk.fault_count g.D.Disk.place first w told disks
-    seats after
-    (subst (λ seats. LeaveSuch g.D.Disk.moment g.D.Disk.left_since (IsOfWorld first) disks (map (λ s. s.log.disk) seats)) (sym c.put_in.ensures.items)
-    (subst (λ (ds : List g.row.D.Denot). LeaveSuch g.D.Disk.moment g.D.Disk.left_since (IsOfWorld first) disks ds)
+    let leaves : (w : World) → LeaveKept (seat_since g.N.Node.state facts (since_then seats first))
+    (hosted g.K.Sink.tells facts (since_noted seats first (g.K.Sink.noted c.args.out.now)) (g.K.Sink.noted c.drive-ending.new.out) after) w
+    → way back w = λ w leave.
+    subst (λ (ds : List g.row.D.Denot). way ds w) (sym c.take_disks.ensures.disks)
+    (seats_leave_all g.N.Node.state g.D.Disk.tells g.D.Disk.content g.D.Disk.moment g.D.Disk.left_at g.D.Disk.fault_count g.D.Disk.place first w
+    (g.K.Sink.noted c.args.out.now) (g.K.Sink.noted c.drive-ending.new.out) disks seats after
+    (λ told. subst (λ seats. LeaveSuch g.D.Disk.moment g.D.Disk.left_at (IsOfWorld first) disks (map (λ s. s.log.disk) seats)) (sym c.put_in.ensures.items)
+    (subst (λ (ds : List g.row.D.Denot). LeaveSuch g.D.Disk.moment g.D.Disk.left_at (IsOfWorld first) disks ds)
     (sym (seat_disks c.args.nodes.items c.args.journals.items
     (omega (arith, c.requires.nodes, c.requires.journals, c.args.nodes.ok, c.args.journals.ok)))) (early told)))
-    (omega (arith, c.put_in.new.seats.ok, c.drive-ending.new.seats.ok, c.drive-ending.ensures.len)) leave) in
+    (omega (arith, c.put_in.new.seats.ok, c.drive-ending.new.seats.ok, c.drive-ending.ensures.len)) g.K.Sink.tells leave) in
     let pays : (w : World) (put : List ℕ)
     → AreAcknowledgedBy facts g.K.Sink.tells (output_of c.args.command first) first (g.K.Sink.noted c.drive-ending.new.out)
     (g.K.Sink.held c.args.out.now) after w put
     → owed back w put = λ w put owes.
     subst (λ (ds : List g.row.D.Denot). owed ds w put) (sym c.take_disks.ensures.disks)
-    (disks_owed g.K.Sink.tells g.D.Disk.tells g.D.Disk.content g.D.Disk.moment g.D.Disk.left_since g.D.Disk.fault_count g.D.Disk.place c.args.command first
+    (disks_owed g.K.Sink.tells g.D.Disk.tells g.D.Disk.content g.D.Disk.moment g.D.Disk.left_at g.D.Disk.fault_count g.D.Disk.place c.args.command first
     (g.K.Sink.noted c.drive-ending.new.out) (g.K.Sink.held c.args.out.now) after w put owes) in (
       c.drive-ending.result.status,
       c.of.ensures,

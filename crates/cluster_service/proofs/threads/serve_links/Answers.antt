@@ -4,12 +4,12 @@ use Rattle.outside.proofs.Relations.{none_fell_self}
 use Rattle.journal_frames.specs.Views.{journal_facts}
 use Rattle.driver_steps.specs.Seats.{AreHeld, seat_view}
 use Rattle.cluster_service.specs.Counts.{OneRoseWhere}
-use Rattle.cluster_service.specs.Crashes.{LeaveSuch}
+use Rattle.cluster_service.specs.Crashes.{IsOfWorld, LeaveSuch}
 use Rattle.cluster_service.specs.OpenJournals.{disks_of}
 use Rattle.cluster_service.specs.Servers.{at_memory}
 use Rattle.cluster_service.specs.declared.status.Status.TheVariants as statuses
 use Rattle.cluster_service.proofs.Counts.{all_still}
-use Rattle.cluster_service.proofs.Crashes.{IsOfWorld, first_leaves}
+use Rattle.cluster_service.proofs.Crashes.{first_leaves}
 use Rattle.cluster_service.proofs.SeatFacts.{held_from, moved, open_files, seat_disks, seats_open, told_before}
 use Rattle.cluster_service.proofs.ServedDisks.{none_served}
 use Rattle.cluster_service.proofs.ServerEnds.{seat_nodes, small_seats}
@@ -21,9 +21,9 @@ pub returns-then-is_err-clause-headline : goal.returns-then-is_err-clause-headli
 returns-then-is_err-clause-headline g c = λ first may same are disks early.
     let left = disks_of c.args.journals.items in
     rw (c.not_served.ensures.disks, c.not_served.ensures.links, c.close_all.ensures.disks)
-    (none_served _ _ first g.D.Disk.tells _ (map g.D.Disk.content left) g.D.Disk.moment g.D.Disk.left_since disks left may.begins
+    (none_served _ _ first g.D.Disk.tells _ (map g.D.Disk.content left) g.D.Disk.moment g.D.Disk.left_at disks left may.begins
     (open_files g.D.Disk.tells g.D.Disk.content c.args.journals.items first.nodes are)
-    (λ told. first_leaves g.D.Disk.moment g.D.Disk.left_since first disks left (early told)))
+    (λ told. first_leaves g.D.Disk.moment g.D.Disk.left_at first disks left (early told)))
 
 pub returns-then-is_err-clause-durable : goal.returns-then-is_err-clause-durable
 returns-then-is_err-clause-durable g c = λ told failed. rw c.not_served.ensures.disks (c.close_all.ensures.durable told c.requires.«open»)
@@ -66,7 +66,7 @@ pub serve_seats-requires-clause-somewhere : goal.serve_seats-requires-clause-som
 serve_seats-requires-clause-somewhere g c κs within =
     rw c.put_in.ensures.items (record {
       nodes = c.requires.somewhere.nodes;
-      held = held_from g.N.Node.state g.D.Disk.tells g.D.Disk.content g.D.Disk.moment g.D.Disk.left_since g.D.Disk.fault_count g.D.Disk.place c.args.nodes.items
+      held = held_from g.N.Node.state g.D.Disk.tells g.D.Disk.content g.D.Disk.moment g.D.Disk.left_at g.D.Disk.fault_count g.D.Disk.place c.args.nodes.items
           c.args.journals.items c.requires.somewhere.nodes c.requires.somewhere.same c.requires.somewhere.are;
       routers = c.requires.somewhere.routers;
     })
@@ -82,13 +82,13 @@ serve_seats-requires-clause-open g c κs within = rw c.put_in.ensures.items (sea
 
 pub returns-clause-headline : goal.returns-clause-headline
 returns-clause-headline g c = λ first may same are disks early.
-    let facts = journal_facts g.D.Disk.tells g.D.Disk.content g.D.Disk.moment g.D.Disk.left_since g.D.Disk.fault_count g.D.Disk.place in
+    let facts = journal_facts g.D.Disk.tells g.D.Disk.content g.D.Disk.moment g.D.Disk.left_at g.D.Disk.fault_count g.D.Disk.place in
     c.serve_seats.ensures.headline first may
     (subst (λ seats. AreHeld (seat_view g.N.Node.state facts) seats first.nodes) (sym c.put_in.ensures.items)
-    (held_from g.N.Node.state g.D.Disk.tells g.D.Disk.content g.D.Disk.moment g.D.Disk.left_since g.D.Disk.fault_count g.D.Disk.place c.args.nodes.items
+    (held_from g.N.Node.state g.D.Disk.tells g.D.Disk.content g.D.Disk.moment g.D.Disk.left_at g.D.Disk.fault_count g.D.Disk.place c.args.nodes.items
     c.args.journals.items first.nodes same are)) disks
-    (λ told. subst (λ seats. LeaveSuch g.D.Disk.moment g.D.Disk.left_since (IsOfWorld first) disks (map (λ s. s.log.disk) seats)) (sym c.put_in.ensures.items)
-    (subst (λ (ds : List g.row.D.Denot). LeaveSuch g.D.Disk.moment g.D.Disk.left_since (IsOfWorld first) disks ds)
+    (λ told. subst (λ seats. LeaveSuch g.D.Disk.moment g.D.Disk.left_at (IsOfWorld first) disks (map (λ s. s.log.disk) seats)) (sym c.put_in.ensures.items)
+    (subst (λ (ds : List g.row.D.Denot). LeaveSuch g.D.Disk.moment g.D.Disk.left_at (IsOfWorld first) disks ds)
     (sym (seat_disks c.args.nodes.items c.args.journals.items (omega (arith, c.requires.nodes, c.args.nodes.ok, c.args.journals.ok)))) (early told)))
 
 pub returns-clause-disk_fault : goal.returns-clause-disk_fault

@@ -6,12 +6,12 @@ use Rattle.any_node.specs.Kinds.{state_of}
 use Rattle.journal_starts.specs.Records.{SomeRefused, by_record}
 use Rattle.journal_starts.proofs.Starts.{opened_are_not_refused, starts_are_not_refused, starts_are_opened, starts_are_stored}
 use Rattle.cluster_service.specs.Arguments.{others_of, shards_of}
-use Rattle.cluster_service.specs.Crashes.{AreDurableBefore, LeaveTheWay}
+use Rattle.cluster_service.specs.Crashes.{AreDurableBefore, LeaveAll}
 use Rattle.cluster_service.specs.OpenJournals.{disks_of}
 use Rattle.cluster_service.specs.Openings.{disk_facts}
 use Rattle.cluster_service.specs.declared.status.Status.TheVariants as statuses
 use Rattle.cluster_service.proofs.Counts.{all_still}
-use Rattle.cluster_service.proofs.Crashes.{first_leaves, none_owed}
+use Rattle.cluster_service.proofs.Crashes.{first_leaves_all, none_owed}
 use Rattle.cluster_service.proofs.Firsts.{first_may_play}
 use Rattle.cluster_service.proofs.NotBegun.{begun_none}
 use Rattle.cluster_service.proofs.Openings.{opened_as_were, opened_leave, opened_records, opened_with, still_journals}
@@ -33,7 +33,7 @@ serve-requires-clause-nodes g c = omega (arith, c.in-Ok.ensures.len, c.requires.
 
 pub returns-in-Ok-clause-headline : goal.returns-in-Ok-clause-headline
 returns-in-Ok-clause-headline g c = λ disks first told opened begun.
-    let facts = disk_facts g.D.Disk.tells g.D.Disk.content g.D.Disk.may_leave g.D.Disk.moment g.D.Disk.left_since g.D.Disk.place g.D.Disk.fault_count in
+    let facts = disk_facts g.D.Disk.tells g.D.Disk.content g.D.Disk.may_leave g.D.Disk.moment g.D.Disk.left_at g.D.Disk.place g.D.Disk.fault_count in
     let journals = starts_are_stored _ _ (map g.D.Disk.content disks) first begun in
     c.serve.ensures.headline asked_as_read first (first_may_play (shards_of c.args.command) _ (map g.D.Disk.content disks) first c.requires.some_shards begun)
     (starts_are_opened _ _ (map g.D.Disk.content disks) first c.args.opened.found.items (map state_of c.in-Ok.nodes.items) begun
@@ -49,7 +49,7 @@ returns-in-Ok-clause-damaged g c = λ is. absurd (c.serve.ensures.status.1 is)
 
 pub returns-in-Ok-clause-refused : goal.returns-in-Ok-clause-refused
 returns-in-Ok-clause-refused g c = λ disks told opened refused.
-    let facts = disk_facts g.D.Disk.tells g.D.Disk.content g.D.Disk.may_leave g.D.Disk.moment g.D.Disk.left_since g.D.Disk.place g.D.Disk.fault_count in
+    let facts = disk_facts g.D.Disk.tells g.D.Disk.content g.D.Disk.may_leave g.D.Disk.moment g.D.Disk.left_at g.D.Disk.place g.D.Disk.fault_count in
     absurd (opened_are_not_refused (others_of c.args.command) (map g.D.Disk.content disks) c.args.opened.found.items (map state_of c.in-Ok.nodes.items)
     (opened_records facts disks c.args.opened.journals.items c.args.opened.found.items told opened) (rw c.shards.ensures at c.in-Ok.ensures.opened) refused)
 
@@ -57,7 +57,7 @@ returns-in-Ok-clause-refused g c = λ disks told opened refused.
 
 pub returns-in-Err-clause-headline : goal.returns-in-Err-clause-headline
 returns-in-Err-clause-headline g c = λ disks first told opened begun.
-    let facts = disk_facts g.D.Disk.tells g.D.Disk.content g.D.Disk.may_leave g.D.Disk.moment g.D.Disk.left_since g.D.Disk.place g.D.Disk.fault_count in
+    let facts = disk_facts g.D.Disk.tells g.D.Disk.content g.D.Disk.may_leave g.D.Disk.moment g.D.Disk.left_at g.D.Disk.place g.D.Disk.fault_count in
     let journals = starts_are_stored _ _ (map g.D.Disk.content disks) first begun in
     let records = opened_records facts disks c.args.opened.journals.items c.args.opened.found.items told opened in
     let other : ¬ (c.status_of.result ≡ statuses.DamagedJournal) =
@@ -66,13 +66,14 @@ returns-in-Err-clause-headline g c = λ disks first told opened begun.
     rw (c.unserved.ensures.disks, c.close_all.ensures.disks, c.unserved.ensures.status)
     (unopened (source_call g.S.Source.tells g.S.Source.left g.S.Source.fault_count c.args.input.now c.args.input.now) (sink_call g.K.Sink.tells g.K.Sink.held g.K.Sink.fault_count c.args.out.now c.args.out.now)
     g.D.Disk.tells (map g.D.Disk.content (disks_of c.args.opened.journals.items))
-    (LeaveTheWay first g.D.Disk.tells g.D.Disk.moment g.D.Disk.left_since disks (disks_of c.args.opened.journals.items))
-    (AreDurableBefore g.K.Sink.tells g.D.Disk.tells g.D.Disk.place g.D.Disk.moment g.D.Disk.left_since c.args.command first (g.K.Sink.noted c.args.out.now) (g.K.Sink.held c.args.out.now) (disks_of c.args.opened.journals.items))
+    (LeaveAll first g.K.Sink.tells g.D.Disk.tells g.D.Disk.place g.D.Disk.moment g.D.Disk.left_at (g.K.Sink.noted c.args.out.now) (g.K.Sink.noted c.args.out.now)
+    disks (disks_of c.args.opened.journals.items))
+    (AreDurableBefore g.K.Sink.tells g.D.Disk.tells g.D.Disk.place g.D.Disk.moment g.D.Disk.left_at c.args.command first (g.K.Sink.noted c.args.out.now) (g.K.Sink.held c.args.out.now) (disks_of c.args.opened.journals.items))
     (g.C.Clock.gives c.args.clock.now) _ first c.unserved.ensures.rest (λ told. refl) (λ told. sym (append-nil (g.K.Sink.held c.args.out.now)))
     (λ told. still_journals facts disks (disks_of c.args.opened.journals.items) first.nodes told (opened_as_were facts disks c.args.opened.journals.items c.args.opened.found.items opened) journals)
-    (λ told. first_leaves g.D.Disk.moment g.D.Disk.left_since first disks (disks_of c.args.opened.journals.items)
-    (opened_leave facts disks c.args.opened.journals.items c.args.opened.found.items first.nodes told opened journals))
-    (none_owed g.K.Sink.tells g.D.Disk.tells g.D.Disk.place g.D.Disk.moment g.D.Disk.left_since c.args.command first (g.K.Sink.noted c.args.out.now) (g.K.Sink.held c.args.out.now) _ first)
+    (first_leaves_all first g.K.Sink.tells g.D.Disk.tells g.D.Disk.place g.D.Disk.moment g.D.Disk.left_at (g.K.Sink.noted c.args.out.now)
+    (g.K.Sink.noted c.args.out.now) disks (disks_of c.args.opened.journals.items) (λ told. opened_leave facts disks c.args.opened.journals.items c.args.opened.found.items first.nodes told opened journals))
+    (none_owed g.K.Sink.tells g.D.Disk.tells g.D.Disk.place g.D.Disk.moment g.D.Disk.left_at c.args.command first (g.K.Sink.noted c.args.out.now) (g.K.Sink.held c.args.out.now) _ first)
     c.args.command c.requires.driver (first_may_play (shards_of c.args.command) _ (map g.D.Disk.content disks) first c.requires.some_shards begun).begins c.status_of.result (inr (memory_of c.status_of.result c.status_of.ensures.two other)))
 
 pub returns-in-Err-clause-durable : goal.returns-in-Err-clause-durable
@@ -91,13 +92,13 @@ returns-in-Err-clause-damaged g c = λ is. (
   (λ told. sym (append-nil (g.K.Sink.held c.args.out.now)), refl),
   λ disks told opened.
       by_record c.args.opened.found.items
-      (opened_records (disk_facts g.D.Disk.tells g.D.Disk.content g.D.Disk.may_leave g.D.Disk.moment g.D.Disk.left_since g.D.Disk.place g.D.Disk.fault_count) disks c.args.opened.journals.items c.args.opened.found.items told opened)
+      (opened_records (disk_facts g.D.Disk.tells g.D.Disk.content g.D.Disk.may_leave g.D.Disk.moment g.D.Disk.left_at g.D.Disk.place g.D.Disk.fault_count) disks c.args.opened.journals.items c.args.opened.found.items told opened)
       (refused_of c.in-Err.fault (SomeRefused (others_of c.args.command) 0 c.args.opened.found.items) (c.status_of.ensures.refused (sym c.unserved.ensures.status ∙ is)) (rw c.shards.ensures at c.in-Err.ensures.fault)),
 )
 
 pub returns-in-Err-clause-refused : goal.returns-in-Err-clause-refused
 returns-in-Err-clause-refused g c = λ disks told opened refused.
-    let facts = disk_facts g.D.Disk.tells g.D.Disk.content g.D.Disk.may_leave g.D.Disk.moment g.D.Disk.left_since g.D.Disk.place g.D.Disk.fault_count in
+    let facts = disk_facts g.D.Disk.tells g.D.Disk.content g.D.Disk.may_leave g.D.Disk.moment g.D.Disk.left_at g.D.Disk.place g.D.Disk.fault_count in
     rw (c.unserved.ensures.disks, c.close_all.ensures.disks, c.unserved.ensures.status) (
       c.status_of.ensures.two,
       begun_none facts disks (disks_of c.args.opened.journals.items)

@@ -46,7 +46,7 @@ serve_links-requires-clause-nodes g c = omega (arith, c.in-Ok.ensures.len, c.req
 
 pub serve_links-requires-clause-somewhere : goal.serve_links-requires-clause-somewhere
 serve_links-requires-clause-somewhere g c κs within =
-    some_world (disk_facts g.D.Disk.tells g.D.Disk.content g.D.Disk.may_leave g.D.Disk.moment g.D.Disk.left_since g.D.Disk.place g.D.Disk.fault_count)
+    some_world (disk_facts g.D.Disk.tells g.D.Disk.content g.D.Disk.may_leave g.D.Disk.moment g.D.Disk.left_at g.D.Disk.place g.D.Disk.fault_count)
     c.args.server.shards c.requires.some_shards c.requires.opened.0 c.args.opened.journals.items c.args.opened.found.items (map state_of c.in-Ok.nodes.items) c.requires.opened.1 c.in-Ok.ensures.opened
 
 pub serve_links-requires-clause-small : goal.serve_links-requires-clause-small
@@ -57,7 +57,7 @@ serve_links-requires-clause-room g c = omega (arith, c.requires.room, c.requires
 
 pub returns-in-Ok-clause-headline : goal.returns-in-Ok-clause-headline
 returns-in-Ok-clause-headline g c = λ disks first told opened begun.
-    let facts = disk_facts g.D.Disk.tells g.D.Disk.content g.D.Disk.may_leave g.D.Disk.moment g.D.Disk.left_since g.D.Disk.place g.D.Disk.fault_count in
+    let facts = disk_facts g.D.Disk.tells g.D.Disk.content g.D.Disk.may_leave g.D.Disk.moment g.D.Disk.left_at g.D.Disk.place g.D.Disk.fault_count in
     let journals = starts_are_stored _ _ (map g.D.Disk.content disks) first begun in
     c.serve_links.ensures.headline first (first_may_play c.args.server.shards _ (map g.D.Disk.content disks) first c.requires.some_shards begun)
     (starts_are_opened _ _ (map g.D.Disk.content disks) first c.args.opened.found.items (map state_of c.in-Ok.nodes.items) begun
@@ -73,7 +73,7 @@ returns-in-Ok-clause-damaged g c = λ is. absurd (not_damaged c.serve_links.resu
 
 pub returns-in-Ok-clause-refused : goal.returns-in-Ok-clause-refused
 returns-in-Ok-clause-refused g c = λ disks told opened refused.
-    let facts = disk_facts g.D.Disk.tells g.D.Disk.content g.D.Disk.may_leave g.D.Disk.moment g.D.Disk.left_since g.D.Disk.place g.D.Disk.fault_count in
+    let facts = disk_facts g.D.Disk.tells g.D.Disk.content g.D.Disk.may_leave g.D.Disk.moment g.D.Disk.left_at g.D.Disk.place g.D.Disk.fault_count in
     absurd (opened_are_not_refused (c.args.server.shards - 1) (map g.D.Disk.content disks) c.args.opened.found.items (map state_of c.in-Ok.nodes.items)
     (opened_records facts disks c.args.opened.journals.items c.args.opened.found.items told opened) c.in-Ok.ensures.opened refused)
 
@@ -81,14 +81,14 @@ returns-in-Ok-clause-refused g c = λ disks told opened refused.
 
 pub returns-in-Err-clause-headline : goal.returns-in-Err-clause-headline
 returns-in-Err-clause-headline g c = λ disks first told opened begun.
-    let facts = disk_facts g.D.Disk.tells g.D.Disk.content g.D.Disk.may_leave g.D.Disk.moment g.D.Disk.left_since g.D.Disk.place g.D.Disk.fault_count in
+    let facts = disk_facts g.D.Disk.tells g.D.Disk.content g.D.Disk.may_leave g.D.Disk.moment g.D.Disk.left_at g.D.Disk.place g.D.Disk.fault_count in
     let journals = starts_are_stored _ _ (map g.D.Disk.content disks) first begun in
     let left = disks_of c.args.opened.journals.items in
     rw (c.not_served.ensures.disks, c.not_served.ensures.links, c.close_all.ensures.disks)
-    (none_served _ _ first g.D.Disk.tells _ (map g.D.Disk.content left) g.D.Disk.moment g.D.Disk.left_since disks left
+    (none_served _ _ first g.D.Disk.tells _ (map g.D.Disk.content left) g.D.Disk.moment g.D.Disk.left_at disks left
     (first_may_play c.args.server.shards _ (map g.D.Disk.content disks) first c.requires.some_shards begun).begins
     (λ told. still_journals facts disks left first.nodes told (opened_as_were facts disks c.args.opened.journals.items c.args.opened.found.items opened) journals)
-    (λ told. first_leaves g.D.Disk.moment g.D.Disk.left_since first disks left
+    (λ told. first_leaves g.D.Disk.moment g.D.Disk.left_at first disks left
     (opened_leave facts disks c.args.opened.journals.items c.args.opened.found.items first.nodes told opened journals)))
 
 pub returns-in-Err-clause-durable : goal.returns-in-Err-clause-durable
@@ -103,13 +103,13 @@ returns-in-Err-clause-damaged g c = λ is. (
   refl,
   λ disks told opened.
       by_record c.args.opened.found.items
-      (opened_records (disk_facts g.D.Disk.tells g.D.Disk.content g.D.Disk.may_leave g.D.Disk.moment g.D.Disk.left_since g.D.Disk.place g.D.Disk.fault_count) disks c.args.opened.journals.items c.args.opened.found.items told opened)
+      (opened_records (disk_facts g.D.Disk.tells g.D.Disk.content g.D.Disk.may_leave g.D.Disk.moment g.D.Disk.left_at g.D.Disk.place g.D.Disk.fault_count) disks c.args.opened.journals.items c.args.opened.found.items told opened)
       (refused_of c.in-Err.fault (SomeRefused (c.args.server.shards - 1) 0 c.args.opened.found.items) (c.status_of.ensures.refused (sym c.not_served.ensures.status ∙ is)) c.in-Err.ensures.fault),
 )
 
 pub returns-in-Err-clause-refused : goal.returns-in-Err-clause-refused
 returns-in-Err-clause-refused g c = λ disks told opened refused.
-    let facts = disk_facts g.D.Disk.tells g.D.Disk.content g.D.Disk.may_leave g.D.Disk.moment g.D.Disk.left_since g.D.Disk.place g.D.Disk.fault_count in
+    let facts = disk_facts g.D.Disk.tells g.D.Disk.content g.D.Disk.may_leave g.D.Disk.moment g.D.Disk.left_at g.D.Disk.place g.D.Disk.fault_count in
     rw (c.not_served.ensures.disks, c.close_all.ensures.disks, c.not_served.ensures.status)
     (c.status_of.ensures.two, c.not_served.ensures.links, refl, opened_as_were facts disks c.args.opened.journals.items c.args.opened.found.items opened)
 

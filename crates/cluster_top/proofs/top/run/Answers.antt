@@ -101,7 +101,7 @@ returns-in-Some-server-clause-refused g c = rw (sym c.read_command.ensures.comma
     (subst (λ (n : ℕ). AreRefused n (map g.D.Disk.content c.args.disks.items)) (others_are c.in-Some.command c.in-Some-server.server (sym c.server.ensures ∙ c.in-Some-server.is)) refused) in
     rw c.after_server.ensures.disks (
       server_refused c.serve_nodes.result.status c.after_server.result.status c.after_server.ensures.status _ done.0,
-      begun_none (disk_facts g.D.Disk.tells g.D.Disk.content g.D.Disk.may_leave g.D.Disk.moment g.D.Disk.left_since g.D.Disk.place g.D.Disk.fault_count) c.args.disks.items c.serve_nodes.result.disks.items
+      begun_none (disk_facts g.D.Disk.tells g.D.Disk.content g.D.Disk.may_leave g.D.Disk.moment g.D.Disk.left_at g.D.Disk.place g.D.Disk.fault_count) c.args.disks.items c.serve_nodes.result.disks.items
           (source_call g.S.Source.tells g.S.Source.left g.S.Source.fault_count c.args.input.now c.args.input.now) (sink_call g.K.Sink.tells g.K.Sink.held g.K.Sink.fault_count c.args.out.now c.args.out.now) c.after_server.result.rest
           ((λ told. refl), refl) ((λ told. sym (append-nil (g.K.Sink.held c.args.out.now))), refl) c.after_server.ensures.rest done.3,
     ))
@@ -127,7 +127,7 @@ returns-in-Some-server-clause-headline g c = rw (sym c.read_command.ensures.comm
 pub returns-in-Some-server-clause-durable : goal.returns-in-Some-server-clause-durable
 returns-in-Some-server-clause-durable g c = λ some told failed.
     rw c.after_server.ensures.disks (server_durable c.serve_nodes.result.status c.after_server.result.status c.after_server.ensures.status _ _ _ _
-    (λ are. begun_none (disk_facts g.D.Disk.tells g.D.Disk.content g.D.Disk.may_leave g.D.Disk.moment g.D.Disk.left_since g.D.Disk.place g.D.Disk.fault_count) c.args.disks.items c.serve_nodes.result.disks.items
+    (λ are. begun_none (disk_facts g.D.Disk.tells g.D.Disk.content g.D.Disk.may_leave g.D.Disk.moment g.D.Disk.left_at g.D.Disk.place g.D.Disk.fault_count) c.args.disks.items c.serve_nodes.result.disks.items
     (source_call g.S.Source.tells g.S.Source.left g.S.Source.fault_count c.args.input.now c.args.input.now) (sink_call g.K.Sink.tells g.K.Sink.held g.K.Sink.fault_count c.args.out.now c.args.out.now) c.after_server.result.rest
     ((λ told. refl), refl) ((λ told. sym (append-nil (g.K.Sink.held c.args.out.now))), refl) c.after_server.ensures.rest are)
     (c.serve_nodes.ensures.durable told (λ is. failed (has_number statuses.DiskFailed c.serve_nodes.result.status c.after_server.result.status c.after_server.ensures.status is))))

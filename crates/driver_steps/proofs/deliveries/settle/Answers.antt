@@ -1,6 +1,8 @@
 use Rattle.std.proofs.Common.{rules, ◌≡◌, ◌<◌, ◌^◌, refl, arith, ◌∙◌}
 use Rattle.std.specs.Prelude.{None}
 use Rattle.driver_steps.specs.Seats.{seat_since}
+use Rattle.driver_steps.specs.Together.{hosted}
+use Rattle.driver_steps.proofs.DiskNotes.{more_then, no_more}
 use Rattle.driver_steps.proofs.Runs.{less_left, settled_at_end, settling_none, settling_step, settling_stopped}
 use Rattle.driver_steps.proofs.deliveries.settle.Goals as goal
 
@@ -10,6 +12,9 @@ messages-init g c = record {
   are_open = c.requires;
   faults = refl;
   places = refl;
+  held = refl;
+  sink = refl;
+  noted = λ shown. no_more (g.K.Sink.noted c.args.out.now);
   run = λ since w next handed s. settling_none
       (seat_since g.N.Node.state g.L.Log.facts since) _ _ handed w next s;
 }
@@ -20,9 +25,13 @@ messages-preserved g c = record {
   are_open = c.in-Ok.ensures.«open»;
   faults = c.in-Ok.ensures.faults ∙ c.messages.invariant.faults;
   places = c.in-Ok.ensures.places ∙ c.messages.invariant.places;
+  held = c.in-Ok.ensures.held ∙ c.messages.invariant.held;
+  sink = c.in-Ok.ensures.sink ∙ c.messages.invariant.sink;
+  noted = λ shown. more_then (g.K.Sink.noted c.args.out.now) (g.K.Sink.noted c.messages.out) (g.K.Sink.noted c.deliver.new.out) (c.messages.invariant.noted shown)
+      (c.in-Ok.ensures.noted shown);
   run = λ since w next handed s.
       settling_step (seat_since g.N.Node.state g.L.Log.facts since)
-      (λ m. g.N.Mail.Mail.letter m) c.messages.seats.items c.deliver.new.seats.items _ handed w next c.in-Some.message c.messages.network
+      (λ m. g.N.Mail.Mail.letter m) (hosted g.K.Sink.tells g.L.Log.facts since (g.K.Sink.noted c.messages.out) c.messages.seats.items) (hosted g.K.Sink.tells g.L.Log.facts since (g.K.Sink.noted c.deliver.new.out) c.deliver.new.seats.items) _ handed w next c.in-Some.message c.messages.network
       (record { waiting = c.pop_front.new.self; replies = c.messages.network.replies })
       (c.messages.invariant.run since w next handed s) c.in-Some.ensures.items refl
       (λ v n which stands got. c.in-Ok.ensures.delivered since v n which handed stands got);
@@ -37,7 +46,7 @@ messages-smaller g c =
 pub returns-in-Err-clause-stopped : goal.returns-in-Err-clause-stopped
 returns-in-Err-clause-stopped g c since w next handed s =
     settling_stopped (seat_since g.N.Node.state g.L.Log.facts since)
-    (λ m. g.N.Mail.Mail.letter m) c.messages.seats.items c.deliver.new.seats.items _ handed w next c.in-Some.message c.messages.network
+    (λ m. g.N.Mail.Mail.letter m) (hosted g.K.Sink.tells g.L.Log.facts since (g.K.Sink.noted c.messages.out) c.messages.seats.items) (hosted g.K.Sink.tells g.L.Log.facts since (g.K.Sink.noted c.deliver.new.out) c.deliver.new.seats.items) _ handed w next c.in-Some.message c.messages.network
     (record { waiting = c.pop_front.new.self; replies = c.messages.network.replies }) c.in-Err.e
     (c.messages.invariant.run since w next handed s) c.in-Some.ensures.items refl
     (λ v n which stands got. c.in-Err.ensures.stopped since v n which handed stands got)
@@ -46,6 +55,11 @@ pub returns-clause-settled : goal.returns-clause-settled
 returns-clause-settled g c since w next handed s =
     let none : c.pop_front.result ≡ None = search (rules, c.in_default.is) in
     settled_at_end (seat_since g.N.Node.state g.L.Log.facts since)
-    (λ m. g.N.Mail.Mail.letter m) c.messages.seats.items handed w next
+    (λ m. g.N.Mail.Mail.letter m) (hosted g.K.Sink.tells g.L.Log.facts since (g.K.Sink.noted c.messages.out) c.messages.seats.items) handed w next
     c.messages.network (record { waiting = c.pop_front.new.self; replies = c.messages.network.replies }) c.pop_front.result
     (c.messages.invariant.run since w next handed s) none c.pop_front.ensures.items c.pop_front.ensures.cases c.pop_front.new.self.ok.0 refl
+
+pub returns-in-Err-clause-noted : goal.returns-in-Err-clause-noted
+returns-in-Err-clause-noted g c shown =
+    more_then (g.K.Sink.noted c.args.out.now) (g.K.Sink.noted c.messages.out) (g.K.Sink.noted c.deliver.new.out) (c.messages.invariant.noted shown)
+    (c.in-Err.ensures.noted shown)

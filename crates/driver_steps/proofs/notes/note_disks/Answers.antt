@@ -3,7 +3,7 @@ use Rattle.std.specs.Prelude.{Some}
 use Rattle.std.specs.List.{slice_get}
 use Rattle.std.proofs.lemmas.Option.{slice_get_within}
 use Rattle.outside.specs.Logs.{IsDurable}
-use Rattle.driver_steps.proofs.DiskNotes.{all_here, each_next, noted_next}
+use Rattle.driver_steps.proofs.DiskNotes.{each_next, noted_next}
 use Rattle.driver_steps.proofs.notes.note_disks.Goals as goal
 
 pub hosts-preserved : goal.hosts-preserved
@@ -13,10 +13,8 @@ hosts-preserved g c = record {
   held = c.note.ensures.held ∙ c.hosts.invariant.held;
   faults = c.note.ensures.faults ∙ c.hosts.invariant.faults;
   durable = λ at z below got.
-      each_next (λ y. IsDurable g.L.Log.facts y.log) c.deref-seat-items.result.now c.hosts.seat-index c.seat-item.result c.seat-item.is
-      (c.device.ensures.durable (all_here (λ y. IsTrue (g.L.Log.facts.is_open y.log)) c.deref-seat-items.result.now c.hosts.seat-index c.seat-item.result
-      c.hosts-test.true c.seat-item.is (rw c.deref-seat-items.ensures.value c.requires.«open»)))
-      c.hosts.invariant.durable at z (omega (arith, below)) got;
+      each_next (λ y. IsTrue (g.L.Log.facts.is_open y.log) → IsDurable g.L.Log.facts y.log) c.deref-seat-items.result.now c.hosts.seat-index
+      c.seat-item.result c.seat-item.is (λ is_open. c.device.ensures.durable is_open) c.hosts.invariant.durable at z (omega (arith, below)) got;
 }
 
 pub returns-clause-durable : goal.returns-clause-durable

@@ -13,5 +13,6 @@ invariant-hosts g l = record {
       ++ notes_of g.L.Log.facts (length (g.K.Sink.held l.fn.out)) (take l.seat-index l.seat-items);
   held : g.K.Sink.held l.out ≡ g.K.Sink.held l.fn.out;
   faults : g.K.Sink.fault_count l.out ≡ g.K.Sink.fault_count l.fn.out;
-  durable : (at : ℕ) (s : Seat g.row.N.Denot g.row.L.Denot) → at < l.seat-index → slice_get l.seat-items at ≡ Some s → IsDurable g.L.Log.facts s.log;
+  durable : (at : ℕ) (s : Seat g.row.N.Denot g.row.L.Denot) → at < l.seat-index → slice_get l.seat-items at ≡ Some s
+      → IsTrue (g.L.Log.facts.is_open s.log) → IsDurable g.L.Log.facts s.log;
 }

@@ -2,8 +2,10 @@ use Rattle.std.proofs.Common.{◌≡◌, ℕ, refl, subst, arith, ◌∙◌}
 use Rattle.std.specs.Prelude.{vec_len}
 use Rattle.node_model.specs.Schedule.{openings}
 use Rattle.driver_steps.specs.Seats.{seat_since}
+use Rattle.driver_steps.specs.Together.{hosted}
 use Rattle.driver_steps.specs.Worlds.{network_view}
 use Rattle.driver_steps.specs.Moves.{HasRun}
+use Rattle.driver_steps.proofs.DiskNotes.{more_then, no_more}
 use Rattle.driver_steps.proofs.Runs.{opened_more, opened_stopped, run_none}
 use Rattle.driver_steps.proofs.rounds.open_all.Goals as goal
 
@@ -13,6 +15,9 @@ nodes-init g c = record {
   are_open = c.requires;
   faults = refl;
   places = refl;
+  held = refl;
+  sink = refl;
+  noted = λ shown. no_more (g.K.Sink.noted c.args.out.now);
   run = λ since w next handed s. run_none
       (seat_since g.N.Node.state g.L.Log.facts since) _ _ handed w next s;
 }
@@ -23,6 +28,10 @@ nodes-preserved g c = record {
   are_open = c.in-Ok.ensures.«open»;
   faults = c.in-Ok.ensures.faults ∙ c.nodes.invariant.faults;
   places = c.in-Ok.ensures.places ∙ c.nodes.invariant.places;
+  held = c.in-Ok.ensures.held ∙ c.nodes.invariant.held;
+  sink = c.in-Ok.ensures.sink ∙ c.nodes.invariant.sink;
+  noted = λ shown. more_then (g.K.Sink.noted c.args.out.now) (g.K.Sink.noted c.nodes.out) (g.K.Sink.noted c.happen.new.out) (c.nodes.invariant.noted shown)
+      (c.in-Ok.ensures.noted shown);
   run = λ since w next handed s.
       opened_more (seat_since g.N.Node.state g.L.Log.facts since)
       _ _ _ _ handed w next c.nodes.at _
@@ -42,6 +51,11 @@ pub returns-clause-opened : goal.returns-clause-opened
 returns-clause-opened g c since w next handed s =
     let all : c.nodes.at ≡ vec_len c.args.seats.now = omega (arith, c.nodes.auto.at-end, c.nodes-test.false, c.len-count.ensures) in
     subst (λ (n : ℕ). HasRun (seat_since g.N.Node.state g.L.Log.facts since)
-    c.nodes.seats.items
+    (hosted g.K.Sink.tells g.L.Log.facts since (g.K.Sink.noted c.nodes.out) c.nodes.seats.items)
     (network_view (λ m. g.N.Mail.Mail.letter m) c.nodes.network) handed w next (openings 0 n)) all
     (c.nodes.invariant.run since w next handed s)
+
+pub returns-in-Err-clause-noted : goal.returns-in-Err-clause-noted
+returns-in-Err-clause-noted g c shown =
+    more_then (g.K.Sink.noted c.args.out.now) (g.K.Sink.noted c.nodes.out) (g.K.Sink.noted c.happen.new.out) (c.nodes.invariant.noted shown)
+    (c.in-Err.ensures.noted shown)

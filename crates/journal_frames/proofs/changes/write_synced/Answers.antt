@@ -5,7 +5,7 @@ use Rattle.journal_frames.proofs.changes.write_synced.Goals as goal
 
 pub returns-in_err-write_at-clause-any_moment : goal.returns-in_err-write_at-clause-any_moment
 returns-in_err-write_at-clause-any_moment g c tells =
-    change_run g.D.Disk.moment g.D.Disk.left_since g.D.Disk.may_leave (Torn c.args.at (length c.args.piece.now)) c.args.disk.now c.write_at.new.self (λ f left. g.met.D.Disk.only_now c.args.disk.now f left) (torn_nothing c.args.at (length c.args.piece.now)) (c.write_at.ensures.crash tells) (c.write_at.ensures.time tells)
+    change_run g.D.Disk.moment g.D.Disk.left_at g.D.Disk.may_leave (Torn c.args.at (length c.args.piece.now)) c.args.disk.now c.write_at.new.self (λ f left. g.met.D.Disk.only_now c.args.disk.now f left) (torn_nothing c.args.at (length c.args.piece.now)) (c.write_at.ensures.crash tells) (c.write_at.ensures.time tells)
 
 pub returns-clause-torn : goal.returns-clause-torn
 returns-clause-torn g c tells =
@@ -13,8 +13,8 @@ returns-clause-torn g c tells =
 
 pub returns-clause-any_moment : goal.returns-clause-any_moment
 returns-clause-any_moment g c tells =
-    let first = change_run g.D.Disk.moment g.D.Disk.left_since g.D.Disk.may_leave (Torn c.args.at (length c.args.piece.now)) c.args.disk.now c.write_at.new.self (λ f left. g.met.D.Disk.only_now c.args.disk.now f left) (torn_nothing c.args.at (length c.args.piece.now)) (c.write_at.ensures.crash tells) (c.write_at.ensures.time tells) in
-    synced_run g.D.Disk.moment g.D.Disk.left_since g.D.Disk.may_leave (Torn c.args.at (length c.args.piece.now)) c.args.disk.now c.write_at.new.self c.sync.new.self first (c.write_at.ensures.crash tells) (c.sync.ensures.crash tells) (c.sync.ensures.time tells)
+    let first = change_run g.D.Disk.moment g.D.Disk.left_at g.D.Disk.may_leave (Torn c.args.at (length c.args.piece.now)) c.args.disk.now c.write_at.new.self (λ f left. g.met.D.Disk.only_now c.args.disk.now f left) (torn_nothing c.args.at (length c.args.piece.now)) (c.write_at.ensures.crash tells) (c.write_at.ensures.time tells) in
+    synced_run g.D.Disk.moment g.D.Disk.left_at g.D.Disk.may_leave (Torn c.args.at (length c.args.piece.now)) c.args.disk.now c.write_at.new.self c.sync.new.self first (c.write_at.ensures.crash tells) (c.sync.ensures.crash tells) (c.sync.ensures.time tells)
 
 pub returns-in_err-sync-clause-torn : goal.returns-in_err-sync-clause-torn
 returns-in_err-sync-clause-torn g c tells =
@@ -22,5 +22,5 @@ returns-in_err-sync-clause-torn g c tells =
 
 pub returns-in_err-sync-clause-any_moment : goal.returns-in_err-sync-clause-any_moment
 returns-in_err-sync-clause-any_moment g c tells =
-    let first = change_run g.D.Disk.moment g.D.Disk.left_since g.D.Disk.may_leave (Torn c.args.at (length c.args.piece.now)) c.args.disk.now c.write_at.new.self (λ f left. g.met.D.Disk.only_now c.args.disk.now f left) (torn_nothing c.args.at (length c.args.piece.now)) (c.write_at.ensures.crash tells) (c.write_at.ensures.time tells) in
-    synced_run g.D.Disk.moment g.D.Disk.left_since g.D.Disk.may_leave (Torn c.args.at (length c.args.piece.now)) c.args.disk.now c.write_at.new.self c.sync.new.self first (c.write_at.ensures.crash tells) (c.sync.ensures.crash tells) (c.sync.ensures.time tells)
+    let first = change_run g.D.Disk.moment g.D.Disk.left_at g.D.Disk.may_leave (Torn c.args.at (length c.args.piece.now)) c.args.disk.now c.write_at.new.self (λ f left. g.met.D.Disk.only_now c.args.disk.now f left) (torn_nothing c.args.at (length c.args.piece.now)) (c.write_at.ensures.crash tells) (c.write_at.ensures.time tells) in
+    synced_run g.D.Disk.moment g.D.Disk.left_at g.D.Disk.may_leave (Torn c.args.at (length c.args.piece.now)) c.args.disk.now c.write_at.new.self c.sync.new.self first (c.write_at.ensures.crash tells) (c.sync.ensures.crash tells) (c.sync.ensures.time tells)

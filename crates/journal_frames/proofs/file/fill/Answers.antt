@@ -14,7 +14,7 @@ loop-at-preserved g c =
       len = size ∙ so_far.len;
       bytes = λ tells. read_on (g.D.Disk.content c.args.disk.now) c.loop-at.buf (c.read.new.buf ++ back) _ c.loop-at.at c.in_ok-n.n (so_far.bytes tells) so_far.within refl
           (take-append-le c.in_ok-n.n c.read.new.buf back fits ∙ c.in_ok-n.ensures.bytes tells ∙ ap (λ (f : List ℕ). take c.in_ok-n.n (drop c.loop-at.at f)) (so_far.undisturbed tells).same);
-      undisturbed = λ tells. one_more g.D.Disk.content g.D.Disk.may_leave g.D.Disk.moment g.D.Disk.left_since c.args.disk.now c.loop-at.disk c.read.new.self (so_far.undisturbed tells) (c.read.ensures.same tells) (c.read.ensures.crash tells) (c.read.ensures.time tells);
+      undisturbed = λ tells. one_more g.D.Disk.content g.D.Disk.may_leave g.D.Disk.moment g.D.Disk.left_at c.args.disk.now c.loop-at.disk c.read.new.self (so_far.undisturbed tells) (c.read.ensures.same tells) (c.read.ensures.crash tells) (c.read.ensures.time tells);
       calm = c.in_ok-n.ensures.calm ∙ so_far.calm;
       in_place = c.read.ensures.place ∙ so_far.in_place;
     }

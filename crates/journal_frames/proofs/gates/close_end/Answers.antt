@@ -10,7 +10,7 @@ returns-in_err-cut_synced-clause-held g c records found some tells =
 
 pub returns-in_err-cut_synced-clause-any_moment : goal.returns-in_err-cut_synced-clause-any_moment
 returns-in_err-cut_synced-clause-any_moment g c records found some tells =
-    cut_run records found.fits c.args.end found.size g.D.Disk.moment g.D.Disk.left_since g.D.Disk.content g.D.Disk.may_leave c.args.disk.now c.cut_synced.new.disk
+    cut_run records found.fits c.args.end found.size g.D.Disk.moment g.D.Disk.left_at g.D.Disk.content g.D.Disk.may_leave c.args.disk.now c.cut_synced.new.disk
     (c.cut_synced.ensures.any_moment tells) (found.durable tells) (found.stands tells) (some tells)
 
 pub returns-in_err-write_synced-clause-held : goal.returns-in_err-write_synced-clause-held
@@ -21,9 +21,9 @@ returns-in_err-write_synced-clause-held g c records found some tells =
 pub returns-in_err-write_synced-clause-any_moment : goal.returns-in_err-write_synced-clause-any_moment
 returns-in_err-write_synced-clause-any_moment g c records found some tells =
     let gate = cut_done records found.fits c.args.end found.size (g.D.Disk.content c.args.disk.now) (found.stands tells) (some tells) in
-    let first = cut_run records found.fits c.args.end found.size g.D.Disk.moment g.D.Disk.left_since g.D.Disk.content g.D.Disk.may_leave c.args.disk.now c.cut_synced.new.disk
+    let first = cut_run records found.fits c.args.end found.size g.D.Disk.moment g.D.Disk.left_at g.D.Disk.content g.D.Disk.may_leave c.args.disk.now c.cut_synced.new.disk
     (c.cut_synced.ensures.any_moment tells) (found.durable tells) (found.stands tells) (some tells) in
-    close_run records found.fits c.args.end found.size g.D.Disk.moment g.D.Disk.left_since g.D.Disk.content g.D.Disk.may_leave c.args.disk.now c.cut_synced.new.disk c.write_synced.new.disk gate.0 first
+    close_run records found.fits c.args.end found.size g.D.Disk.moment g.D.Disk.left_at g.D.Disk.content g.D.Disk.may_leave c.args.disk.now c.cut_synced.new.disk c.write_synced.new.disk gate.0 first
     (c.in_ok-cut_synced.ensures.cut tells ∙ gate.1) (c.in_ok-cut_synced.ensures.durable tells) (c.write_synced.ensures.any_moment tells)
 
 pub returns-clause-held : goal.returns-clause-held
@@ -34,9 +34,9 @@ returns-clause-held g c records found some tells =
 pub returns-clause-any_moment : goal.returns-clause-any_moment
 returns-clause-any_moment g c records found some tells =
     let gate = cut_done records found.fits c.args.end found.size (g.D.Disk.content c.args.disk.now) (found.stands tells) (some tells) in
-    let first = cut_run records found.fits c.args.end found.size g.D.Disk.moment g.D.Disk.left_since g.D.Disk.content g.D.Disk.may_leave c.args.disk.now c.cut_synced.new.disk
+    let first = cut_run records found.fits c.args.end found.size g.D.Disk.moment g.D.Disk.left_at g.D.Disk.content g.D.Disk.may_leave c.args.disk.now c.cut_synced.new.disk
     (c.cut_synced.ensures.any_moment tells) (found.durable tells) (found.stands tells) (some tells) in
-    close_run records found.fits c.args.end found.size g.D.Disk.moment g.D.Disk.left_since g.D.Disk.content g.D.Disk.may_leave c.args.disk.now c.cut_synced.new.disk c.write_synced.new.disk gate.0 first
+    close_run records found.fits c.args.end found.size g.D.Disk.moment g.D.Disk.left_at g.D.Disk.content g.D.Disk.may_leave c.args.disk.now c.cut_synced.new.disk c.write_synced.new.disk gate.0 first
     (c.in_ok-cut_synced.ensures.cut tells ∙ gate.1) (c.in_ok-cut_synced.ensures.durable tells) (c.write_synced.ensures.any_moment tells)
 
 pub returns-clause-closed : goal.returns-clause-closed

@@ -11,7 +11,7 @@ returns-in_err-write_synced-clause-held g c records more ready tells =
 
 pub returns-in_err-write_synced-clause-any_moment : goal.returns-in_err-write_synced-clause-any_moment
 returns-in_err-write_synced-clause-any_moment g c records more ready tells =
-    first_run records ready.rest.fits c.args.end ready.rest.size more ready.fits c.args.piece.now ready.piece_is g.D.Disk.moment g.D.Disk.left_since g.D.Disk.content g.D.Disk.may_leave (length c.args.piece.now) c.args.disk.now c.write_synced.new.disk
+    first_run records ready.rest.fits c.args.end ready.rest.size more ready.fits c.args.piece.now ready.piece_is g.D.Disk.moment g.D.Disk.left_at g.D.Disk.content g.D.Disk.may_leave (length c.args.piece.now) c.args.disk.now c.write_synced.new.disk
     (c.write_synced.ensures.any_moment tells) (ready.rest.durable tells)
 
 pub returns-in_err-write_synced-2-clause-held : goal.returns-in_err-write_synced-2-clause-held
@@ -22,7 +22,7 @@ returns-in_err-write_synced-2-clause-held g c records more ready tells =
 pub returns-in_err-write_synced-2-clause-any_moment : goal.returns-in_err-write_synced-2-clause-any_moment
 returns-in_err-write_synced-2-clause-any_moment g c records more ready tells =
     let done = first_done records ready.rest.fits c.args.end ready.rest.size more ready.fits c.args.piece.now ready.piece_is (g.D.Disk.content c.args.disk.now) (g.D.Disk.content c.write_synced.new.disk) (ready.rest.file tells) (c.in_ok-write_synced.ensures.wrote tells) in
-    both_runs records ready.rest.fits c.args.end ready.rest.size more ready.fits c.args.piece.now ready.piece_is g.D.Disk.moment g.D.Disk.left_since g.D.Disk.content g.D.Disk.may_leave (length c.args.piece.now) c.args.disk.now c.write_synced.new.disk c.write_synced-2.new.disk
+    both_runs records ready.rest.fits c.args.end ready.rest.size more ready.fits c.args.piece.now ready.piece_is g.D.Disk.moment g.D.Disk.left_at g.D.Disk.content g.D.Disk.may_leave (length c.args.piece.now) c.args.disk.now c.write_synced.new.disk c.write_synced-2.new.disk
     (c.write_synced.ensures.any_moment tells) (ready.rest.durable tells) done (c.in_ok-write_synced.ensures.durable tells) (c.write_synced-2.ensures.any_moment tells)
 
 pub returns-clause-held : goal.returns-clause-held
@@ -33,7 +33,7 @@ returns-clause-held g c records more ready tells =
 pub returns-clause-any_moment : goal.returns-clause-any_moment
 returns-clause-any_moment g c records more ready tells =
     let done = first_done records ready.rest.fits c.args.end ready.rest.size more ready.fits c.args.piece.now ready.piece_is (g.D.Disk.content c.args.disk.now) (g.D.Disk.content c.write_synced.new.disk) (ready.rest.file tells) (c.in_ok-write_synced.ensures.wrote tells) in
-    both_runs records ready.rest.fits c.args.end ready.rest.size more ready.fits c.args.piece.now ready.piece_is g.D.Disk.moment g.D.Disk.left_since g.D.Disk.content g.D.Disk.may_leave (length c.args.piece.now) c.args.disk.now c.write_synced.new.disk c.write_synced-2.new.disk
+    both_runs records ready.rest.fits c.args.end ready.rest.size more ready.fits c.args.piece.now ready.piece_is g.D.Disk.moment g.D.Disk.left_at g.D.Disk.content g.D.Disk.may_leave (length c.args.piece.now) c.args.disk.now c.write_synced.new.disk c.write_synced-2.new.disk
     (c.write_synced.ensures.any_moment tells) (ready.rest.durable tells) done (c.in_ok-write_synced.ensures.durable tells) (c.write_synced-2.ensures.any_moment tells)
 
 pub returns-clause-put : goal.returns-clause-put

@@ -12,7 +12,7 @@ returns-in_err-write_synced-clause-held g c records found empty tells =
 
 pub returns-in_err-write_synced-clause-any_moment : goal.returns-in_err-write_synced-clause-any_moment
 returns-in_err-write_synced-clause-any_moment g c records found empty tells =
-    widened g.D.Disk.moment g.D.Disk.left_since c.args.disk.now c.write_synced.new.disk _ (λ f. Stands f records) (c.write_synced.ensures.any_moment tells)
+    widened g.D.Disk.moment g.D.Disk.left_at c.args.disk.now c.write_synced.new.disk _ (λ f. Stands f records) (c.write_synced.ensures.any_moment tells)
     (first_gate_crash records (g.D.Disk.content c.args.disk.now) (g.D.Disk.may_leave c.args.disk.now) (empty tells) (found.stands tells) (found.durable tells))
 
 pub returns-clause-held : goal.returns-clause-held
@@ -21,7 +21,7 @@ returns-clause-held g c records found empty tells =
 
 pub returns-clause-any_moment : goal.returns-clause-any_moment
 returns-clause-any_moment g c records found empty tells =
-    widened g.D.Disk.moment g.D.Disk.left_since c.args.disk.now c.write_synced.new.disk _ (λ f. Stands f records) (c.write_synced.ensures.any_moment tells)
+    widened g.D.Disk.moment g.D.Disk.left_at c.args.disk.now c.write_synced.new.disk _ (λ f. Stands f records) (c.write_synced.ensures.any_moment tells)
     (first_gate_crash records (g.D.Disk.content c.args.disk.now) (g.D.Disk.may_leave c.args.disk.now) (empty tells) (found.stands tells) (found.durable tells))
 
 pub returns-clause-closed : goal.returns-clause-closed

@@ -1,4 +1,5 @@
 use Rattle.std.proofs.Common.{◌∙◌, ◌++◌, ◌∷◌, [], sym, ap, subst, refl}
+use Rattle.driver_steps.proofs.Stepping.{breaks_only}
 use Rattle.node_cell.specs.Courses.{node_facts}
 use Rattle.node_cell.specs.Standing.{Sits, step_of}
 use Rattle.node_cell.specs.Views.{given_by}
@@ -9,7 +10,7 @@ pub place-number-requires-clause-may : goal.place-number-requires-clause-may
 place-number-requires-clause-may g c =
     seat_may (node_facts g.N.Node.state g.N.Node.steps (λ m. g.N.Mail.Mail.letter m) g.N.Node.meaning g.L.Log.facts) g.K.Numbering.routers
     c.args.placed.now c.step_seat.new.seat c.args.pass.now.me.0 c.args.input c.of-taken.result.value c.in-Ok.outputs.mail c.in-Ok.outputs.replies
-    c.of-taken.ensures c.requires.works c.requires.sits (λ since w k. c.in-Ok.ensures.stepped since w k) c.in-Ok.ensures.counted c.step_seat.ensures.below
+    c.of-taken.ensures c.requires.works c.requires.sits (λ since w k stands. (c.in-Ok.ensures.stepped since w k stands).steps) c.in-Ok.ensures.counted c.step_seat.ensures.below
     (record { place = c.step_seat.ensures.place; faults = c.in-Ok.ensures.faults }) c.requires.known
 
 pub returns-in-Ok-clause-sits : goal.returns-in-Ok-clause-sits
@@ -30,5 +31,5 @@ returns-clause-sits g c =
     (sym c.disk_faults-placed.ensures)
     (sits_failed (node_facts g.N.Node.state g.N.Node.steps (λ m. g.N.Mail.Mail.letter m) g.N.Node.meaning g.L.Log.facts) g.K.Numbering.routers
     c.args.placed.now c.step_seat.new.seat c.args.pass.now.me.0 (g.N.Node.meaning c.args.input) c.in-Err.e c.requires.works c.requires.sits c.requires.known
-    (λ since w k. c.in-Err.ensures.failed since w k) c.in-Err.ensures.unchanged c.in-Err.ensures.counted_err c.in-Err.ensures.«open»
+    (λ since w k stands. breaks_only c.in-Err.e _ _ w _ _ _ (c.in-Err.ensures.failed since w k stands)) c.in-Err.ensures.unchanged c.in-Err.ensures.counted_err c.in-Err.ensures.«open»
     c.in-Err.ensures.faults c.step_seat.ensures.place)

@@ -4,6 +4,7 @@ use Rattle.std.proofs.Common.{true, take, ◌≡◌, ◌≤◌, ◌<◌, ℕ, �
 use Rattle.outside.specs.Devices.{sink_call, source_call}
 use Rattle.driver_steps.specs.Crashes.{with_notes}
 use Rattle.driver_steps.specs.Seats.{seat_since}
+use Rattle.driver_steps.specs.Together.{hosted}
 use Rattle.pipe_driver.specs.Rest.{Unframed}
 use Rattle.pipe_driver.specs.declared.status.Status.TheVariants as statuses
 use Rattle.pipe_driver.proofs.Buffers.{as_ok}
@@ -34,7 +35,7 @@ returns-in_default-clause-piped g c = λ asks since first some s n. (
   since.noted,
   n,
   ended_full (seat_since g.N.Node.state g.L.Log.facts (with_notes since since.noted))
-      c.args.seats.now.items
+      (hosted g.K.Sink.tells g.L.Log.facts since (g.K.Sink.noted c.args.out.now) c.args.seats.now.items)
       (source_call g.S.Source.tells g.S.Source.left g.S.Source.fault_count c.args.input.now c.args.input.now)
       (sink_call g.K.Sink.tells g.K.Sink.held g.K.Sink.fault_count c.args.out.now c.args.out.now) (g.C.Clock.gives c.args.clock.now) c.args.router since.noted first c.args.limit
       c.ended.result.rest c.ended.result.status [] [] _ 0 c.ended.ensures.status s (λ told. refl) (omega arith) refl c.ended.ensures.rest,
@@ -48,7 +49,7 @@ returns-then-is_err-clause-piped g c = λ asks since first some s n.
       went.0,
       went.1,
       ended_full (seat_since g.N.Node.state g.L.Log.facts (with_notes since went.0))
-          c.pieces.seats.items
+          (hosted g.K.Sink.tells g.L.Log.facts since (g.K.Sink.noted c.pieces.out) c.pieces.seats.items)
           (source_call g.S.Source.tells g.S.Source.left g.S.Source.fault_count c.args.input.now c.pieces.input)
           (sink_call g.K.Sink.tells g.K.Sink.held g.K.Sink.fault_count c.args.out.now c.pieces.out) (g.C.Clock.gives c.args.clock.now) c.args.router went.0 first c.args.limit
           c.ended-then-is_err.result.rest c.ended-then-is_err.result.status went.2.0 c.pieces.framer.bytes _ c.pieces.puts c.ended-then-is_err.ensures.status went.2.3
@@ -65,7 +66,7 @@ returns-in-Err-clause-piped g c = λ asks since first some s n.
       went.0,
       went.1,
       ended_taking (seat_since g.N.Node.state g.L.Log.facts (with_notes since went.0))
-          c.pieces.seats.items
+          (hosted g.K.Sink.tells g.L.Log.facts since (g.K.Sink.noted c.pieces.out) c.pieces.seats.items)
           (source_call g.S.Source.tells g.S.Source.left g.S.Source.fault_count c.args.input.now c.take_more.new.input)
           (sink_call g.K.Sink.tells g.K.Sink.held g.K.Sink.fault_count c.args.out.now c.pieces.out) (g.C.Clock.gives c.args.clock.now) c.args.router went.0 first c.args.limit
           c.ended-in-Err.result.rest c.ended-in-Err.result.status went.2.0 c.pieces.framer.bytes _ c.pieces.puts c.in-Err.status
@@ -241,7 +242,7 @@ returns-in-Err-answer_all-clause-piped g c = λ asks since first some s n.
       round.0,
       round.1,
       ended_serving (seat_since g.N.Node.state g.L.Log.facts (with_notes since round.0))
-          c.answer_all.new.seats.items
+          (hosted g.K.Sink.tells g.L.Log.facts since (g.K.Sink.noted c.answer_all.new.out) c.answer_all.new.seats.items)
           (source_call g.S.Source.tells g.S.Source.left g.S.Source.fault_count c.args.input.now c.take_more.new.input)
           (sink_call g.K.Sink.tells g.K.Sink.held g.K.Sink.fault_count c.args.out.now c.answer_all.new.out) (g.C.Clock.gives c.args.clock.now) c.args.router round.0 first c.args.limit
           c.ended-in-Err-answer_all.result.rest c.ended-in-Err-answer_all.result.status round.2.0 rest _ c.in-Err-answer_all.status
@@ -270,7 +271,7 @@ returns-clause-piped g c = λ asks since first some s n.
       went.0,
       went.1,
       ended_at_limit (seat_since g.N.Node.state g.L.Log.facts (with_notes since went.0))
-          c.pieces.seats.items
+          (hosted g.K.Sink.tells g.L.Log.facts since (g.K.Sink.noted c.pieces.out) c.pieces.seats.items)
           (source_call g.S.Source.tells g.S.Source.left g.S.Source.fault_count c.args.input.now c.pieces.input)
           (sink_call g.K.Sink.tells g.K.Sink.held g.K.Sink.fault_count c.args.out.now c.pieces.out) (g.C.Clock.gives c.args.clock.now) c.args.router went.0 first c.args.limit
           c.ended-2.result.rest c.ended-2.result.status went.2.0 c.pieces.framer.bytes _ c.pieces.puts c.ended-2.ensures.status went.2.3 went.2.2

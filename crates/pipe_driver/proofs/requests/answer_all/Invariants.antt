@@ -3,6 +3,7 @@ use Rattle.std.specs.Prelude.{None, vec_len}
 use Rattle.node_model.specs.World.{World}
 use Rattle.driver_steps.specs.Crashes.{Since, with_notes}
 use Rattle.driver_steps.specs.Seats.{AreOpen, faults_of, places_of, seat_since}
+use Rattle.driver_steps.specs.Together.{hosted}
 use Rattle.driver_steps.specs.Worlds.{network_view}
 use Rattle.pipe_driver.specs.Acknowledgements.{AreNoted, WithNotes}
 use Rattle.pipe_driver.specs.Progress.{AreAskedAsRead, Serving}
@@ -25,12 +26,12 @@ invariant-requests g l = record {
   places : places_of g.L.Log.facts.place l.seats.items ≡ places_of g.L.Log.facts.place l.fn.seats.items;
   served : AreAskedAsRead g.N.Node.asks → (since : Since g.row.L.Denot) (first : World) → MayServe first l.router → (held_before consumed : List ℕ) →
       Serving (seat_since g.N.Node.state g.L.Log.facts since)
-      l.fn.seats.items (network_view (λ m. g.N.Mail.Mail.letter m) l.fn.network)
+      (hosted g.K.Sink.tells g.L.Log.facts since (g.K.Sink.noted l.fn.out) l.fn.seats.items) (network_view (λ m. g.N.Mail.Mail.letter m) l.fn.network)
       (g.C.Clock.gives l.clock) l.router first g.K.Sink.tells since.noted held_before (g.K.Sink.held l.fn.out) consumed l.fn.replied
       → AreNoted g.K.Sink.tells (g.K.Sink.noted l.fn.out) (places_of g.L.Log.facts.place l.fn.seats.items) since.noted
       → WithNotes g.K.Sink.tells (g.K.Sink.noted l.out) (places_of g.L.Log.facts.place l.seats.items)
       (λ noted. (more : List ℕ) × (consumed ++ l.fn.framer.bytes ≡ more ++ l.framer.bytes)
       × Serving (seat_since g.N.Node.state g.L.Log.facts (with_notes since noted))
-      l.seats.items (network_view (λ m. g.N.Mail.Mail.letter m) l.network)
+      (hosted g.K.Sink.tells g.L.Log.facts since (g.K.Sink.noted l.out) l.seats.items) (network_view (λ m. g.N.Mail.Mail.letter m) l.network)
       (g.C.Clock.gives l.clock) l.router first g.K.Sink.tells noted held_before (g.K.Sink.held l.out) more l.replied);
 }

@@ -1,6 +1,7 @@
 use Rattle.std.proofs.Common.{◌∙◌, Bool, refl, sym, ap, arith, w32, to_z, of_z}
 use Rattle.opmsg_frames.specs.Outlines.{fault_view}
 use Rattle.driver_steps.specs.Seats.{seat_since}
+use Rattle.driver_steps.proofs.DiskNotes.{more_then, no_more}
 use Rattle.pipe_driver.specs.Rounds.{replies_after}
 use Rattle.pipe_driver.proofs.Frames.{some_bytes}
 use Rattle.pipe_driver.proofs.Framings.{left_behind, next_given, next_malformed, next_none, same_bytes, still_partial, told_malformed}
@@ -17,6 +18,9 @@ requests-init g c = record {
   fault = c.requires.fault;
   disks_calm = refl;
   places = refl;
+  held = refl;
+  sink = refl;
+  noted = λ shown. no_more (g.K.Sink.noted c.args.out.now);
   went = λ asks since w handed router s.
       asking_none (seat_since g.N.Node.state g.L.Log.facts since) handed w
       c.args.at c.args.link c.args.replied c.args.framer.now.bytes
@@ -73,6 +77,10 @@ requests-preserved g c =
       fault = given.1.fault;
       disks_calm = c.in-Ok.ensures.faults ∙ c.requests.invariant.disks_calm;
       places = c.ask.ensures.places ∙ c.requests.invariant.places;
+      held = c.ask.ensures.held ∙ c.requests.invariant.held;
+      sink = c.ask.ensures.sink ∙ c.requests.invariant.sink;
+      noted = λ shown. more_then (g.K.Sink.noted c.args.out.now) (g.K.Sink.noted c.requests.out) (g.K.Sink.noted c.ask.new.out) (c.requests.invariant.noted shown)
+          (c.ask.ensures.noted shown);
       went = λ asks since w handed router s.
           let was = c.requests.invariant.went asks since w handed router s in
           asking_more (seat_since g.N.Node.state g.L.Log.facts since) handed w
@@ -99,3 +107,8 @@ returns-in-Err-clause-cut g c asks since w handed router s =
 
 pub returns-in-Err-clause-open : goal.returns-in-Err-clause-open
 returns-in-Err-clause-open g c = λ disk. but_for_disks c.in-Err.e _ _ c.of.ensures (λ is. disk (ap Err is)) c.in-Err.ensures.«open»
+
+pub returns-in-Err-clause-noted : goal.returns-in-Err-clause-noted
+returns-in-Err-clause-noted g c shown =
+    more_then (g.K.Sink.noted c.args.out.now) (g.K.Sink.noted c.requests.out) (g.K.Sink.noted c.ask.new.out) (c.requests.invariant.noted shown)
+    (c.ask.ensures.noted shown)

@@ -9,6 +9,7 @@ use Rattle.sim_driver.proofs.Deliveries.{all_sent, message_at}
 use Rattle.sim_driver.proofs.Faults.{cut_behind, cut_here, still}
 use Rattle.pipe_driver.proofs.Serving.{but_for_disks}
 use Rattle.std.specs.Prelude.{Err}
+use Rattle.driver_steps.proofs.DiskNotes.{no_more}
 use Rattle.sim_driver.proofs.deliver.deliver_at.Goals as goal
 
 pub returns-in-Err-clause-cut : goal.returns-in-Err-clause-cut
@@ -41,3 +42,6 @@ returns-in-Err-deliver-clause-cut g c since w handed s =
 pub returns-in-Err-deliver-clause-open : goal.returns-in-Err-deliver-clause-open
 returns-in-Err-deliver-clause-open g c = λ disk.
     but_for_disks c.in-Err-deliver.e _ _ c.of.ensures (λ is. disk (ap Err is)) c.in-Err-deliver.ensures.«open»
+
+pub returns-in-Err-clause-noted : goal.returns-in-Err-clause-noted
+returns-in-Err-clause-noted g c shown = no_more (g.K.Sink.noted c.args.out.now)

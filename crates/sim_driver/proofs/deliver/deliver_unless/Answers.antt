@@ -4,6 +4,7 @@ use Rattle.std.specs.List.{slice_get}
 use Rattle.driver_steps.specs.Seats.{seat_since}
 use Rattle.sim_driver.specs.Moves.{has_passed, has_delivered}
 use Rattle.sim_driver.proofs.Deliveries.{all_sent, passes_by}
+use Rattle.driver_steps.proofs.DiskNotes.{no_more}
 use Rattle.sim_driver.proofs.deliver.deliver_unless.Goals as goal
 
 pub returns-then-is_passed-clause-delivered : goal.returns-then-is_passed-clause-delivered
@@ -19,3 +20,6 @@ returns-in-Ok-clause-delivered g c since w handed s =
     let d = c.in-Ok.ensures.delivered since w handed s in
     has_delivered d (passes_by w.sent c.args.at there.0 d.message (option_map (λ k. k.now) c.args.except) c.args.delivered.now got d.got
     (sym there.2 ∙ c.if-is_passed.false)) c.in-Ok.ensures.marked
+
+pub returns-then-is_passed-clause-noted : goal.returns-then-is_passed-clause-noted
+returns-then-is_passed-clause-noted g c shown = no_more (g.K.Sink.noted c.args.out.now)

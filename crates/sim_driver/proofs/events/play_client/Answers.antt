@@ -3,6 +3,8 @@ use Rattle.std.proofs.lemmas.Option.{slice_get_read}
 use Rattle.std.specs.List.{slice_get, slice_set}
 use Rattle.std.specs.Prelude.{None, Some}
 use Rattle.driver_steps.specs.Seats.{seat_since}
+use Rattle.driver_steps.specs.Together.{hosted}
+use Rattle.driver_steps.proofs.DiskNotes.{no_more}
 use Rattle.driver_steps.specs.Worlds.{network_view}
 use Rattle.driver_steps.proofs.Seats.{held_len}
 use Rattle.script_lines.specs.Lines.{client_line}
@@ -79,7 +81,7 @@ returns-then-not-malformed-clause-played g c asks since w handed routers s =
       c.requires.links,
     ) in
     let asked = c.in-Ok.ensures.asked asks since w handed (routers c.args.router inside) s (ap Ok c.if-not-malformed.true) in
-    subst (λ (n : ℕ). HasPlayed view c.take.new.seats.items (network_view (λ m. g.N.Mail.Mail.letter m) c.take.new.network) handed w line old
+    subst (λ (n : ℕ). HasPlayed view (hosted g.K.Sink.tells g.L.Log.facts since (g.K.Sink.noted c.take.new.out) c.take.new.seats.items) (network_view (λ m. g.N.Mail.Mail.letter m) c.take.new.network) handed w line old
     (with_link old c.args.router (record { number = n; left = c.take.new.self.left; replied = c.take.new.self.replied })) None) (sym c.take.ensures.number)
     (client_played view _ _ handed w old c.args.router link here c.args.bytes.now c.take.new.self.left c.take.new.self.replied asked)
 
@@ -135,7 +137,10 @@ returns-clause-played g c asks since w handed routers s =
     let asked = c.in-Ok.ensures.malformed asks since w handed (routers c.args.router inside) s (ap Ok c.if-not-malformed.false) in
     let links = set_twice c.args.script.now.links.items c.args.router c.take.new.self c.new.result
     ∙ ap (λ (l : LinkView). slice_set c.args.script.now.links.items c.args.router l) c.new.ensures in
-    subst (λ (l : List LinkView). HasPlayed view c.take.new.seats.items (network_view (λ m. g.N.Mail.Mail.letter m) c.take.new.network) handed w line old
+    subst (λ (l : List LinkView). HasPlayed view (hosted g.K.Sink.tells g.L.Log.facts since (g.K.Sink.noted c.take.new.out) c.take.new.seats.items) (network_view (λ m. g.N.Mail.Mail.letter m) c.take.new.network) handed w line old
     (record { first_router = c.args.script.now.first_router; links = l; opened = c.args.script.now.opened + 1; delivered = c.args.script.now.delivered })
     (Some c.args.router)) (sym links)
     (client_closed view _ _ handed w old c.args.router link here c.args.bytes.now asked.0 asked.1 asked.2)
+
+pub returns-then-router-len-clause-noted : goal.returns-then-router-len-clause-noted
+returns-then-router-len-clause-noted g c shown = no_more (g.K.Sink.noted c.args.out.now)

@@ -1,8 +1,8 @@
-use Rattle.std.proofs.Common.{◌∷◌, ◌++◌, List, length}
+use Rattle.std.proofs.Common.{◌≡◌, ◌∷◌, ◌++◌, IsTrue, List, length, sym}
 use Rattle.driver_steps.specs.Crashes.{Noted, with_notes}
-use Rattle.driver_steps.specs.Seats.{seat_since}
+use Rattle.driver_steps.specs.Seats.{notes_of, seat_since}
 use Rattle.driver_steps.specs.Worlds.{puts_given}
-use Rattle.pipe_driver.proofs.Covers.{noted_more, noted_places, now_noted}
+use Rattle.pipe_driver.proofs.Covers.{noted_more, noted_on, noted_places, now_noted}
 use Rattle.sim_driver.specs.Scripts.{script_view}
 use Rattle.sim_driver.proofs.PlayedLines.{note_played}
 use Rattle.sim_driver.proofs.Plays.{plays_marks, plays_script}
@@ -22,10 +22,11 @@ returns-in-Err-play_line-clause-stopped g c asks since first_router first some h
     let router = plays_script first_router first some.routers p.lines p.events p.world (script_view c.args.script.now) p.out p.plays in
     let next = plays_marks first_router first p.lines p.events p.world (script_view c.args.script.now) p.out p.plays in (
       since.noted,
-      noted_places g.K.Sink.tells _ _ _ since.noted c.play_line.ensures.places n,
-      line_stopped (seat_since g.N.Node.state g.L.Log.facts since) _ _ _ first_router first
+      noted_places g.K.Sink.tells _ _ _ since.noted c.play_line.ensures.places
+          (noted_on g.K.Sink.tells _ (g.K.Sink.noted c.play_line.new.out) _ since.noted c.play_line.ensures.noted n),
+      rw c.play_line.ensures.held (line_stopped (seat_since g.N.Node.state g.L.Log.facts since) _ _ _ first_router first
           _ _ held_before _ consumed (script_view c.args.script.now) p c.args.line.now
-          c.requires.line others c.in-Err-play_line.status (c.in-Err-play_line.ensures.stops asks since p.world (puts_given p.world.answered) router next p.stands),
+          c.requires.line others c.in-Err-play_line.status (c.in-Err-play_line.ensures.stops asks since p.world (puts_given p.world.answered) router next p.stands)),
     )
 
 pub returns-in-Err-text_of-clause-stopped : goal.returns-in-Err-text_of-clause-stopped
@@ -34,11 +35,12 @@ returns-in-Err-text_of-clause-stopped g c asks since first_router first some hel
     let next = plays_marks first_router first p.lines p.events p.world (script_view c.args.script.now) p.out p.plays in
     let h = c.in-Ok-play_line.ensures.played asks since p.world (puts_given p.world.answered) router next p.stands in (
       since.noted,
-      noted_places g.K.Sink.tells _ _ _ since.noted c.play_line.ensures.places n,
-      line_unprinted (seat_since g.N.Node.state g.L.Log.facts since) _ _ _
+      noted_places g.K.Sink.tells _ _ _ since.noted c.play_line.ensures.places
+          (noted_on g.K.Sink.tells _ (g.K.Sink.noted c.play_line.new.out) _ since.noted c.play_line.ensures.noted n),
+      rw c.play_line.ensures.held (line_unprinted (seat_since g.N.Node.state g.L.Log.facts since) _ _ _
           first_router first _ _ held_before _ consumed (script_view c.args.script.now) p c.args.line.now
           c.requires.line (λ m. g.N.Mail.Mail.letter m) c.play_line.new.network c.hand_on-replies.new.self (script_view c.play_line.new.script) c.in-Ok-play_line.closed
-          h others,
+          h others),
     )
 
 pub returns-in-Ok-put_text-clause-answered : goal.returns-in-Ok-put_text-clause-answered
@@ -49,14 +51,18 @@ returns-in-Ok-put_text-clause-answered g c asks since first_router first some he
     let facts = g.L.Log.facts in
     let seats = c.play_line.new.seats.items in
     let count = length (g.K.Sink.held c.args.out.now) in
+    let taken : (IsTrue g.K.Sink.tells → g.K.Sink.noted c.put_text.new.out ≡ g.K.Sink.noted c.play_line.new.out ++ notes_of facts count seats) =
+    λ shown. rw (sym c.play_line.ensures.held) (c.put_text.ensures.noted shown) in
     let noted : List Noted = now_noted facts seats h.played.end count ∷ since.noted in (
       noted,
-      noted_more facts seats h.played.end count g.K.Sink.tells _ _ _ since.noted n c.play_line.ensures.places c.put_text.ensures.noted,
+      noted_more facts seats h.played.end count g.K.Sink.tells (g.K.Sink.noted c.play_line.new.out) _ _ since.noted
+          (noted_on g.K.Sink.tells _ (g.K.Sink.noted c.play_line.new.out) _ since.noted c.play_line.ensures.noted n) c.play_line.ensures.places taken,
       line_answered (seat_since g.N.Node.state facts since) _ _ _ first_router first
           _ _ held_before _ consumed (script_view c.args.script.now) p c.args.line.now
           c.requires.line (λ m. g.N.Mail.Mail.letter m) c.play_line.new.network c.hand_on-replies.new.self (script_view c.play_line.new.script) c.in-Ok-play_line.closed
           (seat_since g.N.Node.state facts (with_notes since noted)) noted
-          (note_played facts seats count g.N.Node.state since _ _ _ _ _ _ _ c.put_text.ensures.durable h)
+          (note_played facts seats count g.N.Node.state since _ _ _ _ _ _ _ g.K.Sink.tells (g.K.Sink.noted c.play_line.new.out)
+          (g.K.Sink.noted c.put_text.new.out) c.put_text.ensures.durable taken h)
           (covers_line (seat_since g.N.Node.state facts since) _ _ _ first_router first
           _ _ held_before _ consumed (script_view c.args.script.now) p c.args.line.now
           c.requires.line (λ m. g.N.Mail.Mail.letter m) c.play_line.new.network c.hand_on-replies.new.self (script_view c.play_line.new.script) c.in-Ok-play_line.closed
@@ -70,6 +76,7 @@ returns-in-Ok-put_text-clause-answered g c asks since first_router first some he
             c.deref.ensures.value,
             c.deref-3.ensures.value,
             c.hand_on-replies.ensures.replies,
+            c.play_line.ensures.held,
           ) at
           c.in-Ok-put_text.ensures.put),
     )
@@ -82,15 +89,19 @@ returns-clause-stopped g c asks since first_router first some held_before consum
     let facts = g.L.Log.facts in
     let seats = c.play_line.new.seats.items in
     let count = length (g.K.Sink.held c.args.out.now) in
+    let taken : (IsTrue g.K.Sink.tells → g.K.Sink.noted c.put_text.new.out ≡ g.K.Sink.noted c.play_line.new.out ++ notes_of facts count seats) =
+    λ shown. rw (sym c.play_line.ensures.held) (c.put_text.ensures.noted shown) in
     let noted : List Noted = now_noted facts seats h.played.end count ∷ since.noted in (
       noted,
-      noted_more facts seats h.played.end count g.K.Sink.tells _ _ _ since.noted n c.play_line.ensures.places c.put_text.ensures.noted,
+      noted_more facts seats h.played.end count g.K.Sink.tells (g.K.Sink.noted c.play_line.new.out) _ _ since.noted
+          (noted_on g.K.Sink.tells _ (g.K.Sink.noted c.play_line.new.out) _ since.noted c.play_line.ensures.noted n) c.play_line.ensures.places taken,
       line_put_short (seat_since g.N.Node.state facts since) _ _ _
           first_router first _ _ held_before _ consumed (script_view c.args.script.now) p c.args.line.now
           c.requires.line (λ m. g.N.Mail.Mail.letter m) c.play_line.new.network c.hand_on-replies.new.self
           (script_view c.play_line.new.script) c.in-Ok-play_line.closed
           (seat_since g.N.Node.state facts (with_notes since noted)) noted
-          (note_played facts seats count g.N.Node.state since _ _ _ _ _ _ _ c.put_text.ensures.durable h)
+          (note_played facts seats count g.N.Node.state since _ _ _ _ _ _ _ g.K.Sink.tells (g.K.Sink.noted c.play_line.new.out)
+          (g.K.Sink.noted c.put_text.new.out) c.put_text.ensures.durable taken h)
           (covers_line (seat_since g.N.Node.state facts since) _ _ _ first_router first
           _ _ held_before _ consumed (script_view c.args.script.now) p c.args.line.now
           c.requires.line (λ m. g.N.Mail.Mail.letter m) c.play_line.new.network c.hand_on-replies.new.self (script_view c.play_line.new.script) c.in-Ok-play_line.closed
@@ -103,6 +114,7 @@ returns-clause-stopped g c asks since first_router first some held_before consum
             c.deref.ensures.value,
             c.deref-3.ensures.value,
             c.hand_on-replies.ensures.replies,
+            c.play_line.ensures.held,
           ) at
           c.in-Err-put_text.ensures.prefix),
     )

@@ -3,6 +3,7 @@ use Rattle.std.specs.Prelude.{vec_len}
 use Rattle.node_model.specs.World.{World}
 use Rattle.driver_steps.specs.Crashes.{Since, with_notes}
 use Rattle.driver_steps.specs.Seats.{AreOpen, faults_of, places_of, seat_since}
+use Rattle.driver_steps.specs.Together.{hosted}
 use Rattle.driver_steps.specs.Worlds.{network_view}
 use Rattle.pipe_driver.specs.Acknowledgements.{AreNoted, WithNotes}
 use Rattle.pipe_driver.specs.Progress.{AreAskedAsRead}
@@ -30,13 +31,13 @@ invariant-lines g l = record {
   went : AreAskedAsRead g.N.Node.asks → (since : Since g.row.L.Denot) (first_router : ℕ) (first : World) → MayPlay first_router first →
       (held_before consumed : List ℕ) →
       Playing (seat_since g.N.Node.state g.L.Log.facts since)
-      l.fn.seats.items (network_view (λ m. g.N.Mail.Mail.letter m) l.fn.network) first_router first g.K.Sink.tells since.noted held_before
+      (hosted g.K.Sink.tells g.L.Log.facts since (g.K.Sink.noted l.fn.out) l.fn.seats.items) (network_view (λ m. g.N.Mail.Mail.letter m) l.fn.network) first_router first g.K.Sink.tells since.noted held_before
       (g.K.Sink.held l.fn.out)
       (script_view l.fn.script) consumed
       → AreNoted g.K.Sink.tells (g.K.Sink.noted l.fn.out) (places_of g.L.Log.facts.place l.fn.seats.items) since.noted
       → WithNotes g.K.Sink.tells (g.K.Sink.noted l.out) (places_of g.L.Log.facts.place l.seats.items)
       (λ noted. (more : List ℕ) × (consumed ++ (l.fn.begun.items ++ l.piece) ≡ more ++ (l.begun.items ++ l.rest))
       × Playing (seat_since g.N.Node.state g.L.Log.facts (with_notes since noted))
-      l.seats.items (network_view (λ m. g.N.Mail.Mail.letter m) l.network) first_router first g.K.Sink.tells noted held_before (g.K.Sink.held l.out)
+      (hosted g.K.Sink.tells g.L.Log.facts since (g.K.Sink.noted l.out) l.seats.items) (network_view (λ m. g.N.Mail.Mail.letter m) l.network) first_router first g.K.Sink.tells noted held_before (g.K.Sink.held l.out)
       (script_view l.script) more);
 }

@@ -4,6 +4,7 @@ use Rattle.sim_driver.specs.LineOutcomes.{bytes_refused, says_none}
 use Rattle.sim_driver.specs.Scripts.{script_view}
 use Rattle.sim_driver.proofs.Faults.{still}
 use Rattle.sim_driver.proofs.PlayedLines.{bytes_stop, bytes_unread}
+use Rattle.driver_steps.proofs.DiskNotes.{no_more}
 use Rattle.sim_driver.proofs.play.play_line.Goals as goal
 
 pub returns-in-Ok-play_said-clause-played : goal.returns-in-Ok-play_said-clause-played
@@ -29,3 +30,9 @@ returns-in-Err-Memory-clause-stops g c asks since w handed router known s =
     bytes_unread (seat_since g.N.Node.state g.L.Log.facts since) _ w
     c.args.line.now (script_view c.args.script.now)
     (still (seat_since g.N.Node.state g.L.Log.facts since) _ _ handed w s)
+
+pub returns-in-Err-Refused-clause-noted : goal.returns-in-Err-Refused-clause-noted
+returns-in-Err-Refused-clause-noted g c shown = no_more (g.K.Sink.noted c.args.out.now)
+
+pub returns-in-Err-Memory-clause-noted : goal.returns-in-Err-Memory-clause-noted
+returns-in-Err-Memory-clause-noted g c shown = no_more (g.K.Sink.noted c.args.out.now)

@@ -6,6 +6,7 @@ use Rattle.std.proofs.Common.{◌+◌, ◌-◌}
 use Rattle.std.specs.Prelude.{vec_len}
 use Rattle.driver_steps.specs.Crashes.{with_notes}
 use Rattle.driver_steps.specs.Seats.{seat_since}
+use Rattle.driver_steps.specs.Together.{hosted}
 use Rattle.driver_steps.specs.Worlds.{network_view}
 use Rattle.pipe_driver.specs.declared.status.Status.TheVariants as statuses
 use Rattle.pipe_driver.proofs.Counts.{have_risen_by, none_has_risen, rose_by, still}
@@ -50,11 +51,11 @@ returns-in_default-clause-simulated g c asks since first some p n =
     let view = seat_since g.N.Node.state g.L.Log.facts (with_notes since since.noted) in (
       since.noted,
       n,
-      ended_stopped view c.args.seats.now.items
+      ended_stopped view (hosted g.K.Sink.tells g.L.Log.facts since (g.K.Sink.noted c.args.out.now) c.args.seats.now.items)
           (source_call g.S.Source.tells g.S.Source.left g.S.Source.fault_count c.args.input.now c.args.input.now)
           (sink_call g.K.Sink.tells g.K.Sink.held g.K.Sink.fault_count c.args.out.now c.args.out.now) since.noted c.args.first_router first c.args.limit
           statuses.OutOfMemory [] [] statuses.OutOfMemory refl
-          (playing_full view c.args.seats.now.items (network_view
+          (playing_full view (hosted g.K.Sink.tells g.L.Log.facts since (g.K.Sink.noted c.args.out.now) c.args.seats.now.items) (network_view
           (λ m. g.N.Mail.Mail.letter m) c.args.network) c.args.first_router first g.K.Sink.tells since.noted (g.K.Sink.held c.args.out.now)
           (g.K.Sink.held c.args.out.now) [] [] (new_script c.args.first_router (router_count c.args.first_router first)) p) (λ told. refl) (omega arith),
     )
@@ -64,11 +65,11 @@ returns-in_default-new_piece-clause-simulated g c asks since first some p n =
     let view = seat_since g.N.Node.state g.L.Log.facts (with_notes since since.noted) in (
       since.noted,
       n,
-      ended_stopped view c.args.seats.now.items
+      ended_stopped view (hosted g.K.Sink.tells g.L.Log.facts since (g.K.Sink.noted c.args.out.now) c.args.seats.now.items)
           (source_call g.S.Source.tells g.S.Source.left g.S.Source.fault_count c.args.input.now c.args.input.now)
           (sink_call g.K.Sink.tells g.K.Sink.held g.K.Sink.fault_count c.args.out.now c.args.out.now) since.noted c.args.first_router first c.args.limit
           statuses.OutOfMemory [] [] statuses.OutOfMemory refl
-          (playing_full view c.args.seats.now.items (network_view
+          (playing_full view (hosted g.K.Sink.tells g.L.Log.facts since (g.K.Sink.noted c.args.out.now) c.args.seats.now.items) (network_view
           (λ m. g.N.Mail.Mail.letter m) c.args.network) c.args.first_router first g.K.Sink.tells since.noted (g.K.Sink.held c.args.out.now)
           (g.K.Sink.held c.args.out.now) [] [] (new_script c.args.first_router (router_count c.args.first_router first)) p) (λ told. refl) (omega arith),
     )
@@ -79,7 +80,7 @@ returns-in-Err-clause-simulated g c asks since first some p n =
       went.0,
       went.1,
       ended_taking (seat_since g.N.Node.state g.L.Log.facts (with_notes since went.0))
-          c.pieces.seats.items
+          (hosted g.K.Sink.tells g.L.Log.facts since (g.K.Sink.noted c.pieces.out) c.pieces.seats.items)
           (source_call g.S.Source.tells g.S.Source.left g.S.Source.fault_count c.args.input.now c.take_more.new.input)
           (sink_call g.K.Sink.tells g.K.Sink.held g.K.Sink.fault_count c.args.out.now c.pieces.out) went.0 c.args.first_router
           first c.args.limit c.unended.result
@@ -179,7 +180,7 @@ returns-in-Err-play_piece-clause-simulated g c asks since first some p n =
       then.0,
       then.1,
       ended_within (seat_since g.N.Node.state g.L.Log.facts (with_notes since then.0))
-          c.play_piece.new.seats.items
+          (hosted g.K.Sink.tells g.L.Log.facts since (g.K.Sink.noted c.play_piece.new.out) c.play_piece.new.seats.items)
           (source_call g.S.Source.tells g.S.Source.left g.S.Source.fault_count c.args.input.now c.take_more.new.input)
           (sink_call g.K.Sink.tells g.K.Sink.held g.K.Sink.fault_count c.args.out.now c.play_piece.new.out) then.0 c.args.first_router first c.args.limit
           c.in-Err-play_piece.status _
@@ -207,7 +208,7 @@ returns-clause-simulated g c asks since first some p n =
       went.0,
       went.1,
       ended_at_limit (seat_since g.N.Node.state g.L.Log.facts (with_notes since went.0))
-          c.pieces.seats.items
+          (hosted g.K.Sink.tells g.L.Log.facts since (g.K.Sink.noted c.pieces.out) c.pieces.seats.items)
           (source_call g.S.Source.tells g.S.Source.left g.S.Source.fault_count c.args.input.now c.pieces.input)
           (sink_call g.K.Sink.tells g.K.Sink.held g.K.Sink.fault_count c.args.out.now c.pieces.out) went.0 c.args.first_router
           first c.args.limit

@@ -4,7 +4,7 @@ use Rattle.outside.specs.Disks.{LeavesOnly}
 use Rattle.journal_frames.specs.Files.{Stands, StandsWithOrWithout, records_in}
 use Rattle.journal_frames.specs.Views.{JournalView}
 use Rattle.journal_frames.proofs.Appended.{is_ready, not_empty, rest_listed}
-use Rattle.journal_frames.proofs.Journals.{of_disks}
+use Rattle.journal_frames.proofs.Journals.{left_alone, of_disks}
 use Rattle.journal_frames.proofs.Listed.{listed_rest}
 use Rattle.journal_frames.proofs.Opened.{either_where, rest_durable, rest_stands}
 use Rattle.journal_frames.proofs.journal.JournalLog.append_all.Goals as goal
@@ -90,9 +90,9 @@ returns-in-Ok-put_records-clause-any_moment g c tells =
       is_open =
           true;
     } in
-    subst (λ (j : JournalView _). LeavesOnly (λ (k : JournalView _). g.D.Disk.moment k.disk) (λ k t file. g.D.Disk.left_since k.disk t file) j after
+    subst (λ (j : JournalView _). LeavesOnly (λ (k : JournalView _). g.D.Disk.moment k.disk) (λ k t file. g.D.Disk.left_at k.disk t file) j after
     (StandsWithOrWithout j.records c.args.bodies.now)) c.self.view_is
-    (of_disks g.D.Disk.moment g.D.Disk.left_since before after (StandsWithOrWithout list c.args.bodies.now) (c.put_records.ensures.any_moment list
+    (of_disks g.D.Disk.moment g.D.Disk.left_at before after (StandsWithOrWithout list c.args.bodies.now) (c.put_records.ensures.any_moment list
     c.args.bodies.now ready tells))
 
 pub returns-clause-failed : goal.returns-clause-failed
@@ -127,7 +127,28 @@ returns-clause-any_moment g c tells =
       is_open =
           false;
     } in
-    subst (λ (j : JournalView _). LeavesOnly (λ (k : JournalView _). g.D.Disk.moment k.disk) (λ k t file. g.D.Disk.left_since k.disk t file) j after
+    subst (λ (j : JournalView _). LeavesOnly (λ (k : JournalView _). g.D.Disk.moment k.disk) (λ k t file. g.D.Disk.left_at k.disk t file) j after
     (StandsWithOrWithout j.records c.args.bodies.now)) c.self.view_is
-    (of_disks g.D.Disk.moment g.D.Disk.left_since before after (StandsWithOrWithout list c.args.bodies.now) (c.put_records.ensures.any_moment list
+    (of_disks g.D.Disk.moment g.D.Disk.left_at before after (StandsWithOrWithout list c.args.bodies.now) (c.put_records.ensures.any_moment list
     c.args.bodies.now ready tells))
+
+pub returns-then-is_empty-clause-any_moment : goal.returns-then-is_empty-clause-any_moment
+returns-then-is_empty-clause-any_moment g c tells =
+    let is_open : IsTrue c.self.inside.is_open = ap (λ (j : JournalView _). j.is_open) c.self.view_is ∙ c.requires in
+    left_alone g.D.Disk.tells g.D.Disk.content g.D.Disk.may_leave g.D.Disk.moment g.D.Disk.left_at c.self.inside.disk c.self.inside.end
+    c.self.inside.is_open c.args.self.now c.args.bodies.now (c.self.invariant is_open tells) tells
+    (λ f left. g.met.D.Disk.only_now c.self.inside.disk f left) c.self.view_is
+
+pub returns-in_default-clause-any_moment : goal.returns-in_default-clause-any_moment
+returns-in_default-clause-any_moment g c tells =
+    let is_open : IsTrue c.self.inside.is_open = ap (λ (j : JournalView _). j.is_open) c.self.view_is ∙ c.requires in
+    left_alone g.D.Disk.tells g.D.Disk.content g.D.Disk.may_leave g.D.Disk.moment g.D.Disk.left_at c.self.inside.disk c.self.inside.end
+    c.self.inside.is_open c.args.self.now c.args.bodies.now (c.self.invariant is_open tells) tells
+    (λ f left. g.met.D.Disk.only_now c.self.inside.disk f left) c.self.view_is
+
+pub returns-then-end-ge-MOST_BYTES-clause-any_moment : goal.returns-then-end-ge-MOST_BYTES-clause-any_moment
+returns-then-end-ge-MOST_BYTES-clause-any_moment g c tells =
+    let is_open : IsTrue c.self.inside.is_open = ap (λ (j : JournalView _). j.is_open) c.self.view_is ∙ c.requires in
+    left_alone g.D.Disk.tells g.D.Disk.content g.D.Disk.may_leave g.D.Disk.moment g.D.Disk.left_at c.self.inside.disk c.self.inside.end
+    c.self.inside.is_open c.args.self.now c.args.bodies.now (c.self.invariant is_open tells) tells
+    (λ f left. g.met.D.Disk.only_now c.self.inside.disk f left) c.self.view_is

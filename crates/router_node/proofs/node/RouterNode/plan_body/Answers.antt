@@ -10,7 +10,7 @@ use Rattle.router_node.proofs.node.RouterNode.plan_body.Goals as goal
 pub returns-in-Stale : goal.returns-in-Stale
 returns-in-Stale c = λ m from is late.
     let r = router_of c.args.self.now in
-    heard_late r m c.late.result c.args.time.0 late c.late.ensures (subst (λ (b : Body). rows.IsLate r b) (sym (is ∙ ap body_view c.in-Stale.is)) tt)
+    heard_late r m c.late.result c.args.time.0 late c.late.ensures (subst (λ (b : Body). rows.IsLate r m.sender b) (sym (is ∙ ap body_view c.in-Stale.is)) tt)
 
 pub returns-in-TableAsk : goal.returns-in-TableAsk
 returns-in-TableAsk c = λ m from is late.

@@ -1,6 +1,7 @@
-use Rattle.std.proofs.Common.{ap, subst, [], refl, map, rules}
+use Rattle.std.proofs.Common.{ap, subst, List, [], refl, map, rules}
 use Rattle.node_model.specs.Letters.{client_input}
-use Rattle.node_model.specs.RouterRows as rows
+use Rattle.read_parts.specs.Parts.{part_view}
+use Rattle.read_parts.specs.declared.parts.Part.{Part}
 use Rattle.router_requests.specs.Works.{numbers_of}
 use Rattle.router_requests.specs.declared.work.OpenRequest.{OpenRequest}
 use Rattle.protocol_model.specs.Messages.{letter_of}
@@ -23,18 +24,22 @@ returns c =
     let request = head_request c.args.asked.head in
     let fits : SFits w32 c.args.asked.number = search rules in
     let number : ℤ = to_z w32 (of_z w32 c.args.asked.number) in
+    let s = c.in_ok-sends.sends in
     let o : OpenRequest = record {
       count = c.args.count;
       link = c.args.asked.link;
       number = number;
       head = c.args.asked.head;
       namespace = c.args.namespace;
-      wait = c.in_ok-wait.wait;
+      wait = s.wait;
       told = c.new.result;
+      targets = s.targets;
+      parts = c.new-2.result;
       work = c.args.work;
     } in
     subst (λ (z : ℤ). IfOk c.starts.result (λ p. IsPlanned r (client_input link z request) p)) (to_z-of_z w32 c.args.asked.number fits)
-    (ok_starts r c.starts.result n.quiet (client_input link number request) r.time r.moment (Opens o) (map letter_of c.in_ok-wait.mail) [] tt tt
+    (ok_starts r c.starts.result n.quiet (client_input link number request) r.time r.moment (Opens o) (map letter_of s.mail) [] tt tt
     (refl, c.requires.few, c.requires.next)
-    (took_open r o c.requires.next (map letter_of c.in_ok-wait.mail) c.requires.plan c.in_ok-wait.ensures.letters (ap numbers_of c.new.ensures.items) (c.in_ok-wait.ensures.wait (rows.id_of r c.args.count)))
+    (took_open r o c.requires.next (map letter_of s.mail) c.requires.plan c.in_ok-sends.ensures.letters (ap numbers_of c.new.ensures.items) c.in_ok-sends.ensures.wait c.in_ok-sends.ensures.targets
+    (ap (λ (l : List Part). map part_view l) c.new-2.ensures.items))
     c.starts.ensures)

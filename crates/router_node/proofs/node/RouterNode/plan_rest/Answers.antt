@@ -1,4 +1,4 @@
-use Rattle.std.proofs.Common.{◌≡◌, ap, sym, subst, ℕ, List, [], map, false}
+use Rattle.std.proofs.Common.{◌≡◌, ap, sym, subst, ◌∙◌, ℕ, List, [], map, false}
 use Rattle.command_replies.specs.Kinds.{given_view}
 use Rattle.node_model.specs.Letters.{letter_input}
 use Rattle.node_model.specs.RouterRows as rows
@@ -12,7 +12,7 @@ use Rattle.router_node.proofs.Heard.{heard_by, notes_so, found}
 use Rattle.reply_model.specs.Outcomes.{Done}
 use Rattle.router_node.proofs.Fates.{dones_noted}
 use Rattle.router_node.specs.Rows.{TookRow}
-use Rattle.router_node.proofs.Rest.{rest_asked, rest_waits}
+use Rattle.router_node.proofs.Rest.{rest_asked, rest_targets, rest_waits}
 use Rattle.router_node.proofs.node.RouterNode.plan_rest.Goals as goal
 
 pub returns : goal.returns
@@ -35,7 +35,9 @@ returns c = λ m kind late news some.
     heard_by r m c.hears.result c.args.time.0 late _ _ _ c.hears.ensures ((λ e. e), q, kind, c.args.ordered, statements, news.before, found r id q news.opened, news.work)
     (notes_so r id q news.opened (letter_input m) letters [] (rows.heard r m) wait c.args.noted kind c.args.ordered statements news.before news.work
     (subst (λ (ds : List Done). TookRow r (letter_input m) letters [] (rows.knows r (rows.heard r m) r.tables
-    (states.replaced (rows.with_work q (wait_view wait) (states.writing kind c.args.ordered statements ds)) r.requests))) news.are
+    (states.replaced (rows.with_work q (wait_view wait) [] (states.writing kind c.args.ordered statements ds)) r.requests))) news.are
     (dones_noted r m id q news.opened news.dones kind c.args.ordered statements news.before news.body news.work letters _ news.news
     (subst (λ (ds : List Done). rows.is_answered c.args.ordered statements ds ≡ false) (sym news.are) some)
-    asked (ap (λ (w : states.Wait). rows.with_work q w (states.writing kind c.args.ordered statements more)) waits))))
+    asked (ap (λ (w : states.Wait). rows.with_work q w [] (states.writing kind c.args.ordered statements more)) waits
+    ∙ ap (λ (ts : List states.Target). rows.with_work q (rows.wait_of r (rows.heard r m) q.namespace (states.writing kind c.args.ordered statements more)) ts (states.writing kind c.args.ordered statements more))
+    (rest_targets r (rows.heard r m) q.count q.namespace kind c.args.ordered statements more)))))

@@ -15,6 +15,6 @@ returns c = λ m is late.
     let r = router_of n in
     let opens = c.as_slice-requests.ensures r.me r.life in
     heard_by r m c.hears_all.result c.args.time.0 late _ _ _ c.hears_all.ensures (λ e. e)
-    (took_learn r m c.args.told c.was_created-made.result c.args.time.0 _ _ c.was_created-made.ensures is late
+    (took_learn r m c.args.told c.in_ok-fates.fates c.args.time.0 _ _ is late (c.in_ok-fates.ensures (rows.heard r m))
     (c.in_ok-mail.ensures ∙ ap (λ (qs : List states.Open). flat_map (λ q. rows.letters_in (next_at r c.args.time.0 c.args.told q)) qs) opens)
     (c.in_ok-replies.ensures ∙ ap (λ (qs : List states.Open). puts_of (flat_map (λ q. rows.replies_in (next_at r c.args.time.0 c.args.told q)) qs)) opens))

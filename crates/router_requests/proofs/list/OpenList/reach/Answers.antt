@@ -1,6 +1,7 @@
 use Rattle.std.proofs.Common.{◌≡◌, ap, ◌∙◌, ◌<◌, length, map, arith}
 use Rattle.node_model.specs.RouterRows.{reached, with_work}
 use Rattle.node_model.specs.States.{Open, replaced}
+use Rattle.read_parts.specs.Parts.{target_view}
 use Rattle.router_requests.specs.Works.{open_view, wait_view}
 use Rattle.router_requests.proofs.Waits.{is_put, not_there, rises_put, was_there}
 use Rattle.router_requests.proofs.list.OpenList.reach.Goals as goal
@@ -18,7 +19,7 @@ returns-then-place-len-clause-opens c = λ router life q found.
     is_put router life c.args.count c.args.self.now.taken c.place-place.result c.args.self.now.requests.items c.index_mut.result.now c.reach.new.self
     c.args.self.now.rising c.place-place.ensures inside c.index_mut.ensures.value c.reach.ensures.count
     ∙ ap (λ (x : Open). replaced x (map (λ p. open_view router life p) c.args.self.now.requests.items))
-    (c.reach.ensures.work router life ∙ ap (λ (x : Open). with_work x (wait_view c.args.wait) (reached c.args.time.0 x.work)) was)
+    (c.reach.ensures.work router life ∙ ap (λ (x : Open). with_work x (wait_view c.args.wait) (map target_view c.args.targets.items) (reached c.args.time.0 x.work)) was)
 
 pub returns-else-place-len-clause-opens : goal.returns-else-place-len-clause-opens
 returns-else-place-len-clause-opens c = λ router life q found.

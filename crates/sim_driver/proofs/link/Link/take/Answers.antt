@@ -3,6 +3,7 @@ use Rattle.driver_steps.specs.Seats.{seat_since}
 use Rattle.pipe_driver.specs.declared.status.Status.TheVariants as statuses
 use Rattle.sim_driver.proofs.Faults.{still}
 use Rattle.sim_driver.proofs.LinkAsks.{link_asked, link_cut, link_unfed}
+use Rattle.driver_steps.proofs.DiskNotes.{no_more}
 use Rattle.sim_driver.proofs.link.Link.take.Goals as goal
 
 pub returns-in-Err-clause-cut : goal.returns-in-Err-clause-cut
@@ -30,3 +31,6 @@ returns-clause-asked g c asks since w handed router s e =
     let whole = c.in-Ok.ensures.taken.0 ∙ ap (λ f. f.bytes ++ c.args.bytes.now) c.replace-framer.ensures.value in
     rw (← c.self.view_is) (link_asked (seat_since g.N.Node.state g.L.Log.facts since) _ w c.args.at _ _ _ c.feed.new.self.bytes whole _ handed _ _ _ _
     c.if-asked.false (c.in-Ok-ask_all.ensures.asked asks since w handed router s))
+
+pub returns-in-Err-clause-noted : goal.returns-in-Err-clause-noted
+returns-in-Err-clause-noted g c shown = no_more (g.K.Sink.noted c.args.out.now)

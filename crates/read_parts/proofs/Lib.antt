@@ -1,0 +1,3 @@
+pub mod Come
+mod Gathered
+mod Owners

@@ -1,0 +1,32 @@
+use Rattle.std.proofs.Common.{◌≡◌, ap, ◌∙◌, ◌<◌, length, map, arith}
+use Rattle.node_model.specs.RouterRows.{with_part}
+use Rattle.node_model.specs.States.{Open, replaced}
+use Rattle.protocol_model.specs.Bodies.{rows_view}
+use Rattle.router_requests.specs.Works.{open_view}
+use Rattle.router_requests.proofs.Rooms.{room_there}
+use Rattle.router_requests.proofs.Waits.{is_put, not_there, rises_put, was_there}
+use Rattle.router_requests.proofs.list.OpenList.note_part.Goals as goal
+
+pub invariant_of-self : goal.invariant_of-self
+invariant_of-self c =
+    let inside : c.place-place.result < length c.args.self.now.requests.items = omega (arith, c.if-place-len.true, c.len.ensures, c.args.self.now.requests.ok.0) in record {
+      rising = rises_put c.args.count c.args.self.now.taken c.place-place.result c.args.self.now.requests.items c.index_mut.result.now c.note.new.self c.args.self.now.rising c.place-place.ensures inside c.index_mut.ensures.value c.note.ensures.count;
+    }
+
+pub note-requires : goal.note-requires
+note-requires c =
+    let inside : c.place-place.result < length c.args.self.now.requests.items = omega (arith, c.if-place-len.true, c.len.ensures, c.args.self.now.requests.ok.0) in
+    record { room = room_there c.args.count c.place-place.result c.args.self.now.requests.items c.index_mut.result.now c.requires.room c.place-place.ensures inside c.index_mut.ensures.value }
+
+pub returns-then-place-len-clause-opens : goal.returns-then-place-len-clause-opens
+returns-then-place-len-clause-opens c = λ router life q found.
+    let inside : c.place-place.result < length c.args.self.now.requests.items = omega (arith, c.if-place-len.true, c.len.ensures, c.args.self.now.requests.ok.0) in
+    let was : open_view router life c.index_mut.result.now ≡ q = was_there router life c.args.count c.place-place.result c.args.self.now.requests.items c.index_mut.result.now q c.place-place.ensures inside c.index_mut.ensures.value found in
+    is_put router life c.args.count c.args.self.now.taken c.place-place.result c.args.self.now.requests.items c.index_mut.result.now c.note.new.self
+    c.args.self.now.rising c.place-place.ensures inside c.index_mut.ensures.value c.note.ensures.count
+    ∙ ap (λ (x : Open). replaced x (map (λ p. open_view router life p) c.args.self.now.requests.items))
+    (c.note.ensures.part router life ∙ ap (λ (x : Open). with_part x c.args.shard.0 (rows_view c.args.told)) was)
+
+pub returns-else-place-len-clause-opens : goal.returns-else-place-len-clause-opens
+returns-else-place-len-clause-opens c = λ router life q found.
+    absurd (not_there router life c.args.count c.args.self.now.requests.items q (omega (arith, c.if-place-len.false, c.place-place.ensures, c.len.ensures, c.args.self.now.requests.ok.0)) found)

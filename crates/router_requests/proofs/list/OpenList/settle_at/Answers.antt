@@ -1,0 +1,54 @@
+use Rattle.std.proofs.Common.{◌≡◌, ap, sym, ◌∙◌, [], ◌∷◌, suc, ◌+◌, ◌<◌, List, length, arith}
+use Rattle.std.specs.List.{slice_set}
+use Rattle.node_model.specs.States.{Open}
+use Rattle.router_requests.specs.Fates.{fate_of}
+use Rattle.router_requests.specs.Turns.{settled}
+use Rattle.router_requests.specs.Works.{open_view}
+use Rattle.router_requests.specs.declared.fates.Fate.{Fate}
+use Rattle.router_requests.specs.declared.work.OpenRequest.{OpenRequest}
+use Rattle.router_requests.proofs.Places.{rises_removed}
+use Rattle.router_requests.proofs.Turns.{settled_leaves, settled_past, settled_put, settled_stays}
+use Rattle.router_requests.proofs.Waits.{rises_at}
+use Rattle.router_requests.proofs.list.OpenList.settle_at.Goals as goal
+
+pub invariant_of-self : goal.invariant_of-self
+invariant_of-self c =
+    let inside : c.args.place < length c.args.self.now.requests.items = omega (arith, c.if-place-len.false, c.len.ensures, c.args.self.now.requests.ok.0) in record {
+      rising = rises_at 0 c.args.self.now.taken c.args.place c.args.self.now.requests.items c.index_mut.result.now c.wait_for_shards.new.self c.args.self.now.rising inside c.index_mut.ensures.value c.wait_for_shards.ensures.count;
+    }
+
+pub invariant_of-self-in-Leaves : goal.invariant_of-self-in-Leaves
+invariant_of-self-in-Leaves c = record {
+  rising = rw c.remove.ensures.items (rises_removed 0 c.args.self.now.taken c.args.place c.args.self.now.requests.items c.args.self.now.rising);
+}
+
+pub returns-then-place-len-clause-opens : goal.returns-then-place-len-clause-opens
+returns-then-place-len-clause-opens c = λ router life fates.
+    settled_past (λ (q : OpenRequest). open_view router life q) c.args.self.now.requests.items c.args.place fates (c.args.fate ∷ fates)
+    (omega (arith, c.if-place-len.true, c.len.ensures, c.args.self.now.requests.ok.0))
+
+pub returns-in-Stays-clause-opens : goal.returns-in-Stays-clause-opens
+returns-in-Stays-clause-opens c = λ router life fates.
+    let items = c.args.self.now.requests.items in
+    let inside : c.args.place < length items = omega (arith, c.if-place-len.false, c.len.ensures, c.args.self.now.requests.ok.0) in
+    let plus : c.args.place + 1 ≡ suc c.args.place = omega arith in
+    ap (λ n. settled (λ (q : OpenRequest). open_view router life q) n items fates) plus
+    ∙ settled_stays (λ (q : OpenRequest). open_view router life q) items c.args.place fates inside
+    ∙ ap (λ (f : Fate). settled (λ (q : OpenRequest). open_view router life q) c.args.place items (f ∷ fates)) (sym c.in-Stays.is)
+
+pub returns-in-GoesOn-clause-opens : goal.returns-in-GoesOn-clause-opens
+returns-in-GoesOn-clause-opens c = λ router life fates.
+    let items = c.args.self.now.requests.items in
+    let inside : c.args.place < length items = omega (arith, c.if-place-len.false, c.len.ensures, c.args.self.now.requests.ok.0) in
+    let plus : c.args.place + 1 ≡ suc c.args.place = omega arith in
+    ap (λ n. settled (λ (q : OpenRequest). open_view router life q) n (slice_set items c.args.place c.wait_for_shards.new.self) fates) plus
+    ∙ settled_put (λ (q : OpenRequest). open_view router life q) items c.args.place c.index_mut.result.now c.wait_for_shards.new.self c.args.fate fates inside c.index_mut.ensures.value
+    (ap (λ (f : Fate). fate_of (open_view router life c.index_mut.result.now) f) c.in-GoesOn.is ∙ ap (λ (q : Open). q ∷ []) (sym (c.wait_for_shards.ensures.waits router life)))
+
+pub returns-in-Leaves-clause-opens : goal.returns-in-Leaves-clause-opens
+returns-in-Leaves-clause-opens c = λ router life fates.
+    let items = c.args.self.now.requests.items in
+    let inside : c.args.place < length items = omega (arith, c.if-place-len.false, c.len.ensures, c.args.self.now.requests.ok.0) in
+    ap (λ (l : List OpenRequest). settled (λ (q : OpenRequest). open_view router life q) c.args.place l fates) c.remove.ensures.items
+    ∙ settled_leaves (λ (q : OpenRequest). open_view router life q) items c.args.place fates inside
+    ∙ ap (λ (f : Fate). settled (λ (q : OpenRequest). open_view router life q) c.args.place items (f ∷ fates)) (sym c.in-Leaves.is)

@@ -1,0 +1,70 @@
+//! What a step sends and returns.
+
+use bson_values::Memory;
+use fixtures::{RowFault, bytes_of, number};
+use node_traits::{Mail, Outputs, ToLink};
+use protocol_model::Message;
+use std::alloc::Global;
+
+/// The messages and the replies of a step.
+#[derive(Drop)]
+pub struct Sent {
+    messages: Vec<Message>,
+    replies: Vec<ToLink>,
+}
+
+/// Returns whether a message is of the kind and for the node that the words name, as `ReadAsk 1`.
+fn is_message(message: &Message, words: &str) -> Result<bool, RowFault> {
+    let Some((kind, to)) = words.split_once(' ') else {
+        return Err(RowFault::Form);
+    };
+    let to: u32 = number(to)?;
+    Ok(message.kind() == kind && message.receiver.0 == to)
+}
+
+/// Returns whether these are the messages that the words name, in order.
+fn are_messages<'a, I: Iterator<Item = &'a str>>(
+    messages: &[Message],
+    words: &mut I,
+) -> Result<bool, RowFault> {
+    for message in messages {
+        let Some(word) = words.next() else {
+            return Ok(false);
+        };
+        if !is_message(message, word)? {
+            return Ok(false);
+        }
+    }
+    Ok(words.next().is_none())
+}
+
+impl Sent {
+    /// Returns what a step sent, or `Memory` if memory runs out.
+    pub fn of(alloc: Global, outputs: Outputs<Message>) -> Result<Sent, Memory> {
+        let mut messages = Vec::new(alloc);
+        outputs.mail.append_to(&mut messages)?;
+        let mut replies = Vec::new(alloc);
+        outputs.replies.append_to(&mut replies)?;
+        Ok(Sent { messages, replies })
+    }
+
+    /// Returns whether it sent just these messages: `KIND NODE`, with commas between.
+    pub fn sends(&self, words: &str) -> Result<bool, RowFault> {
+        if words.is_empty() {
+            return Ok(self.messages.is_empty());
+        }
+        are_messages(&self.messages, &mut words.split(", "))
+    }
+
+    /// Returns whether it returned just this reply, in hexadecimal, or none where there are no digits.
+    pub fn returns(&self, alloc: Global, digits: &str) -> Result<bool, RowFault> {
+        if digits.is_empty() {
+            return Ok(self.replies.is_empty());
+        }
+        let [reply] = self.replies.as_slice() else {
+            return Ok(false);
+        };
+        let wanted = bytes_of(alloc, digits)?;
+        Ok(reply.bytes.as_slice() == wanted.as_slice())
+    }
+}

@@ -1,0 +1,102 @@
+//! Steps of a router.
+
+use crate::messages::{counted, failed, read_part, shown, told};
+use crate::router::{Hosted, first_router};
+use crate::words::read_request;
+use cluster_base::{NodeId, Time, moment_time};
+use fixtures::{RowFault, Rows, field, number};
+use journal_frames::Journal;
+use outside_memory::MemDisk;
+use protocol_model::Input;
+use std::alloc::Global;
+
+/// The router: of a cluster of a catalogue and two shards.
+const ROUTER: NodeId = NodeId(3);
+
+const SHARDS: u32 = 2;
+
+/// One step of a router after another: `VERB WORDS | MORE | MESSAGES | REPLY`; what is empty may be left out. `router` is a new one. Its inputs are
+/// `moment MS`, `asks NUMBER | REQUEST` (whose reply has this number), `table KEY` (that of `d.c`, of which the second shard has the keys from this one on),
+/// `part SHARD COUNT TURN | DOCUMENTS`, `counted SHARD COUNT TURN | NUMBER`, and `fault SHARD COUNT TURN | overflow`, or a number of bytes. Messages are
+/// `KIND NODE`, with commas between, as documents are; requests, documents and replies are in hexadecimal.
+#[derive(Drop)]
+pub struct Steps {
+    hosted: Option<Hosted<Journal<MemDisk>>>,
+    // The router's time.
+    now: Time,
+}
+
+impl Rows for Steps {
+    fn holds(&mut self, alloc: Global, row: &str) -> Result<bool, RowFault> {
+        let (verb, rest) = field(row);
+        let (more, rest) = field(rest);
+        if verb == "router" {
+            return self.begin(alloc);
+        }
+        let input = self.input(alloc, verb, more)?;
+        self.step(alloc, input, rest)
+    }
+}
+
+impl Steps {
+    /// Returns the steps of no router.
+    pub fn new() -> Steps {
+        Steps {
+            hosted: None,
+            now: Time(0),
+        }
+    }
+
+    // Begins with a new router.
+    fn begin(&mut self, alloc: Global) -> Result<bool, RowFault> {
+        self.hosted = first_router(alloc, ROUTER, SHARDS);
+        self.now = Time(0);
+        Ok(self.hosted.is_some())
+    }
+
+    // Returns the input of a row.
+    fn input(&mut self, alloc: Global, verb: &str, more: &str) -> Result<Input, RowFault> {
+        let Some((verb, words)) = verb.split_once(' ') else {
+            return Err(RowFault::Form);
+        };
+        match verb {
+            "moment" => self.moment(words),
+            "asks" => asks(alloc, words, more),
+            "table" => told(alloc, ROUTER, self.now, words),
+            "part" => shown(alloc, ROUTER, self.now, read_part(words)?, more),
+            "counted" => counted(ROUTER, self.now, read_part(words)?, more),
+            "fault" => failed(ROUTER, self.now, read_part(words)?, more),
+            _ => Err(RowFault::Form),
+        }
+    }
+
+    // Returns a moment, which is the router's time then.
+    fn moment(&mut self, words: &str) -> Result<Input, RowFault> {
+        let moment = number(words)?;
+        self.now = moment_time(moment);
+        Ok(Input::Moment(moment))
+    }
+
+    // Takes a step on the input, and returns whether it sent and returned what the row says.
+    fn step(&mut self, alloc: Global, input: Input, row: &str) -> Result<bool, RowFault> {
+        let (messages, reply) = field(row);
+        let Some(hosted) = self.hosted.take() else {
+            return Err(RowFault::Form);
+        };
+        let (hosted, sent) = hosted.step(alloc, input)?;
+        self.hosted = Some(hosted);
+        let sends = sent.sends(messages)?;
+        let returns = sent.returns(alloc, reply)?;
+        Ok(sends && returns)
+    }
+}
+
+// Returns a request that arrives on the first link.
+fn asks(alloc: Global, words: &str, digits: &str) -> Result<Input, RowFault> {
+    let number = number(words)?;
+    Ok(Input::Client {
+        link: 0,
+        number,
+        request: read_request(alloc, digits)?,
+    })
+}
