@@ -17,6 +17,7 @@ import drivers
 import languages
 import reads
 import refusals
+import restart_scripts
 import retries
 import routers
 import scripts
@@ -46,6 +47,7 @@ def main():
     put_file(DATA / "shards.rows", shards.rows())
     put_file(DATA / "starts.rows", starts.rows())
     put_file(DATA / "starts.script.rows", starting_scripts.scripts())
+    put_file(DATA / "restarts.script.rows", restart_scripts.rows())
     put_file(DATA / "drivers.reads.rows", drivers.rows(DATA / "drivers.rows"))
     put_file(SERVED / "links.rows", serving.links_rows())
     put_file(SERVED / "ends.rows", serving.ends_rows())

@@ -1,5 +1,5 @@
 -- The files after a crash in the middle of a call are the journals of one world on its way; the next call may begin on them, and keeps what was acknowledged.
-use Rattle.std.specs.Prelude.{◌≡◌, ◌⊎◌, ℕ, zero, suc, ◌<◌, ◌≤◌, Some, Bool, IsTrue, List, [], ◌∷◌, ◌++◌, length, map}
+use Rattle.std.specs.Prelude.{◌≡◌, ℕ, zero, suc, ◌<◌, ◌≤◌, Some, Bool, IsTrue, List, [], ◌∷◌, ◌++◌, length, map}
 use Rattle.std.specs.List.{slice_get}
 use Rattle.std.proofs.Common.{refl, sym, ap, subst, ◌∙◌, inl, inr, arith, append_assoc}
 use Rattle.std.proofs.lemmas.Bool.{cases_lt}
@@ -11,18 +11,19 @@ use Rattle.journal_frames.specs.Files.{Stands}
 use Rattle.journal_frames.proofs.Unique as unique
 use Rattle.node_model.specs.Journal.{Kept, record_kept}
 use Rattle.node_model.specs.RecordFormat.{spelled}
-use Rattle.node_model.specs.World.{Held, World, journal_at, stands}
-use Rattle.cluster_service.proofs.ServedDisks.{run_count}
+use Rattle.node_model.specs.World.{Held, World, journal_at}
 use Rattle.node_replay.specs.Acknowledged.{KeepsJournals}
+use Rattle.node_replay.specs.Restarts.{stays}
 use Rattle.node_traits.specs.Effects.{AreReadable, spellings}
-use Rattle.restart_laws.specs.Calls.{Reached, this_call}
-use Rattle.restart_laws.proofs.ReachedCalls.{calls_keep_journals, reached_calls_may_go_on}
+use Rattle.restart_laws.specs.Calls.{Reached}
+use Rattle.restart_laws.proofs.ReachedCalls.{reached_calls_may_go_on}
 use Rattle.driver_steps.specs.Crashes.{LeadsTo, Passes}
 use Rattle.driver_steps.specs.Cuts.{Along, AtMostOneMoved, Between, Cut, MightLeave, OneMove}
 use Rattle.driver_steps.specs.Together.{AreFound, AreOfOne}
 use Rattle.driver_steps.proofs.Crashes.{leads_nowhere, leads_on}
 use Rattle.pipe_driver.specs.Acknowledgements.{IsAcknowledged}
 use Rattle.pipe_driver.specs.declared.status.Status.{Status}
+use Rattle.sim_driver.proofs.Plays.{run_count}
 use Rattle.journal_starts.specs.Journals.{AreJournals}
 use Rattle.journal_starts.specs.Starts.{BeginsOnFiles, begins_again}
 use Rattle.journal_starts.proofs.Starts.{starts_are_stored}
@@ -31,7 +32,7 @@ use Rattle.cluster_service.specs.Arguments.{others_of, routers_of}
 use Rattle.cluster_service.specs.Ends.{ends_in}
 use Rattle.cluster_service.specs.Headline.{HeadlineOf}
 use Rattle.cluster_service.specs.declared.arguments.Command.{Command}
-use Rattle.cluster_service.proofs.Composed.{files_of_end, keeps_by, kept_from, leads_to_end, reached_from}
+use Rattle.cluster_service.proofs.Composed.{files_of_end, keeps_by, kept_from, reached_from}
 use Rattle.cluster_service.proofs.SameJournals.{same_journals}
 
 -- ONE WORLD
@@ -242,7 +243,7 @@ module _ {D : Type 0} (place : D → List ℕ) (moment : D → ℕ) (left_at : D
       let routers : ℕ = routers_of command in
       let p = passes might in
       let same : (n : ℕ) → journal_at next.nodes n ≡ journal_at p.world.nodes n =
-      same_journals others routers files next p.world (reached_from others routers files next next again ([], stands next)) (is_reached p.world p.before)
+      same_journals others routers files next p.world (reached_from others routers files next next again ([], stays next)) (is_reached p.world p.before)
       (starts_are_stored others routers files next again) (are_journals p) in
       let had = has_acknowledged place moment left_at output first notes held_before afters end put offset byte ts files p.world after might.left p.has p.behind at in
       let kept = kept_from p.world next w same (keeps_by next w leads) at in

@@ -1,13 +1,13 @@
 -- Two calls, one after the other: the next one may begin on the files that the first one left, and keeps what they store.
-use Rattle.std.specs.Prelude.{◌≡◌, ℕ, List, [], ◌+◌, ◌++◌, Bool, IsTrue, map}
+use Rattle.std.specs.Prelude.{◌≡◌, ℕ, List, [], ◌+◌, ◌++◌, Bool, IsTrue}
 use Rattle.std.proofs.Common.{ap, ◌∙◌}
 use Rattle.outside.specs.Devices.{SourceCall, SinkCall}
 use Rattle.node_model.specs.Journal.{Kept}
-use Rattle.node_model.specs.World.{Event, Run, World, goes, journal_at, stands, start}
+use Rattle.node_model.specs.World.{World, journal_at}
 use Rattle.node_replay.specs.Acknowledged.{KeepsJournals}
-use Rattle.node_replay.specs.Restarts.{RunWithStops, occurs, proceeds, stays, whole_event}
-use Rattle.restart_laws.specs.Calls.{Reached, next_call, this_call}
-use Rattle.restart_laws.proofs.ReachedCalls.{calls_keep_journals, reached_calls_may_go_on}
+use Rattle.node_replay.specs.Restarts.{stays}
+use Rattle.restart_laws.specs.Calls.{Reached, next_call, this_call, wholes}
+use Rattle.restart_laws.proofs.ReachedCalls.{calls_keep_journals, reached_calls_may_go_on, run_whole}
 use Rattle.driver_steps.specs.Crashes.{LeadsTo}
 use Rattle.pipe_driver.specs.Endings.{most_taken}
 use Rattle.pipe_driver.specs.declared.status.Status.{Status}
@@ -23,28 +23,25 @@ use Rattle.cluster_service.specs.declared.arguments.Command.{Command}
 use Rattle.cluster_service.specs.declared.arguments.Command.TheVariants.{Pipe, Sim, Serve}
 use Rattle.cluster_service.proofs.SameJournals.{same_journals}
 
--- a run is one in which no node stops
-whole_run : (u w : World) (events : List Event) → Run u events w → RunWithStops u (map whole_event events) w
-whole_run _ _ _ (stands w) = stays w
-whole_run _ _ _ (goes u v w e events h more) = proceeds u v w (whole_event e) (map whole_event events) (occurs u v e h) (whole_run v w events more)
-
 -- a run loses nothing that is stored
 pub keeps_by : (u w : World) → LeadsTo u w → KeepsJournals u w
-keeps_by u w leads = calls_keep_journals u w (this_call w (map whole_event leads.0) (whole_run u w leads.0 leads.1))
+keeps_by u w leads = calls_keep_journals u w (this_call w leads.0 leads.1)
 
 -- calls lead to what a call leads to that begins on files
 pub reached_from : (others routers : ℕ) (files : List (List ℕ)) (first w : World) → BeginsOnFiles others routers files first → LeadsTo first w
     → Reached others routers w
 reached_from others routers files _ w (begins_new are) (events, run) =
-    this_call w (map whole_event events) (whole_run (start others routers) w events run)
+    this_call w events run
 reached_from others routers files _ w (begins_again u first reached are b) (events, run) =
-    next_call u first w (map whole_event events) reached b (whole_run first w events run)
+    next_call u first w events reached b run
 
 module _ (tells : Bool) (files_after : List (List ℕ)) (first : World) (source : SourceCall) (sink : SinkCall) (leaves : World → Type 0)
     (owed : World → List ℕ → Type 0) (gives : ℕ → Type 0) (ending : Status) (rest : ℕ) where
   pub leads_to_end : (command : Command) (headline : HeadlineOf command first source sink tells files_after leaves owed gives ending rest)
       → LeadsTo first (ends_in command _ _ _ _ _ _ _ _ _ _ headline)
-  leads_to_end (Pipe shards) headline = piped_run source sink gives (1 + shards) _ leaves owed first most_taken ending rest headline.piped
+  leads_to_end (Pipe shards) headline =
+      let run = piped_run source sink gives (1 + shards) _ leaves owed first most_taken ending rest headline.piped in
+      (wholes run.0, run_whole first headline.piped.end run.0 run.1)
   leads_to_end (Sim shards routers) headline = simulated_run source sink (1 + shards) _ leaves owed first most_taken ending headline.simulated
   leads_to_end (Serve server) headline = absurd headline
 
@@ -85,7 +82,7 @@ acknowledged_goes_on tells command files files_after first source sink leaves ow
     let reached : Reached others routers end = reached_from others routers files first end begins
     (leads_to_end tells files_after first source sink leaves owed gives ending rest command headline) in
     let same : (at : ℕ) → journal_at next.nodes at ≡ journal_at end.nodes at =
-    same_journals others routers files_after next end (reached_from others routers files_after next next again ([], stands next)) reached
+    same_journals others routers files_after next end (reached_from others routers files_after next next again ([], stays next)) reached
     (starts_are_stored others routers files_after next again)
     (files_of_end tells files_after first source sink leaves owed gives ending rest told command headline) in
     kept_from end next w same (keeps_by next w leads)

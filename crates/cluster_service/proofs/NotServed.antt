@@ -28,6 +28,8 @@ use Rattle.cluster_service.specs.declared.arguments.Command.TheVariants.{Pipe, S
 use Rattle.cluster_service.specs.declared.status.Status.{Status}
 use Rattle.cluster_service.specs.declared.status.Status.TheVariants as statuses
 use Rattle.cluster_service.proofs.Answered.{all_played, all_served}
+use Rattle.restart_laws.specs.Calls.{wholes}
+use Rattle.restart_laws.proofs.ReachedCalls.{run_whole}
 use Rattle.cluster_service.proofs.OneHistories.{one_history}
 
 -- no request was served, and no node was opened
@@ -53,7 +55,7 @@ module _ (source : SourceCall) (sink : SinkCall) (tells : Bool) (files_after : L
     piped = piped;
     history =
         let run = piped_run source sink gives router (λ nodes. IsTrue tells → AreJournals files_after nodes) leaves owed first most_taken ending rest piped in
-        one_history first begins run.0 piped.end run.1;
+        one_history first begins (wholes run.0) piped.end (run_whole first piped.end run.0 run.1);
     answered = λ ended. (all_served most_taken _ piped.taken piped.fault _ _ _ ending piped.cause ended).answered;
   }
 
@@ -65,10 +67,14 @@ module _ (source : SourceCall) (sink : SinkCall) (tells : Bool) (files_after : L
     history =
         let run = simulated_run source sink first_router (λ nodes. IsTrue tells → AreJournals files_after nodes) leaves owed first most_taken ending simulated in
         one_history first begins run.0 simulated.end run.1;
-    answered = λ ended last.
+    answered = λ ended last none.
         let all =
         all_played first_router first most_taken _ simulated.taken simulated.lines simulated.left simulated.put simulated.end ending simulated.cause ended in
-        all.answered last;
+        all.answered last none;
+    answered_after = λ ended last.
+        let all =
+        all_played first_router first most_taken _ simulated.taken simulated.lines simulated.left simulated.put simulated.end ending simulated.cause ended in
+        (all.events, all.answered_after last);
     no_rest = none;
   }
 

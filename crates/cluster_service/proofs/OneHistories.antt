@@ -1,14 +1,15 @@
 -- What the nodes store after a run is one history.
 use Rattle.std.specs.Prelude.{List}
-use Rattle.node_model.specs.World.{World, Event, Run}
+use Rattle.node_model.specs.World.{World, start}
+use Rattle.node_replay.specs.Restarts.{EventOrStop, RunWithStops}
+use Rattle.restart_laws.specs.Calls.{Reached}
+use Rattle.restart_laws.proofs.ReachedCalls.{calls_proceed, reached_calls_keep_changes, reached_calls_make_one_history, reached_calls_own_journals}
 use Rattle.node_progress.specs.Firsts.{IsFirst}
-use Rattle.node_laws.proofs.OneJournal.{journals_are_own}
-use Rattle.node_laws.proofs.Runs.{makes_one_history}
-use Rattle.node_laws.proofs.StepsKeep.{run_keeps}
-use Rattle.node_progress.proofs.Firsts.{first_true}
+use Rattle.sim_driver.proofs.Plays.{first_reached}
 use Rattle.cluster_service.specs.Headline.{MakesOneHistory}
 
-pub one_history : (first : World) → IsFirst first → (events : List Event) (w : World) → Run first events w → MakesOneHistory w
+pub one_history : (first : World) → IsFirst first → (events : List EventOrStop) (w : World) → RunWithStops first events w → MakesOneHistory w
 one_history first begins events w run =
-    let kept = run_keeps first w events (first_true first begins) run in
-    (kept.0.good.dated, makes_one_history w kept, journals_are_own w kept.0.book kept.0.good)
+    let r = first_reached first begins in
+    let reached : Reached r.0 r.1 w = calls_proceed (start r.0 r.1) first w events r.2 run in
+    (reached_calls_keep_changes r.0 r.1 w reached, reached_calls_make_one_history r.0 r.1 w reached, reached_calls_own_journals r.0 r.1 w reached)

@@ -32,6 +32,9 @@ use Rattle.cluster_service.proofs.Counts.{all_still, one_of_them_rose}
 use Rattle.cluster_service.proofs.Crashes.{all_weaker, at_place, leaves_then, left_alone, of_the_first, seats_leave}
 use Rattle.cluster_service.proofs.Firsts.{happens_count}
 use Rattle.cluster_service.proofs.SeatFacts.{kept_in_files}
+use Rattle.node_replay.specs.Restarts.{stays}
+use Rattle.restart_laws.specs.Calls.{wholes}
+use Rattle.restart_laws.proofs.ReachedCalls.{run_whole}
 use Rattle.cluster_service.proofs.OneHistories.{one_history}
 use Rattle.cluster_service.proofs.Served.{IsAfter, after_calm, after_later, after_places, after_rose, all_by_place, each_was, in_pairs, none_failed_at, opened_as}
 
@@ -45,7 +48,7 @@ pub told_placed : {N D X : Type 0} (f : D → X) (disks : List D) (placed : List
 told_placed {N = N} {D = D} f disks placed is =
     ap (λ (ds : List D). map f ds) is ∙ mapped_twice f (λ (p : Placed N (JournalView D)). p.seat.log.disk) placed
 
-pub run_count : (u : World) (events : List Event) (w : World) → Run u events w → length w.nodes ≡ length u.nodes
+run_count : (u : World) (events : List Event) (w : World) → Run u events w → length w.nodes ≡ length u.nodes
 run_count _ _ _ (stands w) = refl
 run_count _ _ _ (goes u v w e events h run) = run_count v events w run ∙ happens_count u v e h
 
@@ -80,7 +83,7 @@ none_served meaning bytes first tells failed files moment left_at befores afters
   journals_up_to = λ told at file got. (first, inl refl, journal_there files first.nodes (are told) at file got);
   crashes = λ never. left;
   crashes_up_to = up_to_end first tells moment left_at befores afters first left;
-  history = one_history first begins [] first (stands first);
+  history = one_history first begins [] first (stays first);
   served = tt;
 }
 
@@ -276,6 +279,6 @@ module _ {N D : Type 0} (state : N → NodeState) (tells : Bool) (content : D �
     journals_up_to = served_up_to steps letter meaning placed s.events s.world s.run from s.nodes count disks are;
     crashes = λ never. served_leave steps letter meaning placed s.events s.world s.run from s.nodes count disks are (λ some. never (where_it some)) befores early;
     crashes_up_to = served_leave_up_to steps letter meaning placed s.events s.world s.run from s.nodes count disks are befores early;
-    history = one_history first begins s.events s.world s.run;
+    history = one_history first begins (wholes s.events) s.world (run_whole first s.world s.events s.run);
     served = s.links_are;
   }

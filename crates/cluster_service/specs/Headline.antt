@@ -5,12 +5,13 @@ use Rattle.node_model.specs.Journal.{changes_kept}
 use Rattle.node_model.specs.OneHistory.{OneHistory}
 use Rattle.node_model.specs.Accounts.{changes_in}
 use Rattle.node_model.specs.World.{World, journal_at, account_of}
+use Rattle.node_replay.specs.Restarts.{EventOrStop}
 use Rattle.restart_laws.specs.Calls.{HaveOwnEntries}
 use Rattle.node_progress.specs.Completion.{AreAnswered}
 use Rattle.pipe_driver.specs.Endings.{IsPiped, most_taken}
 use Rattle.pipe_driver.specs.declared.status.Status.{Status}
 use Rattle.pipe_driver.specs.declared.status.Status.TheVariants as statuses
-use Rattle.sim_driver.specs.Simulations.{EndInSettle, IsSimulated}
+use Rattle.sim_driver.specs.Simulations.{AreAnsweredAfterRestarts, EndInSettle, HaveNoRestart, IsSimulated}
 use Rattle.journal_starts.specs.Journals.{AreJournals}
 use Rattle.cluster_service.specs.declared.arguments.Command.{Command}
 use Rattle.cluster_service.specs.declared.arguments.Command.TheVariants.{Pipe, Sim, Serve}
@@ -36,12 +37,15 @@ pub record Headline (router : ℕ) (first : World) (source : SourceCall) (sink :
 
 -- The bytes taken are lines of a script and a rest, and the bytes put are what a run of the nodes from the first world on prints, of the events that the
 -- lines say; the nodes from this number on are routers. What their journals keep is one history too, in whatever order the script delivers. Where the script
--- was played to its end, and its last line is `settle`, every request that was taken since the first world is answered.
+-- was played to its end, and its last line is `settle`, every request that was taken since the first world is answered, if no line starts a node again, and
+-- otherwise every one that was taken since the last such line.
 pub record ScriptHeadline (first_router : ℕ) (first : World) (source : SourceCall) (sink : SinkCall) (tells : Bool) (files : List (List ℕ))
     (leaves : World → Type 0) (owed : World → List ℕ → Type 0) (status : Status) (rest : ℕ) : Type 0 where
   pub simulated : IsSimulated source sink first_router (λ nodes. IsTrue tells → AreJournals files nodes) leaves owed first most_taken status
   pub history : MakesOneHistory simulated.end
-  pub answered : status ≡ statuses.InputEnded → EndInSettle simulated.lines → AreAnswered first simulated.end
+  pub answered : status ≡ statuses.InputEnded → EndInSettle simulated.lines → HaveNoRestart simulated.lines → AreAnswered first simulated.end
+  pub answered_after : status ≡ statuses.InputEnded → EndInSettle simulated.lines
+      → (events : List EventOrStop) × AreAnsweredAfterRestarts first_router first simulated.lines events simulated.end
   pub no_rest : rest ≡ 0
 
 -- by the command, which is no server, of a run from the first world on

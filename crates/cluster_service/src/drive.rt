@@ -1,8 +1,9 @@
 //! The drivers of the nodes.
 
-ghost use Rattle.std.specs.Prelude.{◌≡◌, ◌≢◌, ◌<◌, vec_len};
+ghost use Rattle.std.specs.Prelude.{◌≡◌, ◌≢◌, ◌<◌, IsTrue, vec_len};
 ghost use Rattle.outside.specs.Devices.{sink_call, source_call};
 ghost use Rattle.node_model.specs.World.{World};
+ghost use Rattle.driver_steps.specs.Restarts.{HaveParts};
 ghost use Rattle.driver_steps.specs.Seats.{AreHeld, AreKept, AreOpen, LeaveKept, faults_of, places_of, seat_since, seat_view, since_noted, since_then};
 ghost use Rattle.driver_steps.specs.Together.{hosted};
 ghost use Rattle.pipe_driver.specs.Acknowledgements.{AreAcknowledgedBy};
@@ -14,7 +15,7 @@ ghost use Rattle.cluster_service.specs.Arguments.{IsServer, first_router_of};
 ghost use Rattle.cluster_service.specs.Drivers.{IsDriven, output_of};
 
 use crate::arguments::Command;
-use driver_steps::Seat;
+use driver_steps::{Opens, Seat};
 use node_traits::Node;
 use opmsg_frames::Request;
 use outside::clock::Clock;
@@ -31,7 +32,7 @@ use std::thread::Threads;
 const MOST_TAKEN: u64 = 1 << 40;
 
 /// Serves one connection, or plays a script, as the command says, which is no server, by the nodes in order of their numbers, whose logs are open and keep what
-/// they keep in the world that the call begins in.
+/// they keep in the world that the call begins in. A node that stops in a line of a script is opened again by `opener`.
 pub fn drive<
     R: Threads + Sync,
     N: Node<Request = Request>,
@@ -39,8 +40,10 @@ pub fn drive<
     S: Source,
     K: Witness<L::Of>,
     C: Clock,
+    O: Opens<N, L>,
 >(
     rt: &R,
+    opener: &O,
     alloc: Global,
     command: Command,
     input: &mut S,
@@ -51,7 +54,8 @@ pub fn drive<
     requires at { first_router_of command < vec_len seats.old }
     requires driver { ¬ IsServer command }
     requires open { AreOpen L.facts.is_open seats.old.items }
-    ensures driven { AreAskedAsRead N.asks → (first : World) → MayPlay (first_router_of command) first →
+    ensures driven { AreAskedAsRead N.asks → IsTrue L.facts.tells → (first : World) → MayPlay (first_router_of command) first →
+        HaveParts (O.part opener.now) first.nodes →
         AreHeld (seat_view N.state L.facts) seats.old.items first.nodes →
         IsDriven command first (source_call S.tells S.left S.fault_count input.old input.new) (sink_call K.tells K.held K.fault_count out.old out.new)
         (C.gives clock.now) (AreKept (seat_view N.state L.facts) seats.new.items)
@@ -80,7 +84,16 @@ pub fn drive<
             MOST_TAKEN,
         ),
         Command::Sim { .. } => Ending {
-            status: simulate(rt, alloc, input, out, seats, first_router, MOST_TAKEN),
+            status: simulate(
+                rt,
+                opener,
+                alloc,
+                input,
+                out,
+                seats,
+                first_router,
+                MOST_TAKEN,
+            ),
             rest: 0,
         },
         Command::Serve(_) => unreachable!(),

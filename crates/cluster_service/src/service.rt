@@ -4,6 +4,7 @@ ghost use Rattle.std.specs.Prelude.{◌≡◌, ◌≢◌, ◌<◌, ◌≤◌, []
 ghost use Rattle.std.specs.List.{AllByRecursion};
 ghost use Rattle.outside.specs.Devices.{NoneFell, sink_call, source_call};
 ghost use Rattle.journal_frames.specs.Files.{Stands};
+ghost use Rattle.driver_steps.specs.Restarts.{HaveParts};
 ghost use Rattle.node_model.specs.World.{World, journal_at};
 ghost use Rattle.node_traits.specs.Effects.{spellings};
 ghost use Rattle.pipe_driver.specs.Counts.{RoseWhere};
@@ -22,6 +23,7 @@ use crate::drive::drive;
 use crate::journals::close_all;
 use crate::seats::{put_in, take_disks};
 use crate::status::Status;
+use driver_steps::Opens;
 use journal_frames::Journal;
 use node_traits::Node;
 use opmsg_frames::Request;
@@ -55,7 +57,7 @@ pub fn unserved<D: Drop>(status: Status, disks: Vec<D>) -> RunEnd<D>
 }
 
 /// Serves one connection, or plays a script, to its end, by nodes in order of their numbers, with their journals, which are open. `back` is an empty vector
-/// with room for the disks.
+/// with room for the disks. A node that stops in a line of a script is opened again by `opener`.
 pub fn serve<
     R: Threads + Sync,
     N: Node<Request = Request>,
@@ -63,8 +65,10 @@ pub fn serve<
     D: Disk,
     K: Witness<D>,
     C: Clock,
+    O: Opens<N, Journal<D>>,
 >(
     rt: &R,
+    opener: &O,
     alloc: Global,
     command: Command,
     input: &mut S,
@@ -84,7 +88,8 @@ pub fn serve<
 
     // The headline, in each world that a call may begin in, whose nodes these are, and which has stored what the journals have. `disks` are those of before
     // the journals were opened.
-    ensures headline { AreAskedAsRead N.asks → (first : World) → MayPlay (first_router_of command) first →
+    ensures headline { AreAskedAsRead N.asks → IsTrue D.tells → (first : World) → MayPlay (first_router_of command) first →
+        HaveParts (O.part opener.now) first.nodes →
         map N.state nodes.items ≡ map (λ h. h.state) first.nodes →
         AreOpenWith D.tells D.content journals.items first.nodes → (disks : List D) →
         (IsTrue D.tells → LeaveSuch D.moment D.left_at (λ at file. Stands file (spellings (journal_at first.nodes at))) disks (disks_of journals.items)) →
@@ -110,7 +115,7 @@ pub fn serve<
         return unserved(Status::OutOfMemory, back);
     }
     put_in(&mut seats, nodes, journals);
-    let ending = drive(rt, alloc, command, input, out, &mut seats, clock);
+    let ending = drive(rt, opener, alloc, command, input, out, &mut seats, clock);
     take_disks(seats, &mut back);
     RunEnd {
         status: Status::of(ending.status),

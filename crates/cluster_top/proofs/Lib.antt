@@ -1,3 +1,4 @@
 pub mod Asked
+pub mod Openers
 pub mod Refused
 pub mod SomeWorld

@@ -1,6 +1,7 @@
 //! The top call of the cluster: it takes the bytes of connections, or of a script, and returns bytes.
 #![tactic(auto)]
 
+mod opener;
 mod service;
 mod threads;
 mod top;

@@ -17,6 +17,7 @@ ghost use Rattle.journal_starts.specs.Records.{AreRefused};
 ghost use Rattle.journal_starts.specs.Starts.{BeginsOnFiles};
 ghost use Rattle.journal_replay.specs.declared.fault.OpenFault.TheVariants.{Refused};
 
+use crate::opener::Opener;
 use cluster_service::{
     AllUnopened, Command, Opened, RunEnd, Status, close_all, open_all, serve, unserved,
 };
@@ -153,7 +154,14 @@ fn run_opened<R: Threads + Sync, S: Source, D: Disk, K: Witness<D>, C: Clock>(
         mut back,
     } = opened;
     match open_nodes(alloc, command.shards(), found) {
-        Ok(nodes) => serve(rt, alloc, command, input, out, nodes, journals, back, clock),
+        Ok(nodes) => {
+            let opener = Opener {
+                shards: command.shards(),
+            };
+            serve(
+                rt, &opener, alloc, command, input, out, nodes, journals, back, clock,
+            )
+        },
         Err(fault) => {
             close_all(journals, &mut back);
             unserved(status_of(fault), back)

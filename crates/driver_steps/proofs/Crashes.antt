@@ -8,9 +8,10 @@ use Rattle.outside.specs.Logs.{IsDurable, LogFacts, WithOrWithout}
 use Rattle.node_model.specs.Journal.{Kept, record_kept}
 use Rattle.node_model.specs.RecordFormat.{spelled}
 use Rattle.node_model.specs.States.{NodeState}
-use Rattle.node_model.specs.World.{Held, World, Event, stands, Happens, goes, journal_at}
+use Rattle.node_model.specs.World.{Held, World, Event, Happens, journal_at}
 use Rattle.node_model.proofs.Journals.{journal_got}
-use Rattle.node_model.proofs.Schedules.{run_then}
+use Rattle.node_replay.specs.Restarts.{EventOrStop, Occurs, occurs, whole_event, proceeds, stays}
+use Rattle.restart_laws.proofs.ReachedCalls.{stops_then}
 use Rattle.node_traits.specs.Calls.{LeavesThen}
 use Rattle.node_traits.specs.Effects.{spellings}
 use Rattle.driver_steps.specs.declared.seat.Seat.{Seat}
@@ -21,13 +22,16 @@ use Rattle.driver_steps.proofs.Seats.{HeldAt, held_at}
 -- THE WAY
 
 pub leads_nowhere : (w : World) → LeadsTo w w
-leads_nowhere w = ([], stands w)
+leads_nowhere w = ([], stays w)
+
+pub leads_through : (e : EventOrStop) (v w : World) → Occurs v e w → LeadsTo v w
+leads_through e v w h = (e ∷ [], proceeds v w w e [] h (stays w))
 
 pub leads_by : (e : Event) (v w : World) → Happens v e w → LeadsTo v w
-leads_by e v w h = (e ∷ [], goes v w w e [] h (stands w))
+leads_by e v w h = leads_through (whole_event e) v w (occurs v w e h)
 
 pub leads_on : (u v w : World) → LeadsTo u v → LeadsTo v w → LeadsTo u w
-leads_on u v w first more = (first.0 ++ more.0, run_then u first.0 v more.0 w first.1 more.1)
+leads_on u v w first more = (first.0 ++ more.0, stops_then u v w first.0 more.0 first.1 more.1)
 
 passes_on : (u v w : World) (P : World → Type 0) → Passes u v P → LeadsTo v w → Passes u w P
 passes_on u v w P p on = record { world = p.world; before = p.before; behind = leads_on p.world v w p.behind on; has = p.has }

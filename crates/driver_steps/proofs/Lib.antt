@@ -3,7 +3,9 @@ pub mod Cuts
 pub mod DiskNotes
 pub mod Moments
 pub mod Moves
+pub mod StoppedNodes
 pub mod Runs
 pub mod Seats
 pub mod Stepping
+pub mod Stops
 pub mod Together

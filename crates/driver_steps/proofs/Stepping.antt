@@ -41,7 +41,7 @@ puts_answered now [] = refl
 puts_answered now (r ∷ replies) =
     ap (λ (l : List ToLink). if r.request.more then l else record { link = r.link; bytes = put_by r } ∷ l) (puts_answered now replies)
 
-readable_append : (kept more : List Kept) → AreReadable kept → AreReadable more → AreReadable (kept ++ more)
+pub readable_append : (kept more : List Kept) → AreReadable kept → AreReadable more → AreReadable (kept ++ more)
 readable_append [] more all rest = rest
 readable_append (k ∷ kept) more all rest = (all.0, readable_append kept more all.1 rest)
 

@@ -8,6 +8,7 @@ use Rattle.std.specs.Prelude.{Some}
 use Rattle.std.specs.List.{slice_get, slice_set}
 use Rattle.outside.specs.Logs.{LogFacts, WithOrWithout}
 use Rattle.outside.specs.Notes.{Note}
+use Rattle.node_model.specs.Journal.{Kept}
 use Rattle.node_model.specs.Letters.{Input, Letter}
 use Rattle.node_model.specs.States.{NodeState}
 use Rattle.node_model.specs.World.{Held, Moves, World}
@@ -278,6 +279,38 @@ module _ {N L : Type 0} (facts : LogFacts L) where
         ∙ set_same (map facts.place (logs_of seats)) at (facts.place s.log)
         (got_map facts.place (logs_of seats) at s.log (got_map (λ (z : Seat N L). z.log) seats at s got))
 
+    -- records were appended to its log, or were to be
+    module _ (v w : World) (more : List Kept) (are : AreOpen facts.is_open seats) (held : AreHeld (seat_since state facts since) seats v.nodes)
+        (led : LeadsTo v w) (whole : IsWhole (log_call facts s.log t.log) (spellings more))
+        (stored : stored_in w ≡ slice_set (stored_in v) at (facts.records s.log ++ spellings more)) (same : facts.place t.log ≡ facts.place s.log)
+        (together : TogetherSince facts since before seats v) where
+      is_row : IsRow (map facts.place since.logs) (map facts.moment (slice_set (logs_of seats) at t.log)) row
+      is_row =
+          subst (λ (logs : List L). IsRow (map facts.place since.logs) (map facts.moment logs) row) (sym logs_set)
+          (row_is (map facts.place since.logs) (slice_set seats at t) length
+          (ap (λ (logs : List L). map facts.place logs) (sym logs_set) ∙ (places_set same ∙ together.leave.places)))
+
+      pub together_grows : TogetherSince facts since now (slice_set seats at t) w
+      together_grows = record {
+        notes = together.notes ++ (row ++ row);
+        taken = more_taken since.taken together.notes row before now together.taken taken;
+        leave = subst (λ (logs : List L). Leave facts since.logs logs since.world w (together.notes ++ (row ++ row))) logs_set
+            (goes_on facts since.logs (logs_of seats) at s.log t.log (spellings more) since.world v w together.notes row row
+            (got_map (λ (z : Seat N L). z.log) seats at s got) (safe_logs told seats are together.durable) (whole told) led
+            (stored_held state since seats v.nodes told held) stored together.leave (places_set same) is_row is_row);
+        durable = durable;
+      }
+
+    -- what the journals store where that of the node at a place has more
+    pub stored_with : (v w : World) (old : Held) (new : NodeState) (more : List Kept) → slice_get v.nodes at ≡ Some old
+        → w.nodes ≡ slice_set v.nodes at (record { state = new; kept = old.kept ++ more }) → facts.records s.log ≡ spellings old.kept
+        → stored_in w ≡ slice_set (stored_in v) at (facts.records s.log ++ spellings more)
+    stored_with v w old new more here nodes written =
+        ap (λ (l : List Held). map (λ (h : Held). spellings h.kept) l) nodes
+        ∙ (map_set (λ (h : Held). spellings h.kept) v.nodes at (record { state = new; kept = old.kept ++ more })
+        ∙ ap (λ (j : List (List ℕ)). slice_set (stored_in v) at j)
+        (spellings_append old.kept more ∙ ap (λ (j : List (List ℕ)). j ++ spellings more) (sym written)))
+
     module _ (v w : World) (i : Input) (are : AreOpen facts.is_open seats) (held : AreHeld (seat_since state facts since) seats v.nodes)
         (moves : Moves v at i w) (led : LeadsTo v w) (whole : IsWhole (log_call facts s.log t.log) (spellings moves.f.written))
         (same : facts.place t.log ≡ facts.place s.log) (together : TogetherSince facts since before seats v) where
@@ -288,30 +321,11 @@ module _ {N L : Type 0} (facts : LogFacts L) where
           let one : place.old ≡ moves.old = cc both in
           place.is.written told ∙ ap (λ (h : Held). spellings h.kept) one
 
-      stored_new : stored_in w ≡ slice_set (stored_in v) at (facts.records s.log ++ spellings moves.f.written)
-      stored_new =
-          ap (λ (x : World). stored_in x) moves.then
-          ∙ (map_set (λ (h : Held). spellings h.kept) v.nodes at (record { state = moves.new; kept = moves.old.kept ++ moves.f.written })
-          ∙ ap (λ (j : List (List ℕ)). slice_set (stored_in v) at j)
-          (spellings_append moves.old.kept moves.f.written ∙ ap (λ (j : List (List ℕ)). j ++ spellings moves.f.written) (sym stored_old)))
-
       -- the node at a place took a step, or was to
       pub together_steps : TogetherSince facts since now (slice_set seats at t) w
-      together_steps = record {
-        notes = together.notes ++ (row ++ row);
-        taken = more_taken since.taken together.notes row before now together.taken taken;
-        leave = subst (λ (logs : List L). Leave facts since.logs logs since.world w (together.notes ++ (row ++ row))) logs_set
-            (goes_on facts since.logs (logs_of seats) at s.log t.log (spellings moves.f.written) since.world v w together.notes row row
-            (got_map (λ (z : Seat N L). z.log) seats at s got) (safe_logs told seats are together.durable) (whole told) led
-            (stored_held state since seats v.nodes told held) stored_new together.leave (places_set same) is_row is_row);
-        durable = durable;
-      }
-        where
-          is_row : IsRow (map facts.place since.logs) (map facts.moment (slice_set (logs_of seats) at t.log)) row
-          is_row =
-              subst (λ (logs : List L). IsRow (map facts.place since.logs) (map facts.moment logs) row) (sym logs_set)
-              (row_is (map facts.place since.logs) (slice_set seats at t) length
-              (ap (λ (logs : List L). map facts.place logs) (sym logs_set) ∙ (places_set same ∙ together.leave.places)))
+      together_steps =
+          together_grows v w moves.f.written are held led whole
+          (stored_with v w moves.old moves.new moves.f.written moves.here (ap (λ (x : World). x.nodes) moves.then) stored_old) same together
 
     -- its log is as it was
     pub together_stays : (w : World) → t.log ≡ s.log → TogetherSince facts since before seats w → TogetherSince facts since now (slice_set seats at t) w

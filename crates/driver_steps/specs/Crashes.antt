@@ -3,7 +3,8 @@ use Rattle.std.specs.Prelude.{◌≡◌, ℕ, ◌≤◌, IsTrue, List, Some}
 use Rattle.std.specs.List.{slice_get}
 use Rattle.outside.specs.Logs.{LogFacts}
 use Rattle.outside.specs.Notes.{Note}
-use Rattle.node_model.specs.World.{World, Event, Run, journal_at}
+use Rattle.node_model.specs.World.{World, journal_at}
+use Rattle.node_replay.specs.Restarts.{EventOrStop, RunWithStops}
 use Rattle.node_traits.specs.Calls.{LeavesThen}
 use Rattle.node_traits.specs.Effects.{spellings}
 
@@ -25,9 +26,9 @@ pub record Since (L : Type 0) : Type 0 where
 abbrev pub with_notes : {L : Type 0} → Since L → List Noted → Since L
 with_notes since noted = record { logs = since.logs; world = since.world; taken = since.taken; noted = noted }
 
--- events lead from one world to another
+-- events lead from one world to another, among which nodes may stop and be started again
 abbrev pub LeadsTo : World → World → Type 0
-LeadsTo first last = (events : List Event) × Run first events last
+LeadsTo first last = (events : List EventOrStop) × RunWithStops first events last
 
 -- they pass a world of which P holds
 pub record Passes (first last : World) (P : World → Type 0) : Type 0 where

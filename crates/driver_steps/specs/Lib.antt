@@ -5,6 +5,7 @@ pub mod Together
 pub mod Worlds
 pub mod Moves
 pub mod OneSeat
+pub mod Restarts
 pub use Rattle.node_model.specs.Schedule
 pub use Rattle.node_model.specs.World
 pub use Rattle.node_traits.specs.Effects

@@ -74,8 +74,8 @@ pub record HasRun {S : Type 0} (view : S → SeatView) (hosted : Hosted S) (netw
   pub stands : StandsFor view hosted network handed end next
 
 -- these are the first of all these events, as far as they go
-abbrev pub BeginWith : (events all : List Event) → Type 0
-BeginWith events all = (others : List Event) × (all ≡ events ++ others)
+abbrev pub BeginWith : {X : Type 0} → (events all : List X) → Type 0
+BeginWith {X} events all = (others : List X) × (all ≡ events ++ others)
 
 abbrev pub IsDelivery : Event → Type 0
 IsDelivery (client_event at link number request) = ⊥

@@ -38,6 +38,12 @@ rest_stands tells content may_leave records end rest t = subst (λ f. Stands f r
 pub rest_durable : (tells : Bool) (content : List ℕ) (may_leave : Outcomes) (records : List (List ℕ)) (end : ℕ) → IsAtRest tells content may_leave records end → IsTrue tells → (c : List ℕ) → may_leave c → Stands c records
 rest_durable tells content may_leave records end rest t c left = subst (λ f. Stands f records) (sym (rest.durable t c left)) (stands_last records 0 rest.fits)
 
+-- the records that are found in it
+pub rest_list : (tells : Bool) (content : List ℕ) (may_leave : Outcomes) (records : List (List ℕ)) (end : ℕ) → IsAtRest tells content may_leave records end
+    → IsTrue tells → (file : List ℕ) (list : List (List ℕ)) → file ≡ content → Stands file list → list ≡ records
+rest_list tells content may_leave records end rest t file list is stands =
+    one_list content list records (subst (λ f. Stands f list) is stands) (rest_stands tells content may_leave records end rest t)
+
 -- a fact of one of two kinds, where a disk has observable content
 pub either_where : (tells : Bool) {A B : Type 0} → (IsTrue tells → A ⊎ B) → (IsTrue tells → A) ⊎ (IsTrue tells → B)
 either_where true either = ⊎_elim (λ a. inl (λ t. a)) (λ b. inr (λ t. b)) (either refl)

@@ -174,6 +174,51 @@ impl<D: Disk> Journal<D> {
         }
     }
 
+    /// Reads the file again: the disk is synced, and its length and its file are read. Returns the records in it, which are those of the journal, and more can be
+    /// appended to it as before.
+    ///
+    /// # Errors
+    /// - `LogFault::Disk` only if the disk met a fault: then nothing can be appended any more.
+    /// - `LogFault::Memory` if memory runs out, and where the file is no journal of these records any more, which is only possible of a disk without observable
+    ///   content.
+    pub fn reopen(&mut self) -> Result<RecordList, LogFault>
+        requires { IsTrue self.old.is_open }
+        ensures found { IfOk result (λ list. IsTrue D.tells → list ≡ self.old.records) }
+        ensures records { IsTrue D.tells → self.new.records ≡ self.old.records }
+        ensures kept { IsTrue D.tells → Stands (D.content self.new.disk) self.old.records }
+        ensures open { OnOk result (IsTrue self.new.is_open) }
+        ensures failed { IfErr result (λ e. ByFault e
+            (λ faults. (faults ≡ D.fault_count self.new.disk) × Rose (D.fault_count self.old.disk) (D.fault_count self.new.disk))
+            (IsTrue self.new.is_open × (D.fault_count self.new.disk ≡ D.fault_count self.old.disk))) }
+        ensures calm { OnOk result (D.fault_count self.new.disk ≡ D.fault_count self.old.disk) }
+        ensures later { D.fault_count self.old.disk ≤ D.fault_count self.new.disk }
+        ensures place { D.place self.new.disk ≡ D.place self.old.disk }
+
+        // A crash at any moment of it results in a file with the same records.
+        ensures any_moment { IsTrue D.tells → LeavesOnly (λ j. D.moment j.disk) (λ j t file. D.left_at j.disk t file) self.old self.new
+            (λ file. Stands file self.old.records) }
+    {
+        let file = match load(self.alloc, &mut self.disk) {
+            Ok(file) => file,
+            Err(LoadFault::Disk) => {
+                self.is_open = false;
+                return Err(LogFault::Disk {
+                    faults: self.disk.faults(),
+                });
+            }
+            Err(LoadFault::Memory) => return Err(LogFault::Memory),
+        };
+        let (records, end) = match scan(self.alloc, &file) {
+            Ok(found) => found,
+            Err(ScanFault::Damage { place: _ }) => return Err(LogFault::Memory),
+            Err(ScanFault::Memory) => return Err(LogFault::Memory),
+        };
+        if end as u64 != self.end {
+            return Err(LogFault::Memory);
+        }
+        Ok(records)
+    }
+
     /// Returns the disk. Where the journal was open, its file is the journal of its records, byte for byte, and every crash results in just this file.
     pub fn into_disk(self) -> D
         ensures disk { result ≡ self.disk }

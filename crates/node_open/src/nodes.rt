@@ -18,7 +18,12 @@ use std::alloc::Global;
 
 /// Returns the node of a number, in a cluster with this number of shards, opened on the records of its journal: node 0 is the catalogue, then the shards
 /// follow, and all after them are routers.
-fn open_node(alloc: Global, shards: u32, me: u32, records: RecordList) -> Result<AnyNode, OpenFault>
+pub fn open_node(
+    alloc: Global,
+    shards: u32,
+    me: u32,
+    records: RecordList,
+) -> Result<AnyNode, OpenFault>
     requires { 1 ≤ shards }
     ensures opened { IfOk result (λ node. IsOpened (part_at (shards - 1) me) records (state_of node)) }
     ensures new { IfOk result (λ node. steps_of node ≡ 0) }

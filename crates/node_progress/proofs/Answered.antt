@@ -21,7 +21,7 @@ use Rattle.node_progress.specs.Completion.{IsAnswered, IsServed, AreAnswered, as
 use Rattle.node_progress.specs.Firsts.{IsFirst}
 use Rattle.node_progress.specs.UnderWay.{IsLeft, IsDelivered, IsNotStale}
 use Rattle.node_progress.proofs.Versions.{IsWell}
-use Rattle.node_progress.proofs.Bags.{changes_made, Bag}
+use Rattle.node_progress.proofs.Bags.{all_of, changes_made, Bag}
 use Rattle.node_progress.proofs.BagRuns.{run_bag}
 use Rattle.node_progress.proofs.Firsts.{first_true, first_rests, first_shards}
 use Rattle.node_progress.proofs.Lives.{TakenSince, taken_since}
@@ -39,7 +39,7 @@ told_in id (t ∷ answered) there = by_place (in_cons id t.id (ids_told answered
     by_place (inr there) later = let x = later there in (x.0, in_later x.0 t answered x.1, x.2)
 
 -- a write that was answered was served whole
-answered_served : (w : World) → StaysTrue w → (a : Asked) → IsIn a w.asked → IsAnswered w.answered a
+pub answered_served : (w : World) → StaysTrue w → (a : Asked) → IsIn a w.asked → IsAnswered w.answered a
     → IsServed (account_of w) a
 answered_served w good a taken done = λ write asks.
     let history : List Entry = history_of w.nodes in
@@ -57,7 +57,7 @@ answered_served w good a taken done = λ write asks.
 
 -- WHERE NO MESSAGE IS LEFT
 
-pub are_answered : (first : World) (left : ℕ → Type 0) (w : World) → StaysTrue w → Bag left w → TakenSince first w
+pub are_answered : (first : World) (left : ℕ → Type 0) (w : World) → StaysTrue w → Bag (all_of left) w → TakenSince first w
     → ((n : ℕ) → n < length w.sent → left n → ⊥) → AreAnswered first w
 are_answered first left w good bag taken none =
     let under = bag_under_way left w good.0.book good.0.good bag first taken in

@@ -28,7 +28,7 @@ use Rattle.node_progress.proofs.RouterWaits.{IsWaiting}
 use Rattle.node_progress.proofs.RouterGoesOn.{IsStated, WaitsForParts, IsReady}
 use Rattle.node_progress.proofs.RouterSends.{WasSent, OpenWasSent}
 use Rattle.node_progress.proofs.Shards.{IsShardIn}
-use Rattle.node_progress.proofs.Bags.{changes_made, OpenGoes, Bag}
+use Rattle.node_progress.proofs.Bags.{Left, changes_made, OpenGoes, Bag}
 
 -- WHAT IS KNOWN OF AN INPUT
 
@@ -39,7 +39,7 @@ IsHere w p i = (m : Letter) → i ≡ letter_input m → (m.receiver ≡ p) × I
 abbrev pub now : World → Book → View
 now w book = view_of w.nodes book
 
-module _ (w : World) (book : Book) (left : ℕ → Type 0) (good : Good w book) (bag : Bag left w) where
+module _ (w : World) (book : Book) (left : Left) (good : Good w book) (bag : Bag left w) where
   pub made : AreMade (greatest_kept (journal_at w.nodes 0)) (changes_in (now w book))
   made = the_begun (now w book) w.asked w.answered w.given w.nodes good.order good.nodes
 

@@ -30,16 +30,16 @@ use Rattle.node_progress.proofs.RouterGoesOn.{IsReady, router_waits}
 use Rattle.node_progress.proofs.RouterSends.{OpenWasSent, router_well}
 use Rattle.node_progress.proofs.Takings.{catalogue_takes_none, shard_takes_none, IsInLife, stays_in_life}
 use Rattle.node_progress.proofs.Shards.{IsShardIn}
-use Rattle.node_progress.proofs.Bags.{changes_made, IsHeldFor, OpenGoes, ParkedGoes, Bag, WasFor, Clears}
+use Rattle.node_progress.proofs.Bags.{Left, changes_made, IsHeldFor, OpenGoes, ParkedGoes, Bag, WasFor, Clears}
 use Rattle.node_progress.proofs.BagSteps.{Carries, parked_after, open_after}
 use Rattle.node_progress.proofs.BagFacts.{IsHere, now, told_had, named_request, known_to, fit_here, not_catalogue, not_shard_here, shards_within}
 use Rattle.node_progress.proofs.BagMoves.{IsElsewhere, within, from_node, others, nothing_taken, together}
 
 -- THE CATALOGUE
 
-pub catalogue_keeps : (left later : ℕ → Type 0) (w : World) (book : Book) (p : ℕ) (i : Input) (kept : List Kept) (c d : Catalogue) (f : Effect)
+pub catalogue_keeps : (left later : Left) (w : World) (book : Book) (p : ℕ) (i : Input) (kept : List Kept) (c d : Catalogue) (f : Effect)
     → Good w book → Bag left w → slice_get w.nodes p ≡ Some (record { state = catalogue_state c; kept = kept }) → Clears left later w.sent i
-    → ((n : ℕ) → length w.sent ≤ n → later n) → IsHere w p i → CatalogueRow c i f d
+    → ((n : ℕ) → length w.sent ≤ n → later.places n) → IsHere w p i → CatalogueRow c i f d
     → Bag later (tick (after (is_given w p i) p (record { state = catalogue_state c; kept = kept }) f (catalogue_state d)))
 catalogue_keeps left later w book p i kept c d f good bag here clears fresh comes row =
     together left later w book p i kept (catalogue_state c) f (catalogue_state d) good bag here clears fresh comes tt
@@ -87,9 +87,9 @@ catalogue_keeps left later w book p i kept c d f good bag here clears fresh come
 
 -- A SHARD
 
-module _ (left later : ℕ → Type 0) (w : World) (book : Book) (p : ℕ) (i : Input) (kept : List Kept) (s u : Shard) (f : Effect)
+module _ (left later : Left) (w : World) (book : Book) (p : ℕ) (i : Input) (kept : List Kept) (s u : Shard) (f : Effect)
     (good : Good w book) (bag : Bag left w) (here : slice_get w.nodes p ≡ Some (record { state = shard_state s; kept = kept }))
-    (clears : Clears left later w.sent i) (fresh : (n : ℕ) → length w.sent ≤ n → later n) (comes : IsHere w p i) (row : ShardRow s i f u)
+    (clears : Clears left later w.sent i) (fresh : (n : ℕ) → length w.sent ≤ n → later.places n) (comes : IsHere w p i) (row : ShardRow s i f u)
     (goes : AllByRecursion (ParkedGoes left w p s) s.parked) where
   shard_fits : ShardFits (now w book) w.asked p kept s
   shard_fits = (fits_here w book p (record { state = shard_state s; kept = kept }) good here).state
@@ -178,9 +178,9 @@ module _ (left later : ℕ → Type 0) (w : World) (book : Book) (p : ℕ) (i : 
 
 -- A ROUTER
 
-pub router_keeps : (left later : ℕ → Type 0) (w : World) (book : Book) (p : ℕ) (i : Input) (kept : List Kept) (o r u : Router) (f : Effect)
+pub router_keeps : (left later : Left) (w : World) (book : Book) (p : ℕ) (i : Input) (kept : List Kept) (o r u : Router) (f : Effect)
     → Good w book → Bag left w → slice_get w.nodes p ≡ Some (record { state = router_state o; kept = kept }) → Clears left later w.sent i
-    → ((n : ℕ) → length w.sent ≤ n → later n) → IsHere w p i → RouterRow r i f u → IsReady r i → AllByRecursion (OpenGoes left w r) r.requests
+    → ((n : ℕ) → length w.sent ≤ n → later.places n) → IsHere w p i → RouterRow r i f u → IsReady r i → AllByRecursion (OpenGoes left w r) r.requests
     → AllByRecursion (IsTableOf (changes_made w)) r.tables → AllByRecursion (OpenWasSent (changes_made w)) r.requests → r.me ≡ o.me → r.shards ≡ o.shards
     → (g : Effect) → g.mail ≡ f.mail → g.taken ≡ f.taken
     → Bag later (tick (after (is_given w p i) p (record { state = router_state o; kept = kept }) g (router_state u)))

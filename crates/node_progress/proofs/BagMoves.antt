@@ -21,7 +21,7 @@ use Rattle.node_progress.proofs.Lateness.{wants_other, wants_time}
 use Rattle.node_progress.proofs.Versions.{IsWell}
 use Rattle.node_progress.proofs.CataloguePasses.{IsAmong}
 use Rattle.node_progress.proofs.Shards.{IsShardIn, IsSameNode}
-use Rattle.node_progress.proofs.Bags.{changes_made, OpenGoes, ParkedGoes, NodeGoes, Bag, WasFor, Clears}
+use Rattle.node_progress.proofs.Bags.{Left, changes_made, OpenGoes, ParkedGoes, NodeGoes, Bag, WasFor, Clears}
 use Rattle.node_progress.proofs.BagSteps.{Carries, still_well, open_moves, parked_moves, bag_after}
 use Rattle.node_progress.proofs.BagFacts.{IsHere, now, known_shard}
 
@@ -36,9 +36,9 @@ pub record IsElsewhere (nodes : List Held) (p : ℕ) (t : Thing) : Type 0 where
   pub none : NoShardTable t
   pub times : (at : ℕ) → IsTimeAt t at → IsShardIn nodes at
 
-module _ (left later : ℕ → Type 0) (w : World) (book : Book) (p : ℕ) (i : Input) (kept : List Kept) (old : NodeState) (f : Effect) (new : NodeState)
+module _ (left later : Left) (w : World) (book : Book) (p : ℕ) (i : Input) (kept : List Kept) (old : NodeState) (f : Effect) (new : NodeState)
     (good : Good w book) (bag : Bag left w) (here : slice_get w.nodes p ≡ Some (record { state = old; kept = kept })) (clears : Clears left later w.sent i)
-    (fresh : (n : ℕ) → length w.sent ≤ n → later n) (comes : IsHere w p i) where
+    (fresh : (n : ℕ) → length w.sent ≤ n → later.places n) (comes : IsHere w p i) where
   abbrev v : World
   v = tick (after (is_given w p i) p (record { state = old; kept = kept }) f new)
 

@@ -2,6 +2,7 @@
 use Rattle.std.proofs.Common.{◌≡◌, ◌≢◌, ◌⊎◌, inl, inr, ℕ, ◌+◌, ◌<◌, ◌≤◌, List, [], ◌∷◌, ◌++◌, length, refl, sym, ap, subst, ◌∙◌, arith, length-append}
 use Rattle.std.specs.Prelude.{Some, false}
 use Rattle.std.specs.List.{AllByRecursion, slice_get}
+use Rattle.base_model.specs.Identities.{RequestId}
 use Rattle.history_model.specs.History.{IsIn}
 use Rattle.history_model.proofs.Lists.{all_at, all_weaken, all_append, all_from}
 use Rattle.chunk_model.specs.Tables.{first_shard}
@@ -9,6 +10,7 @@ use Rattle.reply_model.specs.Exchanges.{Asked, Answered}
 use Rattle.node_model.specs.Journal.{Kept}
 use Rattle.node_model.specs.Letters.{no_time, Letter, Input, letter_input, Effect}
 use Rattle.node_model.specs.States.{Shard, Router, Wait, Work, Open, NodeState, shard_state}
+use Rattle.node_model.specs.RouterRows.{id_of}
 use Rattle.node_model.specs.World.{Held, World, asked_by, after, is_given, tick}
 use Rattle.node_laws.proofs.Views.{View}
 use Rattle.node_laws.proofs.Lists.{all_within}
@@ -23,18 +25,18 @@ use Rattle.node_progress.proofs.ShardParks.{IsParkedAfter}
 use Rattle.node_progress.proofs.Lateness.{WaitFits}
 use Rattle.node_progress.proofs.Sends.{IsGoing}
 use Rattle.node_progress.proofs.RouterWaits.{WaitsAfter}
-use Rattle.node_progress.proofs.Bags.{changes_made, IsHeldFor, IsCarried, OpenGoes, ParkedGoes, NodeGoes, Bag, WasFor, Clears, sent_moves, sent_anew, MoreMade, changes_more}
+use Rattle.node_progress.proofs.Bags.{Left, changes_made, IsHeldFor, IsCarried, OpenGoes, ParkedGoes, NodeGoes, Bag, WasFor, Clears, sent_moves, sent_anew, MoreMade, changes_more}
 
-each_both : (P Q : ℕ → Held → Type 0) (i : ℕ) (xs : List Held) → EachAt P i xs → EachAt Q i xs → EachAt (λ j h. P j h × Q j h) i xs
+pub each_both : (P Q : ℕ → Held → Type 0) (i : ℕ) (xs : List Held) → EachAt P i xs → EachAt Q i xs → EachAt (λ j h. P j h × Q j h) i xs
 each_both P Q i [] p q = tt
 each_both P Q i (x ∷ xs) p q = ((p.0, q.0), each_both P Q (i + 1) xs p.1 q.1)
 
 still_fits : (work before : Work) (wait was : Wait) → work ≡ before → wait ≡ was → WaitFits before was → WaitFits work wait
 still_fits work before wait was same one fits = subst (λ x. WaitFits x wait) (sym same) (subst (λ x. WaitFits before x) (sym one) fits)
 
-module _ (left later : ℕ → Type 0) (w : World) (p : ℕ) (i : Input) (kept : List Kept) (old : NodeState) (f : Effect) (new : NodeState)
+module _ (left later : Left) (w : World) (p : ℕ) (i : Input) (kept : List Kept) (old : NodeState) (f : Effect) (new : NodeState)
     (bag : Bag left w) (here : slice_get w.nodes p ≡ Some (record { state = old; kept = kept })) (clears : Clears left later w.sent i)
-    (fresh : (n : ℕ) → length w.sent ≤ n → later n) where
+    (fresh : (n : ℕ) → length w.sent ≤ n → later.places n) where
   abbrev pub stepped : Held
   stepped = record { state = new; kept = kept ++ f.written }
 
@@ -57,7 +59,7 @@ module _ (left later : ℕ → Type 0) (w : World) (p : ℕ) (i : Input) (kept :
     pub holds : (s : Shard) → old ≡ shard_state s → (x : Letter) → IsIn x s.parked → IsFor t x → IsAmong f.mail t ⊎ IsHeldFor next_world.nodes t
 
   goes_by : (t : Thing) → IsAmong f.mail t ⊎ IsHeldFor next_world.nodes t → IsCarried later next_world t
-  goes_by t (inl among) = inl (sent_anew left later w.sent f.mail i t fresh among)
+  goes_by t (inl among) = inl (sent_anew left.places later.places w.sent f.mail i t fresh among)
   goes_by t (inr held) = inr held
 
   held_here : (t : Thing) → (h : IsHeldFor w.nodes t) → h.at ≡ p → old ≡ shard_state h.shard
@@ -68,9 +70,9 @@ module _ (left later : ℕ → Type 0) (w : World) (p : ℕ) (i : Input) (kept :
       ap (λ (x : Held). x.state) held
 
   pub carried_moves : (t : Thing) → Carries t → IsCarried left w t → IsCarried later next_world t
-  carried_moves t c (inl s) = by_place (sent_moves left later w.sent f.mail i t clears s)
+  carried_moves t c (inl s) = by_place (sent_moves left.places later.places w.sent f.mail i t clears.places s)
     where
-      by_place : IsSent later (w.sent ++ f.mail) t ⊎ WasFor i t → IsCarried later next_world t
+      by_place : IsSent later.places (w.sent ++ f.mail) t ⊎ WasFor i t → IsCarried later next_world t
       by_place (inl still) = inl still
       by_place (inr was) = goes_by t (c.passes was)
   carried_moves t c (inr h) = by_place (same_place h.at p)
@@ -87,23 +89,31 @@ module _ (left later : ℕ → Type 0) (w : World) (p : ℕ) (i : Input) (kept :
         brings = h.brings;
       })
 
+  -- what was lost stays so
+  lost_or : {X Y : Type 0} (id : RequestId) → (X → Y) → left.lost id ⊎ X → later.lost id ⊎ Y
+  lost_or id moves (inl lost) = inl (clears.stay id lost)
+  lost_or id moves (inr x) = inr (moves x)
+
   pub open_moves : (r : Router) (q : Open) → ((t : Thing) → IsIn t (things_of r q) → Carries t) → OpenGoes left w r q → OpenGoes later next_world r q
   open_moves r q c o = record {
     waiting = o.waiting;
     some = o.some;
-    carried = all_within (IsCarried left w) (IsCarried later next_world) (things_of r q) (λ t there was. carried_moves t (c t there) was) o.carried;
+    carried = lost_or (id_of r q.count)
+        (λ all. all_within (IsCarried left w) (IsCarried later next_world) (things_of r q) (λ t there was. carried_moves t (c t there) was) all) o.carried;
   }
 
   -- the table of a parked request
   table_moves : (at : ℕ) (s : Shard) (x : Letter) → (g : ParkedGoes left w at s x)
       → (WasFor i (a_table first_shard g.ask.namespace false no_time) → IsAmong f.mail (a_table first_shard g.ask.namespace false no_time))
-      → IsSent later (w.sent ++ f.mail) (a_table first_shard g.ask.namespace false no_time)
-  table_moves at s x g passes = by_place (sent_moves left later w.sent f.mail i (a_table first_shard g.ask.namespace false no_time) clears g.table)
+      → later.lost g.ask.id ⊎ IsSent later.places (w.sent ++ f.mail) (a_table first_shard g.ask.namespace false no_time)
+  table_moves at s x g passes =
+      lost_or g.ask.id
+      (λ sent. by_place (sent_moves left.places later.places w.sent f.mail i (a_table first_shard g.ask.namespace false no_time) clears.places sent)) g.table
     where
-      by_place : IsSent later (w.sent ++ f.mail) (a_table first_shard g.ask.namespace false no_time) ⊎ WasFor i (a_table first_shard g.ask.namespace false no_time)
-          → IsSent later (w.sent ++ f.mail) (a_table first_shard g.ask.namespace false no_time)
+      by_place : IsSent later.places (w.sent ++ f.mail) (a_table first_shard g.ask.namespace false no_time) ⊎ WasFor i (a_table first_shard g.ask.namespace false no_time)
+          → IsSent later.places (w.sent ++ f.mail) (a_table first_shard g.ask.namespace false no_time)
       by_place (inl still) = still
-      by_place (inr was) = sent_anew left later w.sent f.mail i (a_table first_shard g.ask.namespace false no_time) fresh (passes was)
+      by_place (inr was) = sent_anew left.places later.places w.sent f.mail i (a_table first_shard g.ask.namespace false no_time) fresh (passes was)
 
   pub parked_moves : (at : ℕ) (s : Shard) (x : Letter) → (g : ParkedGoes left w at s x)
       → (WasFor i (a_table first_shard g.ask.namespace false no_time) → IsAmong f.mail (a_table first_shard g.ask.namespace false no_time))
@@ -138,8 +148,8 @@ module _ (left later : ℕ → Type 0) (w : World) (p : ℕ) (i : Input) (kept :
         asks = begins.asks;
         none = begins.none;
         well = still_well x (all_at (IsWell (changes_made w) (length w.nodes)) x w.sent bag.well (came x begins.came));
-        table = sent_anew left later w.sent f.mail i (a_table first_shard begins.ask.namespace false no_time) fresh
-            (subst (λ n. IsAmong f.mail (a_table n begins.ask.namespace false no_time)) begins.first begins.sent);
+        table = inr (sent_anew left.places later.places w.sent f.mail i (a_table first_shard begins.ask.namespace false no_time) fresh
+            (subst (λ n. IsAmong f.mail (a_table n begins.ask.namespace false no_time)) begins.first begins.sent));
       }
 
   -- a router's open requests after its step
@@ -156,17 +166,19 @@ module _ (left later : ℕ → Type 0) (w : World) (p : ℕ) (i : Input) (kept :
               fits = still_fits q.work still.before.work q.wait still.before.wait still.work still.wait o.waiting.fits;
             };
             some = still.some o.some;
-            carried = all_from (IsCarried later next_world) (things_of u q) (λ t one.
+            carried = lost_or (id_of u q.count)
+                (λ all. all_from (IsCarried later next_world) (things_of u q) (λ t one.
                 carried_moves t (record {
                   passes = λ was. absurd (still.not_come t one was.letter was.is was.brings);
                   holds = λ s is x there brings. absurd (no_shard s is);
-                }) (all_at (IsCarried left w) t (things_of r still.before) o.carried (still.among t one)));
+                }) (all_at (IsCarried left w) t (things_of r still.before) all (still.among t one))))
+                (subst (λ id. left.lost id ⊎ AllByRecursion (IsCarried left w) (things_of r still.before)) (sym still.own) o.carried);
           }
       by_case q (inr anew) = record {
         waiting = record { going = anew.going; fits = anew.fits };
         some = anew.sent.some;
-        carried = all_weaken (IsAmong f.mail) (IsCarried later next_world) (things_of u q)
-            (λ t among. inl (sent_anew left later w.sent f.mail i t fresh among)) anew.sent.each;
+        carried = inr (all_weaken (IsAmong f.mail) (IsCarried later next_world) (things_of u q)
+            (λ t among. inl (sent_anew left.places later.places w.sent f.mail i t fresh among)) anew.sent.each);
       }
 
   -- THE WORLD

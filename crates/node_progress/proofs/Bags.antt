@@ -2,6 +2,7 @@
 use Rattle.std.proofs.Common.{◌≡◌, ◌≢◌, ◌⊎◌, inl, inr, ℕ, ◌<◌, ◌≤◌, List, [], ◌∷◌, ◌++◌, length, sym, ap, subst, ◌∙◌, arith, append_assoc, length-append}
 use Rattle.std.specs.Prelude.{Some, false, None}
 use Rattle.std.specs.List.{AllByRecursion, slice_get, slice_set}
+use Rattle.base_model.specs.Identities.{RequestId}
 use Rattle.history_model.specs.History.{IsIn}
 use Rattle.chunk_model.specs.Changes.{Change}
 use Rattle.chunk_model.specs.Tables.{first_shard, table_of}
@@ -10,6 +11,7 @@ use Rattle.node_model.specs.Journal.{Kept, changes_kept}
 use Rattle.node_model.specs.Letters.{no_time, Letter, Input, letter_input}
 use Rattle.node_model.specs.States.{Shard, Router, Open, NodeState, catalogue_state, shard_state, router_state}
 use Rattle.node_model.specs.ShardRows.{Ask, ask_in}
+use Rattle.node_model.specs.RouterRows.{id_of}
 use Rattle.node_model.specs.World.{Held, World, journal_at}
 use Rattle.node_model.proofs.Journals.{journal_here, journal_got}
 use Rattle.node_laws.proofs.Places.{EachAt}
@@ -25,6 +27,18 @@ use Rattle.node_progress.proofs.RouterWaits.{IsWaiting}
 
 -- THE BAG
 
+-- The places of the messages that are left to deliver; and the requests of which nothing is said: they were taken before a node stopped.
+pub record Left : Type 1 where
+  pub places : ℕ → Type 0
+  pub lost : RequestId → Type 0
+
+abbrev pub left_but : (left : ℕ → Type 0) → (lost : RequestId → Type 0) → Left
+left_but left lost = record { places = left; lost = lost }
+
+-- those where no node stopped
+abbrev pub all_of : (ℕ → Type 0) → Left
+all_of left = left_but left (λ id. ⊥)
+
 abbrev pub changes_made : World → List Change
 changes_made w = changes_kept (journal_at w.nodes 0)
 
@@ -38,30 +52,30 @@ pub record IsHeldFor (nodes : List Held) (t : Thing) : Type 0 where
   pub parked : IsIn letter shard.parked
   pub brings : IsFor t letter
 
-abbrev pub IsCarried : (left : ℕ → Type 0) → World → Thing → Type 0
-IsCarried left w t = IsSent left w.sent t ⊎ IsHeldFor w.nodes t
+abbrev pub IsCarried : (left : Left) → World → Thing → Type 0
+IsCarried left w t = IsSent left.places w.sent t ⊎ IsHeldFor w.nodes t
 
-pub record OpenGoes (left : ℕ → Type 0) (w : World) (r : Router) (q : Open) : Type 0 where
+pub record OpenGoes (left : Left) (w : World) (r : Router) (q : Open) : Type 0 where
   pub waiting : IsWaiting q
   pub some : things_of r q ≢ []
-  pub carried : AllByRecursion (IsCarried left w) (things_of r q)
+  pub carried : left.lost (id_of r q.count) ⊎ AllByRecursion (IsCarried left w) (things_of r q)
 
 -- currently only the first shard is sent what it may park
-pub record ParkedGoes (left : ℕ → Type 0) (w : World) (at : ℕ) (s : Shard) (p : Letter) : Type 0 where
+pub record ParkedGoes (left : Left) (w : World) (at : ℕ) (s : Shard) (p : Letter) : Type 0 where
   pub first : at ≡ first_shard
   pub ask : Ask
   pub asks : ask_in p.body ≡ Some ask
   pub none : table_of ask.namespace s.tables ≡ None
   pub well : IsWell (changes_made w) (length w.nodes) p
-  pub table : IsSent left w.sent (a_table first_shard ask.namespace false no_time)
+  pub table : left.lost ask.id ⊎ IsSent left.places w.sent (a_table first_shard ask.namespace false no_time)
 
-abbrev pub NodeGoes : (left : ℕ → Type 0) → World → (at : ℕ) → NodeState → Type 0
+abbrev pub NodeGoes : (left : Left) → World → (at : ℕ) → NodeState → Type 0
 NodeGoes left w at (catalogue_state c) = Unit {0}
 NodeGoes left w at (shard_state s) = AllByRecursion (ParkedGoes left w at s) s.parked
 NodeGoes left w at (router_state r) = AllByRecursion (OpenGoes left w r) r.requests
 
-pub record Bag (left : ℕ → Type 0) (w : World) : Type 0 where
-  pub fresh : (n : ℕ) → length w.sent ≤ n → left n
+pub record Bag (left : Left) (w : World) : Type 0 where
+  pub fresh : (n : ℕ) → length w.sent ≤ n → left.places n
   pub well : AllByRecursion (IsWell (changes_made w) (length w.nodes)) w.sent
   pub shards : AreShards w.nodes
   pub nodes : EachAt (λ j (h : Held). NodeGoes left w j h.state) 0 w.nodes
@@ -76,11 +90,16 @@ pub record WasFor (i : Input) (t : Thing) : Type 0 where
   pub brings : IsFor t letter
 
 -- of the places that are left only that of the message in the input is none later
-abbrev pub Clears : (left later : ℕ → Type 0) → List Letter → Input → Type 0
-Clears left later sent i = (n : ℕ) → left n → later n ⊎ ((m : Letter) × (slice_get sent n ≡ Some m) × (i ≡ letter_input m))
+abbrev pub ClearsPlaces : (left later : ℕ → Type 0) → List Letter → Input → Type 0
+ClearsPlaces left later sent i = (n : ℕ) → left n → later n ⊎ ((m : Letter) × (slice_get sent n ≡ Some m) × (i ≡ letter_input m))
+
+-- and what was lost stays so
+pub record Clears (left later : Left) (sent : List Letter) (i : Input) : Type 0 where
+  pub places : ClearsPlaces left.places later.places sent i
+  pub stay : (id : RequestId) → left.lost id → later.lost id
 
 module _ (left later : ℕ → Type 0) (sent mail : List Letter) (i : Input) (t : Thing) where
-  pub sent_moves : Clears left later sent i → IsSent left sent t → IsSent later (sent ++ mail) t ⊎ WasFor i t
+  pub sent_moves : ClearsPlaces left later sent i → IsSent left sent t → IsSent later (sent ++ mail) t ⊎ WasFor i t
   sent_moves clears s = by_place (clears s.place s.undelivered)
     where
       by_place : later s.place ⊎ ((m : Letter) × (slice_get sent s.place ≡ Some m) × (i ≡ letter_input m)) → IsSent later (sent ++ mail) t ⊎ WasFor i t

@@ -27,6 +27,8 @@ pub mod BagFacts
 pub mod BagMoves
 pub mod BagKinds
 pub mod BagRuns
+pub mod StoppedBags
+pub mod AnsweredSince
 pub mod Progress
 pub mod Answered
 pub mod Rounds

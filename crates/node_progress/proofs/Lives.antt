@@ -125,7 +125,7 @@ event_lives old _ _ _ good are (delivers w v at which letter got to m) = move_li
 event_lives old _ _ _ good are (passes w v at moment m) = move_lives old w v at _ good are m
 event_lives old _ _ _ good are (was_opened w v at m) = move_lives old w v at _ good are m
 
-run_lives : (old : List Asked) (u : World) (es : List Event) (w : World) → StaysTrue u → AreOfLives old u → Run u es w → AreOfLives old w
+pub run_lives : (old : List Asked) (u : World) (es : List Event) (w : World) → StaysTrue u → AreOfLives old u → Run u es w → AreOfLives old w
 run_lives old _ _ _ good are (stands w) = are
 run_lives old _ _ _ good are (goes u v w e es h run) = run_lives old v es w (happens_keeps u v e good h) (event_lives old u v e good are h) run
 

@@ -20,7 +20,7 @@ use Rattle.node_progress.specs.Arrivals.{arrivals, arrival_of}
 use Rattle.node_progress.specs.Firsts.{IsFirst}
 use Rattle.node_progress.specs.UnderWay.{Thing, a_table, things_of, IsSent, IsFetched, IsComing, AreComing, IsServedNext, IsUnderWay, IsLeft}
 use Rattle.node_progress.proofs.Arrivals.{run_takes}
-use Rattle.node_progress.proofs.Bags.{OpenGoes, ParkedGoes, NodeGoes, IsCarried, Bag}
+use Rattle.node_progress.proofs.Bags.{all_of, OpenGoes, ParkedGoes, NodeGoes, IsCarried, Bag}
 use Rattle.node_progress.proofs.BagFacts.{now}
 use Rattle.node_progress.proofs.BagRuns.{run_bag}
 use Rattle.node_progress.proofs.Firsts.{first_true, first_rests, first_shards}
@@ -28,7 +28,7 @@ use Rattle.node_progress.proofs.Lives.{TakenSince, taken_since}
 
 -- FROM THE BAG
 
-counted : (n : ℕ) (requests : List Open) → IsIn n (counts_of requests) → (q : Open) × IsIn q requests × (q.count ≡ n)
+pub counted : (n : ℕ) (requests : List Open) → IsIn n (counts_of requests) → (q : Open) × IsIn q requests × (q.count ≡ n)
 counted n [] i = absurd (in_none n i)
 counted n (q ∷ requests) i = by_place (in_cons n q.count (counts_of requests) i) (λ j. counted n requests j)
   where
@@ -37,24 +37,29 @@ counted n (q ∷ requests) i = by_place (in_cons n q.count (counts_of requests) 
     by_place (inl same) later = (q, in_first q requests, sym same)
     by_place (inr there) later = let x = later there in (x.0, in_later x.0 q requests x.1, x.2)
 
-module _ (left : ℕ → Type 0) (w : World) (book : Book) (good : Good w book) (bag : Bag left w) where
-  node_goes : (at : ℕ) (h : Held) → slice_get w.nodes at ≡ Some h → NodeGoes left w at h.state
+-- where nothing was lost
+unlost : {X : Type 0} → ⊥ ⊎ X → X
+unlost (inl none) = absurd none
+unlost (inr x) = x
+
+module _ (left : ℕ → Type 0) (w : World) (book : Book) (good : Good w book) (bag : Bag (all_of left) w) where
+  node_goes : (at : ℕ) (h : Held) → slice_get w.nodes at ≡ Some h → NodeGoes (all_of left) w at h.state
   node_goes at h here =
       let from_zero : 0 + at ≡ at = omega arith in
-      subst (λ k. NodeGoes left w k h.state) from_zero (each_get (λ j (x : Held). NodeGoes left w j x.state) 0 at w.nodes h bag.nodes here)
+      subst (λ k. NodeGoes (all_of left) w k h.state) from_zero (each_get (λ j (x : Held). NodeGoes (all_of left) w j x.state) 0 at w.nodes h bag.nodes here)
 
   fetched : (at : ℕ) (s : Shard) (kept : List Kept) (p : Letter) → slice_get w.nodes at ≡ Some (record { state = shard_state s; kept = kept })
       → IsIn p s.parked → IsFetched left w.sent s p
   fetched at s kept p here there =
       let fits : ShardFits (now w book) w.asked at kept s = (fits_here w book at (record { state = shard_state s; kept = kept }) good here).state in
-      let g = all_at (ParkedGoes left w at s) p s.parked (node_goes at (record { state = shard_state s; kept = kept }) here) there in
+      let g = all_at (ParkedGoes (all_of left) w at s) p s.parked (node_goes at (record { state = shard_state s; kept = kept }) here) there in
       record {
         ask = g.ask;
         asks = g.asks;
-        table = subst (λ n. IsSent left w.sent (a_table n g.ask.namespace false no_time)) (sym (fits.own ∙ g.first)) g.table;
+        table = subst (λ n. IsSent left w.sent (a_table n g.ask.namespace false no_time)) (sym (fits.own ∙ g.first)) (unlost g.table);
       }
 
-  coming : (t : Thing) → IsCarried left w t → IsComing left w t
+  coming : (t : Thing) → IsCarried (all_of left) w t → IsComing left w t
   coming t (inl sent) = inl sent
   coming t (inr h) = inr (record {
     at = h.at;
@@ -70,8 +75,8 @@ module _ (left : ℕ → Type 0) (w : World) (book : Book) (good : Good w book) 
   open_coming : (at : ℕ) (r : Router) (kept : List Kept) (q : Open) → slice_get w.nodes at ≡ Some (record { state = router_state r; kept = kept })
       → IsIn q r.requests → AreComing left w (things_of r q)
   open_coming at r kept q here there =
-      let o = all_at (OpenGoes left w r) q r.requests (node_goes at (record { state = router_state r; kept = kept }) here) there in
-      record { some = o.some; each = all_weaken (IsCarried left w) (IsComing left w) (things_of r q) coming o.carried }
+      let o = all_at (OpenGoes (all_of left) w r) q r.requests (node_goes at (record { state = router_state r; kept = kept }) here) there in
+      record { some = o.some; each = all_weaken (IsCarried (all_of left) w) (IsComing left w) (things_of r q) coming (unlost o.carried) }
 
   served_next : (a : Asked) → IsIn a w.asked → IsOfRouter w.nodes a.id → IsAnswered w.answered a ⊎ IsServedNext left w a
   served_next a there o =

@@ -32,7 +32,7 @@ use Rattle.node_progress.proofs.Lives.{IsOfLife, step_keeps_life}
 
 -- EACH REQUEST IS OF A NODE
 
-abbrev ArePlaced : World → Type 0
+abbrev pub ArePlaced : World → Type 0
 ArePlaced w = AllByRecursion (λ (a : Asked). a.id.router < length w.nodes) w.asked
 
 taken_placed : (s : NodeState) (i : Input) (f : Effect) (t : NodeState) (at n now : ℕ) → me_of s at → Step s i f t → at < n
@@ -66,7 +66,7 @@ happens_placed _ _ _ good (delivers w v at which letter got to m) placed = move_
 happens_placed _ _ _ good (passes w v at moment m) placed = move_placed w v at _ good m placed
 happens_placed _ _ _ good (was_opened w v at m) placed = move_placed w v at _ good m placed
 
-occurs_placed : (w v : World) (e : EventOrStop) → StaysTrue w → Occurs w e v → ArePlaced w → ArePlaced v
+pub occurs_placed : (w v : World) (e : EventOrStop) → StaysTrue w → Occurs w e v → ArePlaced w → ArePlaced v
 occurs_placed _ _ _ good (occurs w v e h) placed = happens_placed w v e good h placed
 occurs_placed _ _ _ good (restarts w v at m) placed =
     subst (λ x. ArePlaced x) (sym m.then) (placed_more w at (record { state = m.new; kept = m.old.kept ++ [] }) [] placed tt)
@@ -74,13 +74,13 @@ occurs_placed _ _ _ good (stops w v at e i gives m) placed =
     subst (λ x. ArePlaced x) (sym m.then)
     (step_placed w at i m.old m.f m.reached (record { state = m.new; kept = m.old.kept ++ m.f.written }) good m.here m.step placed)
 
-run_placed : (u w : World) (events : List EventOrStop) → StaysWhole u → RunWithStops u events w → ArePlaced u → ArePlaced w
+pub run_placed : (u w : World) (events : List EventOrStop) → StaysWhole u → RunWithStops u events w → ArePlaced u → ArePlaced w
 run_placed _ _ _ whole (stays w) placed = placed
 run_placed _ _ _ whole (proceeds u v w e events h more) placed =
     run_placed v w events (occurs_keeps u v e whole h) more (occurs_placed u v e whole.facts h placed)
 
 -- what calls lead to is a world of one run, but for messages
-reached_placed : (others routers : ℕ) (w : World) → Reached others routers w → ArePlaced w
+pub reached_placed : (others routers : ℕ) (w : World) → Reached others routers w → ArePlaced w
 reached_placed others routers w reached =
     let one = reached_calls_are_one_run others routers w reached in
     run_placed (start others routers) (with_mail one.mail w) one.events (start_whole others routers) one.run tt
@@ -92,7 +92,7 @@ opened_quiet time (durable_catalogue d) = tt
 opened_quiet time (durable_shard d) = refl
 opened_quiet time (durable_router d) = refl
 
-opened_on_quiet : (s : NodeState) (kept : List Kept) (new : NodeState) → opened_on s kept ≡ Some new → IsQuiet new
+pub opened_on_quiet : (s : NodeState) (kept : List Kept) (new : NodeState) → opened_on s kept ≡ Some new → IsQuiet new
 opened_on_quiet s kept new = by_replay (replayed (Some (empty_of s)) (records_of kept))
   where
     by_replay : (d : Option DurableState) → option_map (opened (latest_time (records_of kept))) d ≡ Some new → IsQuiet new
@@ -143,7 +143,7 @@ each_quiet (h ∷ nodes) each = (each 0 h refl, each_quiet nodes (λ k x got. ea
 
 -- THE FIRST WORLD
 
-begins_reached : (others routers : ℕ) (u first : World) → Reached others routers u → BeginsOn u first → Reached others routers first
+pub begins_reached : (others routers : ℕ) (u first : World) → Reached others routers u → BeginsOn u first → Reached others routers first
 begins_reached others routers u first reached b = next_call u first first [] reached b (stays first)
 
 pub begins_at_rest : (others routers : ℕ) (u first : World) → Reached others routers u → BeginsOn u first → IsAtRest first

@@ -141,7 +141,7 @@ happens_shards _ _ _ (delivers w v at which letter got to m) are = move_shards w
 happens_shards _ _ _ (passes w v at moment m) are = move_shards w v at _ m are
 happens_shards _ _ _ (was_opened w v at m) are = move_shards w v at _ m are
 
-occurs_shards : (w v : World) (e : EventOrStop) → Occurs w e v → AreShards w.nodes → AreShards v.nodes
+pub occurs_shards : (w v : World) (e : EventOrStop) → Occurs w e v → AreShards w.nodes → AreShards v.nodes
 occurs_shards _ _ _ (occurs w v e h) are = happens_shards w v e h are
 occurs_shards _ _ _ (restarts w v at m) are =
     subst (λ (x : World). AreShards x.nodes) (sym m.then)

@@ -17,6 +17,7 @@ use Rattle.node_progress.specs.Firsts.{IsFirst}
 use Rattle.node_progress.proofs.Places.{same_place}
 use Rattle.node_progress.proofs.BagRuns.{BagIn, IsNoDelivery, first_bag, event_keeps, events_keep, delivery_bag}
 use Rattle.node_progress.proofs.Firsts.{first_true, first_rests, first_shards}
+use Rattle.node_progress.proofs.Bags.{all_of}
 use Rattle.node_progress.proofs.Lives.{TakenSince, taken_since}
 use Rattle.node_progress.proofs.Answered.{are_answered, stay_answered}
 
@@ -24,7 +25,7 @@ use Rattle.node_progress.proofs.Answered.{are_answered, stay_answered}
 
 -- the messages from a place on are left
 abbrev pub BagAt : World → (next : ℕ) → Type 0
-BagAt w next = BagIn (λ n. next ≤ n) w
+BagAt w next = BagIn (all_of (λ n. next ≤ n)) w
 
 pub sent_before : (u x : World) (to which : ℕ) → Happens u (deliver_event to which) x → which < length u.sent
 sent_before _ _ _ _ (delivers u x to which letter got place m) = slice_get_within u.sent which letter got
@@ -32,7 +33,7 @@ sent_before _ _ _ _ (delivers u x to which letter got place m) = slice_get_withi
 -- the next one is delivered
 pub delivery_keeps : (w v : World) (next at : ℕ) → BagAt w next → Happens w (deliver_event at next) v → BagAt v (next + 1)
 delivery_keeps w v next at b h =
-    delivery_bag (λ n. next ≤ n) (λ n. next + 1 ≤ n) w v at next b (λ n le. by_place n le (same_place n next))
+    delivery_bag (λ id. ⊥) (λ n. next ≤ n) (λ n. next + 1 ≤ n) w v at next b (λ n le. by_place n le (same_place n next))
     (λ n le. let l = sent_before w v at next h in omega (arith, le, l)) h
   where
     by_place : (n : ℕ) → next ≤ n → (n ≡ next) ⊎ (n ≢ next) → (next + 1 ≤ n) ⊎ (n ≡ next)
@@ -61,13 +62,13 @@ deliveries_keep _ _ _ _ _ b (delivers_next u v w next later at events h more) =
 pub round_asked : (u given asked : World) (next : ℕ) (r : Round) → BagAt u next → Run u (moments_given 0 (length u.nodes) r.moment) given
     → Happens given (client_event r.at r.link r.number r.request) asked → BagAt asked next
 round_asked u given asked next r b run came =
-    event_keeps (λ n. next ≤ n) given asked (client_event r.at r.link r.number r.request) tt
-    (events_keep (λ n. next ≤ n) u (moments_given 0 (length u.nodes) r.moment) given (moments_deliver_none 0 (length u.nodes) r.moment) b run) came
+    event_keeps (all_of (λ n. next ≤ n)) given asked (client_event r.at r.link r.number r.request) tt
+    (events_keep (all_of (λ n. next ≤ n)) u (moments_given 0 (length u.nodes) r.moment) given (moments_deliver_none 0 (length u.nodes) r.moment) b run) came
 
 pub pipes_bag : (first : World) → IsFirst first → (rounds : List Round) (events : List Event) (w : World) (next : ℕ) → Pipes first rounds events w next
     → BagAt w next
 pipes_bag first is _ _ _ _ (opens w run) =
-    events_keep (λ n. 0 ≤ n) first (openings 0 (length first.nodes)) w (openings_deliver_none 0 (length first.nodes)) (first_at first is) run
+    events_keep (all_of (λ n. 0 ≤ n)) first (openings 0 (length first.nodes)) w (openings_deliver_none 0 (length first.nodes)) (first_at first is) run
 pipes_bag first is _ _ _ _ (serves rounds r before events u w next pipes round) =
     deliveries_keep round.asked next round.deliveries w (length w.sent)
     (round_asked u round.given round.asked next r (pipes_bag first is rounds before u next pipes) round.moments round.comes) round.settles

@@ -10,7 +10,7 @@ use Rattle.node_model.specs.RouterRows.{id_of, awaited, shards_of, untold, also_
 use Rattle.node_progress.specs.UnderWay.{Thing, a_time, things_by, things_of, Brings, IsFor}
 use Rattle.node_progress.proofs.Members.{in_map, still_untold}
 use Rattle.node_progress.proofs.Things.{IsAwaited, awaits, InSameLife, same_things}
-use Rattle.node_progress.proofs.RouterWaits.{StillWaits}
+use Rattle.node_progress.proofs.RouterWaits.{StillWaits, same_id}
 
 pub some_more : {X Y : Type 0} (g : X → Y) (xs : List X) → xs ≢ [] → map g xs ≢ []
 some_more g [] some = absurd (some refl)
@@ -44,6 +44,7 @@ module _ (r u : Router) (q : Open) (m : Letter) (waits : q.wait ≡ for_time) (s
   heard_waits id says there some = record {
     before = q;
     there = there;
+    own = same_id r u q.count same;
     work = refl;
     wait = refl;
     some = λ had none.

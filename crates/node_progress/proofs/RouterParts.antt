@@ -12,7 +12,7 @@ use Rattle.node_model.specs.RouterRows.{id_of, shards_of, untold, part_of, also_
 use Rattle.node_progress.specs.UnderWay.{Thing, a_part, things_stored, things_by, things_of, Brings, IsFor}
 use Rattle.node_progress.proofs.Members.{in_map, in_filter, in_filtered, is_false}
 use Rattle.node_progress.proofs.Things.{IsAwaited, IsAwaitedStored, awaits, InSameLife, same_things}
-use Rattle.node_progress.proofs.RouterWaits.{StillWaits}
+use Rattle.node_progress.proofs.RouterWaits.{StillWaits, same_id}
 use Rattle.node_progress.proofs.RouterHears.{some_more}
 
 -- a shard that has no part where there is one more has none before, and that is another's
@@ -92,6 +92,7 @@ module _ (r u : Router) (q : Open) (m : Letter) (rows : Result Rows HalfFault) (
   parted_waits id says there some = record {
     before = q;
     there = there;
+    own = same_id r u q.count same;
     work = refl;
     wait = refl;
     some = λ had none. some_more part_by others some (none_left (sym things ∙ none));

@@ -27,6 +27,7 @@ use Rattle.node_progress.proofs.Sends.{IsGoing, AreSent, shards_send}
 pub record StillWaits (r u : Router) (i : Input) (q : Open) : Type 0 where
   pub before : Open
   pub there : IsIn before r.requests
+  pub own : id_of u q.count ≡ id_of r before.count
   pub work : q.work ≡ before.work
   pub wait : q.wait ≡ before.wait
   pub some : things_of r before ≢ [] → things_of u q ≢ []
@@ -42,6 +43,9 @@ pub record WaitsAnew (u : Router) (mail : List Letter) (q : Open) : Type 0 where
 abbrev pub WaitsAfter : (r u : Router) → Input → List Letter → Open → Type 0
 WaitsAfter r u i mail q = StillWaits r u i q ⊎ WaitsAnew u mail q
 
+pub same_id : (r u : Router) (count : ℕ) → InSameLife r u → id_of u count ≡ id_of r count
+same_id r u count same = λ i. record { router = same.me i; life = same.life i; count = count }
+
 -- nothing of it changes
 unchanged : (r u : Router) (i : Input) (q : Open) → InSameLife r u → IsIn q r.requests
     → ((t : Thing) → IsIn t (things_of r q) → (m : Letter) → i ≡ letter_input m → IsFor t m → ⊥) → StillWaits r u i q
@@ -50,6 +54,7 @@ unchanged r u i q same there none =
     record {
       before = q;
       there = there;
+      own = same_id r u q.count same;
       work = refl;
       wait = refl;
       some = λ some e. some (sym things ∙ e);

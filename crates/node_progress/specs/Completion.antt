@@ -52,6 +52,11 @@ pub record IsServedAs (account : Account) (a : Asked) (write : WriteCommand) : T
 abbrev pub IsServed : Account → Asked → Type 0
 IsServed account a = (write : WriteCommand) → command_of a.request ≡ Ok (write_command write) → IsServedAs account a write
 
+-- Every request that was taken since a world is answered, and every write among them is served. Of earlier ones this says nothing.
+pub record AreAnsweredSince (since w : World) : Type 0 where
+  pub answered : AllByRecursion (IsAnswered w.answered) (asked_since since w)
+  pub served : AllByRecursion (IsServed (account_of w)) (asked_since since w)
+
 -- Every request that was taken since the first world is answered, every write among them is served, and nothing is under way.
 pub record AreAnswered (first w : World) : Type 0 where
   pub answered : AllByRecursion (IsAnswered w.answered) (asked_since first w)

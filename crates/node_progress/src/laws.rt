@@ -1,13 +1,14 @@
 //! What is under way in each world of a run, and that requests are answered.
 
-ghost use Rattle.std.specs.Prelude.{ℕ, List, length, map, ◌<◌, ◌++◌, ◌≡◌};
+ghost use Rattle.std.specs.Prelude.{ℕ, List, length, map, ◌<◌, ◌≤◌, ◌++◌, ◌≡◌};
 ghost use Rattle.std.specs.List.{AllByRecursion};
 ghost use Rattle.reply_model.specs.Exchanges.{Asked};
 ghost use Rattle.node_model.specs.Letters.{Letter};
 ghost use Rattle.node_model.specs.World.{Event, Run, World, account_of};
 ghost use Rattle.node_model.specs.Schedule.{Pipes, Round};
+ghost use Rattle.node_replay.specs.Restarts.{EventOrStop, RunWithStops};
 ghost use Rattle.node_progress.specs.Arrivals.{arrival_of, arrivals};
-ghost use Rattle.node_progress.specs.Completion.{AreAnswered, IsAnswered, IsOfRouter, IsServed, asked_since};
+ghost use Rattle.node_progress.specs.Completion.{AreAnswered, AreAnsweredSince, IsAnswered, IsOfRouter, IsServed, asked_since};
 ghost use Rattle.node_progress.specs.Firsts.{IsAtRest, IsFirst};
 ghost use Rattle.node_progress.specs.UnderWay.{IsDelivered, IsLeft, IsNotStale, IsUnderWay};
 
@@ -41,6 +42,14 @@ pub fn requests_stay_under_way()
 #[tactic(auto, using(crate::proofs::Answered::delivered_runs_are_answered))]
 pub fn delivered_runs_are_answered()
     ensures { (first : World) (events : List Event) (w : World) → IsFirst first → Run first events w → ((n : ℕ) → n < length w.sent → IsDelivered events n) → AreAnswered first w }
+{}
+
+/// Where nodes stopped and were started again: of the requests that were taken since any world of the run, where no node stopped after it and each message
+/// that was sent since was delivered, every one is answered and every write is served. What a node had for an earlier one, and did not store, may be lost.
+#[tactic(auto, using(crate::proofs::AnsweredSince::delivered_since_are_answered))]
+pub fn delivered_since_are_answered()
+    ensures { (first : World) (early : List EventOrStop) (v : World) (late : List Event) (w : World) → IsFirst first → RunWithStops first early v → Run v late w
+        → ((n : ℕ) → length v.sent ≤ n → n < length w.sent → IsDelivered late n) → AreAnsweredSince v w }
 {}
 
 /// No shard sends a request back as one with an older table: currently no chunk moves.

@@ -48,6 +48,25 @@ fn kinds_are_named(rt: HostRuntime) -> Result<(), Fail> {
     Ok(())
 }
 
+#[test]
+fn nodes_are_started_again(rt: HostRuntime) -> Result<(), Fail> {
+    let Line::Restart { node } = read_line(rt.alloc(), b"restart 18446744073709551615")? else {
+        return Err(Fail::new("another line"));
+    };
+    assert!(rt; node == u64::MAX);
+    let Line::RestartKept { node, k } = read_line(rt.alloc(), b"restart 1 kept 3")? else {
+        return Err(Fail::new("another line"));
+    };
+    assert!(rt; node == 1);
+    assert!(rt; k == 3);
+    let Line::RestartLost { node, k } = read_line(rt.alloc(), b"restart 2 lost 0")? else {
+        return Err(Fail::new("another line"));
+    };
+    assert!(rt; node == 2);
+    assert!(rt; k == 0);
+    Ok(())
+}
+
 fn is_refused(alloc: Global, line: &[u8]) -> bool {
     matches!(read_line(alloc, line), Err(LineFault::Refused))
 }
@@ -56,7 +75,13 @@ fn is_refused(alloc: Global, line: &[u8]) -> bool {
 fn other_lines_are_refused(rt: HostRuntime) -> Result<(), Fail> {
     assert!(rt; is_refused(rt.alloc(), b""));
     assert!(rt; is_refused(rt.alloc(), b"settle "));
-    assert!(rt; is_refused(rt.alloc(), b"restart 1"));
+    assert!(rt; is_refused(rt.alloc(), b"restart"));
+    assert!(rt; is_refused(rt.alloc(), b"restart 01"));
+    assert!(rt; is_refused(rt.alloc(), b"restart 1 "));
+    assert!(rt; is_refused(rt.alloc(), b"restart 1 kept"));
+    assert!(rt; is_refused(rt.alloc(), b"restart 1 kept 03"));
+    assert!(rt; is_refused(rt.alloc(), b"restart 1 lost 3 "));
+    assert!(rt; is_refused(rt.alloc(), b"restart 1 keep 3"));
     assert!(rt; is_refused(rt.alloc(), b"deliver 01 7"));
     assert!(rt; is_refused(rt.alloc(), b"deliver 1 18446744073709551616"));
     assert!(rt; is_refused(rt.alloc(), b"client 0 "));

@@ -1,6 +1,6 @@
 -- Counts of faults that rise, or are as before.
-use Rattle.std.specs.Prelude.{◌≡◌, ℕ, List, Result, Ok, Err, map}
-use Rattle.std.proofs.Common.{sym, subst, ap, ◌∙◌, refl}
+use Rattle.std.specs.Prelude.{◌≡◌, ℕ, List, Result, Err}
+use Rattle.std.proofs.Common.{sym, subst, ap, ◌∙◌}
 use Rattle.outside.specs.Causes.{Rose}
 use Rattle.outside.specs.Devices.{NoneFell}
 use Rattle.pipe_driver.specs.Counts.{HaveRisenWhere, RoseWhere}

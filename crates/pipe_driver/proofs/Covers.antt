@@ -18,7 +18,7 @@ use Rattle.driver_steps.specs.Together.{TogetherSince, hosted}
 use Rattle.driver_steps.specs.Worlds.{NetworkView, StandsFor}
 use Rattle.driver_steps.proofs.Crashes.{held_plain, held_since, leads_nowhere, leads_on, note_leaves}
 use Rattle.driver_steps.proofs.Together.{together_noted}
-use Rattle.pipe_driver.specs.Acknowledgements.{AreAcknowledgedBy, AreCovered, AreNoted, IsCovered, IsNotedBefore}
+use Rattle.pipe_driver.specs.Acknowledgements.{AreAcknowledgedBy, AreCovered, AreNoted, IsCovered}
 use Rattle.pipe_driver.specs.Pieces.{IsPrefix}
 use Rattle.pipe_driver.specs.Schedules.{HasServed}
 

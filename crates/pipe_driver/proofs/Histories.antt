@@ -1,5 +1,5 @@
 -- However a connection ends, its nodes took part in one run, which makes one history.
-use Rattle.std.proofs.Common.{◌≡◌, ℕ, ◌+◌, List, [], ◌∷◌, ◌++◌, length, sym, subst}
+use Rattle.std.proofs.Common.{◌≡◌, ℕ, List, [], ◌∷◌, ◌++◌, length}
 use Rattle.std.specs.Prelude.{Option}
 use Rattle.outside.specs.Devices.{SourceCall, SinkCall}
 use Rattle.opmsg_frames.specs.Outline.{FrameFault}

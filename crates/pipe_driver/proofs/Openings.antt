@@ -1,5 +1,5 @@
 -- Openings: nothing is replied in them, and what comes after them.
-use Rattle.std.proofs.Common.{◌≡◌, ℕ, zero, suc, ◌+◌, List, [], ◌∷◌, ◌++◌, map, refl, sym, ap, subst, ◌∙◌, append-nil}
+use Rattle.std.proofs.Common.{◌≡◌, ℕ, zero, suc, ◌+◌, List, [], ◌++◌, map, refl, sym, ap, ◌∙◌, append-nil}
 use Rattle.std.specs.List.{AllByRecursion}
 use Rattle.node_model.specs.Letters.{Letter, opened_input, Effect, Reply}
 use Rattle.node_model.specs.States.{NodeState}
@@ -7,7 +7,7 @@ use Rattle.node_model.specs.CatalogueRows.{catalogue_opened}
 use Rattle.node_model.specs.ShardRows.{shard_opened}
 use Rattle.node_model.specs.RouterRows.{router_begin, router_opened}
 use Rattle.node_model.specs.Steps.{Step, catalogue_step, shard_step, router_step, begin_step}
-use Rattle.node_model.specs.World.{World, Moves, Event, client_event, deliver_event, moment_event, opened_event, answered_by, Happens, comes, delivers}
+use Rattle.node_model.specs.World.{World, Event, client_event, deliver_event, moment_event, opened_event, answered_by, Happens, comes, delivers}
 use Rattle.node_model.specs.World.{passes, begins as was_opened, Run, stands, goes}
 use Rattle.node_model.specs.Schedule.{openings}
 use Rattle.node_progress.specs.Firsts.{IsFirst}

@@ -1,12 +1,12 @@
 -- Replies that are put, one after another.
-use Rattle.std.proofs.Common.{◌≡◌, ℕ, List, [], ◌∷◌, ◌++◌, Bool, ◌+◌, ◌<◌, ◌≤◌, suc, length, get_or, take, drop, drop-cons, add-one, refl, ap, sym, subst}
+use Rattle.std.proofs.Common.{◌≡◌, ℕ, List, [], ◌∷◌, ◌++◌, Bool, ◌+◌, ◌<◌, ◌≤◌, suc, length, get_or, take, drop, drop-cons, add-one, ap, sym, subst}
 use Rattle.std.proofs.Common.{◌∙◌, append_assoc, append-nil}
 use Rattle.std.proofs.lemmas.Grind.{flat_map-append}
 use Rattle.std.proofs.lemmas.List.{take-append-drop, drop_all}
 use Rattle.outside.specs.Streams.{Put}
 use Rattle.outside.proofs.Relations.{put_then}
 use Rattle.node_traits.specs.declared.outputs.ToLink.{ToLink}
-use Rattle.pipe_driver.specs.Pieces.{IsPrefix, PutInPart}
+use Rattle.pipe_driver.specs.Pieces.{PutInPart}
 use Rattle.pipe_driver.specs.Rounds.{bytes_of}
 
 -- the first bytes of a piece are a prefix

@@ -1,24 +1,24 @@
 -- One round of the schedule.
-use Rattle.std.proofs.Common.{◌≡◌, ℕ, ℤ, zero, suc, ◌+◌, ◌<◌, ◌%◌, ◌^◌, List, [], ◌∷◌, ◌++◌, map, length, refl, sym, ap, subst, ◌∙◌, append_assoc, append-nil}
+use Rattle.std.proofs.Common.{◌≡◌, ℕ, ℤ, ◌+◌, ◌<◌, ◌%◌, ◌^◌, List, [], ◌∷◌, ◌++◌, length, refl, sym, ap, subst, ◌∙◌, append_assoc, append-nil}
 use Rattle.std.proofs.Common.{arith, w32, to_z, of_z}
-use Rattle.std.specs.List.{AllByRecursion, flat_map}
+use Rattle.std.specs.List.{flat_map}
 use Rattle.std.proofs.lemmas.List.{map-append}
 use Rattle.std.proofs.lemmas.Int.{fits_signed_from_abs, to_z-of_z}
 use Rattle.std.proofs.lemmas.Grind.{flat_map-append}
 use Rattle.opmsg_frames.specs.Requests.{Request, IsRequest}
 use Rattle.node_model.specs.World.{World, Event, client_event, IsRouter, Happens, Run, goes}
-use Rattle.node_model.specs.Schedule.{moments_given, Round, IsRound, Pipes}
+use Rattle.node_model.specs.Schedule.{moments_given, Round, Pipes}
 use Rattle.node_model.proofs.Schedules.{run_then}
 use Rattle.node_progress.proofs.Rounds.{pipes_bag, round_asked}
 use Rattle.node_traits.specs.declared.outputs.StepFault.{StepFault}
 use Rattle.node_traits.specs.declared.outputs.ToLink.{ToLink}
 use Rattle.driver_steps.specs.Seats.{Hosted, SeatView}
-use Rattle.driver_steps.specs.Worlds.{NetworkView, StandsFor}
-use Rattle.driver_steps.specs.Moves.{BeginWith, AreDeliveries, HasHappened, HasRun, HasSettled, HasStopped}
+use Rattle.driver_steps.specs.Worlds.{NetworkView}
+use Rattle.driver_steps.specs.Moves.{BeginWith, AreDeliveries, HasSettled, HasStopped}
 use Rattle.driver_steps.proofs.Runs.{stopped_behind, up_to_more}
 use Rattle.pipe_driver.specs.Progress.{AreAsked}
 use Rattle.pipe_driver.specs.Rounds.{first_link, requests_of, replies_after, replies_behind, number_behind, AreNumbered, AreOfOne}
-use Rattle.pipe_driver.specs.Schedules.{round_of, MayServe, IsPart, in_moments, in_deliveries, HasServed}
+use Rattle.pipe_driver.specs.Schedules.{MayServe, IsPart, in_moments, in_deliveries, HasServed}
 use Rattle.pipe_driver.proofs.Frames.{all_more}
 use Rattle.pipe_driver.proofs.Routers.{none_lost, router_there, run_stays}
 

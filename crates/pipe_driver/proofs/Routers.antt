@@ -1,15 +1,15 @@
 -- A router stays one, and each message that comes next goes to a node.
-use Rattle.std.proofs.Common.{◌≡◌, ℕ, zero, suc, ◌+◌, ◌≤◌, List, [], ◌∷◌, ◌++◌, refl, sym, ap, subst, ◌∙◌}
+use Rattle.std.proofs.Common.{◌≡◌, ℕ, zero, suc, ◌≤◌, List, [], ◌∷◌, ◌++◌, refl, sym, ap, subst, ◌∙◌}
 use Rattle.std.specs.Prelude.{Some}
 use Rattle.std.specs.List.{slice_get, slice_set}
-use Rattle.node_model.specs.Journal.{Kept}
-use Rattle.node_model.specs.Letters.{Letter, Input, Effect}
-use Rattle.node_model.specs.States.{Router, NodeState, catalogue_state, shard_state, router_state, new_router}
+use Rattle.node_model.specs.Letters.{Input, Effect}
+use Rattle.node_model.specs.States.{Router, NodeState, router_state}
 use Rattle.node_model.specs.Steps.{Step, catalogue_step, shard_step, router_step, begin_step, other_step}
-use Rattle.node_model.specs.World.{Held, World, IsRouter, Moves, Event, deliver_event, Happens, comes, delivers, passes, begins as was_opened, Run, stands}
+use Rattle.node_model.specs.World.{Held, World, IsRouter, Moves, Event, Happens, comes, delivers, passes, begins as was_opened, Run, stands}
 use Rattle.node_model.specs.World.{goes}
 use Rattle.node_model.specs.Schedule.{Round, Pipes, Delivers}
 use Rattle.node_model.proofs.Schedules.{pipes_run}
+use Rattle.node_progress.proofs.Bags.{all_of}
 use Rattle.node_progress.proofs.BagRuns.{goes_to_node}
 use Rattle.node_progress.proofs.Rounds.{BagAt, delivery_keeps}
 use Rattle.driver_steps.specs.Moves.{Settles}
@@ -66,6 +66,6 @@ pub none_lost : (u : World) (next : ℕ) (events : List Event) (w : World) (late
     → Delivers u next events w later
 none_lost u next events w later bag settles =
     settles_delivers (λ (v : World) (n : ℕ). BagAt v n)
-    (λ v n m b got. goes_to_node (λ k. n ≤ k) v n m b got)
+    (λ v n m b got. goes_to_node (all_of (λ k. n ≤ k)) v n m b got)
     (λ v x n at b h. delivery_keeps v x n at b h)
     u next events w later bag settles

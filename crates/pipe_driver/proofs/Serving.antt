@@ -1,13 +1,12 @@
 -- A connection proceeds by one request, or stops at it.
-use Rattle.std.proofs.Common.{◌≡◌, ◌≢◌, ◌⊎◌, inl, inr, ℕ, ℤ, ◌+◌, ◌≤◌, Bool, IsTrue, List, [], ◌∷◌, ◌++◌, length, refl, sym, ap, subst, ◌∙◌, arith, append_assoc, append-nil, length-append}
-use Rattle.std.specs.List.{flat_map}
+use Rattle.std.proofs.Common.{◌≡◌, ◌≢◌, inl, inr, ℕ, ℤ, ◌+◌, ◌≤◌, Bool, IsTrue, List, [], ◌∷◌, ◌++◌, length, refl, sym, ap, subst, ◌∙◌, arith, append_assoc, append-nil, length-append}
 use Rattle.outside.specs.Streams.{Put}
 use Rattle.outside.proofs.Relations.{put_then}
 use Rattle.opmsg_frames.specs.Requests.{Request, IsRequest}
 use Rattle.node_model.specs.Letters.{Letter}
 use Rattle.node_model.specs.World.{World, Event, client_event, Happens, Run, stands, goes}
 use Rattle.node_model.proofs.Schedules.{delivers_run, pipes_run, run_then}
-use Rattle.node_model.specs.Schedule.{openings, moments_given, Round, IsRound, Pipes, opens, serves}
+use Rattle.node_model.specs.Schedule.{openings, moments_given, Round, IsRound, opens, serves}
 use Rattle.node_progress.specs.Firsts.{IsFirst}
 use Rattle.node_traits.specs.Effects.{ByStepFault}
 use Rattle.node_traits.specs.declared.outputs.StepFault.{StepFault}
@@ -15,7 +14,9 @@ use Rattle.node_traits.specs.declared.outputs.StepFault.TheVariants.{Disk, Steps
 use Rattle.node_traits.specs.declared.outputs.ToLink.{ToLink}
 use Rattle.driver_steps.specs.declared.network.Network.{Network}
 use Rattle.driver_steps.specs.Crashes.{LeadsTo, Noted}
-use Rattle.driver_steps.specs.Seats.{Hosted, SeatView, AreHeld, AreKept, AreHeldOrKept}
+use Rattle.restart_laws.specs.Calls.{wholes}
+use Rattle.restart_laws.proofs.ReachedCalls.{run_whole}
+use Rattle.driver_steps.specs.Seats.{Hosted, SeatView, AreKept, AreHeldOrKept}
 use Rattle.driver_steps.specs.Worlds.{NetworkView, StandsFor, network_view, puts_given}
 use Rattle.driver_steps.specs.Moves.{IsUpTo, BeginWith, HasRun, HasStopped}
 use Rattle.driver_steps.proofs.Crashes.{leads_by, leads_nowhere, leads_on}
@@ -24,9 +25,9 @@ use Rattle.driver_steps.proofs.Runs.{handed_on}
 use Rattle.pipe_driver.specs.Pieces.{PutInPart}
 use Rattle.pipe_driver.specs.Acknowledgements.{AreCovered}
 use Rattle.pipe_driver.specs.Progress.{AreAsked, Serving, CutShort, PutShort, all_replies}
-use Rattle.pipe_driver.specs.Rounds.{first_link, requests_of, replies_after, replies_behind, number_behind, AreOfOne, bytes_of, puts_since}
+use Rattle.pipe_driver.specs.Rounds.{requests_of, replies_after, replies_behind, number_behind, AreOfOne, bytes_of, puts_since}
 use Rattle.pipe_driver.specs.Schedules.{round_of, IsLast, IsPart, HasServed, Came, came_whole, came_opening, came_part}
-use Rattle.pipe_driver.specs.Stops.{status_for, StopsAtRequest, at_write_fault, at_disk_fault, at_no_memory}
+use Rattle.pipe_driver.specs.Stops.{status_for, StopsAtRequest, at_disk_fault, at_no_memory}
 use Rattle.pipe_driver.specs.declared.status.Status.{Status}
 use Rattle.pipe_driver.specs.declared.status.Status.TheVariants as statuses
 use Rattle.pipe_driver.proofs.Covers.{covered_more, covered_none, covered_on, covered_part}
@@ -206,17 +207,18 @@ module _ {S : Type 0} (view : S → SeatView) (hosts hosts_after : Hosted S) (be
         (part_in_round count (h.events ++ e ∷ []) as_many part) (run_one_more s.world h.events h.end e h.last h.run more));
     crashes = h.crashes;
     covered = λ told. covered_on (all_replies first) first held_before noted _ s.world h.last (s.covered told)
-        (leads_on s.world h.end h.last (h.events, h.run) (last_leads fault h.end h.last _ h.up_to));
+        (leads_on s.world h.end h.last (wholes h.events, run_whole s.world h.end h.events h.run) (last_leads fault h.end h.last _ h.up_to));
   }
 
   -- the replies of a round are written after one note more of all disks
   module _ (network : NetworkView) (h : HasServed view hosts_after network (puts_given s.world.answered) s.world s.next (round_of router moment number asked))
       (moments : List ℕ) (told : IsTrue tells) where
     round_from : LeadsTo first s.world
-    round_from = (s.events, pipes_run first s.rounds s.events s.world s.next s.pipes)
+    round_from = (wholes s.events, run_whole first s.world s.events (pipes_run first s.rounds s.events s.world s.next s.pipes))
 
     round_on : LeadsTo s.world h.end
-    round_on = (h.events, round_run s.world s.next (round_of router moment number asked) h.events h.end h.round)
+    round_on =
+        (wholes h.events, run_whole s.world h.end h.events (round_run s.world s.next (round_of router moment number asked) h.events h.end h.round))
 
     round_few : length held ≤ length held_before + length (bytes_of (puts_since first s.world))
     round_few = omega (
@@ -242,8 +244,9 @@ module _ {S : Type 0} (view : S → SeatView) (hosts hosts_after : Hosted S) (be
 
     bytes_are : bytes_of (puts_since first h.end) ≡ bytes_of (puts_since first s.world) ++ bytes_of old.replies.items
     bytes_are =
-        ap bytes_of (since_more first s.world h.end old.replies.items (s.events, pipes_run first s.rounds s.events s.world s.next s.pipes)
-        (h.events, round_run s.world s.next (round_of router moment number asked) h.events h.end h.round) puts_are) ∙ bytes_then (puts_since first s.world) old.replies.items
+        ap bytes_of (since_more first s.world h.end old.replies.items
+        (wholes s.events, run_whole first s.world s.events (pipes_run first s.rounds s.events s.world s.next s.pipes))
+        (wholes h.events, run_whole s.world h.end h.events (round_run s.world s.next (round_of router moment number asked) h.events h.end h.round)) puts_are) ∙ bytes_then (puts_since first s.world) old.replies.items
 
     -- all replies of the round were put
     pub served_one : (held' : List ℕ) (after : ℕ) → Put tells held (bytes_of old.replies.items) held' → after ≡ replies_after q.more replied

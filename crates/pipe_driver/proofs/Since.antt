@@ -3,7 +3,8 @@ use Rattle.std.proofs.Common.{◌≡◌, ℕ, List, [], ◌∷◌, ◌++◌, len
 use Rattle.std.specs.Prelude.{drop}
 use Rattle.node_model.specs.Exchanges.{Answered}
 use Rattle.node_model.specs.Letters.{Input}
-use Rattle.node_model.specs.World.{World, answered_by, Moves, Event, Happens, comes, delivers, passes, begins as was_opened, Run, stands, goes}
+use Rattle.node_model.specs.World.{World, answered_by, Moves, Event, Happens, comes, delivers, passes, begins as was_opened}
+use Rattle.node_replay.specs.Restarts.{EventOrStop, Occurs, RunWithStops, occurs, proceeds, restarts, stays, stops}
 use Rattle.node_progress.proofs.Lives.{dropped}
 use Rattle.node_traits.specs.declared.outputs.ToLink.{ToLink}
 use Rattle.driver_steps.specs.Crashes.{LeadsTo}
@@ -24,10 +25,15 @@ happens_gives _ _ _ (delivers w v at which letter got to m) = move_gives w v at 
 happens_gives _ _ _ (passes w v at moment m) = move_gives w v at _ m
 happens_gives _ _ _ (was_opened w v at m) = move_gives w v at _ m
 
-run_gives : (u : World) (es : List Event) (w : World) → Run u es w → GaveMore u.answered w.answered
-run_gives _ _ _ (stands w) = ([], sym (append-nil w.answered))
-run_gives _ _ _ (goes u v w e es h run) =
-    let one = happens_gives u v e h in
+occurs_gives : (w v : World) (e : EventOrStop) → Occurs w e v → GaveMore w.answered v.answered
+occurs_gives _ _ _ (occurs w v e h) = happens_gives w v e h
+occurs_gives _ _ _ (restarts w v at m) = ([], ap (λ (x : World). x.answered) m.then)
+occurs_gives _ _ _ (stops w v at e i gives m) = ([], ap (λ (x : World). x.answered) m.then)
+
+run_gives : (u : World) (es : List EventOrStop) (w : World) → RunWithStops u es w → GaveMore u.answered w.answered
+run_gives _ _ _ (stays w) = ([], sym (append-nil w.answered))
+run_gives _ _ _ (proceeds u v w e es h run) =
+    let one = occurs_gives u v e h in
     let more = run_gives v es w run in
     (one.0 ++ more.0, more.1 ∙ (ap (λ (l : List Answered). l ++ more.0) one.1 ∙ append_assoc u.answered one.0 more.0))
 

@@ -1,6 +1,5 @@
 -- How far the schedule of one connection came (own).
 use Rattle.std.specs.Prelude.{◌≡◌, ◌⊎◌, ℕ, ℤ, List, [], ◌∷◌, ◌++◌, length}
-use Rattle.std.specs.List.{AllByRecursion}
 use Rattle.node_model.specs.Requests.{Request}
 use Rattle.node_model.specs.World.{World, IsRouter, Event, client_event, Happens, Run}
 use Rattle.node_model.specs.Schedule.{openings, moments_given, Round, IsRound, Pipes}

@@ -8,4 +8,5 @@ pub mod Givens
 pub mod Runs
 pub mod Mail
 pub mod ReachedCalls
+pub mod Parts
 pub mod Pinned

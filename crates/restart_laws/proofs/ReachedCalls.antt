@@ -1,24 +1,28 @@
 -- What is true of runs with stops is true over calls, each of which begins on the journals that the one before it left.
-use Rattle.std.proofs.Common.{◌≡◌, ℕ, zero, suc, ◌+◌, ◌<◌, List, [], ◌∷◌, ◌++◌, refl, sym, ◌∙◌, arith, length-set}
+use Rattle.std.proofs.Common.{◌≡◌, ℕ, zero, suc, ◌+◌, ◌<◌, List, [], ◌∷◌, ◌++◌, refl, sym, ap, ◌∙◌, arith, length-set}
 use Rattle.std.specs.Prelude.{Some, length}
 use Rattle.std.specs.List.{AllByRecursion, slice_get, slice_set}
+use Rattle.std.specs.Option.{option_map}
 use Rattle.reply_model.specs.Accounts.{changes_in as changes_of}
 use Rattle.reply_model.specs.OneHistory.{OneHistory, AreDifferent, ids_told}
-use Rattle.node_model.specs.Journal.{changes_kept}
+use Rattle.node_model.specs.Journal.{Kept, changes_kept}
 use Rattle.node_model.specs.Letters.{Letter, Input, moment_input, nothing}
-use Rattle.node_model.specs.World.{Held, World, after, is_given, tick, Event, start, journal_at, account_of}
+use Rattle.node_model.specs.States.{NodeState}
+use Rattle.node_model.specs.World.{Held, World, after, is_given, tick, Event, Run, stands, goes, Moves, start, journal_at, account_of}
 use Rattle.node_laws.proofs.Lists.{all_behind}
 use Rattle.node_replay.specs.Acknowledged.{KeepsJournals, KeepsWrites}
 use Rattle.node_replay.specs.Holds.{HoldsOwn, Replays, MayOpen}
+use Rattle.node_replay.specs.Openings.{opened, opened_on}
+use Rattle.node_replay.specs.Replays.{replayed, records_of, latest_time}
 use Rattle.node_replay.specs.ReadTimes.{IsInTime, ComesInTime}
-use Rattle.node_replay.specs.Restarts.{Gives, Occurs, restarts, restart_event, RunWithStops, stays, proceeds}
+use Rattle.node_replay.specs.Restarts.{Gives, Restarts, EventOrStop, Occurs, occurs, restarts, whole_event, restart_event, RunWithStops, stays, proceeds}
 use Rattle.node_replay.proofs.JournalsStay.{run_with_stops_grows}
 use Rattle.node_replay.proofs.OnceRuns.{run_with_stops_once}
 use Rattle.node_replay.proofs.Restarts.{became, node_opens, occurs_replays, stopped_replays, run_with_stops_replays, run_with_stops_holds}
-use Rattle.node_replay.proofs.Runs.{NodeReplays, WorldReplays, all_got, start_replays}
+use Rattle.node_replay.proofs.Runs.{NodeReplays, WorldReplays, move_shows, step_replays, all_got, start_replays}
 use Rattle.restart_laws.proofs.Runs.{runs_with_stops_make_one_history, runs_with_stops_keep_changes, runs_with_stops_keep_writes, runs_with_stops_own_journals}
 use Rattle.restart_laws.proofs.Mail.{later_event, mail_gives, calls_are_one_run}
-use Rattle.restart_laws.specs.Calls.{restarts_of, without_mail, with_mail, BeginsOn, Calls, Reached, IsOfRun, HaveOwnEntries}
+use Rattle.restart_laws.specs.Calls.{wholes, restarts_of, without_mail, with_mail, BeginsOn, Calls, this_call, next_call, Reached, IsOfRun, HaveOwnEntries}
 
 -- A CALL MAY BEGIN
 
@@ -105,7 +109,7 @@ calls_keep_journals u w calls p =
     let o = calls_are_one_run u w calls in
     run_with_stops_grows u (with_mail o.mail w) o.events o.run p
 
-replays_without : (mail : List Letter) (w : World) → WorldReplays (with_mail mail w) → WorldReplays w
+pub replays_without : (mail : List Letter) (w : World) → WorldReplays (with_mail mail w) → WorldReplays w
 replays_without mail w all = record { nodes = all.nodes; reads = all.reads; letters = all_behind IsInTime mail w.sent all.letters }
 
 pub reached_calls_may_go_on : (others routers : ℕ) (u : World) → Reached others routers u → (first : World) × BeginsOn u first
@@ -115,3 +119,46 @@ reached_calls_may_go_on others routers u r =
     replays_without o.mail u (stopped_replays (start others routers) (with_mail o.mail u) o.events (start_replays others routers) o.run) in
     let s = starts_from u 0 (length u.nodes) all (omega arith) in
     (without_mail s.0, record { started = s.0; starts = s.1; then = refl })
+
+-- NODES THAT STOP IN A CALL
+
+-- a run is one in which no node stops
+pub run_whole : (u w : World) (events : List Event) → Run u events w → RunWithStops u (wholes events) w
+run_whole _ _ _ (stands w) = stays w
+run_whole _ _ _ (goes u v w e events h more) = proceeds u v w (whole_event e) (wholes events) (occurs u v e h) (run_whole v w events more)
+
+pub stops_then : (u v w : World) (before events : List EventOrStop) → RunWithStops u before v → RunWithStops v events w → RunWithStops u (before ++ events) w
+stops_then _ _ w _ events (stays v) more = more
+stops_then _ v w _ events (proceeds u x y e before h run) more = proceeds u x w e (before ++ events) h (stops_then x y w before events run more)
+
+-- a call goes on
+pub calls_proceed : (u v w : World) (events : List EventOrStop) → Calls u v → RunWithStops v events w → Calls u w
+calls_proceed u _ w events (this_call v before run) more = this_call w (before ++ events) (stops_then u v w before events run more)
+calls_proceed u _ w events (next_call x first v before earlier begins run) more =
+    next_call x first w (before ++ events) earlier begins (stops_then first v w before events run more)
+
+pub all_of_reached : (others routers : ℕ) (w : World) → Reached others routers w → WorldReplays w
+all_of_reached others routers w r =
+    let o = calls_are_one_run (start others routers) w r in
+    replays_without o.mail w (stopped_replays (start others routers) (with_mail o.mail w) o.events (start_replays others routers) o.run)
+
+-- each node may stop between two steps
+pub reached_nodes_may_restart : (others routers at : ℕ) (w : World) (h : Held) → Reached others routers w → slice_get w.nodes at ≡ Some h
+    → (v : World) × Restarts w at v
+reached_nodes_may_restart others routers at w h r here =
+    let node : NodeReplays h = all_got NodeReplays w.nodes at h (all_of_reached others routers w r).nodes here in
+    (started_at w at h, record { old = h; new = became h; here = here; opens = node_opens h node.0; then = refl })
+
+-- and in the step of any event
+pub reached_nodes_may_stop : (others routers at : ℕ) (w v : World) (e : Event) (i : Input) → Reached others routers w → Gives w e at i → (m : Moves w at i v)
+    → (new : NodeState) × (opened_on m.old.state (m.old.kept ++ m.f.written) ≡ Some new)
+reached_nodes_may_stop others routers at w v e i r gives m =
+    let all = all_of_reached others routers w r in
+    let input : ComesInTime i = (reached_calls_hold others routers w r).1 e at i gives in
+    let follows = (move_shows w at m.old m.new i m.f all input m.here m.step).follows in
+    let kept : List Kept = m.old.kept ++ m.f.written in
+    let h : Held = record { state = m.new; kept = kept } in
+    let replays : NodeReplays h = step_replays m.old m.new i m.f (all_got NodeReplays w.nodes at m.old all.nodes m.here) input follows in (
+      became h,
+      sym (ap (λ d. option_map (opened (latest_time (records_of kept))) (replayed (Some d) (records_of kept))) follows.own) ∙ node_opens h replays.0,
+    )

@@ -3,8 +3,13 @@
 use Rattle.std.specs.Prelude.{◌≡◌, ℕ, zero, suc, ◌+◌, List, [], ◌∷◌, ◌++◌, length}
 use Rattle.history_laws.specs.Merged.{IsJournalOf}
 use Rattle.node_model.specs.Letters.{Letter}
-use Rattle.node_model.specs.World.{Held, World, entries_at, start}
-use Rattle.node_replay.specs.Restarts.{EventOrStop, restart_event, RunWithStops}
+use Rattle.node_model.specs.World.{Held, World, Event, entries_at, start}
+use Rattle.node_replay.specs.Restarts.{EventOrStop, whole_event, restart_event, RunWithStops}
+
+-- events in which no node stops
+abbrev pub wholes : List Event → List EventOrStop
+wholes [] = []
+wholes (e ∷ events) = whole_event e ∷ wholes events
 
 -- so many nodes are started, from this place on, in order
 abbrev pub restarts_of : (at n : ℕ) → List EventOrStop

@@ -1,17 +1,19 @@
 //! The laws of calls that begin on the journals which earlier calls left.
 
-ghost use Rattle.std.specs.Prelude.{◌≡◌, ℕ};
-ghost use Rattle.std.specs.List.{AllByRecursion};
+ghost use Rattle.std.specs.Prelude.{◌≡◌, ◌++◌, ℕ, List, Some};
+ghost use Rattle.std.specs.List.{AllByRecursion, slice_get};
 ghost use Rattle.reply_model.specs.Accounts.{changes_in};
 ghost use Rattle.reply_model.specs.OneHistory.{AreDifferent, OneHistory, ids_told};
 ghost use Rattle.node_model.specs.Journal.{changes_kept};
 ghost use Rattle.node_model.specs.Letters.{Input};
-ghost use Rattle.node_model.specs.World.{Event, World, account_of, journal_at, start};
+ghost use Rattle.node_model.specs.States.{NodeState};
+ghost use Rattle.node_model.specs.World.{Event, Held, Moves, Run, World, account_of, journal_at, start};
 ghost use Rattle.node_replay.specs.Acknowledged.{KeepsJournals, KeepsWrites};
 ghost use Rattle.node_replay.specs.Holds.{HoldsOwn, MayOpen, Replays};
 ghost use Rattle.node_replay.specs.ReadTimes.{ComesInTime};
-ghost use Rattle.node_replay.specs.Restarts.{Gives};
-ghost use Rattle.restart_laws.specs.Calls.{BeginsOn, Calls, HaveOwnEntries, IsOfRun, Reached};
+ghost use Rattle.node_replay.specs.Openings.{opened_on};
+ghost use Rattle.node_replay.specs.Restarts.{EventOrStop, Gives, Restarts, RunWithStops};
+ghost use Rattle.restart_laws.specs.Calls.{BeginsOn, Calls, HaveOwnEntries, IsOfRun, Reached, wholes};
 ghost use Rattle.restart_laws.specs.Pinned.{IsPinned};
 
 /// Calls, one after another, lead to a world of one run of nodes that stop and are started again: in that run the messages of earlier calls were sent too, before
@@ -82,4 +84,28 @@ pub fn reached_calls_may_go_on()
 #[tactic(auto, using(crate::proofs::Pinned::what_was_read_stays))]
 pub fn what_was_read_stays()
     ensures { (others routers : ℕ) (u : World) (w : World) → Reached others routers u → Calls u w → AllByRecursion (IsPinned w) u.sent }
+{}
+
+/// A run is one in which no node stops.
+#[tactic(auto, using(crate::proofs::ReachedCalls::run_whole))]
+pub fn runs_are_runs_with_stops()
+    ensures { (u : World) (w : World) (events : List Event) → Run u events w → RunWithStops u (wholes events) w }
+{}
+
+/// What a call does after it led to a world, also where nodes stop, it leads to from its start.
+#[tactic(auto, using(crate::proofs::ReachedCalls::calls_proceed))]
+pub fn calls_proceed()
+    ensures { (u : World) (v : World) (w : World) (events : List EventOrStop) → Calls u v → RunWithStops v events w → Calls u w }
+{}
+
+/// Each node may stop between two steps, and is started again.
+#[tactic(auto, using(crate::proofs::ReachedCalls::reached_nodes_may_restart))]
+pub fn reached_nodes_may_restart()
+    ensures { (others routers at : ℕ) (w : World) (h : Held) → Reached others routers w → slice_get w.nodes at ≡ Some h → (v : World) × Restarts w at v }
+{}
+
+/// So it may in each step that it can take: with the records of the step its journal is opened.
+pub fn reached_nodes_may_stop()
+    ensures { (others routers at : ℕ) (w : World) (v : World) (e : Event) (i : Input) → Reached others routers w → Gives w e at i → (m : Moves w at i v) →
+        (new : NodeState) × (opened_on m.old.state (m.old.kept ++ m.f.written) ≡ Some new) }
 {}

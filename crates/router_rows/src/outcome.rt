@@ -22,11 +22,9 @@ fn is_message(message: &Message, words: &str) -> Result<bool, RowFault> {
     Ok(message.kind() == kind && message.receiver.0 == to)
 }
 
-/// Returns whether these are the messages that the words name, in order.
-fn are_messages<'a, I: Iterator<Item = &'a str>>(
-    messages: &[Message],
-    words: &mut I,
-) -> Result<bool, RowFault> {
+/// Returns whether these are the messages that the words name, in order, with commas between.
+fn are_messages(messages: &[Message], words: &str) -> Result<bool, RowFault> {
+    let mut words = words.split(", ");
     for message in messages {
         let Some(word) = words.next() else {
             return Ok(false);
@@ -53,7 +51,7 @@ impl Sent {
         if words.is_empty() {
             return Ok(self.messages.is_empty());
         }
-        are_messages(&self.messages, &mut words.split(", "))
+        are_messages(&self.messages, words)
     }
 
     /// Returns whether it returned just this reply, in hexadecimal, or none where there are no digits.

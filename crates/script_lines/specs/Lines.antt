@@ -1,5 +1,5 @@
 -- The lines of a script, without their newlines (own).
-use Rattle.std.specs.Prelude.{◌≡◌, ℕ, List, ◌∷◌, ◌++◌, Option, Some, None, codes}
+use Rattle.std.specs.Prelude.{ℕ, List, ◌∷◌, ◌++◌, Option, Some, None, codes}
 use Rattle.script_lines.specs.Kinds.{IsKind}
 use Rattle.script_lines.specs.Words.{AreNumbers, IsNumber, IsHex}
 
@@ -14,6 +14,12 @@ pub data Line : Type 0 where
   settle_line : (except : Option (List ℕ)) → Line
   -- the earliest message of the kind that was not delivered is delivered
   next_line : (kind : List ℕ) → Line
+  -- the node stops between two steps, and is started again on its journal
+  restart_line : (node : ℕ) → Line
+  -- the same, but it stops in the step that delivers the k-th message to it, after the records of that step are stored
+  kept_line : (node k : ℕ) → Line
+  -- or before they are
+  lost_line : (node k : ℕ) → Line
 
 -- the bytes say this line
 pub data Says : List ℕ → Line → Type 0 where
@@ -24,3 +30,8 @@ pub data Says : List ℕ → Line → Type 0 where
   says_settle : Says (codes "settle") (settle_line None)
   says_except : (kind : List ℕ) → IsKind kind → Says (codes "settle" ++ 32 ∷ (codes "except" ++ 32 ∷ kind)) (settle_line (Some kind))
   says_next : (kind : List ℕ) → IsKind kind → Says (codes "next" ++ 32 ∷ kind) (next_line kind)
+  says_restart : (word : List ℕ) (node : ℕ) → IsNumber word node → Says (codes "restart" ++ 32 ∷ word) (restart_line node)
+  says_kept : (a b : List ℕ) (node k : ℕ) → IsNumber a node → IsNumber b k
+      → Says (codes "restart" ++ 32 ∷ (a ++ 32 ∷ (codes "kept" ++ 32 ∷ b))) (kept_line node k)
+  says_lost : (a b : List ℕ) (node k : ℕ) → IsNumber a node → IsNumber b k
+      → Says (codes "restart" ++ 32 ∷ (a ++ 32 ∷ (codes "lost" ++ 32 ∷ b))) (lost_line node k)

@@ -5,7 +5,7 @@ ghost use Rattle.script_lines.specs.Kinds.{IsKind};
 ghost use Rattle.script_lines.specs.Lines as said;
 ghost use Rattle.script_lines.specs.Lines.{Says};
 ghost use Rattle.script_lines.specs.Meanings.{meaning_of};
-ghost use Rattle.script_lines.specs.Words.{HasNone, IsHex};
+ghost use Rattle.script_lines.specs.Words.{HasNone, IsHex, IsNumber};
 ghost use Rattle.script_lines.specs.declared.line.LineFault.TheVariants as faults;
 
 use crate::kinds::is_kind;
@@ -28,6 +28,12 @@ pub enum Line {
     SettleExcept { kind: Vec<u8> },
     /// The earliest message of the kind that was not delivered is delivered.
     Next { kind: Vec<u8> },
+    /// The node stops between two steps, and is started again on its journal.
+    Restart { node: u64 },
+    /// It stops in the step that delivers the k-th message to it, whose records are stored.
+    RestartKept { node: u64, k: u64 },
+    /// It stops in that step, before its records are stored.
+    RestartLost { node: u64, k: u64 },
 }
 
 /// Why a line is not read.
@@ -65,6 +71,9 @@ pub fn read_line(alloc: Global, line: &[u8]) -> Result<Line, LineFault>
     }
     if word == b"next".as_slice() {
         return next_of(alloc, rest);
+    }
+    if word == b"restart".as_slice() {
+        return restart_of(rest);
     }
     Err(LineFault::Refused)
 }
@@ -147,6 +156,44 @@ fn next_of(alloc: Global, rest: &[u8]) -> Result<Line, LineFault>
         Ok(kind) => Ok(Line::Next { kind }),
         Err(e) => Err(e),
     }
+}
+
+/// Returns the line of a word `restart` and what comes after it.
+fn restart_of(rest: &[u8]) -> Result<Line, LineFault>
+    ensures says { IfOk result (λ read. Says (codes "restart" ++ 32 ∷ rest.now) (meaning_of read)) }
+    ensures refused { result ≡ Err faults.Refused → (other : said.Line) → ¬ Says (codes "restart" ++ 32 ∷ rest.now) other }
+{
+    let Some((first, words)) = cut_at(b' ', rest) else {
+        return match number_of(rest) {
+            Some(node) => Ok(Line::Restart { node }),
+            None => Err(LineFault::Refused),
+        };
+    };
+    match number_of(first) {
+        Some(node) => stop_of(first, node, words),
+        None => Err(LineFault::Refused),
+    }
+}
+
+/// Returns the line of a word `restart`, a word that is this node's number, and what comes after both.
+fn stop_of(first: &[u8], node: u64, words: &[u8]) -> Result<Line, LineFault>
+    requires { IsNumber first.now node }
+    ensures says { IfOk result (λ read. Says (codes "restart" ++ 32 ∷ (first.now ++ 32 ∷ words.now)) (meaning_of read)) }
+    ensures refused { result ≡ Err faults.Refused → (other : said.Line) → ¬ Says (codes "restart" ++ 32 ∷ (first.now ++ 32 ∷ words.now)) other }
+{
+    let Some((word, last)) = cut_at(b' ', words) else {
+        return Err(LineFault::Refused);
+    };
+    let Some(k) = number_of(last) else {
+        return Err(LineFault::Refused);
+    };
+    if word == b"kept".as_slice() {
+        return Ok(Line::RestartKept { node, k });
+    }
+    if word == b"lost".as_slice() {
+        return Ok(Line::RestartLost { node, k });
+    }
+    Err(LineFault::Refused)
 }
 
 /// Returns the bytes that a word encodes in hexadecimal.

@@ -14,15 +14,14 @@ use Rattle.pipe_driver.specs.Counts.{RoseWhere}
 use Rattle.pipe_driver.proofs.Counts.{rose_after, rose_as, same_err}
 use Rattle.pipe_driver.proofs.Endings.{taking_stops}
 use Rattle.pipe_driver.specs.Buffers.{EndsTaking, at_source_end, at_read_fault}
-use Rattle.pipe_driver.specs.Schedules.{IsLast}
 use Rattle.pipe_driver.specs.declared.status.Status.{Status}
 use Rattle.pipe_driver.specs.declared.status.Status.TheVariants as statuses
 use Rattle.script_lines.specs.Words.{HasNone}
 use Rattle.sim_driver.specs.Scripts.{ScriptView}
 use Rattle.sim_driver.specs.Simulations.{newline, all_printed, AllPlayed, CameTo, Cause, input_ended, read_failed, write_failed, disk_failed, no_memory}
-use Rattle.sim_driver.specs.Simulations.{line_refused, line_unended, too_long, IsSimulated}
+use Rattle.sim_driver.specs.Simulations.{line_refused, line_unended, too_long, IsLastOfScript, IsSimulated}
 use Rattle.sim_driver.specs.Progress.{Playing, StopsAt, at_refused_line, at_write_fault, at_disk_fault, at_no_memory, Stopped, HasStoppedIn}
-use Rattle.sim_driver.proofs.Settled.{ends_answered}
+use Rattle.sim_driver.proofs.Settled.{all_played}
 
 module _ {S : Type 0} (view : S → SeatView) (hosts : Hosted S) (source : SourceCall) (sink : SinkCall) (noted : List Noted) (first_router : ℕ) (first : World)
     (limit : ℕ)
@@ -56,12 +55,7 @@ module _ {S : Type 0} (view : S → SeatView) (hosts : Hosted S) (source : Sourc
     parts = ap (λ (b : List ℕ). b ++ left) p.all;
     each = p.each;
     most = omega (arith, most, length-append consumed left);
-    cause = as_cause known is p.lines p.out p.world (cause (record {
-      events = p.events;
-      script = s;
-      played = p.plays;
-      answered = ends_answered first_router first p.begins p.lines p.events p.world s p.out p.plays;
-    }));
+    cause = as_cause known is p.lines p.out p.world (cause (all_played first_router first p.begins p.lines p.events p.world s p.out p.plays));
     files = held_kept view hosts.seats p.world.nodes p.stands.nodes;
     last = p.world;
     is_last = inl refl;
@@ -88,7 +82,7 @@ module _ {S : Type 0} (view : S → SeatView) (hosts : Hosted S) (source : Sourc
     cause = as_cause told is s.lines s.out s.end (by_cause told s.cause);
     files = s.kept;
     last = s.last;
-    is_last = subst (λ (n : Status). IsLast n (λ w. CameTo first_router first s.lines left s.out w) s.end s.last) (sym is) s.is_last;
+    is_last = subst (λ (n : Status). IsLastOfScript n (λ w. CameTo first_router first s.lines left s.out w) s.end s.last) (sym is) s.is_last;
     crashes = s.crashes;
     acknowledged = s.covered;
   }

@@ -13,3 +13,4 @@ pub mod Plays
 pub mod Reports
 pub mod Steps
 pub mod Settled
+pub mod Stopped

@@ -1,6 +1,7 @@
 -- A line is played.
 use Rattle.std.proofs.Common.{◌≡◌, ◌⊎◌, inl, inr, ℕ, zero, suc, ◌+◌, ◌<◌, Bool, IsTrue, true, false, List, [], ◌∷◌, ◌++◌, length, refl, sym, ap, subst, ◌∙◌, arith}
-use Rattle.std.specs.Prelude.{Option, Some, None}
+use Rattle.std.proofs.lemmas.Result.{err_from_is_err_and}
+use Rattle.std.specs.Prelude.{Err, IfErr, IfOk, IsErrAnd, Ok, Option, Result, Some, None}
 use Rattle.outside.specs.Logs.{LogFacts}
 use Rattle.outside.specs.Notes.{Note}
 use Rattle.opmsg_frames.specs.Outline.{FrameFault}
@@ -21,14 +22,18 @@ use Rattle.sim_driver.specs.Moves.{HasAsked, HasFault, HasDeliveredOne, HasSettl
 use Rattle.pipe_driver.proofs.Covers.{note_stands, now_noted}
 use Rattle.pipe_driver.specs.declared.status.Status.{Status}
 use Rattle.pipe_driver.specs.declared.status.Status.TheVariants as statuses
-use Rattle.sim_driver.specs.LineOutcomes.{HasPlayed, HasPlayedBytes, IsOfLine, StopsLine, stops_unplayed, stops_at_disk, stops_at_memory}
+use Rattle.sim_driver.specs.LineOutcomes.{HasPlayed, HasPlayedWhole, HasPlayedBytes, IsOfLine, StopsWhole, stops_unplayed, stops_at_disk, stops_at_memory}
+use Rattle.sim_driver.specs.LineOutcomes.{StopsLine, line_unplayed, line_at_disk, line_at_memory}
 use Rattle.sim_driver.specs.LineOutcomes.{IsPartOfBytes, part_unread, part_read, names_nothing, StopsBytes, bytes_refused, bytes_at_disk, bytes_at_memory}
 use Rattle.sim_driver.specs.Links.{LinkView}
-use Rattle.sim_driver.specs.Plays.{IsPlayed, plays_client, closes, plays_deliver, plays_moment, plays_settle, plays_next, loses_next, events_on}
-use Rattle.sim_driver.specs.Plays.{IsPartOfLine, part_of_client, part_of_deliver, part_of_next}
-use Rattle.sim_driver.specs.Scripts.{ScriptView, marked, next_from, place_from, reopened, with_delivered, with_link}
+use Rattle.sim_driver.specs.Plays.{IsPartOfLine, part_of_whole, plays_whole}
+use Rattle.sim_driver.specs.Plays.{IsPlayedWhole, plays_client, closes, plays_deliver, plays_moment, plays_settle, plays_next, loses_next, events_on}
+use Rattle.sim_driver.specs.Plays.{IsPartOfWhole, part_of_client, part_of_deliver, part_of_next}
+use Rattle.sim_driver.specs.Scripts.{ScriptView, marked, next_from, place_from, with_closed, with_delivered, with_link}
 use Rattle.sim_driver.proofs.Deliveries.{but_run}
-use Rattle.sim_driver.proofs.Faults.{cut_as, cut_here, still}
+use Rattle.restart_laws.specs.Calls.{wholes}
+use Rattle.restart_laws.proofs.ReachedCalls.{run_whole}
+use Rattle.sim_driver.proofs.Faults.{cut_here, cut_in, cut_in_as, cut_in_here, still}
 use Rattle.sim_driver.proofs.Places.{place_at}
 use Rattle.sim_driver.proofs.Plays.{client_is_part}
 
@@ -37,44 +42,44 @@ pub is_of_line : (status : Status) → (status ≡ statuses.DiskFailed) ⊎ (sta
 is_of_line status either = inr either
 
 pub stops_either : {S : Type 0} (view : S → SeatView) (hosts : Hosted S) (w : World) (line : Line) (old : ScriptView) (status : Status)
-    → (status ≡ statuses.DiskFailed) ⊎ (status ≡ statuses.OutOfMemory) → IsCut view hosts w (IsPartOfLine w old line) status
-    → StopsLine view hosts w line old status
+    → (status ≡ statuses.DiskFailed) ⊎ (status ≡ statuses.OutOfMemory) → IsCut view hosts w (IsPartOfWhole w old line) status
+    → StopsWhole view hosts w line old status
 stops_either view hosts w line old status (inl is) cut =
-    subst (λ (n : Status). StopsLine view hosts w line old n) (sym is)
-    (stops_at_disk (subst (λ (n : Status). IsCut view hosts w (IsPartOfLine w old line) n) is cut))
+    subst (λ (n : Status). StopsWhole view hosts w line old n) (sym is)
+    (stops_at_disk (subst (λ (n : Status). IsCut view hosts w (IsPartOfWhole w old line) n) is cut))
 stops_either view hosts w line old status (inr is) cut =
-    subst (λ (n : Status). StopsLine view hosts w line old n) (sym is)
-    (stops_at_memory (subst (λ (n : Status). IsCut view hosts w (IsPartOfLine w old line) n) is cut))
+    subst (λ (n : Status). StopsWhole view hosts w line old n) (sym is)
+    (stops_at_memory (subst (λ (n : Status). IsCut view hosts w (IsPartOfWhole w old line) n) is cut))
 
 -- REQUESTS
 
 module _ {S : Type 0} (view : S → SeatView) (hosts : Hosted S) (network : NetworkView) (handed : List ToLink) (w : World) (s : ScriptView)
     (router : ℕ) (link : LinkView) (here : slice_get s.links router ≡ Some link) (bytes left : List ℕ) (replied : ℕ) where
   pub client_played : HasAsked view hosts network handed w (s.first_router + router) link.number link.replied (link.left ++ bytes) left replied false
-      → HasPlayed view hosts network handed w (client_line router bytes) s
-      (with_link s router (record { number = link.number; left = left; replied = replied })) None
+      → HasPlayedWhole view hosts network handed w (client_line router bytes) s
+      (with_link s router (record { number = link.number; left = left; replied = replied; is_open = true })) None
   client_played a = by_fault a.fault a.frames a.ends
     where
       by_fault : (fault : Option (FrameFault × ℕ)) → FramesFrom 0 (link.left ++ bytes) a.requests left fault → HasFault fault false
-          → HasPlayed view hosts network handed w (client_line router bytes) s
-          (with_link s router (record { number = link.number; left = left; replied = replied })) None
+          → HasPlayedWhole view hosts network handed w (client_line router bytes) s
+          (with_link s router (record { number = link.number; left = left; replied = replied; is_open = true })) None
       by_fault (Some fault) frames e = absurd (cc e)
       by_fault None frames e = record {
         events = events_on s.first_router router link a.requests;
         end = a.end;
         run = a.run;
-        played = subst (λ (n : ℕ). IsPlayed w s (client_line router bytes) (events_on s.first_router router link a.requests) a.end
-            (with_link s router (record { number = link.number; left = left; replied = n })) None) (sym a.count)
+        played = subst (λ (n : ℕ). IsPlayedWhole w s (client_line router bytes) (events_on s.first_router router link a.requests) a.end
+            (with_link s router (record { number = link.number; left = left; replied = n; is_open = true })) None) (sym a.count)
             (plays_client router link bytes left a.requests a.end here frames a.run);
         stands = a.stands;
       }
 
   pub client_closed : HasAsked view hosts network handed w (s.first_router + router) link.number link.replied (link.left ++ bytes) left replied true
-      → HasPlayed view hosts network handed w (client_line router bytes) s (reopened s router) (Some router)
+      → HasPlayedWhole view hosts network handed w (client_line router bytes) s (with_closed s router) (Some router)
   client_closed a = by_fault a.fault a.frames a.ends
     where
       by_fault : (fault : Option (FrameFault × ℕ)) → FramesFrom 0 (link.left ++ bytes) a.requests left fault → HasFault fault true
-          → HasPlayed view hosts network handed w (client_line router bytes) s (reopened s router) (Some router)
+          → HasPlayedWhole view hosts network handed w (client_line router bytes) s (with_closed s router) (Some router)
       by_fault None frames e = absurd (cc e)
       by_fault (Some fault) frames e = record {
         events = events_on s.first_router router link a.requests;
@@ -86,23 +91,30 @@ module _ {S : Type 0} (view : S → SeatView) (hosts : Hosted S) (network : Netw
 
   -- a link can't be numbered any more
   pub client_full : HasAsked view hosts network handed w (s.first_router + router) link.number link.replied (link.left ++ bytes) left replied true
-      → IsCut view hosts w (IsPartOfLine w s (client_line router bytes)) statuses.OutOfMemory
+      → IsCut view hosts w (IsPartOfWhole w s (client_line router bytes)) statuses.OutOfMemory
   client_full a =
-      cut_here view hosts w (events_on s.first_router router link a.requests) a.end (IsPartOfLine w s (client_line router bytes)) statuses.OutOfMemory a.run
+      cut_here view hosts w (events_on s.first_router router link a.requests) a.end (IsPartOfWhole w s (client_line router bytes)) statuses.OutOfMemory a.run
       (client_is_part w s router link bytes left a.requests a.fault here a.frames)
       (still view hosts network handed a.end a.stands)
 
 pub client_part : (w : World) (s : ScriptView) (router : ℕ) (link : LinkView) (bytes : List ℕ) → slice_get s.links router ≡ Some link
     → (events : List Event) → IsFirstAsked (s.first_router + router) link.number link.replied (link.left ++ bytes) events
-    → IsPartOfLine w s (client_line router bytes) events
+    → IsPartOfWhole w s (client_line router bytes) events
 client_part w s router link bytes here events f = part_of_client router link bytes f.consumed f.rest f.requests events here f.all f.asked f.first
 
 -- what the script has, said otherwise
 pub played_to : {S : Type 0} (view : S → SeatView) (hosts : Hosted S) (network : NetworkView) (handed : List ToLink) (w : World) (line : Line)
-    (s t other : ScriptView) (closed : Option ℕ) → t ≡ other → HasPlayed view hosts network handed w line s t closed
-    → HasPlayed view hosts network handed w line s other closed
+    (s t other : ScriptView) (closed : Option ℕ) → t ≡ other → HasPlayedWhole view hosts network handed w line s t closed
+    → HasPlayedWhole view hosts network handed w line s other closed
 played_to view hosts network handed w line s t other closed same h =
-    subst (λ (x : ScriptView). HasPlayed view hosts network handed w line s x closed) same h
+    subst (λ (x : ScriptView). HasPlayedWhole view hosts network handed w line s x closed) same h
+
+-- a link to which bytes came
+pub same_link : (old new : LinkView) → new.number ≡ old.number → new.is_open ≡ true
+    → record { number = old.number; left = new.left; replied = new.replied; is_open = true } ≡ new
+same_link old new number is_open =
+    ap (λ (n : ℕ). record { number = n; left = new.left; replied = new.replied; is_open = true }) (sym number)
+    ∙ ap (λ (b : Bool). record { number = new.number; left = new.left; replied = new.replied; is_open = b }) (sym is_open)
 
 -- a link that is set twice
 pub set_twice : {A : Type 0} (items : List A) (at : ℕ) (first last : A) → slice_set (slice_set items at first) at last ≡ slice_set items at last
@@ -124,41 +136,41 @@ module _ {S : Type 0} (view : S → SeatView) (hosts : Hosted S) (network : Netw
 
   pub deliver_played : (node k which : ℕ) (ds : List Bool) → ds ≡ marked which s.delivered → place_from 0 node k w.sent ≡ Some which
       → node < length w.nodes → HasDeliveredOne view hosts network handed w which
-      → HasPlayed view hosts network handed w (deliver_line node k) s (with_delivered s ds) None
+      → HasPlayedWhole view hosts network handed w (deliver_line node k) s (with_delivered s ds) None
   deliver_played node k which ds noted place inside d = by_kind d.delivers
     where
       to : d.message.receiver ≡ node
       to = goes_there node k which d.message place d.got
 
-      by_kind : DeliversOrLoses w which d.message.receiver d.end → HasPlayed view hosts network handed w (deliver_line node k) s (with_delivered s ds) None
+      by_kind : DeliversOrLoses w which d.message.receiver d.end → HasPlayedWhole view hosts network handed w (deliver_line node k) s (with_delivered s ds) None
       by_kind (inl h) =
           let there : Happens w (deliver_event node which) d.end = subst (λ (n : ℕ). Happens w (deliver_event n which) d.end) to h in
           record {
             events = deliver_event node which ∷ [];
             end = d.end;
             run = goes w d.end d.end (deliver_event node which) [] there (stands d.end);
-            played = subst (λ (l : List Bool). IsPlayed w s (deliver_line node k) (deliver_event node which ∷ []) d.end (with_delivered s l) None)
+            played = subst (λ (l : List Bool). IsPlayedWhole w s (deliver_line node k) (deliver_event node which ∷ []) d.end (with_delivered s l) None)
                 (sym noted) (plays_deliver node k which d.end place there);
             stands = d.stands;
           }
       by_kind (inr (same, none)) = absurd (omega (arith, none, to, inside))
 
   pub deliver_part : (node k which : ℕ) (events : List Event) → place_from 0 node k w.sent ≡ Some which → IsPartOfDelivery w which events
-      → IsPartOfLine w s (deliver_line node k) events
+      → IsPartOfWhole w s (deliver_line node k) events
   deliver_part node k which events place p =
       part_of_deliver node k which events place
       (subst (λ (n : ℕ). BeginWith events (deliver_event n which ∷ [])) (goes_there node k which p.message place p.got) p.first)
 
   pub next_played : (kind : List ℕ) (which : ℕ) (ds : List Bool) → ds ≡ marked which s.delivered → next_from 0 kind s.delivered w.sent ≡ Some which
-      → HasDeliveredOne view hosts network handed w which → HasPlayed view hosts network handed w (next_line kind) s (with_delivered s ds) None
+      → HasDeliveredOne view hosts network handed w which → HasPlayedWhole view hosts network handed w (next_line kind) s (with_delivered s ds) None
   next_played kind which ds noted place d = by_kind d.delivers
     where
-      by_kind : DeliversOrLoses w which d.message.receiver d.end → HasPlayed view hosts network handed w (next_line kind) s (with_delivered s ds) None
+      by_kind : DeliversOrLoses w which d.message.receiver d.end → HasPlayedWhole view hosts network handed w (next_line kind) s (with_delivered s ds) None
       by_kind (inl h) = record {
         events = deliver_event d.message.receiver which ∷ [];
         end = d.end;
         run = goes w d.end d.end (deliver_event d.message.receiver which) [] h (stands d.end);
-        played = subst (λ (l : List Bool). IsPlayed w s (next_line kind) (deliver_event d.message.receiver which ∷ []) d.end (with_delivered s l) None)
+        played = subst (λ (l : List Bool). IsPlayedWhole w s (next_line kind) (deliver_event d.message.receiver which ∷ []) d.end (with_delivered s l) None)
             (sym noted) (plays_next kind which d.message d.end place d.got h);
         stands = d.stands;
       }
@@ -166,17 +178,17 @@ module _ {S : Type 0} (view : S → SeatView) (hosts : Hosted S) (network : Netw
         events = [];
         end = d.end;
         run = subst (λ (x : World). Run w [] x) (sym same) (stands w);
-        played = subst (λ (x : World). IsPlayed w s (next_line kind) [] x (with_delivered s ds) None) (sym same)
-            (subst (λ (l : List Bool). IsPlayed w s (next_line kind) [] w (with_delivered s l) None) (sym noted) (loses_next kind which d.message place d.got none));
+        played = subst (λ (x : World). IsPlayedWhole w s (next_line kind) [] x (with_delivered s ds) None) (sym same)
+            (subst (λ (l : List Bool). IsPlayedWhole w s (next_line kind) [] w (with_delivered s l) None) (sym noted) (loses_next kind which d.message place d.got none));
         stands = d.stands;
       }
 
   pub next_part : (kind : List ℕ) (which : ℕ) (events : List Event) → next_from 0 kind s.delivered w.sent ≡ Some which → IsPartOfDelivery w which events
-      → IsPartOfLine w s (next_line kind) events
+      → IsPartOfWhole w s (next_line kind) events
   next_part kind which events place p = part_of_next kind which p.message events place p.got p.first
 
   pub settle_played : (except : Option (List ℕ)) (ds : List Bool) → (h : HasSettledBut view hosts network handed w except s.delivered ds)
-      → HasPlayed view hosts network handed w (settle_line except) s (with_delivered s ds) None
+      → HasPlayedWhole view hosts network handed w (settle_line except) s (with_delivered s ds) None
   settle_played except ds h = record {
     events = h.events;
     end = h.end;
@@ -188,7 +200,7 @@ module _ {S : Type 0} (view : S → SeatView) (hosts : Hosted S) (network : Netw
   -- MOMENTS
 
   pub moment_played : (node moment : ℕ) → HasHappened view hosts network handed w 0 (moment_event node moment)
-      → HasPlayed view hosts network handed w (moment_line node moment) s s None
+      → HasPlayedWhole view hosts network handed w (moment_line node moment) s s None
   moment_played node moment h = record {
     events = moment_event node moment ∷ [];
     end = h.end;
@@ -197,32 +209,75 @@ module _ {S : Type 0} (view : S → SeatView) (hosts : Hosted S) (network : Netw
     stands = h.stands;
   }
 
+-- ANY LINE
+
+-- a line in which no node stops
+stops_line : {S : Type 0} (view : S → SeatView) (hosts : Hosted S) (w : World) (line : Line) (old : ScriptView) (status : Status)
+    → StopsWhole view hosts w line old status → StopsLine view hosts w line old status
+stops_line view hosts w line old _ (stops_unplayed names are) = line_unplayed names are
+stops_line view hosts w line old _ (stops_at_disk c) =
+    line_at_disk (cut_in view hosts w (IsPartOfWhole w old line) (IsPartOfLine w old line) statuses.DiskFailed
+    (λ events p. part_of_whole line events p) c)
+stops_line view hosts w line old _ (stops_at_memory c) =
+    line_at_memory (cut_in view hosts w (IsPartOfWhole w old line) (IsPartOfLine w old line) statuses.OutOfMemory
+    (λ events p. part_of_whole line events p) c)
+
+-- the same of a line that is known
+pub played_as : {S : Type 0} (view : S → SeatView) (hosts : Hosted S) (network : NetworkView) (handed : List ToLink) (w : World) (known line : Line)
+    (s t : ScriptView) (closed : Option ℕ) → known ≡ line → HasPlayedWhole view hosts network handed w known s t closed
+    → HasPlayed view hosts network handed w line s t closed
+played_as view hosts network handed w known line s t closed same h =
+    subst (λ (l : Line). HasPlayed view hosts network handed w l s t closed) same (record {
+      events = wholes h.events;
+      end = h.end;
+      run = run_whole w h.end h.events h.run;
+      played = plays_whole known h.events h.end t closed h.played;
+      stands = h.stands;
+    })
+
+pub stops_as : {S : Type 0} (view : S → SeatView) (hosts : Hosted S) (w : World) (known line : Line) (old : ScriptView) (status : Status) → known ≡ line
+    → StopsWhole view hosts w known old status → StopsLine view hosts w line old status
+stops_as view hosts w known line old status same stops =
+    subst (λ (l : Line). StopsLine view hosts w l old status) same (stops_line view hosts w known old status stops)
+
+-- the same of a result
+pub result_played : {S : Type 0} (view : S → SeatView) (hosts : Hosted S) (network : NetworkView) (handed : List ToLink) (w : World) (known line : Line)
+    (s t : ScriptView) (result : Result (Option ℕ) Status) → known ≡ line
+    → IfOk result (λ closed. HasPlayedWhole view hosts network handed w known s t closed)
+    → IfOk result (λ closed. HasPlayed view hosts network handed w line s t closed)
+result_played view hosts network handed w known line s t (Ok closed) same h = played_as view hosts network handed w known line s t closed same h
+result_played view hosts network handed w known line s t (Err status) same h = tt
+
+pub result_stops : {S : Type 0} (view : S → SeatView) (hosts : Hosted S) (w : World) (known line : Line) (old : ScriptView)
+    (result : Result (Option ℕ) Status) → known ≡ line → IfErr result (StopsWhole view hosts w known old) → IfErr result (StopsLine view hosts w line old)
+result_stops view hosts w known line old (Ok closed) same stops = tt
+result_stops view hosts w known line old (Err status) same stops = stops_as view hosts w known line old status same stops
+
+-- a status that is handed on
+pub status_stops : {S : Type 0} (view : S → SeatView) (hosts : Hosted S) (w : World) (known line : Line) (old : ScriptView)
+    (result : Result (Option ℕ) Status) (status : Status) → IsErrAnd result (λ n. n ≡ status) → known ≡ line → StopsWhole view hosts w known old status
+    → IfErr result (StopsLine view hosts w line old)
+status_stops view hosts w known line old result status is same stops =
+    let p = err_from_is_err_and result is in
+    subst (λ (r : Result (Option ℕ) Status). IfErr r (StopsLine view hosts w line old)) (sym p.1)
+    (subst (λ (n : Status). StopsLine view hosts w line old n) (sym p.2) (stops_as view hosts w known line old status same stops))
+
 -- THE BYTES OF A LINE
 
 pub bytes_stop : {S : Type 0} (view : S → SeatView) (hosts : Hosted S) (w : World) (bytes : List ℕ) (line : Line) (old : ScriptView) (status : Status)
     → Says bytes line → StopsLine view hosts w line old status → StopsBytes view hosts w bytes old status
-bytes_stop view hosts w bytes line old _ says (stops_unplayed names are) = bytes_refused (names_nothing line says names) are
-bytes_stop view hosts w bytes line old _ says (stops_at_disk c) =
-    bytes_at_disk (cut_as view hosts w (IsPartOfLine w old line) (IsPartOfBytes w old bytes) statuses.DiskFailed
+bytes_stop view hosts w bytes line old _ says (line_unplayed names are) = bytes_refused (names_nothing line says names) are
+bytes_stop view hosts w bytes line old _ says (line_at_disk c) =
+    bytes_at_disk (cut_in_as view hosts w (IsPartOfLine w old line) (IsPartOfBytes w old bytes) statuses.DiskFailed
     (λ events p. part_read line events says p) c)
-bytes_stop view hosts w bytes line old _ says (stops_at_memory c) =
-    bytes_at_memory (cut_as view hosts w (IsPartOfLine w old line) (IsPartOfBytes w old bytes) statuses.OutOfMemory
+bytes_stop view hosts w bytes line old _ says (line_at_memory c) =
+    bytes_at_memory (cut_in_as view hosts w (IsPartOfLine w old line) (IsPartOfBytes w old bytes) statuses.OutOfMemory
     (λ events p. part_read line events says p) c)
 
 pub bytes_unread : {S : Type 0} (view : S → SeatView) (hosts : Hosted S) (w : World) (bytes : List ℕ) (old : ScriptView) → AreStill view hosts w
     → StopsBytes view hosts w bytes old statuses.OutOfMemory
 bytes_unread view hosts w bytes old are =
-    bytes_at_memory (cut_here view hosts w [] w (IsPartOfBytes w old bytes) statuses.OutOfMemory (stands w) part_unread are)
-
--- the same of a line that is known
-pub played_as : {S : Type 0} (view : S → SeatView) (hosts : Hosted S) (network : NetworkView) (handed : List ToLink) (w : World) (known line : Line)
-    (s t : ScriptView) (closed : Option ℕ) → known ≡ line → HasPlayed view hosts network handed w known s t closed
-    → HasPlayed view hosts network handed w line s t closed
-played_as view hosts network handed w known line s t closed same h = subst (λ (l : Line). HasPlayed view hosts network handed w l s t closed) same h
-
-pub stops_as : {S : Type 0} (view : S → SeatView) (hosts : Hosted S) (w : World) (known line : Line) (old : ScriptView) (status : Status) → known ≡ line
-    → StopsLine view hosts w known old status → StopsLine view hosts w line old status
-stops_as view hosts w known line old status same stops = subst (λ (l : Line). StopsLine view hosts w l old status) same stops
+    bytes_at_memory (cut_in_here view hosts w (IsPartOfBytes w old bytes) statuses.OutOfMemory part_unread are)
 
 -- a line that was played, with one note more of all disks after it
 abbrev pub note_played : {N L : Type 0} (facts : LogFacts L) (seats : List (Seat N L)) (count : ℕ) (state : N → NodeState) (since : Since L)

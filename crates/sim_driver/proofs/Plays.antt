@@ -9,40 +9,51 @@ use Rattle.opmsg_frames.specs.Frames.{FramesFrom, ends, fails, goes_on}
 use Rattle.node_model.specs.Journal.{Kept}
 use Rattle.node_model.specs.Letters.{Input}
 use Rattle.node_model.specs.Requests.{Request}
-use Rattle.node_model.specs.States.{Router, new_router, router_state}
+use Rattle.node_model.specs.States.{NodeState, Router, catalogue_state, new_router, router_state, shard_state}
 use Rattle.node_model.specs.World.{Held, World, IsRouter, Moves, Event, deliver_event, moment_event, Happens, comes, delivers, passes, begins as was_opened}
 use Rattle.node_model.specs.World.{Run, stands, goes, shards_from, routers_from, start}
-use Rattle.node_model.proofs.Schedules.{run_then}
-use Rattle.node_progress.specs.Firsts.{first_start}
+use Rattle.node_model.specs.Schedule.{openings}
+use Rattle.node_replay.specs.Durable.{DurableState, durable_router, empty_of, empty_router}
+use Rattle.node_replay.specs.Restarts.{EventOrStop, Occurs, occurs, restarts, stops, RunWithStops, stays, proceeds}
+use Rattle.restart_laws.specs.Calls.{Reached, next_call, this_call}
+use Rattle.restart_laws.proofs.Parts.{reached_parts}
+use Rattle.restart_laws.proofs.ReachedCalls.{calls_proceed, run_whole, stops_then}
+use Rattle.node_progress.specs.Firsts.{IsFirst, first_again, first_start}
+use Rattle.driver_steps.specs.Restarts.{HaveParts, MayStop, stop_and_open}
 use Rattle.pipe_driver.specs.Progress.{AreAsked}
-use Rattle.pipe_driver.proofs.Routers.{run_stays}
 use Rattle.script_lines.specs.Lines.{Line, client_line}
 use Rattle.sim_driver.specs.Links.{LinkView}
 use Rattle.sim_driver.specs.Moves.{HasRouters, MayPlay}
-use Rattle.sim_driver.specs.Plays.{IsPlayed, plays_client, closes, plays_deliver, plays_moment, plays_settle, plays_next, loses_next, events_on}
-use Rattle.sim_driver.specs.Plays.{SettlesBut, but_none, but_passed, but_next, but_lost, IsPartOfLine, part_of_client, part_of_deliver, part_of_moment}
+use Rattle.sim_driver.specs.Plays.{IsPlayed, IsPartOfLine, StopsNode, part_of_restart, part_of_whole, plays_restart, plays_whole, stops_between, stops_kept, stops_lost, stops_unkept}
+use Rattle.sim_driver.specs.Plays.{IsPlayedWhole, plays_client, closes, plays_deliver, plays_moment, plays_settle, plays_next, loses_next, events_on}
+use Rattle.sim_driver.specs.Plays.{SettlesBut, but_none, but_passed, but_next, but_lost, IsPartOfWhole, part_of_client, part_of_deliver, part_of_moment}
 use Rattle.sim_driver.specs.Plays.{part_of_settle, part_of_next}
-use Rattle.sim_driver.specs.Scripts.{ScriptView, marked}
+use Rattle.sim_driver.specs.Scripts.{ScriptView, ClosesLink, closes_none, closes_open, marked, place_from}
 use Rattle.sim_driver.specs.Simulations.{Plays, plays_none, plays_more}
 use Rattle.sim_driver.proofs.Deliveries.{but_run}
 use Rattle.sim_driver.proofs.Marks.{marked_length}
 use Rattle.sim_driver.proofs.Places.{place_at}
 
-pub played_run : (u : World) (s : ScriptView) (line : Line) (events : List Event) (w : World) (t : ScriptView) (closed : Option ℕ)
-    → IsPlayed u s line events w t closed → Run u events w
-played_run u s _ _ _ _ _ (plays_client router link bytes left requests w here frames run) = run
-played_run u s _ _ _ _ _ (closes router link bytes left requests fault w here frames run) = run
-played_run u s _ _ _ _ _ (plays_deliver node k which w place h) = goes u w w (deliver_event node which) [] h (stands w)
-played_run u s _ _ _ _ _ (plays_moment node moment w h) = goes u w w (moment_event node moment) [] h (stands w)
-played_run u s _ _ _ _ _ (plays_settle except events w ds settles) = but_run except u s.delivered 0 events w ds (length w.sent) settles
-played_run u s _ _ _ _ _ (plays_next kind which m w place got h) = goes u w w (deliver_event m.receiver which) [] h (stands w)
-played_run u s _ _ _ _ _ (loses_next kind which m place got none) = stands u
+pub whole_run : (u : World) (s : ScriptView) (line : Line) (events : List Event) (w : World) (t : ScriptView) (closed : Option ℕ)
+    → IsPlayedWhole u s line events w t closed → Run u events w
+whole_run u s _ _ _ _ _ (plays_client router link bytes left requests w here frames run) = run
+whole_run u s _ _ _ _ _ (closes router link bytes left requests fault w here frames run) = run
+whole_run u s _ _ _ _ _ (plays_deliver node k which w place h) = goes u w w (deliver_event node which) [] h (stands w)
+whole_run u s _ _ _ _ _ (plays_moment node moment w h) = goes u w w (moment_event node moment) [] h (stands w)
+whole_run u s _ _ _ _ _ (plays_settle except events w ds settles) = but_run except u s.delivered 0 events w ds (length w.sent) settles
+whole_run u s _ _ _ _ _ (plays_next kind which m w place got h) = goes u w w (deliver_event m.receiver which) [] h (stands w)
+whole_run u s _ _ _ _ _ (loses_next kind which m place got none) = stands u
 
-pub plays_run : (first_router : ℕ) (first : World) (lines : List (List ℕ)) (events : List Event) (w : World) (s : ScriptView) (out : List ℕ)
-    → Plays first_router first lines events w s out → Run first events w
-plays_run first_router first _ _ _ _ _ (plays_none w run) = run
+pub played_run : (u : World) (s : ScriptView) (line : Line) (events : List EventOrStop) (w : World) (t : ScriptView) (closed : Option ℕ)
+    → IsPlayed u s line events w t closed → RunWithStops u events w
+played_run u s _ _ _ _ _ (plays_whole line events w t closed whole) = run_whole u w events (whole_run u s line events w t closed whole)
+played_run u s _ _ _ _ _ (plays_restart line node e delivered w t closed stop run close) = run
+
+pub plays_run : (first_router : ℕ) (first : World) (lines : List (List ℕ)) (events : List EventOrStop) (w : World) (s : ScriptView) (out : List ℕ)
+    → Plays first_router first lines events w s out → RunWithStops first events w
+plays_run first_router first _ _ _ _ _ (plays_none w run) = run_whole first w (openings 0 (length first.nodes)) run
 plays_run first_router first _ _ _ _ _ (plays_more lines before events u w s t out bytes line closed given earlier says played gave) =
-    run_then first before u events w (plays_run first_router first lines before u s out earlier) (played_run u s line events w t closed played)
+    stops_then first u w before events (plays_run first_router first lines before u s out earlier) (played_run u s line events w t closed played)
 
 -- NODES
 
@@ -61,9 +72,16 @@ happens_count _ _ _ (delivers w v at which letter got to m) = move_count w v at 
 happens_count _ _ _ (passes w v at moment m) = move_count w v at _ m
 happens_count _ _ _ (was_opened w v at m) = move_count w v at _ m
 
-run_count : (u : World) (es : List Event) (w : World) → Run u es w → length w.nodes ≡ length u.nodes
-run_count _ _ _ (stands w) = refl
-run_count _ _ _ (goes u v w e es h run) = run_count v es w run ∙ happens_count u v e h
+occurs_count : (w v : World) (e : EventOrStop) → Occurs w e v → length v.nodes ≡ length w.nodes
+occurs_count _ _ _ (occurs w v e h) = happens_count w v e h
+occurs_count _ _ _ (restarts w v at m) =
+    ap (λ (x : World). length x.nodes) m.then ∙ count_set w.nodes at (record { state = m.new; kept = m.old.kept ++ [] })
+occurs_count _ _ _ (stops w v at e i gives m) =
+    ap (λ (x : World). length x.nodes) m.then ∙ count_set w.nodes at (record { state = m.new; kept = m.old.kept ++ m.f.written })
+
+pub run_count : (u : World) (es : List EventOrStop) (w : World) → RunWithStops u es w → length w.nodes ≡ length u.nodes
+run_count _ _ _ (stays w) = refl
+run_count _ _ _ (proceeds u v w e es h run) = run_count v es w run ∙ occurs_count u v e h
 
 -- THE ROUTERS
 
@@ -112,40 +130,87 @@ start_may_play others routers = record {
   routers = λ router below. start_router others routers router (omega (arith, below, start_count others routers));
 }
 
-pub plays_count : (first_router : ℕ) (first : World) (lines : List (List ℕ)) (events : List Event) (w : World) (s : ScriptView) (out : List ℕ)
+pub plays_count : (first_router : ℕ) (first : World) (lines : List (List ℕ)) (events : List EventOrStop) (w : World) (s : ScriptView) (out : List ℕ)
     → Plays first_router first lines events w s out → length w.nodes ≡ length first.nodes
 plays_count first_router first lines events w s out plays = run_count first events w (plays_run first_router first lines events w s out plays)
 
-plays_routers : (first_router : ℕ) (first : World) → HasRouters first_router first → (lines : List (List ℕ)) (events : List Event) (w : World)
-    (s : ScriptView) (out : List ℕ)
+-- A NODE MAY STOP
+
+pub first_reached : (first : World) → IsFirst first → (others : ℕ) × (routers : ℕ) × Reached others routers first
+first_reached _ (first_start others routers) = (others, routers, this_call (start others routers) [] (stays (start others routers)))
+first_reached _ (first_again others routers u first reached begins) = (others, routers, next_call u first first [] reached begins (stays first))
+
+pub plays_may_stop : (part : ℕ → DurableState) (first_router : ℕ) (first : World) → IsFirst first → HaveParts part first.nodes → (lines : List (List ℕ))
+    (events : List EventOrStop) (w : World) (s : ScriptView) (out : List ℕ) → Plays first_router first lines events w s out → MayStop part w
+plays_may_stop part first_router first begins parts lines events w s out plays =
+    let r = first_reached first begins in
+    let run = plays_run first_router first lines events w s out plays in
+    record {
+      others = r.0;
+      routers = r.1;
+      reached = calls_proceed (start r.0 r.1) first w events r.2 run;
+      parts = reached_parts part r.0 r.1 first w events r.2 parts run;
+    }
+
+node_there : (nodes : List Held) (at : ℕ) → at < length nodes → (h : Held) × (slice_get nodes at ≡ Some h)
+node_there [] at below = absurd (omega (arith, below))
+node_there (x ∷ nodes) zero below = (x, refl)
+node_there (x ∷ nodes) (suc at) below = node_there nodes at (omega (arith, below))
+
+-- nodes that stay what they are
+router_by_part : (part : ℕ → DurableState) (nodes others : List Held) (at : ℕ) → HaveParts part nodes → HaveParts part others → IsRouter nodes at
+    → at < length others → IsRouter others at
+router_by_part part nodes others at these those (r, kept, here) below =
+    let other = node_there others at below in
+    by_state other.0.state other.0.kept other.1 (those at other.0 other.1 ∙ sym (these at (record { state = router_state r; kept = kept }) here))
+  where
+    by_state : (state : NodeState) (mine : List Kept) → slice_get others at ≡ Some (record { state = state; kept = mine })
+        → empty_of state ≡ durable_router (empty_router r.me r.shards) → IsRouter others at
+    by_state (catalogue_state c) mine got is = absurd (cc is)
+    by_state (shard_state d) mine got is = absurd (cc is)
+    by_state (router_state q) mine got is = (q, mine, got)
+
+plays_routers : (part : ℕ → DurableState) (first_router : ℕ) (first : World) → IsFirst first → HaveParts part first.nodes → HasRouters first_router first
+    → (lines : List (List ℕ)) (events : List EventOrStop) (w : World) (s : ScriptView) (out : List ℕ)
     → Plays first_router first lines events w s out → HasRouters first_router w
-plays_routers first_router first there lines events w s out plays router below =
-    run_stays first events w (first_router + router) (plays_run first_router first lines events w s out plays)
-    (there router (omega (arith, below, plays_count first_router first lines events w s out plays)))
+plays_routers part first_router first begins parts there lines events w s out plays router below =
+    let count = plays_count first_router first lines events w s out plays in
+    router_by_part part first.nodes w.nodes (first_router + router) parts
+    (plays_may_stop part first_router first begins parts lines events w s out plays).parts (there router (omega (arith, below, count))) below
 
 -- their place in a script stays
-played_place : (u : World) (s : ScriptView) (line : Line) (events : List Event) (w : World) (t : ScriptView) (closed : Option ℕ)
-    → IsPlayed u s line events w t closed → t.first_router ≡ s.first_router
-played_place u s _ _ _ _ _ (plays_client router link bytes left requests w here frames run) = refl
-played_place u s _ _ _ _ _ (closes router link bytes left requests fault w here frames run) = refl
-played_place u s _ _ _ _ _ (plays_deliver node k which w place h) = refl
-played_place u s _ _ _ _ _ (plays_moment node moment w h) = refl
-played_place u s _ _ _ _ _ (plays_settle except events w ds settles) = refl
-played_place u s _ _ _ _ _ (plays_next kind which m w place got h) = refl
-played_place u s _ _ _ _ _ (loses_next kind which m place got none) = refl
+whole_place : (u : World) (s : ScriptView) (line : Line) (events : List Event) (w : World) (t : ScriptView) (closed : Option ℕ)
+    → IsPlayedWhole u s line events w t closed → t.first_router ≡ s.first_router
+whole_place u s _ _ _ _ _ (plays_client router link bytes left requests w here frames run) = refl
+whole_place u s _ _ _ _ _ (closes router link bytes left requests fault w here frames run) = refl
+whole_place u s _ _ _ _ _ (plays_deliver node k which w place h) = refl
+whole_place u s _ _ _ _ _ (plays_moment node moment w h) = refl
+whole_place u s _ _ _ _ _ (plays_settle except events w ds settles) = refl
+whole_place u s _ _ _ _ _ (plays_next kind which m w place got h) = refl
+whole_place u s _ _ _ _ _ (loses_next kind which m place got none) = refl
 
-plays_place : (first_router : ℕ) (first : World) (lines : List (List ℕ)) (events : List Event) (w : World) (s : ScriptView) (out : List ℕ)
+closes_place : (s t : ScriptView) (node : ℕ) (closed : Option ℕ) → ClosesLink s node t closed → t.first_router ≡ s.first_router
+closes_place s _ node _ (closes_open router link is got opened) = refl
+closes_place s _ node _ (closes_none none) = refl
+
+played_place : (u : World) (s : ScriptView) (line : Line) (events : List EventOrStop) (w : World) (t : ScriptView) (closed : Option ℕ)
+    → IsPlayed u s line events w t closed → t.first_router ≡ s.first_router
+played_place u s _ _ _ _ _ (plays_whole line events w t closed whole) = whole_place u s line events w t closed whole
+played_place u s _ _ _ _ _ (plays_restart line node e delivered w t closed stop run close) = closes_place s t node closed close
+
+plays_place : (first_router : ℕ) (first : World) (lines : List (List ℕ)) (events : List EventOrStop) (w : World) (s : ScriptView) (out : List ℕ)
     → Plays first_router first lines events w s out → s.first_router ≡ first_router
 plays_place first_router first _ _ _ _ _ (plays_none w run) = refl
 plays_place first_router first _ _ _ _ _ (plays_more lines before events u w s t out bytes line closed given earlier says played gave) =
     played_place u s line events w t closed played ∙ plays_place first_router first lines before u s out earlier
 
 -- the routers of the script are there
-pub plays_script : (first_router : ℕ) (first : World) → HasRouters first_router first → (lines : List (List ℕ)) (events : List Event) (w : World)
-    (s : ScriptView) (out : List ℕ) → Plays first_router first lines events w s out → HasRouters s.first_router w
-plays_script first_router first there lines events w s out plays =
+pub plays_script : (part : ℕ → DurableState) (first_router : ℕ) (first : World) → IsFirst first → HaveParts part first.nodes → HasRouters first_router first
+    → (lines : List (List ℕ)) (events : List EventOrStop) (w : World) (s : ScriptView) (out : List ℕ) → Plays first_router first lines events w s out
+    → HasRouters s.first_router w
+plays_script part first_router first begins parts there lines events w s out plays =
     subst (λ (n : ℕ). HasRouters n w) (sym (plays_place first_router first lines events w s out plays))
-    (plays_routers first_router first there lines events w s out plays)
+    (plays_routers part first_router first begins parts there lines events w s out plays)
 
 -- MESSAGES
 
@@ -162,6 +227,17 @@ run_grows : (u : World) (es : List Event) (w : World) → Run u es w → length 
 run_grows _ _ _ (stands w) = omega arith
 run_grows _ _ _ (goes u v w e es h run) = omega (arith, happens_grows u v e h, run_grows v es w run)
 
+occurs_grows : (w v : World) (e : EventOrStop) → Occurs w e v → length w.sent ≤ length v.sent
+occurs_grows _ _ _ (occurs w v e h) = happens_grows w v e h
+occurs_grows _ _ _ (restarts w v at m) =
+    subst (λ (x : World). length w.sent ≤ length x.sent) (sym m.then) (omega (arith, length-append w.sent []))
+occurs_grows _ _ _ (stops w v at e i gives m) =
+    subst (λ (x : World). length w.sent ≤ length x.sent) (sym m.then) (omega (arith, length-append w.sent []))
+
+with_stops_grows : (u : World) (es : List EventOrStop) (w : World) → RunWithStops u es w → length u.sent ≤ length w.sent
+with_stops_grows _ _ _ (stays w) = omega arith
+with_stops_grows _ _ _ (proceeds u v w e es h run) = omega (arith, occurs_grows u v e h, with_stops_grows v es w run)
+
 settles_marks : (except : Option (List ℕ)) (u : World) (ds : List Bool) (next : ℕ) (events : List Event) (w : World) (es : List Bool) (later : ℕ)
     → SettlesBut except u ds next events w es later → length ds ≤ length u.sent → length es ≤ length w.sent
 settles_marks except _ _ _ _ _ _ _ (but_none w ds next) most = most
@@ -174,26 +250,45 @@ settles_marks except _ _ _ _ _ _ _ (but_lost u w ds es next later m events got n
     settles_marks except u (marked next ds) (next + 1) events w es later more
     (marked_length next (length u.sent) ds most (slice_get_within u.sent next m got))
 
-played_marks : (u : World) (s : ScriptView) (line : Line) (events : List Event) (w : World) (t : ScriptView) (closed : Option ℕ)
-    → length s.delivered ≤ length u.sent → IsPlayed u s line events w t closed → length t.delivered ≤ length w.sent
-played_marks u s _ _ _ _ _ most (plays_client router link bytes left requests w here frames run) =
+taken_marks : (u : World) (s : ScriptView) (node k which : ℕ) → length s.delivered ≤ length u.sent → place_from 0 node k u.sent ≡ Some which
+    → length (marked which s.delivered) ≤ length u.sent
+taken_marks u s node k which most place =
+    let there = place_at 0 node k u.sent which place in
+    marked_length which (length u.sent) s.delivered most (omega (arith, there.1, slice_get_within u.sent there.0 there.2 there.3))
+
+whole_marks : (u : World) (s : ScriptView) (line : Line) (events : List Event) (w : World) (t : ScriptView) (closed : Option ℕ)
+    → length s.delivered ≤ length u.sent → IsPlayedWhole u s line events w t closed → length t.delivered ≤ length w.sent
+whole_marks u s _ _ _ _ _ most (plays_client router link bytes left requests w here frames run) =
     omega (arith, most, run_grows u (events_on s.first_router router link requests) w run)
-played_marks u s _ _ _ _ _ most (closes router link bytes left requests fault w here frames run) =
+whole_marks u s _ _ _ _ _ most (closes router link bytes left requests fault w here frames run) =
     omega (arith, most, run_grows u (events_on s.first_router router link requests) w run)
-played_marks u s _ _ _ _ _ most (plays_deliver node k which w place h) =
+whole_marks u s _ _ _ _ _ most (plays_deliver node k which w place h) =
     let there = place_at 0 node k u.sent which place in
     let inside : which < length u.sent = omega (arith, there.1, slice_get_within u.sent there.0 there.2 there.3) in
     omega (arith, marked_length which (length u.sent) s.delivered most inside, happens_grows u w (deliver_event node which) h)
-played_marks u s _ _ _ _ _ most (plays_moment node moment w h) = omega (arith, most, happens_grows u w (moment_event node moment) h)
-played_marks u s _ _ _ _ _ most (plays_settle except events w ds settles) =
+whole_marks u s _ _ _ _ _ most (plays_moment node moment w h) = omega (arith, most, happens_grows u w (moment_event node moment) h)
+whole_marks u s _ _ _ _ _ most (plays_settle except events w ds settles) =
     settles_marks except u s.delivered 0 events w ds (length w.sent) settles most
-played_marks u s _ _ _ _ _ most (plays_next kind which m w place got h) =
+whole_marks u s _ _ _ _ _ most (plays_next kind which m w place got h) =
     omega (arith, marked_length which (length u.sent) s.delivered most (slice_get_within u.sent which m got), happens_grows u w (deliver_event m.receiver which) h)
-played_marks u s _ _ _ _ _ most (loses_next kind which m place got none) =
+whole_marks u s _ _ _ _ _ most (loses_next kind which m place got none) =
     marked_length which (length u.sent) s.delivered most (slice_get_within u.sent which m got)
 
+stop_marks : (u : World) (s : ScriptView) (line : Line) (node : ℕ) (e : EventOrStop) (ds : List Bool) → length s.delivered ≤ length u.sent
+    → StopsNode u s line node e ds → length ds ≤ length u.sent
+stop_marks u s _ _ _ _ most (stops_between node) = most
+stop_marks u s _ _ _ _ most (stops_kept node k which place) = taken_marks u s node k which most place
+stop_marks u s _ _ _ _ most (stops_unkept node k which place) = taken_marks u s node k which most place
+stop_marks u s _ _ _ _ most (stops_lost node k which place) = taken_marks u s node k which most place
+
+played_marks : (u : World) (s : ScriptView) (line : Line) (events : List EventOrStop) (w : World) (t : ScriptView) (closed : Option ℕ)
+    → length s.delivered ≤ length u.sent → IsPlayed u s line events w t closed → length t.delivered ≤ length w.sent
+played_marks u s _ _ _ _ _ most (plays_whole line events w t closed whole) = whole_marks u s line events w t closed most whole
+played_marks u s _ _ _ _ _ most (plays_restart line node e delivered w t closed stop run close) =
+    omega (arith, stop_marks u s line node e delivered most stop, with_stops_grows u (stop_and_open node e) w run)
+
 -- what was delivered was sent
-pub plays_marks : (first_router : ℕ) (first : World) (lines : List (List ℕ)) (events : List Event) (w : World) (s : ScriptView) (out : List ℕ)
+pub plays_marks : (first_router : ℕ) (first : World) (lines : List (List ℕ)) (events : List EventOrStop) (w : World) (s : ScriptView) (out : List ℕ)
     → Plays first_router first lines events w s out → length s.delivered ≤ length w.sent
 plays_marks first_router first _ _ _ _ _ (plays_none w run) = omega arith
 plays_marks first_router first _ _ _ _ _ (plays_more lines before events u w s t out bytes line closed given earlier says played gave) =
@@ -214,21 +309,21 @@ frames_asked place _ _ _ _ (goes_on at bytes behind request requests left fault 
 
 pub client_is_part : (u : World) (s : ScriptView) (router : ℕ) (link : LinkView) (bytes left : List ℕ) (requests : List Request)
     (fault : Option (FrameFault × ℕ)) → slice_get s.links router ≡ Some link → FramesFrom 0 (link.left ++ bytes) requests left fault
-    → IsPartOfLine u s (client_line router bytes) (events_on s.first_router router link requests)
+    → IsPartOfWhole u s (client_line router bytes) (events_on s.first_router router link requests)
 client_is_part u s router link bytes left requests fault here frames =
     let r = frames_asked 0 (link.left ++ bytes) requests left fault frames in
     part_of_client router link bytes r.0 left requests (events_on s.first_router router link requests) here r.1 r.2
     ([], sym (append-nil (events_on s.first_router router link requests)))
 
-pub whole_is_part : (u : World) (s : ScriptView) (line : Line) (events : List Event) (w : World) (t : ScriptView) (closed : Option ℕ)
-    → IsPlayed u s line events w t closed → IsPartOfLine u s line events
-whole_is_part u s _ _ _ _ _ (plays_client router link bytes left requests w here frames run) =
+all_is_part : (u : World) (s : ScriptView) (line : Line) (events : List Event) (w : World) (t : ScriptView) (closed : Option ℕ)
+    → IsPlayedWhole u s line events w t closed → IsPartOfWhole u s line events
+all_is_part u s _ _ _ _ _ (plays_client router link bytes left requests w here frames run) =
     client_is_part u s router link bytes left requests None here frames
-whole_is_part u s _ _ _ _ _ (closes router link bytes left requests fault w here frames run) =
+all_is_part u s _ _ _ _ _ (closes router link bytes left requests fault w here frames run) =
     client_is_part u s router link bytes left requests (Some fault) here frames
-whole_is_part u s _ _ _ _ _ (plays_deliver node k which w place h) = part_of_deliver node k which (deliver_event node which ∷ []) place ([], refl)
-whole_is_part u s _ _ _ _ _ (plays_moment node moment w h) = part_of_moment node moment (moment_event node moment ∷ []) ([], refl)
-whole_is_part u s _ _ _ _ _ (plays_settle except events w ds settles) =
+all_is_part u s _ _ _ _ _ (plays_deliver node k which w place h) = part_of_deliver node k which (deliver_event node which ∷ []) place ([], refl)
+all_is_part u s _ _ _ _ _ (plays_moment node moment w h) = part_of_moment node moment (moment_event node moment ∷ []) ([], refl)
+all_is_part u s _ _ _ _ _ (plays_settle except events w ds settles) =
     part_of_settle except events (record {
       before = events;
       more = [];
@@ -240,7 +335,13 @@ whole_is_part u s _ _ _ _ _ (plays_settle except events w ds settles) =
       first = (deliver_event 0 (length w.sent) ∷ [], refl);
       all = sym (append-nil events);
     })
-whole_is_part u s _ _ _ _ _ (plays_next kind which m w place got h) =
+all_is_part u s _ _ _ _ _ (plays_next kind which m w place got h) =
     part_of_next kind which m (deliver_event m.receiver which ∷ []) place got ([], refl)
-whole_is_part u s _ _ _ _ _ (loses_next kind which m place got none) =
+all_is_part u s _ _ _ _ _ (loses_next kind which m place got none) =
     part_of_next kind which m [] place got (deliver_event m.receiver which ∷ [], refl)
+
+pub whole_is_part : (u : World) (s : ScriptView) (line : Line) (events : List EventOrStop) (w : World) (t : ScriptView) (closed : Option ℕ)
+    → IsPlayed u s line events w t closed → IsPartOfLine u s line events
+whole_is_part u s _ _ _ _ _ (plays_whole line events w t closed whole) = part_of_whole line events (all_is_part u s line events w t closed whole)
+whole_is_part u s _ _ _ _ _ (plays_restart line node e delivered w t closed stop run close) =
+    part_of_restart line node e delivered (stop_and_open node e) stop ([], refl)

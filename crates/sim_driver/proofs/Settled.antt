@@ -1,17 +1,24 @@
 -- What is under way after the lines of a script; and after `settle` every request is answered.
-use Rattle.std.proofs.Common.{◌≡◌, ◌≢◌, ◌⊎◌, inl, inr, ℕ, zero, suc, ◌+◌, ◌<◌, ◌≤◌, List, [], ◌∷◌, ◌++◌, length, refl, ap, subst, ◌∙◌, arith, true, false}
+use Rattle.std.proofs.Common.{◌≡◌, ◌≢◌, ◌⊎◌, inl, inr, ℕ, zero, suc, ◌+◌, ◌<◌, ◌≤◌, List, [], ◌∷◌, ◌++◌, length, refl, sym, ap, subst, ◌∙◌, arith, true, false}
+use Rattle.std.proofs.Common.{append_assoc, append-nil}
 use Rattle.std.specs.Prelude.{Bool, Option, Some, None, ◌||◌, codes}
 use Rattle.std.specs.List.{AllByRecursion, slice_get}
 use Rattle.std.proofs.lemmas.List.{length_push, same_from_push}
+use Rattle.base_model.specs.Identities.{RequestId}
 use Rattle.node_model.specs.Letters.{Letter}
 use Rattle.node_model.specs.Requests.{Request}
-use Rattle.node_model.specs.World.{World, Event, deliver_event, moment_event, Happens}
+use Rattle.node_model.specs.World.{World, Event, deliver_event, moment_event, Happens, Run, stands}
 use Rattle.node_model.specs.Schedule.{openings}
 use Rattle.node_model.proofs.Schedules.{run_then}
+use Rattle.node_replay.specs.Restarts.{EventOrStop, whole_event}
+use Rattle.restart_laws.specs.Calls.{wholes}
+use Rattle.restart_laws.proofs.ReachedCalls.{run_whole}
 use Rattle.node_progress.specs.Completion.{AreAnswered}
 use Rattle.node_progress.specs.Firsts.{IsFirst}
 use Rattle.node_progress.specs.UnderWay.{IsUnderWay}
-use Rattle.node_progress.proofs.Bags.{same_place}
+use Rattle.node_progress.proofs.AnsweredSince.{are_answered_since, lives_since, since_bag}
+use Rattle.node_laws.proofs.Facts.{IsOfRequest}
+use Rattle.node_progress.proofs.Bags.{Left, left_but, same_place}
 use Rattle.node_progress.proofs.BagRuns.{BagIn, IsNoDelivery, first_bag, goes_to_node, delivery_bag, event_keeps, events_keep}
 use Rattle.node_progress.proofs.Firsts.{first_true, first_rests, first_shards}
 use Rattle.node_progress.proofs.Lives.{TakenSince, taken_since}
@@ -19,13 +26,15 @@ use Rattle.node_progress.proofs.Progress.{bag_under_way}
 use Rattle.node_progress.proofs.Answered.{are_answered}
 use Rattle.node_progress.proofs.Rounds.{openings_deliver_none, sent_before}
 use Rattle.pipe_driver.specs.Rounds.{replies_after}
-use Rattle.script_lines.specs.Lines.{Line, settle_line, Says, says_client, says_deliver, says_moment, says_settle, says_except, says_next}
-use Rattle.sim_driver.specs.Plays.{client_events, events_on, SettlesBut, but_none, but_passed, but_next, but_lost, IsPlayed, plays_client, closes, plays_deliver, plays_moment, plays_settle, plays_next, loses_next}
-use Rattle.sim_driver.specs.Scripts.{ScriptView, is_delivered, marked}
-use Rattle.sim_driver.specs.Simulations.{Plays, plays_none, plays_more, EndInSettle}
+use Rattle.driver_steps.specs.Restarts.{stop_and_open}
+use Rattle.script_lines.specs.Lines.{Line, settle_line, Says, says_client, says_deliver, says_moment, says_settle, says_except, says_next, says_restart, says_kept, says_lost}
+use Rattle.sim_driver.specs.Plays.{client_events, events_on, SettlesBut, but_none, but_passed, but_next, but_lost, IsPlayed, plays_restart, plays_whole}
+use Rattle.sim_driver.specs.Plays.{IsPlayedWhole, plays_client, closes, plays_deliver, plays_moment, plays_settle, plays_next, loses_next}
+use Rattle.sim_driver.specs.Plays.{StopsNode, stops_between, stops_kept, stops_lost, stops_unkept}
+use Rattle.sim_driver.specs.Scripts.{ScriptView, is_delivered, marked, new_script, printed, with_delivered}
+use Rattle.sim_driver.specs.Simulations.{Plays, plays_none, plays_more, AllPlayed, AreAnsweredAfterRestarts, EndInRestart, EndInSettle, HaveNoRestart, IsRestart, router_count}
 use Rattle.sim_driver.specs.Undelivered.{IsUndelivered}
-use Rattle.sim_driver.proofs.Deliveries.{but_run}
-use Rattle.sim_driver.proofs.Plays.{plays_run}
+use Rattle.sim_driver.proofs.Plays.{plays_marks, plays_run, whole_run}
 
 -- MARKS
 
@@ -52,77 +61,220 @@ marked_stays place n ds is = by_place (same_place n place)
     by_place (inl same) = ap (λ k. is_delivered (marked place ds) k) same ∙ marked_here place ds
     by_place (inr other) = marked_other place n ds other ∙ is
 
--- DELIVERIES
-
-marked_bag : (u v : World) (ds : List Bool) (at which : ℕ) → BagIn (IsUndelivered ds) u → Happens u (deliver_event at which) v
-    → BagIn (IsUndelivered (marked which ds)) v
-marked_bag u v ds at which b h =
-    delivery_bag (IsUndelivered ds) (IsUndelivered (marked which ds)) u v at which b (λ n left. by_place n left (same_place n which))
-    (λ n le. marked_other which n ds (past n le (sent_before u v at which h)) ∙ b.bag.fresh n le) h
-  where
-    by_place : (n : ℕ) → IsUndelivered ds n → (n ≡ which) ⊎ (n ≢ which) → IsUndelivered (marked which ds) n ⊎ (n ≡ which)
-    by_place n left (inl same) = inr same
-    by_place n left (inr other) = inl (marked_other which n ds other ∙ left)
-
-    past : (n : ℕ) → length u.sent ≤ n → which < length u.sent → n ≢ which
-    past n le below same = omega (arith, le, below, same)
-
--- a message that goes to no node is none
-never_lost : (u : World) (left : ℕ → Type 0) (n : ℕ) (m : Letter) → BagIn left u → slice_get u.sent n ≡ Some m → length u.nodes ≤ m.receiver → ⊥
-never_lost u left n m b got none = let here = goes_to_node left u n m b got in omega (arith, here, none)
-
-but_bag : (except : Option (List ℕ)) (u : World) (ds : List Bool) (next : ℕ) (events : List Event) (w : World) (es : List Bool) (later : ℕ)
-    → SettlesBut except u ds next events w es later → BagIn (IsUndelivered ds) u → BagIn (IsUndelivered es) w
-but_bag except _ _ _ _ _ _ _ (but_none w ds next) b = b
-but_bag except _ _ _ _ _ _ _ (but_passed u w ds es next later m events got is more) b = but_bag except u ds (next + 1) events w es later more b
-but_bag except _ _ _ _ _ _ _ (but_next u v w ds es next later m events got new h more) b =
-    but_bag except v (marked next ds) (next + 1) events w es later more (marked_bag u v ds m.receiver next b h)
-but_bag except _ _ _ _ _ _ _ (but_lost u w ds es next later m events got new none more) b = absurd (never_lost u (IsUndelivered ds) next m b got none)
-
--- LINES
-
 clients_deliver_none : (at link replied : ℕ) (requests : List Request) → AllByRecursion IsNoDelivery (client_events at link replied requests)
 clients_deliver_none at link replied [] = tt
 clients_deliver_none at link replied (q ∷ requests) = (tt, clients_deliver_none at link (replies_after q.more replied) requests)
 
-played_bag : (u : World) (s : ScriptView) (line : Line) (events : List Event) (w : World) (t : ScriptView) (closed : Option ℕ)
-    → IsPlayed u s line events w t closed → BagIn (IsUndelivered s.delivered) u → BagIn (IsUndelivered t.delivered) w
-played_bag u s _ _ _ _ _ (plays_client router link bytes left requests w there frames run) b =
-    events_keep (IsUndelivered s.delivered) u (events_on s.first_router router link requests) w
-    (clients_deliver_none (s.first_router + router) link.number link.replied requests) b run
-played_bag u s _ _ _ _ _ (closes router link bytes left requests fault w there frames run) b =
-    events_keep (IsUndelivered s.delivered) u (events_on s.first_router router link requests) w
-    (clients_deliver_none (s.first_router + router) link.number link.replied requests) b run
-played_bag u s _ _ _ _ _ (plays_deliver node k which w place h) b = marked_bag u w s.delivered node which b h
-played_bag u s _ _ _ _ _ (plays_moment node moment w h) b = event_keeps (IsUndelivered s.delivered) u w (moment_event node moment) tt b h
-played_bag u s _ _ _ _ _ (plays_settle except events w delivered settles) b = but_bag except u s.delivered 0 events w delivered (length w.sent) settles b
-played_bag u s _ _ _ _ _ (plays_next kind which m w place got h) b = marked_bag u w s.delivered m.receiver which b h
-played_bag u s _ _ _ _ _ (loses_next kind which m place got none) b = absurd (never_lost u (IsUndelivered s.delivered) which m b got none)
+abbrev first_byte : List ℕ → ℕ
+first_byte [] = 0
+first_byte (b ∷ bytes) = b
 
-plays_bag : (first_router : ℕ) (first : World) → IsFirst first → (lines : List (List ℕ)) (events : List Event) (w : World) (s : ScriptView) (out : List ℕ)
-    → Plays first_router first lines events w s out → BagIn (IsUndelivered s.delivered) w
-plays_bag first_router first begins _ _ _ _ _ (plays_none w run) =
-    events_keep (IsUndelivered []) first (openings 0 (length first.nodes)) w (openings_deliver_none 0 (length first.nodes))
-    (record {
-      true_there = first_true first begins;
-      bag = first_bag (IsUndelivered []) first (first_rests first begins) (first_shards first begins) (λ n. refl);
-    }) run
-plays_bag first_router first begins _ _ _ _ _ (plays_more lines before events u w s t out bytes line closed given played says is gives) =
-    played_bag u s line events w t closed is (plays_bag first_router first begins lines before u s out played)
+-- DELIVERIES
 
-plays_since : (first_router : ℕ) (first : World) → IsFirst first → (lines : List (List ℕ)) (events : List Event) (w : World) (s : ScriptView) (out : List ℕ)
-    → Plays first_router first lines events w s out → TakenSince first w
-plays_since first_router first begins lines events w s out plays = taken_since first (first_true first begins) events w
-    (plays_run first_router first lines events w s out plays)
+module _ (lost : RequestId → Type 0) where
+  abbrev left_of : List Bool → Left
+  left_of ds = left_but (IsUndelivered ds) lost
 
--- after the lines of a script all that open requests wait for is under way
-pub scripts_are_under_way : (first_router : ℕ) (first : World) (lines : List (List ℕ)) (events : List Event) (w : World) (s : ScriptView) (out : List ℕ)
-    → IsFirst first
-    → Plays first_router first lines events w s out → IsUnderWay first (IsUndelivered s.delivered) w
-scripts_are_under_way first_router first lines events w s out begins plays =
-    let b = plays_bag first_router first begins lines events w s out plays in
-    bag_under_way (IsUndelivered s.delivered) w b.true_there.0.book b.true_there.0.good b.bag first
-    (plays_since first_router first begins lines events w s out plays)
+  marked_bag : (u v : World) (ds : List Bool) (at which : ℕ) → BagIn (left_of ds) u → Happens u (deliver_event at which) v
+      → BagIn (left_of (marked which ds)) v
+  marked_bag u v ds at which b h =
+      delivery_bag lost (IsUndelivered ds) (IsUndelivered (marked which ds)) u v at which b (λ n left. by_place n left (same_place n which))
+      (λ n le. marked_other which n ds (past n le (sent_before u v at which h)) ∙ b.bag.fresh n le) h
+    where
+      by_place : (n : ℕ) → IsUndelivered ds n → (n ≡ which) ⊎ (n ≢ which) → IsUndelivered (marked which ds) n ⊎ (n ≡ which)
+      by_place n left (inl same) = inr same
+      by_place n left (inr other) = inl (marked_other which n ds other ∙ left)
+
+      past : (n : ℕ) → length u.sent ≤ n → which < length u.sent → n ≢ which
+      past n le below same = omega (arith, le, below, same)
+
+  -- a message that goes to no node is none
+  never_lost : (u : World) (ds : List Bool) (n : ℕ) (m : Letter) → BagIn (left_of ds) u → slice_get u.sent n ≡ Some m → length u.nodes ≤ m.receiver → ⊥
+  never_lost u ds n m b got none = let here = goes_to_node (left_of ds) u n m b got in omega (arith, here, none)
+
+  but_bag : (except : Option (List ℕ)) (u : World) (ds : List Bool) (next : ℕ) (events : List Event) (w : World) (es : List Bool) (later : ℕ)
+      → SettlesBut except u ds next events w es later → BagIn (left_of ds) u → BagIn (left_of es) w
+  but_bag except _ _ _ _ _ _ _ (but_none w ds next) b = b
+  but_bag except _ _ _ _ _ _ _ (but_passed u w ds es next later m events got is more) b = but_bag except u ds (next + 1) events w es later more b
+  but_bag except _ _ _ _ _ _ _ (but_next u v w ds es next later m events got new h more) b =
+      but_bag except v (marked next ds) (next + 1) events w es later more (marked_bag u v ds m.receiver next b h)
+  but_bag except _ _ _ _ _ _ _ (but_lost u w ds es next later m events got new none more) b = absurd (never_lost u ds next m b got none)
+
+  -- LINES
+
+  whole_bag : (u : World) (s : ScriptView) (line : Line) (events : List Event) (w : World) (t : ScriptView) (closed : Option ℕ)
+      → IsPlayedWhole u s line events w t closed → BagIn (left_of s.delivered) u → BagIn (left_of t.delivered) w
+  whole_bag u s _ _ _ _ _ (plays_client router link bytes left requests w there frames run) b =
+      events_keep (left_of s.delivered) u (events_on s.first_router router link requests) w
+      (clients_deliver_none (s.first_router + router) link.number link.replied requests) b run
+  whole_bag u s _ _ _ _ _ (closes router link bytes left requests fault w there frames run) b =
+      events_keep (left_of s.delivered) u (events_on s.first_router router link requests) w
+      (clients_deliver_none (s.first_router + router) link.number link.replied requests) b run
+  whole_bag u s _ _ _ _ _ (plays_deliver node k which w place h) b = marked_bag u w s.delivered node which b h
+  whole_bag u s _ _ _ _ _ (plays_moment node moment w h) b = event_keeps (left_of s.delivered) u w (moment_event node moment) tt b h
+  whole_bag u s _ _ _ _ _ (plays_settle except events w delivered settles) b = but_bag except u s.delivered 0 events w delivered (length w.sent) settles b
+  whole_bag u s _ _ _ _ _ (plays_next kind which m w place got h) b = marked_bag u w s.delivered m.receiver which b h
+  whole_bag u s _ _ _ _ _ (loses_next kind which m place got none) b = absurd (never_lost u s.delivered which m b got none)
+
+-- LINES IN WHICH NO NODE STOPS
+
+-- a line that starts a node again says so
+stop_says : (u : World) (s : ScriptView) (line : Line) (node : ℕ) (e : EventOrStop) (ds : List Bool) (bytes : List ℕ) → StopsNode u s line node e ds
+    → Says bytes line → IsRestart bytes
+stop_says u s _ _ _ _ _ (stops_between node) (says_restart word _ number) = (word, refl)
+stop_says u s _ _ _ _ _ (stops_kept node k which place) (says_kept a b _ _ first second) = (a ++ 32 ∷ (codes "kept" ++ 32 ∷ b), refl)
+stop_says u s _ _ _ _ _ (stops_unkept node k which place) (says_kept a b _ _ first second) = (a ++ 32 ∷ (codes "kept" ++ 32 ∷ b), refl)
+stop_says u s _ _ _ _ _ (stops_lost node k which place) (says_lost a b _ _ first second) = (a ++ 32 ∷ (codes "lost" ++ 32 ∷ b), refl)
+
+none_before : (lines : List (List ℕ)) (bytes : List ℕ) → HaveNoRestart (lines ++ bytes ∷ []) → HaveNoRestart lines × (¬ IsRestart bytes)
+none_before [] bytes none = (tt, none.0)
+none_before (l ∷ lines) bytes none = let r = none_before lines bytes none.1 in ((none.0, r.0), r.1)
+
+-- these lines were played by events, and no message was lost by a stop
+record PlaysWhole (first : World) (events : List EventOrStop) (w : World) (s : ScriptView) : Type 0 where
+  whole : List Event
+  run : Run first whole w
+  bag : BagIn (left_of (λ id. ⊥) s.delivered) w
+
+plays_whole_lines : (first_router : ℕ) (first : World) → IsFirst first → (lines : List (List ℕ)) (events : List EventOrStop) (w : World) (s : ScriptView)
+    (out : List ℕ) → Plays first_router first lines events w s out → HaveNoRestart lines → PlaysWhole first events w s
+plays_whole_lines first_router first begins _ _ _ _ _ (plays_none w run) none = record {
+  whole = openings 0 (length first.nodes);
+  run = run;
+  bag = events_keep (left_of (λ id. ⊥) []) first (openings 0 (length first.nodes)) w (openings_deliver_none 0 (length first.nodes))
+      (record {
+        true_there = first_true first begins;
+        bag = first_bag (IsUndelivered []) first (first_rests first begins) (first_shards first begins) (λ n. refl);
+      }) run;
+}
+plays_whole_lines first_router first begins _ _ _ _ _ (plays_more lines before _ u w s t out bytes line closed given played says
+    (plays_whole _ events _ _ _ is) gives) none =
+    let p = plays_whole_lines first_router first begins lines before u s out played (none_before lines bytes none).0 in
+    record {
+      whole = p.whole ++ events;
+      run = run_then first p.whole u events w p.run (whole_run u s line events w t closed is);
+      bag = whole_bag (λ id. ⊥) u s line events w t closed is p.bag;
+    }
+plays_whole_lines first_router first begins _ _ _ _ _ (plays_more lines before _ u w s _ out bytes line closed given played says
+    (plays_restart _ node e delivered _ t _ stop run close) gives) none =
+    absurd ((none_before lines bytes none).1 (stop_says u s line node e delivered bytes stop says))
+
+plays_since : (first : World) → IsFirst first → (events : List EventOrStop) (w : World) (s : ScriptView) → PlaysWhole first events w s → TakenSince first w
+plays_since first begins events w s p = taken_since first (first_true first begins) p.whole w p.run
+
+-- after the lines of a script in which no node stops all that open requests wait for is under way
+pub scripts_are_under_way : (first_router : ℕ) (first : World) (lines : List (List ℕ)) (events : List EventOrStop) (w : World) (s : ScriptView) (out : List ℕ)
+    → IsFirst first → HaveNoRestart lines → Plays first_router first lines events w s out → IsUnderWay first (IsUndelivered s.delivered) w
+scripts_are_under_way first_router first lines events w s out begins none plays =
+    let p = plays_whole_lines first_router first begins lines events w s out plays none in
+    bag_under_way (IsUndelivered s.delivered) w p.bag.true_there.0.book p.bag.true_there.0.good p.bag.bag first (plays_since first begins events w s p)
+
+-- SINCE A NODE WAS STARTED AGAIN
+
+-- Lines were played, the last of which starts a node again, if one does, and then others: what was asked for since and is not answered is under way.
+record PlaysSince (first_router : ℕ) (first : World) (lines : List (List ℕ)) (events : List EventOrStop) (w : World) (s : ScriptView) : Type 0 where
+  before : List (List ℕ)
+  after : List (List ℕ)
+  all : lines ≡ before ++ after
+  last : (before ≡ []) ⊎ EndInRestart before
+  none_after : HaveNoRestart after
+  early : List EventOrStop
+  late : List Event
+  restarted : World
+  script : ScriptView
+  out : List ℕ
+  parts : events ≡ early ++ wholes late
+  played : Plays first_router first before early restarted script out
+  then : Run restarted late w
+  bag : BagIn (left_of (IsOfRequest restarted.asked) s.delivered) w
+
+past_marks : (ds : List Bool) (n : ℕ) → length ds ≤ n → is_delivered ds n ≡ false
+past_marks [] n le = refl
+past_marks (d ∷ ds) zero le = absurd (omega (arith, le))
+past_marks (d ∷ ds) (suc n) le = past_marks ds n (omega (arith, le))
+
+-- from here on
+since_here : (first_router : ℕ) (first : World) → IsFirst first → (lines : List (List ℕ)) (events : List EventOrStop) (w : World) (s : ScriptView) (out : List ℕ)
+    → Plays first_router first lines events w s out → (lines ≡ []) ⊎ EndInRestart lines → PlaysSince first_router first lines events w s
+since_here first_router first begins lines events w s out plays last =
+    let most = plays_marks first_router first lines events w s out plays in
+    record {
+      before = lines;
+      after = [];
+      all = sym (append-nil lines);
+      last = last;
+      none_after = tt;
+      early = events;
+      late = [];
+      restarted = w;
+      script = s;
+      out = out;
+      parts = sym (append-nil events);
+      played = plays;
+      then = stands w;
+      bag = since_bag first events w begins (plays_run first_router first lines events w s out plays) (IsUndelivered s.delivered)
+          (λ n le. past_marks s.delivered n (omega (arith, most, le)));
+    }
+
+wholes_append : (es more : List Event) → wholes (es ++ more) ≡ wholes es ++ wholes more
+wholes_append [] more = refl
+wholes_append (e ∷ es) more = ap (λ (l : List EventOrStop). whole_event e ∷ l) (wholes_append es more)
+
+none_then : (lines : List (List ℕ)) (bytes : List ℕ) → HaveNoRestart lines → (¬ IsRestart bytes) → HaveNoRestart (lines ++ bytes ∷ [])
+none_then [] bytes none is = (is, tt)
+none_then (l ∷ lines) bytes none is = (none.0, none_then lines bytes none.1 is)
+
+-- a line in which no node stops does not say that one is started again
+whole_says : (u : World) (s : ScriptView) (line : Line) (events : List Event) (w : World) (t : ScriptView) (closed : Option ℕ) (bytes : List ℕ)
+    → IsPlayedWhole u s line events w t closed → Says bytes line → ¬ IsRestart bytes
+whole_says u s _ _ _ _ _ _ (plays_client router link b left requests w there frames run) (says_client x y _ _ number hex) (rest, is) =
+    let other : 99 ≡ 114 = ap first_byte is in absurd (omega (arith, other))
+whole_says u s _ _ _ _ _ _ (closes router link b left requests fault w there frames run) (says_client x y _ _ number hex) (rest, is) =
+    let other : 99 ≡ 114 = ap first_byte is in absurd (omega (arith, other))
+whole_says u s _ _ _ _ _ _ (plays_deliver node k which w place h) (says_deliver words _ _ numbers) (rest, is) =
+    let other : 100 ≡ 114 = ap first_byte is in absurd (omega (arith, other))
+whole_says u s _ _ _ _ _ _ (plays_moment node moment w h) (says_moment words _ _ numbers) (rest, is) =
+    let other : 109 ≡ 114 = ap first_byte is in absurd (omega (arith, other))
+whole_says u s _ _ _ _ _ _ (plays_settle except events w delivered settles) says_settle (rest, is) =
+    let other : 115 ≡ 114 = ap first_byte is in absurd (omega (arith, other))
+whole_says u s _ _ _ _ _ _ (plays_settle except events w delivered settles) (says_except kind known) (rest, is) =
+    let other : 115 ≡ 114 = ap first_byte is in absurd (omega (arith, other))
+whole_says u s _ _ _ _ _ _ (plays_next kind which m w place got h) (says_next _ known) (rest, is) =
+    let other : 110 ≡ 114 = ap first_byte is in absurd (omega (arith, other))
+whole_says u s _ _ _ _ _ _ (loses_next kind which m place got none) (says_next _ known) (rest, is) =
+    let other : 110 ≡ 114 = ap first_byte is in absurd (omega (arith, other))
+
+plays_since_restart : (first_router : ℕ) (first : World) → IsFirst first → (lines : List (List ℕ)) (events : List EventOrStop) (w : World) (s : ScriptView)
+    (out : List ℕ) → Plays first_router first lines events w s out → PlaysSince first_router first lines events w s
+plays_since_restart first_router first begins _ _ _ _ _ (plays_none w run) =
+    since_here first_router first begins [] (wholes (openings 0 (length first.nodes))) w (new_script first_router (router_count first_router first)) []
+    (plays_none w run) (inl refl)
+plays_since_restart first_router first begins _ _ _ _ _ (plays_more lines before _ u w s t out bytes line closed given played says
+    (plays_whole _ events _ _ _ is) gives) =
+    let p = plays_since_restart first_router first begins lines before u s out played in
+    record {
+      before = p.before;
+      after = p.after ++ bytes ∷ [];
+      all = ap (λ (l : List (List ℕ)). l ++ bytes ∷ []) p.all ∙ append_assoc p.before p.after (bytes ∷ []);
+      last = p.last;
+      none_after = none_then p.after bytes p.none_after (whole_says u s line events w t closed bytes is says);
+      early = p.early;
+      late = p.late ++ events;
+      restarted = p.restarted;
+      script = p.script;
+      out = p.out;
+      parts = ap (λ (l : List EventOrStop). l ++ wholes events) p.parts ∙ (append_assoc p.early (wholes p.late) (wholes events)
+          ∙ ap (λ (l : List EventOrStop). p.early ++ l) (sym (wholes_append p.late events)));
+      played = p.played;
+      then = run_then p.restarted p.late u events w p.then (whole_run u s line events w t closed is);
+      bag = whole_bag (IsOfRequest p.restarted.asked) u s line events w t closed is p.bag;
+    }
+plays_since_restart first_router first begins _ _ _ _ _ (plays_more lines before _ u w s _ out bytes line closed given played says
+    (plays_restart _ node e delivered _ t _ stop run close) gives) =
+    since_here first_router first begins (lines ++ bytes ∷ []) (before ++ stop_and_open node e) w (with_delivered t delivered) (out ++ printed s.links given closed)
+    (plays_more lines before (stop_and_open node e) u w s (with_delivered t delivered) out bytes line closed given played says
+    (plays_restart line node e delivered w t closed stop run close) gives)
+    (inr (lines, bytes, refl, stop_says u s line node e delivered bytes stop says))
 
 -- SETTLE
 
@@ -168,28 +320,26 @@ settled_between _ _ _ _ _ _ _ n (but_lost u w ds es next later m events got new 
     by_place (inl same) stays later_on = stays (ap (λ k. is_delivered (marked next ds) k) same ∙ marked_here next ds)
     by_place (inr other) stays later_on = later_on (omega (arith, from, other))
 
-settled_answered : (first u : World) (ds : List Bool) (events : List Event) (w : World) (es : List Bool)
-    → SettlesBut None u ds 0 events w es (length w.sent) → BagIn (IsUndelivered ds) u → TakenSince first w → AreAnswered first w
-settled_answered first u ds events w es settles b taken =
-    let after = but_bag None u ds 0 events w es (length w.sent) settles b in
-    are_answered first (IsUndelivered es) w after.true_there after.bag taken
-    (λ n below left. let done = settled_between u ds 0 events w es (length w.sent) n settles (omega arith) below in cc (done, left))
+settled_all : (u : World) (ds : List Bool) (events : List Event) (w : World) (es : List Bool) → SettlesBut None u ds 0 events w es (length w.sent)
+    → (n : ℕ) → n < length w.sent → IsUndelivered es n → ⊥
+settled_all u ds events w es settles n below left =
+    let done = settled_between u ds 0 events w es (length w.sent) n settles (omega arith) below in cc (done, left)
 
-pub settled_scripts_are_answered : (first_router : ℕ) (first : World) (lines : List (List ℕ)) (before events : List Event) (u w : World) (s t : ScriptView)
-    (out : List ℕ)
-    (closed : Option ℕ) → IsFirst first → Plays first_router first lines before u s out → IsPlayed u s (settle_line None) events w t closed
-    → AreAnswered first w
-settled_scripts_are_answered first_router first lines before _ u _ s _ out _ begins plays (plays_settle _ events w delivered settles) =
-    settled_answered first u s.delivered events w delivered settles (plays_bag first_router first begins lines before u s out plays)
-    (taken_since first (first_true first begins) (before ++ events) w
-    (run_then first before u events w (plays_run first_router first lines before u s out plays)
-    (but_run None u s.delivered 0 events w delivered (length w.sent) settles)))
-
--- THE LAST LINE
-
-abbrev first_byte : List ℕ → ℕ
-first_byte [] = 0
-first_byte (b ∷ bytes) = b
+-- the last line was `settle`: these were the messages that were left
+settle_was : (u : World) (s : ScriptView) (line : Line) (events : List EventOrStop) (w : World) (t : ScriptView) (closed : Option ℕ)
+    → line ≡ settle_line None → IsPlayed u s line events w t closed → (n : ℕ) → n < length w.sent → IsUndelivered t.delivered n → ⊥
+settle_was u s _ _ _ _ _ is (plays_whole _ _ _ _ _ (plays_client router link bytes left requests w there frames run)) = absurd (cc is)
+settle_was u s _ _ _ _ _ is (plays_whole _ _ _ _ _ (closes router link bytes left requests fault w there frames run)) = absurd (cc is)
+settle_was u s _ _ _ _ _ is (plays_whole _ _ _ _ _ (plays_deliver node k which w place h)) = absurd (cc is)
+settle_was u s _ _ _ _ _ is (plays_whole _ _ _ _ _ (plays_moment node moment w h)) = absurd (cc is)
+settle_was u s _ _ _ _ _ is (plays_whole _ _ _ _ _ (plays_settle None events w delivered settles)) = settled_all u s.delivered events w delivered settles
+settle_was u s _ _ _ _ _ is (plays_whole _ _ _ _ _ (plays_settle (Some kind) events w delivered settles)) = absurd (cc is)
+settle_was u s _ _ _ _ _ is (plays_whole _ _ _ _ _ (plays_next kind which m w place got h)) = absurd (cc is)
+settle_was u s _ _ _ _ _ is (plays_whole _ _ _ _ _ (loses_next kind which m place got none)) = absurd (cc is)
+settle_was u s _ _ _ _ _ is (plays_restart _ _ _ _ _ _ _ (stops_between node) run close) = absurd (cc is)
+settle_was u s _ _ _ _ _ is (plays_restart _ _ _ _ _ _ _ (stops_kept node k which place) run close) = absurd (cc is)
+settle_was u s _ _ _ _ _ is (plays_restart _ _ _ _ _ _ _ (stops_unkept node k which place) run close) = absurd (cc is)
+settle_was u s _ _ _ _ _ is (plays_restart _ _ _ _ _ _ _ (stops_lost node k which place) run close) = absurd (cc is)
 
 settles_alone : (bytes : List ℕ) (line : Line) → Says bytes line → bytes ≡ codes "settle" → line ≡ settle_line None
 settles_alone _ _ (says_client a b router bytes number hex) is = absurd (cc is)
@@ -198,15 +348,83 @@ settles_alone _ _ (says_moment words node moment numbers) is = absurd (cc is)
 settles_alone _ _ says_settle is = refl
 settles_alone _ _ (says_except kind known) is = absurd (cc is)
 settles_alone _ _ (says_next kind known) is = let other : 110 ≡ 115 = ap first_byte is in absurd (omega (arith, other))
+settles_alone _ _ (says_restart word node number) is = let other : 114 ≡ 115 = ap first_byte is in absurd (omega (arith, other))
+settles_alone _ _ (says_kept a b node k first second) is = let other : 114 ≡ 115 = ap first_byte is in absurd (omega (arith, other))
+settles_alone _ _ (says_lost a b node k first second) is = let other : 114 ≡ 115 = ap first_byte is in absurd (omega (arith, other))
+
+-- where the last line is `settle` no message is left
+last_settles : (first_router : ℕ) (first : World) (lines : List (List ℕ)) (events : List EventOrStop) (w : World) (s : ScriptView) (out : List ℕ)
+    → Plays first_router first lines events w s out → EndInSettle lines → (n : ℕ) → n < length w.sent → IsUndelivered s.delivered n → ⊥
+last_settles first_router first _ _ _ _ _ (plays_none w run) (before, is) =
+    absurd (omega (arith, length_push before (codes "settle"), ap (λ (l : List (List ℕ)). length l) is))
+last_settles first_router first _ _ _ _ _ (plays_more lines earlier events u w s t out bytes line closed given played says is_played gives) (before, is) =
+    settle_was u s line events w t closed (settles_alone bytes line says (same_from_push lines before bytes (codes "settle") is).1) is_played
+
+-- no node stops in a line `settle`
+settle_whole : (u : World) (s : ScriptView) (line : Line) (events : List EventOrStop) (w : World) (t : ScriptView) (closed : Option ℕ)
+    → line ≡ settle_line None → IsPlayed u s line events w t closed → (whole : List Event) × IsPlayedWhole u s line whole w t closed
+settle_whole u s _ _ _ _ _ is (plays_whole line events w t closed whole) = (events, whole)
+settle_whole u s _ _ _ _ _ is (plays_restart _ _ _ _ _ _ _ (stops_between node) run close) = absurd (cc is)
+settle_whole u s _ _ _ _ _ is (plays_restart _ _ _ _ _ _ _ (stops_kept node k which place) run close) = absurd (cc is)
+settle_whole u s _ _ _ _ _ is (plays_restart _ _ _ _ _ _ _ (stops_unkept node k which place) run close) = absurd (cc is)
+settle_whole u s _ _ _ _ _ is (plays_restart _ _ _ _ _ _ _ (stops_lost node k which place) run close) = absurd (cc is)
+
+pub settled_scripts_are_answered : (first_router : ℕ) (first : World) (lines : List (List ℕ)) (before events : List EventOrStop) (u w : World)
+    (s t : ScriptView) (out : List ℕ) (closed : Option ℕ) → IsFirst first → HaveNoRestart lines → Plays first_router first lines before u s out
+    → IsPlayed u s (settle_line None) events w t closed → AreAnswered first w
+settled_scripts_are_answered first_router first lines before events u w s t out closed begins none plays settles =
+    let p = plays_whole_lines first_router first begins lines before u s out plays none in
+    let e = settle_whole u s (settle_line None) events w t closed refl settles in
+    let b = whole_bag (λ id. ⊥) u s (settle_line None) e.0 w t closed e.1 p.bag in
+    are_answered first (IsUndelivered t.delivered) w b.true_there b.bag
+    (taken_since first (first_true first begins) (p.whole ++ e.0) w
+    (run_then first p.whole u e.0 w p.run (whole_run u s (settle_line None) e.0 w t closed e.1)))
+    (settle_was u s (settle_line None) events w t closed refl settles)
 
 -- where the last line of a script is `settle`, every request is answered
-pub ends_answered : (first_router : ℕ) (first : World) → IsFirst first → (lines : List (List ℕ)) (events : List Event) (w : World) (s : ScriptView)
-    (out : List ℕ)
-    → Plays first_router first lines events w s out → EndInSettle lines → AreAnswered first w
-ends_answered first_router first begins _ _ _ _ _ (plays_none w run) (before, is) =
+pub ends_answered : (first_router : ℕ) (first : World) → IsFirst first → (lines : List (List ℕ)) (events : List EventOrStop) (w : World) (s : ScriptView)
+    (out : List ℕ) → Plays first_router first lines events w s out → EndInSettle lines → HaveNoRestart lines → AreAnswered first w
+ends_answered first_router first begins _ _ _ _ _ (plays_none w run) (before, is) none =
     absurd (omega (arith, length_push before (codes "settle"), ap (λ (l : List (List ℕ)). length l) is))
 ends_answered first_router first begins _ _ _ _ _ (plays_more lines earlier events u w s t out bytes line closed given played says is_played gives)
-    (before, is) =
+    (before, is) none =
     let settle : line ≡ settle_line None = settles_alone bytes line says (same_from_push lines before bytes (codes "settle") is).1 in
-    settled_scripts_are_answered first_router first lines earlier events u w s t out closed begins played
+    settled_scripts_are_answered first_router first lines earlier events u w s t out closed begins (none_before lines bytes none).0 played
     (subst (λ l. IsPlayed u s l events w t closed) settle is_played)
+
+-- and where nodes stop, those that came since the last stop
+pub restarted_scripts_are_answered : (first_router : ℕ) (first : World) (lines : List (List ℕ)) (events : List EventOrStop) (w : World) (s : ScriptView)
+    (out : List ℕ) → IsFirst first → Plays first_router first lines events w s out → EndInSettle lines
+    → AreAnsweredAfterRestarts first_router first lines events w
+restarted_scripts_are_answered first_router first lines events w s out begins plays ends =
+    let p = plays_since_restart first_router first begins lines events w s out plays in
+    let good = (since_bag first p.early p.restarted begins (plays_run first_router first p.before p.early p.restarted p.script p.out p.played)
+    (λ n. Unit {0}) (λ n le. tt)).true_there in
+    record {
+      before = p.before;
+      after = p.after;
+      all = p.all;
+      last = p.last;
+      none_after = p.none_after;
+      early = p.early;
+      late = wholes p.late;
+      restarted = p.restarted;
+      script = p.script;
+      out = p.out;
+      parts = p.parts;
+      played = p.played;
+      then = run_whole p.restarted w p.late p.then;
+      answered = are_answered_since p.restarted w (IsUndelivered s.delivered) p.bag.true_there p.bag.bag (lives_since p.restarted p.late w good p.then)
+          (last_settles first_router first lines events w s out plays ends);
+    }
+
+-- both, of all lines that were played
+unfoldable pub all_played : (first_router : ℕ) (first : World) → IsFirst first → (lines : List (List ℕ)) (events : List EventOrStop) (w : World) (s : ScriptView)
+    (out : List ℕ) → Plays first_router first lines events w s out → AllPlayed first_router first lines out w
+all_played first_router first begins lines events w s out plays = record {
+  events = events;
+  script = s;
+  played = plays;
+  answered = λ ends none. ends_answered first_router first begins lines events w s out plays ends none;
+  answered_after = λ ends. restarted_scripts_are_answered first_router first lines events w s out begins plays ends;
+}

@@ -7,6 +7,9 @@ use Rattle.outside.proofs.Relations.{put_then}
 use Rattle.node_model.specs.Letters.{Letter}
 use Rattle.node_model.specs.World.{World, Event, Happens, Run}
 use Rattle.node_model.specs.Schedule.{openings}
+use Rattle.node_replay.specs.Restarts.{EventOrStop, Occurs, RunWithStops, occurs, proceeds, stays, whole_event}
+use Rattle.restart_laws.specs.Calls.{wholes}
+use Rattle.restart_laws.proofs.ReachedCalls.{stops_then}
 use Rattle.node_progress.specs.Firsts.{IsFirst}
 use Rattle.node_traits.specs.declared.outputs.StepFault.{StepFault}
 use Rattle.node_traits.specs.declared.outputs.StepFault.TheVariants.{Disk, Steps, Memory}
@@ -16,12 +19,11 @@ use Rattle.driver_steps.specs.Crashes.{LeadsTo, Noted}
 use Rattle.driver_steps.specs.Seats.{Hosted, SeatView}
 use Rattle.driver_steps.specs.Worlds.{NetworkView, StandsFor, network_view, puts_given}
 use Rattle.driver_steps.specs.Moves.{BeginWith, HasRun, HasStopped, IsUpTo}
-use Rattle.driver_steps.proofs.Crashes.{leads_by, leads_nowhere, leads_on}
+use Rattle.driver_steps.proofs.Crashes.{leads_nowhere, leads_on, leads_through}
 use Rattle.driver_steps.proofs.Seats.{held_kept, held_len}
 use Rattle.driver_steps.proofs.Runs.{handed_on}
 use Rattle.pipe_driver.specs.Acknowledgements.{AreCovered}
 use Rattle.pipe_driver.specs.Pieces.{PutInPart}
-use Rattle.pipe_driver.specs.Schedules.{IsLast}
 use Rattle.pipe_driver.specs.Stops.{status_for}
 use Rattle.pipe_driver.specs.declared.status.Status.{Status}
 use Rattle.pipe_driver.specs.declared.status.Status.TheVariants as statuses
@@ -31,13 +33,13 @@ use Rattle.pipe_driver.proofs.Openings.{nothing_told}
 use Rattle.script_lines.specs.Words.{HasNone, IsCutAt}
 use Rattle.pipe_driver.proofs.Serving.{kept_at}
 use Rattle.sim_driver.specs.Scripts.{ScriptView, new_script, printed}
-use Rattle.sim_driver.specs.Moves.{AreStill, IsCut, IsLastOf}
-use Rattle.sim_driver.specs.LineOutcomes.{HasPlayedBytes, IsPartOfBytes, part_read, StopsBytes, bytes_refused, bytes_at_disk, bytes_at_memory}
-use Rattle.sim_driver.specs.Simulations.{newline, bytes_of_lines, Plays, plays_none, plays_more, CameTo, came_opening, came_lines, came_part, all_printed, router_count}
+use Rattle.sim_driver.specs.Moves.{AreStill}
+use Rattle.sim_driver.specs.LineOutcomes.{HasPlayedBytes, IsCutIn, IsLastIn, IsPartOfBytes, part_read, StopsBytes, bytes_refused, bytes_at_disk, bytes_at_memory}
+use Rattle.sim_driver.specs.Simulations.{newline, bytes_of_lines, Plays, plays_none, plays_more, CameTo, came_opening, came_lines, came_part, IsLastOfScript, all_printed, router_count}
 use Rattle.sim_driver.specs.Progress.{Playing, StopsAt, at_refused_line, at_write_fault, at_disk_fault, at_no_memory, Stopped}
 use Rattle.sim_driver.proofs.Faults.{run_more, still}
 use Rattle.sim_driver.proofs.Plays.{plays_count, plays_run, whole_is_part}
-use Rattle.sim_driver.proofs.Settled.{ends_answered}
+use Rattle.sim_driver.proofs.Settled.{all_played}
 
 lines_more : (lines : List (List ℕ)) (bytes : List ℕ) → bytes_of_lines (lines ++ bytes ∷ []) ≡ bytes_of_lines lines ++ (bytes ++ newline ∷ [])
 lines_more lines bytes =
@@ -50,20 +52,27 @@ next_line bytes others none = record { whole = refl; first = none }
 -- the world up to which a crash may have left what the nodes keep
 last_by : (fault : StepFault) (status : Status) → status ≡ status_for fault → (end last : World) (events : List Event) (P : List Event → Type 0)
     (goes_on : World → Type 0) → ((e : Event) → P (events ++ e ∷ []) → Happens end e last → goes_on last)
-    → IsUpTo fault end last ((e : Event) × P (events ++ e ∷ []) × Happens end e last) → IsLast status goes_on end last
+    → IsUpTo fault end last ((e : Event) × P (events ++ e ∷ []) × Happens end e last) → IsLastOfScript status goes_on end last
 last_by (Disk faults) status is end last events P goes_on on (inl same) = inl same
-last_by (Disk faults) status is end last events P goes_on on (inr (e, has, h)) = inr (is, on e has h, e, h)
+last_by (Disk faults) status is end last events P goes_on on (inr (e, has, h)) = inr (is, on e has h, whole_event e, occurs end last e h)
 last_by Steps status is end last events P goes_on on same = inl same
 last_by Memory status is end last events P goes_on on same = inl same
 
-last_leads : (status : Status) (end last : World) (events : List Event) (P : List Event → Type 0) → IsLastOf status events P end last → LeadsTo end last
+last_leads : (status : Status) (end last : World) (events : List EventOrStop) (P : List EventOrStop → Type 0) → IsLastIn status events P end last
+    → LeadsTo end last
 last_leads status end last events P (inl same) = subst (λ (w : World). LeadsTo end w) (sym same) (leads_nowhere end)
-last_leads status end last events P (inr (is, e, has, h)) = leads_by e end last h
+last_leads status end last events P (inr (is, e, has, h)) = leads_through e end last h
 
-last_in_line : (status : Status) (end last : World) (events : List Event) (P : List Event → Type 0) (goes_on : World → Type 0)
-    → ((e : Event) → P (events ++ e ∷ []) → Happens end e last → goes_on last) → IsLastOf status events P end last → IsLast status goes_on end last
+last_in_line : (status : Status) (end last : World) (events : List EventOrStop) (P : List EventOrStop → Type 0) (goes_on : World → Type 0)
+    → ((e : EventOrStop) → P (events ++ e ∷ []) → Occurs end e last → goes_on last) → IsLastIn status events P end last
+    → IsLastOfScript status goes_on end last
 last_in_line status end last events P goes_on on (inl same) = inl same
 last_in_line status end last events P goes_on on (inr (is, e, has, h)) = inr (is, on e has h, e, h)
+
+-- one event more
+one_more : (u : World) (events : List EventOrStop) (v : World) (e : EventOrStop) (w : World) → RunWithStops u events v → Occurs v e w
+    → RunWithStops u (events ++ e ∷ []) w
+one_more u events v e w run more = stops_then u v w events (e ∷ []) run (proceeds v w w e [] more (stays w))
 
 -- THE START
 
@@ -77,7 +86,7 @@ module _ {S : Type 0} (view : S → SeatView) (hosts : Hosted S) (first_router :
       subst (λ (n : ℕ). Run first (openings 0 n) r.end) as_many r.run in
       record {
         lines = [];
-        events = openings 0 (length first.nodes);
+        events = wholes (openings 0 (length first.nodes));
         world = r.end;
         out = [];
         begins = begins;
@@ -129,13 +138,13 @@ module _ {S : Type 0} (view : S → SeatView) (hosts hosts_after : Hosted S) (be
     (noted : List Noted)
     (held_before held consumed : List ℕ) (s : ScriptView) (p : Playing view hosts before first_router first tells noted held_before held s consumed)
     (bytes : List ℕ) (none : HasNone newline bytes) where
-  came_in : (others : List ℕ) (events : List Event) (end : World) → IsPartOfBytes p.world s bytes events → Run p.world events end
+  came_in : (others : List ℕ) (events : List EventOrStop) (end : World) → IsPartOfBytes p.world s bytes events → RunWithStops p.world events end
       → CameTo first_router first p.lines (bytes ++ newline ∷ others) p.out end
   came_in others events end part run =
       came_part p.lines p.events events (bytes ++ newline ∷ others) p.out bytes others p.world end s p.plays (next_line bytes others none) part run
 
   -- the script stops within the line, of which nothing was put
-  stops_within : (others : List ℕ) (status : Status) → (c : IsCut view hosts_after p.world (IsPartOfBytes p.world s bytes) status)
+  stops_within : (others : List ℕ) (status : Status) → (c : IsCutIn view hosts_after p.world (IsPartOfBytes p.world s bytes) status)
       → StopsAt first_router first p.lines (bytes ++ newline ∷ others) p.out c.end status
       → Stopped view hosts_after first_router first tells noted held_before held consumed (bytes ++ newline ∷ others) status
   stops_within others status c cause = record {
@@ -150,7 +159,7 @@ module _ {S : Type 0} (view : S → SeatView) (hosts hosts_after : Hosted S) (be
     last = c.last;
     is_last = last_in_line status c.end c.last c.events (IsPartOfBytes p.world s bytes)
         (λ w. CameTo first_router first p.lines (bytes ++ newline ∷ others) p.out w)
-        (λ e part h. came_in others (c.events ++ e ∷ []) c.last part (run_more p.world c.events c.end e c.last c.run h)) c.is_last;
+        (λ e part h. came_in others (c.events ++ e ∷ []) c.last part (one_more p.world c.events c.end e c.last c.run h)) c.is_last;
     crashes = c.crashes;
     covered = λ told. covered_on (all_printed first_router first) first held_before noted p.out p.world c.last (p.covered told)
         (leads_on p.world c.end c.last (c.events, c.run) (last_leads status c.end c.last c.events (IsPartOfBytes p.world s bytes) c.is_last));
@@ -177,14 +186,10 @@ module _ {S : Type 0} (view : S → SeatView) (hosts hosts_after : Hosted S) (be
 
   pub line_stopped : (others : List ℕ) (status : Status) → StopsBytes view hosts_after p.world bytes s status
       → Stopped view hosts_after first_router first tells noted held_before held consumed (bytes ++ newline ∷ others) status
+  unfolding all_played
   line_stopped others _ (bytes_refused refused are) =
       stops_here others statuses.BadInput p.world
-      (at_refused_line bytes others (next_line bytes others none) (record {
-        events = p.events;
-        script = s;
-        played = p.plays;
-        answered = ends_answered first_router first p.begins p.lines p.events p.world s p.out p.plays;
-      }) refused) are (leads_nowhere p.world)
+      (at_refused_line bytes others (next_line bytes others none) (all_played first_router first p.begins p.lines p.events p.world s p.out p.plays) refused) are (leads_nowhere p.world)
   line_stopped others _ (bytes_at_disk c) = stops_within others statuses.DiskFailed c (at_disk_fault (came_in others c.events c.end c.which c.run))
   line_stopped others _ (bytes_at_memory c) = stops_within others statuses.OutOfMemory c (at_no_memory (came_in others c.events c.end c.which c.run))
 
@@ -222,13 +227,8 @@ module _ {S : Type 0} (view : S → SeatView) (hosts hosts_after : Hosted S) (be
         covered_more (all_printed first_router first) first held_before p.world h.played.end noted moments (length held) p.out
         (printed s.links old.replies.items closed) (p.covered told) (
           p.lines ++ bytes ∷ [],
-          record {
-            events = p.events ++ h.played.events;
-            script = t;
-            played = played_line;
-            answered = ends_answered first_router first p.begins (p.lines ++ bytes ∷ []) (p.events ++ h.played.events) h.played.end t
-                (p.out ++ printed s.links old.replies.items closed) played_line;
-          },
+          all_played first_router first p.begins (p.lines ++ bytes ∷ []) (p.events ++ h.played.events) h.played.end t
+              (p.out ++ printed s.links old.replies.items closed) played_line,
         )
         (leads_on first p.world h.played.end (p.events, plays_run first_router first p.lines p.events p.world s p.out p.plays) line_on) line_on (line_few told)
 
@@ -314,12 +314,7 @@ playing_full view hosts network first_router first tells noted held_before held 
   lines = p.lines;
   end = p.world;
   out = p.out;
-  cause = at_no_memory (came_lines p.lines left p.out p.world (record {
-    events = p.events;
-    script = s;
-    played = p.plays;
-    answered = ends_answered first_router first p.begins p.lines p.events p.world s p.out p.plays;
-  }));
+  cause = at_no_memory (came_lines p.lines left p.out p.world (all_played first_router first p.begins p.lines p.events p.world s p.out p.plays));
   put = p.put;
   all = p.all;
   each = p.each;

@@ -9,6 +9,7 @@ use Rattle.node_model.specs.World.{World, IsRouter, Event, deliver_event, Happen
 use Rattle.node_progress.specs.Firsts.{IsFirst}
 use Rattle.node_traits.specs.declared.outputs.ToLink.{ToLink}
 use Rattle.driver_steps.specs.Seats.{Hosted, SeatView, AreHeld, AreKept, LeaveKept}
+use Rattle.driver_steps.specs.Restarts.{HasStartedAgain}
 use Rattle.driver_steps.specs.Worlds.{NetworkView, StandsFor}
 use Rattle.driver_steps.specs.Moves.{BeginWith, DeliversOrLoses}
 use Rattle.pipe_driver.specs.Progress.{AreAsked}
@@ -16,7 +17,7 @@ use Rattle.pipe_driver.specs.Rounds.{replies_behind}
 use Rattle.pipe_driver.specs.declared.status.Status.{Status}
 use Rattle.pipe_driver.specs.declared.status.Status.TheVariants as statuses
 use Rattle.sim_driver.specs.Plays.{SettlesBut, client_events, is_passed}
-use Rattle.sim_driver.specs.Scripts.{is_delivered, is_of_kind, marked}
+use Rattle.sim_driver.specs.Scripts.{ScriptView, ClosesLink, is_delivered, is_of_kind, marked, place_from, with_delivered}
 
 -- the message at a place among all that were sent was delivered, or lost where it goes to no node
 pub record HasDeliveredOne {S : Type 0} (view : S → SeatView) (hosted : Hosted S) (network : NetworkView) (handed : List ToLink) (before : World)
@@ -105,9 +106,21 @@ pub record MayPlay (first_router : ℕ) (first : World) : Type 0 where
   pub begins : IsFirst first
   pub routers : HasRouters first_router first
 
+-- The node at a place stopped, by an event that this one allows, was started again and opened, and its link was closed, if it was open.
+pub record HasReturned {S : Type 0} (view : S → SeatView) (hosted : Hosted S) (network : NetworkView) (handed : List ToLink) (before : World) (at : ℕ)
+    (e : Option Event) (old new : ScriptView) (closed : Option ℕ) : Type 0 where
+  pub again : HasStartedAgain view hosted network handed before 0 at e
+  pub closes : ClosesLink old at new closed
+
 -- a message at a place goes to this node
 abbrev pub IsReceiverAt : List Letter → (at node : ℕ) → Type 0
 IsReceiverAt letters at node = (m : Letter) × (slice_get letters at ≡ Some m) × (node ≡ m.receiver)
+
+-- the k-th message to the node is at this place, and was marked as delivered
+pub record IsTakenAt (letters : List Letter) (node k : ℕ) (old new : ScriptView) (at : ℕ) : Type 0 where
+  pub place : place_from 0 node k letters ≡ Some at
+  pub within : at < length letters
+  pub marked : new ≡ with_delivered old (marked at old.delivered)
 
 -- whether a message at a place is of the kind
 abbrev pub IsOfKindAt : List Letter → (at : ℕ) → (kind : List ℕ) → Bool → Type 0

@@ -2,26 +2,26 @@
 use Rattle.std.specs.Prelude.{◌≡◌, ◌≢◌, ℕ, Bool, IsTrue, List, ◌++◌}
 use Rattle.std.specs.List.{AllByRecursion}
 use Rattle.outside.specs.Streams.{Put}
-use Rattle.node_model.specs.World.{World, Event}
+use Rattle.node_model.specs.World.{World}
+use Rattle.node_replay.specs.Restarts.{EventOrStop}
 use Rattle.node_progress.specs.Firsts.{IsFirst}
 use Rattle.driver_steps.specs.Crashes.{Noted}
 use Rattle.driver_steps.specs.Seats.{Hosted, SeatView, AreKept, LeaveKept}
 use Rattle.driver_steps.specs.Worlds.{NetworkView, StandsFor, puts_given}
 use Rattle.pipe_driver.specs.Acknowledgements.{AreCovered}
-use Rattle.pipe_driver.specs.Schedules.{IsLast}
 use Rattle.pipe_driver.specs.declared.status.Status.{Status}
 use Rattle.pipe_driver.specs.declared.status.Status.TheVariants as statuses
 use Rattle.script_lines.specs.Words.{HasNone, IsCutAt}
 use Rattle.sim_driver.specs.Scripts.{ScriptView}
 use Rattle.sim_driver.specs.LineOutcomes.{IsRefused}
-use Rattle.sim_driver.specs.Simulations.{newline, bytes_of_lines, Plays, AllPlayed, CameTo, LastPutShort, all_printed}
+use Rattle.sim_driver.specs.Simulations.{newline, bytes_of_lines, Plays, AllPlayed, CameTo, IsLastOfScript, LastPutShort, all_printed}
 
 -- These bytes were played, in whole lines: nodes, logs and messages are those of the world after them, and what they print was put.
 pub record Playing {S : Type 0} (view : S → SeatView) (hosted : Hosted S) (network : NetworkView) (first_router : ℕ) (first : World) (tells : Bool)
     (noted : List Noted) (held_before held : List ℕ)
     (script : ScriptView) (consumed : List ℕ) : Type 0 where
   pub lines : List (List ℕ)
-  pub events : List Event
+  pub events : List EventOrStop
   pub world : World
   pub out : List ℕ
   pub begins : IsFirst first
@@ -55,7 +55,7 @@ pub record Stopped {S : Type 0} (view : S → SeatView) (hosted : Hosted S) (fir
   pub each : AllByRecursion (HasNone newline) lines
   pub kept : AreKept view hosted.seats end.nodes
   pub last : World
-  pub is_last : IsLast status (λ w. CameTo first_router first lines left out w) end last
+  pub is_last : IsLastOfScript status (λ w. CameTo first_router first lines left out w) end last
   pub crashes : LeaveKept view hosted last
   pub covered : IsTrue tells → AreCovered (all_printed first_router first) first noted held_before out last
 

@@ -1,16 +1,16 @@
 -- What a script has beside the nodes: where their routers begin, the open links of these, and which messages were delivered (own).
 use Rattle.std.specs.Prelude.{◌≡◌, ℕ, zero, suc, ◌+◌, ◌-◌, ◌==◌, ◌&&◌, not, List, [], ◌∷◌, ◌++◌, map, Option, Some, None, Bool, true, false, if◌then◌else◌}
-use Rattle.std.specs.List.{flat_map, slice_set}
+use Rattle.std.specs.List.{flat_map, slice_get, slice_set}
 use Rattle.std.specs.Str.{bytes_eq}
 use Rattle.node_model.specs.Letters.{Letter}
 use Rattle.node_traits.specs.Kinds.{kind_of}
 use Rattle.node_traits.specs.declared.outputs.ToLink.{ToLink}
 use Rattle.script_lines.specs.Output.{closed_line, reply_line}
-use Rattle.sim_driver.specs.Links.{LinkView, new_link}
+use Rattle.sim_driver.specs.Links.{LinkView, new_link, next_link}
 use Rattle.sim_driver.specs.declared.script.Script.{Script}
 
--- `first_router` is the place of router 0 among the nodes; `links` are those that are open, one of each router, in order; so many links were `opened`,
--- which is the number of the next one; `delivered` says of the messages, in order of sending, whether they were delivered: those past its end were not
+-- `first_router` is the place of router 0 among the nodes; `links` are those of the routers, one of each, in order; so many links were `opened` or are next,
+-- which is the number of the one after these; `delivered` says of the messages, in order of sending, whether they were delivered: those past its end were not
 pub record ScriptView : Type 0 where
   pub first_router : ℕ
   pub links : List LinkView
@@ -35,15 +35,21 @@ new_script first_router routers = record { first_router = first_router; links = 
 abbrev pub with_link : ScriptView → (router : ℕ) → LinkView → ScriptView
 with_link s router link = record { first_router = s.first_router; links = slice_set s.links router link; opened = s.opened; delivered = s.delivered }
 
--- the router's link was closed, and a new one is open
-abbrev pub reopened : ScriptView → (router : ℕ) → ScriptView
-reopened s router = record {
+-- the router's link was closed: its next one, which is not open, has the next number
+abbrev pub with_closed : ScriptView → (router : ℕ) → ScriptView
+with_closed s router = record {
   first_router = s.first_router;
-  links = slice_set s.links router
-      (new_link s.opened);
+  links = slice_set s.links router (next_link s.opened);
   opened = s.opened + 1;
   delivered = s.delivered;
 }
+
+-- The node at a place was started again: if it is a router whose link is open, that link was closed.
+pub data ClosesLink (s : ScriptView) (node : ℕ) : ScriptView → (closed : Option ℕ) → Type 0 where
+  closes_open : (router : ℕ) (link : LinkView) → node ≡ s.first_router + router → slice_get s.links router ≡ Some link → link.is_open ≡ true
+      → ClosesLink s node (with_closed s router) (Some router)
+  closes_none : ((router : ℕ) (link : LinkView) → node ≡ s.first_router + router → slice_get s.links router ≡ Some link → link.is_open ≡ false)
+      → ClosesLink s node s None
 
 -- MESSAGES
 

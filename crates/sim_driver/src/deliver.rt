@@ -28,7 +28,7 @@ use std::marker::Sync;
 use std::thread::Threads;
 
 /// Returns a copy of the message at a place. Fails if out of memory.
-fn copy_at<M: Mail>(alloc: Global, sent: &VecDeque<M>, at: usize) -> Result<M, Memory>
+pub fn copy_at<M: Mail>(alloc: Global, sent: &VecDeque<M>, at: usize) -> Result<M, Memory>
     requires { at < deque_len sent.now }
     ensures { IfOk result (λ message. slice_get (map M.letter sent.now.items) at ≡ Some (M.letter message)) }
 {

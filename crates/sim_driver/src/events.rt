@@ -11,11 +11,10 @@ ghost use Rattle.pipe_driver.specs.Counts.{HaveRisenWhere};
 ghost use Rattle.pipe_driver.specs.Progress.{AreAskedAsRead};
 ghost use Rattle.pipe_driver.specs.declared.status.Status.TheVariants as statuses;
 ghost use Rattle.script_lines.specs.Lines.{client_line, moment_line};
-ghost use Rattle.sim_driver.specs.LineOutcomes.{HasPlayed, IsOfLine, StopsLine};
+ghost use Rattle.sim_driver.specs.LineOutcomes.{HasPlayedWhole, IsOfLine, StopsWhole};
 ghost use Rattle.sim_driver.specs.Moves.{HasRouters};
 ghost use Rattle.sim_driver.specs.Scripts.{script_view};
 
-use crate::link::Link;
 use crate::script::Script;
 use driver_steps::{Network, Seat, give_moment};
 use node_traits::Node;
@@ -45,13 +44,13 @@ pub fn play_client<N: Node<Request = Request>, L: Log, K: Witness<L::Of>>(
     ensures played { AreAskedAsRead N.asks → (since : Since L) (w : World) (handed : List ToLink) → HasRouters script.old.first_router w →
         StandsFor (seat_since N.state L.facts since) (hosted K.tells L.facts since (K.noted out.old) seats.old.items) (network_view
         (λ m. N.Mail.letter m) network.old) handed w 0 →
-        IfOk result (λ closed. HasPlayed (seat_since N.state L.facts since) (hosted K.tells L.facts since (K.noted out.new) seats.new.items) (network_view
+        IfOk result (λ closed. HasPlayedWhole (seat_since N.state L.facts since) (hosted K.tells L.facts since (K.noted out.new) seats.new.items) (network_view
         (λ m. N.Mail.letter m) network.new) handed w
         (client_line router bytes.now) (script_view script.old) (script_view script.new) closed) }
     ensures stops { AreAskedAsRead N.asks → (since : Since L) (w : World) (handed : List ToLink) → HasRouters script.old.first_router w →
         StandsFor (seat_since N.state L.facts since) (hosted K.tells L.facts since (K.noted out.old) seats.old.items) (network_view
         (λ m. N.Mail.letter m) network.old) handed w 0 →
-        IfErr result (StopsLine (seat_since N.state L.facts since) (hosted K.tells L.facts since (K.noted out.new) seats.new.items) w (client_line router bytes.now)
+        IfErr result (StopsWhole (seat_since N.state L.facts since) (hosted K.tells L.facts since (K.noted out.new) seats.new.items) w (client_line router bytes.now)
         (script_view script.old)) }
     ensures len { vec_len seats.new ≡ vec_len seats.old }
     ensures router { script.new.first_router ≡ script.old.first_router }
@@ -81,12 +80,10 @@ pub fn play_client<N: Node<Request = Request>, L: Log, K: Witness<L::Of>>(
     if !malformed {
         return Ok(None);
     }
-    if script.opened == u32::MAX {
-        return Err(Status::OutOfMemory);
+    match script.close(alloc, place) {
+        Ok(()) => Ok(Some(router)),
+        Err(_) => Err(Status::OutOfMemory),
     }
-    script.links[place] = Link::new(alloc, script.opened);
-    script.opened += 1;
-    Ok(Some(router))
 }
 
 /// A node gets a moment, in milliseconds since 1970.
@@ -107,13 +104,13 @@ pub fn play_moment<N: Node, L: Log, K: Witness<L::Of>>(
     ensures played { (since : Since L) (w : World) (handed : List ToLink) →
         StandsFor (seat_since N.state L.facts since) (hosted K.tells L.facts since (K.noted out.old) seats.old.items) (network_view
         (λ m. N.Mail.letter m) network.old) handed w 0 →
-        OnOk result (HasPlayed (seat_since N.state L.facts since) (hosted K.tells L.facts since (K.noted out.new) seats.new.items) (network_view
+        OnOk result (HasPlayedWhole (seat_since N.state L.facts since) (hosted K.tells L.facts since (K.noted out.new) seats.new.items) (network_view
         (λ m. N.Mail.letter m) network.new) handed w
         (moment_line node moment) (script_view script.now) (script_view script.now) None) }
     ensures stops { (since : Since L) (w : World) (handed : List ToLink) →
         StandsFor (seat_since N.state L.facts since) (hosted K.tells L.facts since (K.noted out.old) seats.old.items) (network_view
         (λ m. N.Mail.letter m) network.old) handed w 0 →
-        IfErr result (StopsLine (seat_since N.state L.facts since) (hosted K.tells L.facts since (K.noted out.new) seats.new.items) w (moment_line node moment)
+        IfErr result (StopsWhole (seat_since N.state L.facts since) (hosted K.tells L.facts since (K.noted out.new) seats.new.items) w (moment_line node moment)
         (script_view script.now)) }
     ensures len { vec_len seats.new ≡ vec_len seats.old }
     ensures open { result ≢ Err statuses.DiskFailed → AreOpen L.facts.is_open seats.new.items }

@@ -11,8 +11,11 @@ mod link;
 mod messages;
 mod play;
 mod report;
+mod restarts;
 mod script;
 mod simulation;
 
-pub use laws::{scripts_are_under_way, settled_scripts_are_answered};
+pub use laws::{
+    restarted_scripts_are_answered, scripts_are_under_way, settled_scripts_are_answered,
+};
 pub use simulation::simulate;

@@ -1,8 +1,9 @@
 //! The lines of a script, one after another.
 
-ghost use Rattle.std.specs.Prelude.{◌≡◌, ◌≢◌, ℕ, ◌+◌, ◌<◌, List, [], ◌∷◌, ◌++◌, vec_len, IfErr, OnOk, Err};
+ghost use Rattle.std.specs.Prelude.{◌≡◌, ◌≢◌, ℕ, ◌+◌, ◌<◌, List, [], ◌∷◌, ◌++◌, vec_len, IfErr, IsTrue, OnOk, Err};
 ghost use Rattle.node_model.specs.World.{World};
 ghost use Rattle.driver_steps.specs.Crashes.{Since, with_notes};
+ghost use Rattle.driver_steps.specs.Restarts.{HaveParts};
 ghost use Rattle.driver_steps.specs.Seats.{AreOpen, faults_of, places_of, seat_since};
 ghost use Rattle.driver_steps.specs.Together.{hosted};
 ghost use Rattle.driver_steps.specs.Worlds.{network_view};
@@ -19,7 +20,7 @@ ghost use Rattle.sim_driver.specs.Simulations.{newline};
 use crate::play::play_line;
 use crate::report::{numbers_of, put_text, text_of};
 use crate::script::Script;
-use driver_steps::{Network, Seat};
+use driver_steps::{Network, Opens, Seat};
 use node_traits::Node;
 use opmsg_frames::Request;
 use outside::log::Log;
@@ -37,8 +38,15 @@ use std::thread::Threads;
 /// - `Status::WriteFailed` if a write failed; the line was played.
 /// - `Status::DiskFailed` if a disk failed: nothing of the line was put.
 /// - `Status::OutOfMemory` if out of memory, or where a node is at its last step: nothing of the line was put.
-pub fn answer_line<R: Threads + Sync, N: Node<Request = Request>, L: Log, K: Witness<L::Of>>(
+pub fn answer_line<
+    R: Threads + Sync,
+    N: Node<Request = Request>,
+    L: Log,
+    K: Witness<L::Of>,
+    O: Opens<N, L>,
+>(
     rt: &R,
+    opener: &O,
     alloc: Global,
     line: &[u8],
     seats: &mut Vec<Seat<N, L>>,
@@ -50,7 +58,8 @@ pub fn answer_line<R: Threads + Sync, N: Node<Request = Request>, L: Log, K: Wit
     requires open { AreOpen L.facts.is_open seats.old.items }
     requires links { script.old.first_router + vec_len script.old.links ≡ vec_len seats.old }
     requires line { HasNone newline line.now }
-    ensures answered { AreAskedAsRead N.asks → (since : Since L) (first_router : ℕ) (first : World) → MayPlay first_router first →
+    ensures answered { AreAskedAsRead N.asks → IsTrue L.facts.tells → (since : Since L) (first_router : ℕ) (first : World) →
+        MayPlay first_router first → HaveParts (O.part opener.now) first.nodes →
         (held_before consumed : List ℕ) →
         Playing (seat_since N.state L.facts since) (hosted K.tells L.facts since (K.noted out.old) seats.old.items) (network_view (λ m. N.Mail.letter m) network.old)
         first_router first K.tells since.noted held_before (K.held out.old) (script_view script.old) consumed →
@@ -59,7 +68,8 @@ pub fn answer_line<R: Threads + Sync, N: Node<Request = Request>, L: Log, K: Wit
         (λ noted. Playing (seat_since N.state L.facts (with_notes since noted)) (hosted K.tells L.facts since (K.noted out.new) seats.new.items) (network_view
         (λ m. N.Mail.letter m) network.new)
         first_router first K.tells noted held_before (K.held out.new) (script_view script.new) (consumed ++ (line.now ++ newline ∷ [])))) }
-    ensures stopped { AreAskedAsRead N.asks → (since : Since L) (first_router : ℕ) (first : World) → MayPlay first_router first →
+    ensures stopped { AreAskedAsRead N.asks → IsTrue L.facts.tells → (since : Since L) (first_router : ℕ) (first : World) →
+        MayPlay first_router first → HaveParts (O.part opener.now) first.nodes →
         (held_before consumed others : List ℕ) →
         Playing (seat_since N.state L.facts since) (hosted K.tells L.facts since (K.noted out.old) seats.old.items) (network_view (λ m. N.Mail.letter m) network.old)
         first_router first K.tells since.noted held_before (K.held out.old) (script_view script.old) consumed →
@@ -83,7 +93,7 @@ pub fn answer_line<R: Threads + Sync, N: Node<Request = Request>, L: Log, K: Wit
         Ok(numbers) => numbers,
         Err(_) => return Err(Status::OutOfMemory),
     };
-    let closed = match play_line(rt, alloc, line, seats, out, network, script) {
+    let closed = match play_line(rt, opener, alloc, line, seats, out, network, script) {
         Ok(closed) => closed,
         Err(status) => return Err(status),
     };
@@ -102,8 +112,15 @@ pub fn answer_line<R: Threads + Sync, N: Node<Request = Request>, L: Log, K: Wit
 ///
 /// # Errors
 /// As `answer_line` has them; `Status::OutOfMemory` also if memory runs out for a line.
-pub fn play_piece<R: Threads + Sync, N: Node<Request = Request>, L: Log, K: Witness<L::Of>>(
+pub fn play_piece<
+    R: Threads + Sync,
+    N: Node<Request = Request>,
+    L: Log,
+    K: Witness<L::Of>,
+    O: Opens<N, L>,
+>(
     rt: &R,
+    opener: &O,
     alloc: Global,
     piece: &[u8],
     begun: &mut Vec<u8>,
@@ -116,7 +133,8 @@ pub fn play_piece<R: Threads + Sync, N: Node<Request = Request>, L: Log, K: Witn
     requires open { AreOpen L.facts.is_open seats.old.items }
     requires links { script.old.first_router + vec_len script.old.links ≡ vec_len seats.old }
     requires begun { HasNone newline begun.old.items }
-    ensures played { AreAskedAsRead N.asks → (since : Since L) (first_router : ℕ) (first : World) → MayPlay first_router first →
+    ensures played { AreAskedAsRead N.asks → IsTrue L.facts.tells → (since : Since L) (first_router : ℕ) (first : World) →
+        MayPlay first_router first → HaveParts (O.part opener.now) first.nodes →
         (held_before consumed : List ℕ) →
         Playing (seat_since N.state L.facts since) (hosted K.tells L.facts since (K.noted out.old) seats.old.items) (network_view (λ m. N.Mail.letter m) network.old)
         first_router first K.tells since.noted held_before (K.held out.old) (script_view script.old) consumed →
@@ -125,7 +143,8 @@ pub fn play_piece<R: Threads + Sync, N: Node<Request = Request>, L: Log, K: Witn
         (λ noted. HasPlayedLines (seat_since N.state L.facts (with_notes since noted)) (hosted K.tells L.facts since (K.noted out.new) seats.new.items) (network_view
         (λ m. N.Mail.letter m) network.new)
         first_router first K.tells noted held_before (K.held out.new) (script_view script.new) (consumed ++ (begun.old.items ++ piece.now)) begun.new.items)) }
-    ensures stopped { AreAskedAsRead N.asks → (since : Since L) (first_router : ℕ) (first : World) → MayPlay first_router first →
+    ensures stopped { AreAskedAsRead N.asks → IsTrue L.facts.tells → (since : Since L) (first_router : ℕ) (first : World) →
+        MayPlay first_router first → HaveParts (O.part opener.now) first.nodes →
         (held_before consumed : List ℕ) →
         Playing (seat_since N.state L.facts since) (hosted K.tells L.facts since (K.noted out.old) seats.old.items) (network_view (λ m. N.Mail.letter m) network.old)
         first_router first K.tells since.noted held_before (K.held out.old) (script_view script.old) consumed →
@@ -152,7 +171,16 @@ pub fn play_piece<R: Threads + Sync, N: Node<Request = Request>, L: Log, K: Witn
             Ok(()) => {}
             Err(_) => return Err(Status::OutOfMemory),
         }
-        match answer_line(rt, alloc, begun.as_slice(), seats, network, script, out) {
+        match answer_line(
+            rt,
+            opener,
+            alloc,
+            begun.as_slice(),
+            seats,
+            network,
+            script,
+            out,
+        ) {
             Ok(()) => {}
             Err(status) => return Err(status),
         }

@@ -1,4 +1,4 @@
-//! The link of a router that is open.
+//! The link of a router.
 
 ghost use Rattle.std.specs.Prelude.{◌≡◌, ◌≢◌, ◌⊎◌, ℕ, ◌++◌, ◌<◌, List, Ok, true, false, vec_len, IfErr, IfOk, OnOk, Err, IsTrue};
 ghost use Rattle.node_model.specs.World.{IsRouter, World};
@@ -10,7 +10,7 @@ ghost use Rattle.driver_steps.specs.Worlds.{StandsFor, network_view};
 ghost use Rattle.pipe_driver.specs.Counts.{HaveRisenWhere};
 ghost use Rattle.pipe_driver.specs.Progress.{AreAskedAsRead};
 ghost use Rattle.pipe_driver.specs.declared.status.Status.TheVariants as statuses;
-ghost use Rattle.sim_driver.specs.Links.{new_link};
+ghost use Rattle.sim_driver.specs.Links.{new_link, next_link};
 ghost use Rattle.sim_driver.specs.Moves.{HasAsked, IsCut, IsFirstAsked};
 
 use crate::client::ask_all;
@@ -24,12 +24,13 @@ use std::alloc::Global;
 use std::marker::Model;
 use std::mem;
 
-/// The bytes that came on an open link, and which reply is the next one.
+/// The bytes that came on a link, and which reply is the next one. Where it is not open, it is opened by the next bytes.
 #[derive(Drop)]
 pub struct Link {
     framer: Framer,
     number: u32,
     replied: u64,
+    is_open: bool,
 }
 
 impl Model for Link {
@@ -39,13 +40,13 @@ impl Model for Link {
 
     ghost use Rattle.std.specs.Prelude.{◌≡◌, None};
 
-    ghost view = { λ l. record { number = l.number; left = l.framer.bytes; replied = l.replied } };
+    ghost view = { λ l. record { number = l.number; left = l.framer.bytes; replied = l.replied; is_open = l.is_open } };
 
     ghost invariant = { λ l. l.framer.fault ≡ None };
 }
 
 impl Link {
-    /// Returns a link with this number, on which nothing came.
+    /// Returns an open link with this number, on which nothing came.
     pub fn new(alloc: Global, number: u32) -> Link
         ensures { result ≡ new_link number }
     {
@@ -53,7 +54,27 @@ impl Link {
             framer: Framer::new(alloc),
             number,
             replied: 0,
+            is_open: true,
         }
+    }
+
+    /// Returns a link with this number that is not open yet.
+    pub fn next(alloc: Global, number: u32) -> Link
+        ensures { result ≡ next_link number }
+    {
+        Link {
+            framer: Framer::new(alloc),
+            number,
+            replied: 0,
+            is_open: false,
+        }
+    }
+
+    /// Returns whether it is open.
+    pub fn is_open(&self) -> bool
+        ensures { result ≡ self.now.is_open }
+    {
+        self.is_open
     }
 
     /// Returns its number.
@@ -63,7 +84,7 @@ impl Link {
         self.number
     }
 
-    /// Bytes come: each whole request goes to the router at a place, in order. Returns whether what comes after them is no request; then the
+    /// Bytes come, and the link is open: each whole request goes to the router at a place, in order. Returns whether what comes after them is no request; then the
     /// link must be closed.
     ///
     /// # Errors
@@ -97,6 +118,7 @@ impl Link {
             IfErr result (λ status. IsCut (seat_since N.state L.facts since) (hosted K.tells L.facts since (K.noted out.new) seats.new.items) w
             (IsFirstAsked at self.old.number self.old.replied (self.old.left ++ bytes.now)) status) }
         ensures number { self.new.number ≡ self.old.number }
+        ensures opened { result ≡ Ok false → self.new.is_open ≡ true }
         ensures len { vec_len seats.new ≡ vec_len seats.old }
         ensures open { result ≢ Err statuses.DiskFailed → AreOpen L.facts.is_open seats.new.items }
 
@@ -132,6 +154,7 @@ impl Link {
         }
         self.framer = framer;
         self.replied = asked.replied;
+        self.is_open = true;
         Ok(false)
     }
 }

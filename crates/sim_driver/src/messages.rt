@@ -10,7 +10,7 @@ ghost use Rattle.driver_steps.specs.Worlds.{StandsFor, network_view};
 ghost use Rattle.pipe_driver.specs.Counts.{HaveRisenWhere};
 ghost use Rattle.pipe_driver.specs.declared.status.Status.TheVariants as statuses;
 ghost use Rattle.script_lines.specs.Lines.{deliver_line, next_line, settle_line};
-ghost use Rattle.sim_driver.specs.LineOutcomes.{HasPlayed, IsOfLine, StopsLine};
+ghost use Rattle.sim_driver.specs.LineOutcomes.{HasPlayedWhole, IsOfLine, StopsWhole};
 ghost use Rattle.sim_driver.specs.Scripts.{script_view};
 
 use crate::deliver::{deliver_and_mark, find, find_next, settle_but};
@@ -44,13 +44,13 @@ pub fn play_deliver<R: Threads + Sync, N: Node, L: Log, K: Witness<L::Of>>(
     ensures played { (since : Since L) (w : World) (handed : List ToLink) →
         StandsFor (seat_since N.state L.facts since) (hosted K.tells L.facts since (K.noted out.old) seats.old.items) (network_view
         (λ m. N.Mail.letter m) network.old) handed w 0 →
-        OnOk result (HasPlayed (seat_since N.state L.facts since) (hosted K.tells L.facts since (K.noted out.new) seats.new.items) (network_view
+        OnOk result (HasPlayedWhole (seat_since N.state L.facts since) (hosted K.tells L.facts since (K.noted out.new) seats.new.items) (network_view
         (λ m. N.Mail.letter m) network.new) handed w
         (deliver_line node k) (script_view script.old) (script_view script.new) None) }
     ensures stops { (since : Since L) (w : World) (handed : List ToLink) →
         StandsFor (seat_since N.state L.facts since) (hosted K.tells L.facts since (K.noted out.old) seats.old.items) (network_view
         (λ m. N.Mail.letter m) network.old) handed w 0 →
-        IfErr result (StopsLine (seat_since N.state L.facts since) (hosted K.tells L.facts since (K.noted out.new) seats.new.items) w (deliver_line node k)
+        IfErr result (StopsWhole (seat_since N.state L.facts since) (hosted K.tells L.facts since (K.noted out.new) seats.new.items) w (deliver_line node k)
         (script_view script.old)) }
     ensures len { vec_len seats.new ≡ vec_len seats.old }
     ensures router { script.new.first_router ≡ script.old.first_router }
@@ -99,14 +99,14 @@ pub fn play_settle<R: Threads + Sync, N: Node, L: Log, K: Witness<L::Of>>(
         length script.old.delivered ≤ length w.sent →
         StandsFor (seat_since N.state L.facts since) (hosted K.tells L.facts since (K.noted out.old) seats.old.items) (network_view
         (λ m. N.Mail.letter m) network.old) handed w 0 →
-        OnOk result (HasPlayed (seat_since N.state L.facts since) (hosted K.tells L.facts since (K.noted out.new) seats.new.items) (network_view
+        OnOk result (HasPlayedWhole (seat_since N.state L.facts since) (hosted K.tells L.facts since (K.noted out.new) seats.new.items) (network_view
         (λ m. N.Mail.letter m) network.new) handed w
         (settle_line (option_map (λ k. k.now) except.entry)) (script_view script.old) (script_view script.new) None) }
     ensures stops { (since : Since L) (w : World) (handed : List ToLink) →
         length script.old.delivered ≤ length w.sent →
         StandsFor (seat_since N.state L.facts since) (hosted K.tells L.facts since (K.noted out.old) seats.old.items) (network_view
         (λ m. N.Mail.letter m) network.old) handed w 0 →
-        IfErr result (StopsLine (seat_since N.state L.facts since) (hosted K.tells L.facts since (K.noted out.new) seats.new.items) w (settle_line (option_map (λ k. k.now) except.entry))
+        IfErr result (StopsWhole (seat_since N.state L.facts since) (hosted K.tells L.facts since (K.noted out.new) seats.new.items) w (settle_line (option_map (λ k. k.now) except.entry))
         (script_view script.old)) }
     ensures len { vec_len seats.new ≡ vec_len seats.old }
     ensures router { script.new.first_router ≡ script.old.first_router }
@@ -158,13 +158,13 @@ pub fn play_next<R: Threads + Sync, N: Node, L: Log, K: Witness<L::Of>>(
     ensures played { (since : Since L) (w : World) (handed : List ToLink) →
         StandsFor (seat_since N.state L.facts since) (hosted K.tells L.facts since (K.noted out.old) seats.old.items) (network_view
         (λ m. N.Mail.letter m) network.old) handed w 0 →
-        OnOk result (HasPlayed (seat_since N.state L.facts since) (hosted K.tells L.facts since (K.noted out.new) seats.new.items) (network_view
+        OnOk result (HasPlayedWhole (seat_since N.state L.facts since) (hosted K.tells L.facts since (K.noted out.new) seats.new.items) (network_view
         (λ m. N.Mail.letter m) network.new) handed w
         (next_line kind.now) (script_view script.old) (script_view script.new) None) }
     ensures stops { (since : Since L) (w : World) (handed : List ToLink) →
         StandsFor (seat_since N.state L.facts since) (hosted K.tells L.facts since (K.noted out.old) seats.old.items) (network_view
         (λ m. N.Mail.letter m) network.old) handed w 0 →
-        IfErr result (StopsLine (seat_since N.state L.facts since) (hosted K.tells L.facts since (K.noted out.new) seats.new.items) w (next_line kind.now)
+        IfErr result (StopsWhole (seat_since N.state L.facts since) (hosted K.tells L.facts since (K.noted out.new) seats.new.items) w (next_line kind.now)
         (script_view script.old)) }
     ensures len { vec_len seats.new ≡ vec_len seats.old }
     ensures router { script.new.first_router ≡ script.old.first_router }

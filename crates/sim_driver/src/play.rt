@@ -4,6 +4,7 @@ ghost use Rattle.std.specs.Prelude.{◌≡◌, ◌≢◌, ◌+◌, ◌≤◌, Li
 ghost use Rattle.node_model.specs.World.{World};
 ghost use Rattle.node_traits.specs.declared.outputs.ToLink.{ToLink};
 ghost use Rattle.driver_steps.specs.Crashes.{Since};
+ghost use Rattle.driver_steps.specs.Restarts.{MayStop};
 ghost use Rattle.driver_steps.specs.Seats.{AreOpen, HasMore, faults_of, places_of, seat_since};
 ghost use Rattle.driver_steps.specs.Together.{hosted};
 ghost use Rattle.driver_steps.specs.Worlds.{StandsFor, network_view};
@@ -17,8 +18,9 @@ ghost use Rattle.sim_driver.specs.Scripts.{script_view};
 
 use crate::events::{play_client, play_moment};
 use crate::messages::{play_deliver, play_next, play_settle};
+use crate::restarts::{play_kept, play_lost, play_restart};
 use crate::script::Script;
-use driver_steps::{Network, Seat};
+use driver_steps::{Network, Opens, Seat};
 use node_traits::Node;
 use opmsg_frames::Request;
 use outside::log::Log;
@@ -32,9 +34,16 @@ use std::thread::Threads;
 /// A line is played. Returns the router whose link was closed, if one was.
 ///
 /// # Errors
-/// As `play_client`, `play_deliver`, `play_moment`, `play_settle` and `play_next` have them.
-pub fn play_said<R: Threads + Sync, N: Node<Request = Request>, L: Log, K: Witness<L::Of>>(
+/// As `play_client`, `play_deliver`, `play_moment`, `play_settle`, `play_next`, `play_restart`, `play_kept` and `play_lost` have them.
+pub fn play_said<
+    R: Threads + Sync,
+    N: Node<Request = Request>,
+    L: Log,
+    K: Witness<L::Of>,
+    O: Opens<N, L>,
+>(
     rt: &R,
+    opener: &O,
     alloc: Global,
     line: Line,
     seats: &mut Vec<Seat<N, L>>,
@@ -44,14 +53,16 @@ pub fn play_said<R: Threads + Sync, N: Node<Request = Request>, L: Log, K: Witne
 ) -> Result<Option<u64>, Status>
     requires open { AreOpen L.facts.is_open seats.old.items }
     requires links { script.old.first_router + vec_len script.old.links ≡ vec_len seats.old }
-    ensures played { AreAskedAsRead N.asks → (since : Since L) (w : World) (handed : List ToLink) → HasRouters script.old.first_router w →
+    ensures played { AreAskedAsRead N.asks → IsTrue L.facts.tells → (since : Since L) (w : World) (handed : List ToLink) →
+        MayStop (O.part opener.now) w → HasRouters script.old.first_router w →
         length script.old.delivered ≤ length w.sent →
         StandsFor (seat_since N.state L.facts since) (hosted K.tells L.facts since (K.noted out.old) seats.old.items) (network_view
         (λ m. N.Mail.letter m) network.old) handed w 0 →
         IfOk result (λ closed. HasPlayed (seat_since N.state L.facts since) (hosted K.tells L.facts since (K.noted out.new) seats.new.items) (network_view
         (λ m. N.Mail.letter m) network.new) handed w
         (meaning_of line) (script_view script.old) (script_view script.new) closed) }
-    ensures stops { AreAskedAsRead N.asks → (since : Since L) (w : World) (handed : List ToLink) → HasRouters script.old.first_router w →
+    ensures stops { AreAskedAsRead N.asks → IsTrue L.facts.tells → (since : Since L) (w : World) (handed : List ToLink) →
+        MayStop (O.part opener.now) w → HasRouters script.old.first_router w →
         length script.old.delivered ≤ length w.sent →
         StandsFor (seat_since N.state L.facts since) (hosted K.tells L.facts since (K.noted out.old) seats.old.items) (network_view
         (λ m. N.Mail.letter m) network.old) handed w 0 →
@@ -74,53 +85,36 @@ pub fn play_said<R: Threads + Sync, N: Node<Request = Request>, L: Log, K: Witne
 {
     match line {
         Line::Client { router, bytes } => {
-            match play_client(alloc, router, &bytes, seats, out, network, script) {
-                Ok(closed) => Ok(closed),
-                Err(status) => Err(status),
-            }
+            play_client(alloc, router, &bytes, seats, out, network, script)
         }
-        Line::Deliver { node, k } => match play_deliver(
-            rt, alloc, node, k, seats, out, network, script,
-        ) {
-            Ok(()) => Ok(None),
-            Err(status) => Err(status),
-        },
-        Line::Moment { node, moment } => match play_moment(
-            node, moment, seats, out, network, script,
-        ) {
-            Ok(()) => Ok(None),
-            Err(status) => Err(status),
-        },
-        Line::Settle => match play_settle(rt, alloc, None, seats, out, network, script) {
-            Ok(()) => Ok(None),
-            Err(status) => Err(status),
-        },
+        Line::Deliver { node, k } => {
+            play_deliver(rt, alloc, node, k, seats, out, network, script)?;
+            Ok(None)
+        }
+        Line::Moment { node, moment } => {
+            play_moment(node, moment, seats, out, network, script)?;
+            Ok(None)
+        }
+        Line::Settle => {
+            play_settle(rt, alloc, None, seats, out, network, script)?;
+            Ok(None)
+        }
         Line::SettleExcept { kind } => {
-            match play_settle(
-                rt,
-                alloc,
-                Some(kind.as_slice()),
-                seats,
-                out,
-                network,
-                script,
-            ) {
-                Ok(()) => Ok(None),
-                Err(status) => Err(status),
-            }
+            let except = Some(kind.as_slice());
+            play_settle(rt, alloc, except, seats, out, network, script)?;
+            Ok(None)
         }
-        Line::Next { kind } => match play_next(
-            rt,
-            alloc,
-            kind.as_slice(),
-            seats,
-            out,
-            network,
-            script,
-        ) {
-            Ok(()) => Ok(None),
-            Err(status) => Err(status),
-        },
+        Line::Next { kind } => {
+            play_next(rt, alloc, kind.as_slice(), seats, out, network, script)?;
+            Ok(None)
+        }
+        Line::Restart { node } => play_restart(opener, alloc, node, seats, out, network, script),
+        Line::RestartKept { node, k } => {
+            play_kept(rt, opener, alloc, node, k, seats, out, network, script)
+        }
+        Line::RestartLost { node, k } => {
+            play_lost(opener, alloc, node, k, seats, out, network, script)
+        }
     }
 }
 
@@ -130,8 +124,15 @@ pub fn play_said<R: Threads + Sync, N: Node<Request = Request>, L: Log, K: Witne
 /// - `Status::BadInput` if the bytes say no line, or one that names what does not exist; nothing happened.
 /// - `Status::DiskFailed` if a disk failed.
 /// - `Status::OutOfMemory` if out of memory, or where a node is at its last step, or links or replies can't be counted.
-pub fn play_line<R: Threads + Sync, N: Node<Request = Request>, L: Log, K: Witness<L::Of>>(
+pub fn play_line<
+    R: Threads + Sync,
+    N: Node<Request = Request>,
+    L: Log,
+    K: Witness<L::Of>,
+    O: Opens<N, L>,
+>(
     rt: &R,
+    opener: &O,
     alloc: Global,
     line: &[u8],
     seats: &mut Vec<Seat<N, L>>,
@@ -141,14 +142,16 @@ pub fn play_line<R: Threads + Sync, N: Node<Request = Request>, L: Log, K: Witne
 ) -> Result<Option<u64>, Status>
     requires open { AreOpen L.facts.is_open seats.old.items }
     requires links { script.old.first_router + vec_len script.old.links ≡ vec_len seats.old }
-    ensures played { AreAskedAsRead N.asks → (since : Since L) (w : World) (handed : List ToLink) → HasRouters script.old.first_router w →
+    ensures played { AreAskedAsRead N.asks → IsTrue L.facts.tells → (since : Since L) (w : World) (handed : List ToLink) →
+        MayStop (O.part opener.now) w → HasRouters script.old.first_router w →
         length script.old.delivered ≤ length w.sent →
         StandsFor (seat_since N.state L.facts since) (hosted K.tells L.facts since (K.noted out.old) seats.old.items) (network_view
         (λ m. N.Mail.letter m) network.old) handed w 0 →
         IfOk result (λ closed. HasPlayedBytes (seat_since N.state L.facts since) (hosted K.tells L.facts since (K.noted out.new) seats.new.items) (network_view
         (λ m. N.Mail.letter m) network.new) handed w
         line.now (script_view script.old) (script_view script.new) closed) }
-    ensures stops { AreAskedAsRead N.asks → (since : Since L) (w : World) (handed : List ToLink) → HasRouters script.old.first_router w →
+    ensures stops { AreAskedAsRead N.asks → IsTrue L.facts.tells → (since : Since L) (w : World) (handed : List ToLink) →
+        MayStop (O.part opener.now) w → HasRouters script.old.first_router w →
         length script.old.delivered ≤ length w.sent →
         StandsFor (seat_since N.state L.facts since) (hosted K.tells L.facts since (K.noted out.old) seats.old.items) (network_view
         (λ m. N.Mail.letter m) network.old) handed w 0 →
@@ -170,7 +173,7 @@ pub fn play_line<R: Threads + Sync, N: Node<Request = Request>, L: Log, K: Witne
     ensures places { places_of L.facts.place seats.new.items ≡ places_of L.facts.place seats.old.items }
 {
     match read_line(alloc, line) {
-        Ok(said) => match play_said(rt, alloc, said, seats, out, network, script) {
+        Ok(said) => match play_said(rt, opener, alloc, said, seats, out, network, script) {
             Ok(closed) => Ok(closed),
             Err(status) => Err(status),
         },

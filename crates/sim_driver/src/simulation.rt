@@ -4,6 +4,7 @@ ghost use Rattle.std.specs.Prelude.{◌≡◌, ◌≢◌, ◌⊎◌, ℕ, ◌<�
 ghost use Rattle.outside.specs.Devices.{sink_call, source_call};
 ghost use Rattle.node_model.specs.World.{World};
 ghost use Rattle.driver_steps.specs.Crashes.{Since, with_notes};
+ghost use Rattle.driver_steps.specs.Restarts.{HaveParts};
 ghost use Rattle.driver_steps.specs.Seats.{AreHeld, AreKept, AreOpen, LeaveKept, faults_of, places_of, seat_since, seat_view, since_noted, since_then};
 ghost use Rattle.driver_steps.specs.Together.{hosted};
 ghost use Rattle.driver_steps.specs.Worlds.{network_view};
@@ -18,7 +19,7 @@ ghost use Rattle.sim_driver.specs.Simulations.{IsSimulated, all_printed, router_
 
 use crate::lines::play_piece;
 use crate::script::Script;
-use driver_steps::{Network, Seat, note_cut, open_all};
+use driver_steps::{Network, Opens, Seat, note_cut, open_all};
 use node_traits::Node;
 use opmsg_frames::Request;
 use outside::log::Log;
@@ -46,6 +47,8 @@ fn unended(cause: Status, begun: &[u8]) -> Status
 /// what they keep in the world that the call begins in; those from a place on are routers. All nodes are opened; then each line is played, and
 /// what it prints is put into `out`, before the next.
 ///
+/// A node that stops in a line is opened again by `opener`.
+///
 /// The status is `BadInput` where the next line is refused, and `DiskFailed` where the disk of a log failed: the logs must be opened again. It
 /// is `OutOfMemory` also where a node is at its last step.
 pub fn simulate<
@@ -54,8 +57,10 @@ pub fn simulate<
     L: Log,
     S: Source,
     K: Witness<L::Of>,
+    O: Opens<N, L>,
 >(
     rt: &R,
+    opener: &O,
     alloc: Global,
     input: &mut S,
     out: &mut K,
@@ -65,7 +70,8 @@ pub fn simulate<
 ) -> Status
     requires at { first_router < vec_len seats.old }
     requires open { AreOpen L.facts.is_open seats.old.items }
-    ensures simulated { AreAskedAsRead N.asks → (first : World) → MayPlay first_router first →
+    ensures simulated { AreAskedAsRead N.asks → IsTrue L.facts.tells → (first : World) → MayPlay first_router first →
+        HaveParts (O.part opener.now) first.nodes →
         AreHeld (seat_view N.state L.facts) seats.old.items first.nodes →
         IsSimulated (source_call S.tells S.left S.fault_count input.old input.new) (sink_call K.tells K.held K.fault_count out.old out.new)
         first_router (AreKept (seat_view N.state L.facts) seats.new.items)
@@ -87,14 +93,32 @@ pub fn simulate<
     let mut network = Network::new(alloc);
     note_cut(out, seats);
     match open_all(seats, out, &mut network) {
-        Ok(()) => play_all(rt, alloc, input, out, seats, network, first_router, limit),
+        Ok(()) => play_all(
+            rt,
+            opener,
+            alloc,
+            input,
+            out,
+            seats,
+            network,
+            first_router,
+            limit,
+        ),
         Err(e) => Status::of(e),
     }
 }
 
 /// Plays the script for nodes that were opened.
-fn play_all<R: Threads + Sync, N: Node<Request = Request>, L: Log, S: Source, K: Witness<L::Of>>(
+fn play_all<
+    R: Threads + Sync,
+    N: Node<Request = Request>,
+    L: Log,
+    S: Source,
+    K: Witness<L::Of>,
+    O: Opens<N, L>,
+>(
     rt: &R,
+    opener: &O,
     alloc: Global,
     input: &mut S,
     out: &mut K,
@@ -105,7 +129,8 @@ fn play_all<R: Threads + Sync, N: Node<Request = Request>, L: Log, S: Source, K:
 ) -> Status
     requires at { first_router < vec_len seats.old }
     requires open { AreOpen L.facts.is_open seats.old.items }
-    ensures simulated { AreAskedAsRead N.asks → (since : Since L) (first : World) → MayPlay first_router first →
+    ensures simulated { AreAskedAsRead N.asks → IsTrue L.facts.tells → (since : Since L) (first : World) → MayPlay first_router first →
+        HaveParts (O.part opener.now) first.nodes →
         Playing (seat_since N.state L.facts since) (hosted K.tells L.facts since (K.noted out.old) seats.old.items) (network_view (λ m. N.Mail.letter m) network)
         first_router first K.tells since.noted (K.held out.old) (K.held out.old) (new_script first_router (router_count first_router first)) [] →
         AreNoted K.tells (K.noted out.old) (places_of L.facts.place seats.old.items) since.noted →
@@ -139,6 +164,7 @@ fn play_all<R: Threads + Sync, N: Node<Request = Request>, L: Log, S: Source, K:
         taken += count as u64;
         match play_piece(
             rt,
+            opener,
             alloc,
             &piece[..count],
             &mut begun,

@@ -37,7 +37,7 @@ use std::thread::Threads;
 use wire_lines::Connections;
 
 /// The files, in the order in which they are checked.
-const FILES: [&str; 20] = [
+const FILES: [&str; 21] = [
     "frames.rows",
     "commands.rows",
     "refusals.rows",
@@ -58,6 +58,7 @@ const FILES: [&str; 20] = [
     "takings.rows",
     "starts.rows",
     "starts.script.rows",
+    "restarts.script.rows",
 ];
 
 /// Checks all files by the cluster.

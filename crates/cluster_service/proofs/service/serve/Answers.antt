@@ -24,7 +24,7 @@ use Rattle.cluster_service.proofs.NotServed.{headline_of, unopened}
 use Rattle.cluster_service.proofs.service.serve.Goals as goal
 
 pub returns-then-is_err-clause-headline : goal.returns-then-is_err-clause-headline
-returns-then-is_err-clause-headline g c = λ asked first may same are disks early.
+returns-then-is_err-clause-headline g c = λ asked told first may parts same are disks early.
     let left = disks_of c.args.journals.items in
     rw (c.unserved.ensures.disks, c.unserved.ensures.status, c.close_all.ensures.disks)
     (unopened (source_call g.S.Source.tells g.S.Source.left g.S.Source.fault_count c.args.input.now c.args.input.now)
@@ -74,7 +74,7 @@ pub drive-ending-requires-clause-open : goal.drive-ending-requires-clause-open
 drive-ending-requires-clause-open g c κs within = rw c.put_in.ensures.items (seats_open c.args.nodes.items c.args.journals.items c.requires.«open»)
 
 pub returns-clause-headline : goal.returns-clause-headline
-returns-clause-headline g c = λ asked first may same are disks early.
+returns-clause-headline g c = λ asked told first may parts same are disks early.
     let source = (source_call g.S.Source.tells g.S.Source.left g.S.Source.fault_count c.args.input.now c.drive-ending.new.input) in
     let sink = (sink_call g.K.Sink.tells g.K.Sink.held g.K.Sink.fault_count c.args.out.now c.drive-ending.new.out) in
     let facts = journal_facts g.D.Disk.tells g.D.Disk.content g.D.Disk.moment g.D.Disk.left_at g.D.Disk.fault_count g.D.Disk.place in
@@ -119,7 +119,7 @@ returns-clause-headline g c = λ asked first may same are disks early.
       headline_of source sink g.D.Disk.tells (map g.D.Disk.content back) (way back) (owed back) (g.C.Clock.gives c.args.clock.now)
           c.drive-ending.result.rest c.args.command first may.begins c.drive-ending.result.status
           (driven_as c.args.command first source sink (g.C.Clock.gives c.args.clock.now) (AreKept view after) _ _ (way back) _ (owed back)
-          c.drive-ending.result.status c.drive-ending.result.rest kept leaves pays (c.drive-ending.ensures.driven asked first may begun)),
+          c.drive-ending.result.status c.drive-ending.result.rest kept leaves pays (c.drive-ending.ensures.driven asked told first may parts begun)),
     )
 
 pub returns-clause-durable : goal.returns-clause-durable

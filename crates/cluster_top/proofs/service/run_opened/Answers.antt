@@ -17,6 +17,7 @@ use Rattle.cluster_service.proofs.NotBegun.{begun_none}
 use Rattle.cluster_service.proofs.Openings.{opened_as_were, opened_leave, opened_records, opened_with, still_journals}
 use Rattle.cluster_service.proofs.NotServed.{unopened}
 use Rattle.cluster_top.proofs.Asked.{asked_as_read}
+use Rattle.cluster_top.proofs.Openers.{first_parts}
 use Rattle.cluster_top.proofs.Refused.{memory_of, not_other, refused_of}
 use Rattle.cluster_top.proofs.service.run_opened.Goals as goal
 
@@ -35,7 +36,8 @@ pub returns-in-Ok-clause-headline : goal.returns-in-Ok-clause-headline
 returns-in-Ok-clause-headline g c = λ disks first told opened begun.
     let facts = disk_facts g.D.Disk.tells g.D.Disk.content g.D.Disk.may_leave g.D.Disk.moment g.D.Disk.left_at g.D.Disk.place g.D.Disk.fault_count in
     let journals = starts_are_stored _ _ (map g.D.Disk.content disks) first begun in
-    c.serve.ensures.headline asked_as_read first (first_may_play (shards_of c.args.command) _ (map g.D.Disk.content disks) first c.requires.some_shards begun)
+    c.serve.ensures.headline asked_as_read told first (first_may_play (shards_of c.args.command) _ (map g.D.Disk.content disks) first c.requires.some_shards begun)
+    (rw c.shards-in-Ok.ensures (first_parts (others_of c.args.command) _ (map g.D.Disk.content disks) first begun))
     (starts_are_opened _ _ (map g.D.Disk.content disks) first c.args.opened.found.items (map state_of c.in-Ok.nodes.items) begun
     (opened_records facts disks c.args.opened.journals.items c.args.opened.found.items told opened) (rw c.shards.ensures at c.in-Ok.ensures.opened))
     (opened_with facts disks c.args.opened.journals.items c.args.opened.found.items first.nodes opened journals) disks

@@ -1,4 +1,4 @@
-use Rattle.std.proofs.Common.{◌≡◌, ℕ, List, [], ◌+◌, ◌-◌, ◌<◌, ◌≤◌, ◌++◌, length}
+use Rattle.std.proofs.Common.{◌≡◌, ℕ, List, [], ◌+◌, ◌-◌, ◌≤◌, ◌++◌, length}
 use Rattle.std.specs.Prelude.{None, vec_len}
 use Rattle.outside.specs.Streams.{Took}
 use Rattle.opmsg_frames.specs.Outline.{outline, partial_outline}

@@ -3,13 +3,11 @@ use Rattle.opmsg_frames.specs.Outlines.{fault_view}
 use Rattle.driver_steps.specs.Crashes.{with_notes}
 use Rattle.driver_steps.specs.Seats.{seat_since}
 use Rattle.driver_steps.specs.Together.{hosted}
-use Rattle.driver_steps.specs.Worlds.{network_view}
 use Rattle.pipe_driver.proofs.Frames.{some_bytes}
 use Rattle.pipe_driver.proofs.Framings.{left_behind, next_given, next_malformed, next_memory, next_none, none_given, one_given, same_bytes, still_partial}
 use Rattle.pipe_driver.proofs.Framings.{told_malformed}
 use Rattle.pipe_driver.proofs.Serving.{cut_between}
 use Rattle.pipe_driver.specs.Stops.{at_no_memory}
-use Rattle.pipe_driver.specs.declared.status.Status.TheVariants as statuses
 use Rattle.pipe_driver.proofs.requests.answer_all.Goals as goal
 
 pub returns-in-Ok-None-clause-served : goal.returns-in-Ok-None-clause-served

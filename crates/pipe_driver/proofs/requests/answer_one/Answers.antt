@@ -1,11 +1,10 @@
-use Rattle.std.proofs.Common.{◌≡◌, ◌∙◌, ◌∷◌, ◌++◌, IsTrue, refl, sym, ap, Bool, ℤ, List, length, map, w32, to_z, of_z}
+use Rattle.std.proofs.Common.{◌≡◌, ◌∙◌, ◌∷◌, ◌++◌, IsTrue, sym, ap, Bool, List, length, w32, to_z, of_z}
 use Rattle.std.specs.Prelude.{vec_len}
 use Rattle.driver_steps.specs.Crashes.{Noted, with_notes}
 use Rattle.driver_steps.specs.Seats.{notes_of, seat_since}
 use Rattle.driver_steps.proofs.Seats.{held_len}
-use Rattle.driver_steps.specs.Worlds.{network_view, puts_given}
+use Rattle.driver_steps.specs.Worlds.{puts_given}
 use Rattle.pipe_driver.specs.Rounds.{replies_after}
-use Rattle.pipe_driver.specs.Schedules.{round_of}
 use Rattle.pipe_driver.specs.Stops.{at_write_fault}
 use Rattle.pipe_driver.proofs.Covers.{note_served, noted_more, noted_on, noted_places, now_noted}
 use Rattle.pipe_driver.proofs.Rounds.{number_is}

@@ -1,5 +1,5 @@
-use Rattle.std.proofs.Common.{◌≡◌, ◌∙◌, ◌∷◌, ◌++◌, refl, sym, ap, subst, List, ℕ, rules}
-use Rattle.std.specs.Prelude.{codes, Some}
+use Rattle.std.proofs.Common.{◌∷◌, ◌++◌, sym, subst, List, ℕ, rules}
+use Rattle.std.specs.Prelude.{codes}
 use Rattle.script_lines.specs.Lines.{Says, says_client, client_line}
 use Rattle.script_lines.proofs.Reading.{client_one_word, client_refused}
 use Rattle.script_lines.proofs.line.client_of.Goals as goal

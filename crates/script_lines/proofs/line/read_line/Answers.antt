@@ -1,4 +1,4 @@
-use Rattle.std.proofs.Common.{◌≡◌, ◌∙◌, refl, sym, ap, subst, List, ℕ, rules}
+use Rattle.std.proofs.Common.{◌∙◌, sym}
 use Rattle.std.proofs.lemmas.Bool.Decides.{Decides-eqb}
 use Rattle.std.proofs.lemmas.Slice.Eq.{slice_eq-Decides}
 use Rattle.script_lines.proofs.Reading.{word_refused}
@@ -12,4 +12,5 @@ returns-clause-refused c e other =
     (λ same. let yes = (slice_eq-Decides Decides-eqb _ _ _ c.eq-3.ensures).1 (same ∙ sym c.as_slice-3.ensures) in absurd (cc (yes, c.if-eq-3.false)))
     (λ same. let yes = (slice_eq-Decides Decides-eqb _ _ _ c.eq-4.ensures).1 (same ∙ sym c.as_slice-4.ensures) in absurd (cc (yes, c.if-eq-4.false)))
     (λ same. let yes = (slice_eq-Decides Decides-eqb _ _ _ c.eq-5.ensures).1 (same ∙ sym c.as_slice-5.ensures) in absurd (cc (yes, c.if-eq-5.false)))
+    (λ same. let yes = (slice_eq-Decides Decides-eqb _ _ _ c.eq-6.ensures).1 (same ∙ sym c.as_slice-6.ensures) in absurd (cc (yes, c.if-eq-6.false)))
     other

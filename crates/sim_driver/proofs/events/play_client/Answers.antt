@@ -1,6 +1,6 @@
-use Rattle.std.proofs.Common.{rules, arith, ◌≡◌, ◌∙◌, ◌<◌, ◌+◌, ℕ, Ok, length, List, sym, ap, subst}
+use Rattle.std.proofs.Common.{rules, arith, ◌≡◌, ◌∙◌, ◌<◌, ◌+◌, Ok, length, List, sym, ap, subst}
 use Rattle.std.proofs.lemmas.Option.{slice_get_read}
-use Rattle.std.specs.List.{slice_get, slice_set}
+use Rattle.std.specs.List.{slice_get}
 use Rattle.std.specs.Prelude.{None, Some}
 use Rattle.driver_steps.specs.Seats.{seat_since}
 use Rattle.driver_steps.specs.Together.{hosted}
@@ -8,12 +8,12 @@ use Rattle.driver_steps.proofs.DiskNotes.{no_more}
 use Rattle.driver_steps.specs.Worlds.{network_view}
 use Rattle.driver_steps.proofs.Seats.{held_len}
 use Rattle.script_lines.specs.Lines.{client_line}
-use Rattle.sim_driver.specs.LineOutcomes.{HasPlayed, stops_at_memory, stops_unplayed}
-use Rattle.sim_driver.specs.Links.{LinkView}
-use Rattle.sim_driver.specs.Plays.{IsPartOfLine, no_router}
-use Rattle.sim_driver.specs.Scripts.{script_view, with_link}
+use Rattle.sim_driver.specs.LineOutcomes.{HasPlayedWhole, stops_at_memory, stops_unplayed}
+use Rattle.sim_driver.specs.Links.{LinkView, next_link}
+use Rattle.sim_driver.specs.Plays.{IsPartOfWhole, no_router}
+use Rattle.sim_driver.specs.Scripts.{ScriptView, script_view, with_link}
 use Rattle.sim_driver.proofs.Faults.{cut_as, still}
-use Rattle.sim_driver.proofs.PlayedLines.{client_closed, client_full, client_part, client_played, set_twice, stops_either}
+use Rattle.sim_driver.proofs.PlayedLines.{client_closed, client_full, client_part, client_played, same_link, set_twice, stops_either}
 use Rattle.sim_driver.proofs.events.play_client.Goals as goal
 
 pub returns-then-router-len-clause-stops : goal.returns-then-router-len-clause-stops
@@ -53,7 +53,7 @@ returns-in-Err-clause-stops g c asks since w handed routers s =
       c.requires.links,
     ) in
     stops_either view _ w line old c.in-Err.status c.in-Err.ensures.other
-    (cut_as view _ w _ (IsPartOfLine w old line) c.in-Err.status
+    (cut_as view _ w _ (IsPartOfWhole w old line) c.in-Err.status
     (λ events p. client_part w old c.args.router link c.args.bytes.now here events p)
     (c.in-Err.ensures.cut asks since w handed (routers c.args.router inside) s))
 
@@ -81,12 +81,14 @@ returns-then-not-malformed-clause-played g c asks since w handed routers s =
       c.requires.links,
     ) in
     let asked = c.in-Ok.ensures.asked asks since w handed (routers c.args.router inside) s (ap Ok c.if-not-malformed.true) in
-    subst (λ (n : ℕ). HasPlayed view (hosted g.K.Sink.tells g.L.Log.facts since (g.K.Sink.noted c.take.new.out) c.take.new.seats.items) (network_view (λ m. g.N.Mail.Mail.letter m) c.take.new.network) handed w line old
-    (with_link old c.args.router (record { number = n; left = c.take.new.self.left; replied = c.take.new.self.replied })) None) (sym c.take.ensures.number)
+    let hosts = hosted g.K.Sink.tells g.L.Log.facts since (g.K.Sink.noted c.take.new.out) c.take.new.seats.items in
+    let network = network_view (λ m. g.N.Mail.Mail.letter m) c.take.new.network in
+    subst (λ (l : LinkView). HasPlayedWhole view hosts network handed w line old (with_link old c.args.router l) None)
+    (same_link link c.take.new.self c.take.ensures.number (c.in-Ok.ensures.opened (ap Ok c.if-not-malformed.true)))
     (client_played view _ _ handed w old c.args.router link here c.args.bytes.now c.take.new.self.left c.take.new.self.replied asked)
 
-pub returns-then-script-clause-stops : goal.returns-then-script-clause-stops
-returns-then-script-clause-stops g c asks since w handed routers s =
+pub returns-in-Err-close-clause-stops : goal.returns-in-Err-close-clause-stops
+returns-in-Err-close-clause-stops g c asks since w handed routers s =
     let view = seat_since g.N.Node.state g.L.Log.facts since in
     let old = script_view c.args.script.now in
     let link = c.index_mut-link.result.now in
@@ -111,8 +113,8 @@ returns-then-script-clause-stops g c asks since w handed routers s =
     let asked = c.in-Ok.ensures.malformed asks since w handed (routers c.args.router inside) s (ap Ok c.if-not-malformed.false) in
     stops_at_memory (client_full view _ _ handed w old c.args.router link here c.args.bytes.now asked.0 asked.1 asked.2)
 
-pub returns-clause-played : goal.returns-clause-played
-returns-clause-played g c asks since w handed routers s =
+pub returns-in-Ok-close-clause-played : goal.returns-in-Ok-close-clause-played
+returns-in-Ok-close-clause-played g c asks since w handed routers s =
     let view = seat_since g.N.Node.state g.L.Log.facts since in
     let old = script_view c.args.script.now in
     let link = c.index_mut-link.result.now in
@@ -135,11 +137,11 @@ returns-clause-played g c asks since w handed routers s =
       c.requires.links,
     ) in
     let asked = c.in-Ok.ensures.malformed asks since w handed (routers c.args.router inside) s (ap Ok c.if-not-malformed.false) in
-    let links = set_twice c.args.script.now.links.items c.args.router c.take.new.self c.new.result
-    ∙ ap (λ (l : LinkView). slice_set c.args.script.now.links.items c.args.router l) c.new.ensures in
-    subst (λ (l : List LinkView). HasPlayed view (hosted g.K.Sink.tells g.L.Log.facts since (g.K.Sink.noted c.take.new.out) c.take.new.seats.items) (network_view (λ m. g.N.Mail.Mail.letter m) c.take.new.network) handed w line old
-    (record { first_router = c.args.script.now.first_router; links = l; opened = c.args.script.now.opened + 1; delivered = c.args.script.now.delivered })
-    (Some c.args.router)) (sym links)
+    let links = set_twice c.args.script.now.links.items c.args.router c.take.new.self (next_link c.args.script.now.opened) in
+    subst (λ (v : ScriptView). HasPlayedWhole view (hosted g.K.Sink.tells g.L.Log.facts since (g.K.Sink.noted c.take.new.out) c.take.new.seats.items)
+    (network_view (λ m. g.N.Mail.Mail.letter m) c.take.new.network) handed w line old v (Some c.args.router))
+    (sym (c.in-Ok-close.ensures.closed ∙ ap (λ (l : List LinkView).
+    record { first_router = old.first_router; links = l; opened = old.opened + 1; delivered = old.delivered }) links))
     (client_closed view _ _ handed w old c.args.router link here c.args.bytes.now asked.0 asked.1 asked.2)
 
 pub returns-then-router-len-clause-noted : goal.returns-then-router-len-clause-noted

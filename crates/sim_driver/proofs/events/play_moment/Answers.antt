@@ -8,7 +8,7 @@ use Rattle.driver_steps.specs.Moves.{BeginWith}
 use Rattle.driver_steps.proofs.Seats.{held_len}
 use Rattle.pipe_driver.proofs.Serving.{but_for_disks}
 use Rattle.script_lines.specs.Lines.{moment_line}
-use Rattle.sim_driver.specs.Plays.{IsPartOfLine, no_node_of_moment, part_of_moment}
+use Rattle.sim_driver.specs.Plays.{IsPartOfWhole, no_node_of_moment, part_of_moment}
 use Rattle.sim_driver.specs.LineOutcomes.{stops_unplayed}
 use Rattle.sim_driver.specs.Scripts.{script_view}
 use Rattle.sim_driver.proofs.Faults.{cut_behind, one_of_two, still}
@@ -36,7 +36,7 @@ returns-in-Err-clause-stops g c since w handed s =
     (moment_line c.args.node c.args.moment) (script_view c.args.script.now) c.of.result (one_of_two c.in-Err.e _ c.of.ensures)
     (cut_behind (seat_since g.N.Node.state g.L.Log.facts since) _ _ handed w [] w
     (λ events. BeginWith events (moment_event c.args.node c.args.moment ∷ []))
-    (IsPartOfLine w (script_view c.args.script.now) (moment_line c.args.node c.args.moment)) c.in-Err.e _ c.of.ensures (stands w)
+    (IsPartOfWhole w (script_view c.args.script.now) (moment_line c.args.node c.args.moment)) c.in-Err.e _ c.of.ensures (stands w)
     (λ more first. part_of_moment c.args.node c.args.moment more first)
     (c.in-Err.ensures.stopped since w 0 handed s))
 

@@ -5,12 +5,12 @@ use Rattle.driver_steps.specs.Worlds.{puts_given}
 use Rattle.pipe_driver.proofs.Covers.{noted_more, noted_on, noted_places, now_noted}
 use Rattle.sim_driver.specs.Scripts.{script_view}
 use Rattle.sim_driver.proofs.PlayedLines.{note_played}
-use Rattle.sim_driver.proofs.Plays.{plays_marks, plays_script}
+use Rattle.sim_driver.proofs.Plays.{plays_marks, plays_may_stop, plays_script}
 use Rattle.sim_driver.proofs.Steps.{covers_line, line_answered, line_put_short, line_stopped, line_unprinted, playing_full}
 use Rattle.sim_driver.proofs.lines.answer_line.Goals as goal
 
 pub returns-in-Err-clause-stopped : goal.returns-in-Err-clause-stopped
-returns-in-Err-clause-stopped g c asks since first_router first some held_before consumed others p n = (
+returns-in-Err-clause-stopped g c asks told since first_router first some parts held_before consumed others p n = (
   since.noted,
   n,
   playing_full (seat_since g.N.Node.state g.L.Log.facts since) _ _ first_router first _ _ held_before _ consumed (c.args.line.now ++ 10 ∷ others)
@@ -18,22 +18,24 @@ returns-in-Err-clause-stopped g c asks since first_router first some held_before
 )
 
 pub returns-in-Err-play_line-clause-stopped : goal.returns-in-Err-play_line-clause-stopped
-returns-in-Err-play_line-clause-stopped g c asks since first_router first some held_before consumed others p n =
-    let router = plays_script first_router first some.routers p.lines p.events p.world (script_view c.args.script.now) p.out p.plays in
+returns-in-Err-play_line-clause-stopped g c asks told since first_router first some parts held_before consumed others p n =
+    let may = plays_may_stop (g.O.Opens.part c.args.opener.now) first_router first some.begins parts p.lines p.events p.world (script_view c.args.script.now) p.out p.plays in
+    let router = plays_script (g.O.Opens.part c.args.opener.now) first_router first some.begins parts some.routers p.lines p.events p.world (script_view c.args.script.now) p.out p.plays in
     let next = plays_marks first_router first p.lines p.events p.world (script_view c.args.script.now) p.out p.plays in (
       since.noted,
       noted_places g.K.Sink.tells _ _ _ since.noted c.play_line.ensures.places
           (noted_on g.K.Sink.tells _ (g.K.Sink.noted c.play_line.new.out) _ since.noted c.play_line.ensures.noted n),
       rw c.play_line.ensures.held (line_stopped (seat_since g.N.Node.state g.L.Log.facts since) _ _ _ first_router first
           _ _ held_before _ consumed (script_view c.args.script.now) p c.args.line.now
-          c.requires.line others c.in-Err-play_line.status (c.in-Err-play_line.ensures.stops asks since p.world (puts_given p.world.answered) router next p.stands)),
+          c.requires.line others c.in-Err-play_line.status (c.in-Err-play_line.ensures.stops asks told since p.world (puts_given p.world.answered) may router next p.stands)),
     )
 
 pub returns-in-Err-text_of-clause-stopped : goal.returns-in-Err-text_of-clause-stopped
-returns-in-Err-text_of-clause-stopped g c asks since first_router first some held_before consumed others p n =
-    let router = plays_script first_router first some.routers p.lines p.events p.world (script_view c.args.script.now) p.out p.plays in
+returns-in-Err-text_of-clause-stopped g c asks told since first_router first some parts held_before consumed others p n =
+    let may = plays_may_stop (g.O.Opens.part c.args.opener.now) first_router first some.begins parts p.lines p.events p.world (script_view c.args.script.now) p.out p.plays in
+    let router = plays_script (g.O.Opens.part c.args.opener.now) first_router first some.begins parts some.routers p.lines p.events p.world (script_view c.args.script.now) p.out p.plays in
     let next = plays_marks first_router first p.lines p.events p.world (script_view c.args.script.now) p.out p.plays in
-    let h = c.in-Ok-play_line.ensures.played asks since p.world (puts_given p.world.answered) router next p.stands in (
+    let h = c.in-Ok-play_line.ensures.played asks told since p.world (puts_given p.world.answered) may router next p.stands in (
       since.noted,
       noted_places g.K.Sink.tells _ _ _ since.noted c.play_line.ensures.places
           (noted_on g.K.Sink.tells _ (g.K.Sink.noted c.play_line.new.out) _ since.noted c.play_line.ensures.noted n),
@@ -44,10 +46,11 @@ returns-in-Err-text_of-clause-stopped g c asks since first_router first some hel
     )
 
 pub returns-in-Ok-put_text-clause-answered : goal.returns-in-Ok-put_text-clause-answered
-returns-in-Ok-put_text-clause-answered g c asks since first_router first some held_before consumed p n =
-    let router = plays_script first_router first some.routers p.lines p.events p.world (script_view c.args.script.now) p.out p.plays in
+returns-in-Ok-put_text-clause-answered g c asks told since first_router first some parts held_before consumed p n =
+    let may = plays_may_stop (g.O.Opens.part c.args.opener.now) first_router first some.begins parts p.lines p.events p.world (script_view c.args.script.now) p.out p.plays in
+    let router = plays_script (g.O.Opens.part c.args.opener.now) first_router first some.begins parts some.routers p.lines p.events p.world (script_view c.args.script.now) p.out p.plays in
     let next = plays_marks first_router first p.lines p.events p.world (script_view c.args.script.now) p.out p.plays in
-    let h = c.in-Ok-play_line.ensures.played asks since p.world (puts_given p.world.answered) router next p.stands in
+    let h = c.in-Ok-play_line.ensures.played asks told since p.world (puts_given p.world.answered) may router next p.stands in
     let facts = g.L.Log.facts in
     let seats = c.play_line.new.seats.items in
     let count = length (g.K.Sink.held c.args.out.now) in
@@ -82,10 +85,11 @@ returns-in-Ok-put_text-clause-answered g c asks since first_router first some he
     )
 
 pub returns-clause-stopped : goal.returns-clause-stopped
-returns-clause-stopped g c asks since first_router first some held_before consumed others p n =
-    let router = plays_script first_router first some.routers p.lines p.events p.world (script_view c.args.script.now) p.out p.plays in
+returns-clause-stopped g c asks told since first_router first some parts held_before consumed others p n =
+    let may = plays_may_stop (g.O.Opens.part c.args.opener.now) first_router first some.begins parts p.lines p.events p.world (script_view c.args.script.now) p.out p.plays in
+    let router = plays_script (g.O.Opens.part c.args.opener.now) first_router first some.begins parts some.routers p.lines p.events p.world (script_view c.args.script.now) p.out p.plays in
     let next = plays_marks first_router first p.lines p.events p.world (script_view c.args.script.now) p.out p.plays in
-    let h = c.in-Ok-play_line.ensures.played asks since p.world (puts_given p.world.answered) router next p.stands in
+    let h = c.in-Ok-play_line.ensures.played asks told since p.world (puts_given p.world.answered) may router next p.stands in
     let facts = g.L.Log.facts in
     let seats = c.play_line.new.seats.items in
     let count = length (g.K.Sink.held c.args.out.now) in

@@ -18,12 +18,12 @@ lines-init g c = record {
   sink_calm = refl;
   disks_calm = refl;
   places = refl;
-  went = λ asks since first_router first some held_before consumed p n. (since.noted, n, (consumed, refl, p));
+  went = λ asks told since first_router first some parts held_before consumed p n. (since.noted, n, (consumed, refl, p));
 }
 
 pub returns-in-Err-clause-stopped : goal.returns-in-Err-clause-stopped
-returns-in-Err-clause-stopped g c asks since first_router first some held_before consumed p n =
-    let was = c.lines.invariant.went asks since first_router first some held_before consumed p n in (
+returns-in-Err-clause-stopped g c asks told since first_router first some parts held_before consumed p n =
+    let was = c.lines.invariant.went asks told since first_router first some parts held_before consumed p n in (
       was.0,
       was.1,
       record {
@@ -56,9 +56,9 @@ lines-preserved g c = record {
   sink_calm = c.answer_line.ensures.write_fault.1 (λ e. cc) ∙ c.lines.invariant.sink_calm;
   disks_calm = c.answer_line.ensures.disk_fault.1 (λ e. cc) ∙ c.lines.invariant.disks_calm;
   places = c.answer_line.ensures.places ∙ c.lines.invariant.places;
-  went = λ asks since first_router first some held_before consumed p n.
-      let was = c.lines.invariant.went asks since first_router first some held_before consumed p n in
-      let then = c.in-Ok-answer_line.ensures.answered asks (with_notes since was.0) first_router first some held_before was.2.0 was.2.2 was.1 in (
+  went = λ asks told since first_router first some parts held_before consumed p n.
+      let was = c.lines.invariant.went asks told since first_router first some parts held_before consumed p n in
+      let then = c.in-Ok-answer_line.ensures.answered asks told (with_notes since was.0) first_router first some parts held_before was.2.0 was.2.2 was.1 in (
         then.0,
         then.1,
         (
@@ -71,9 +71,9 @@ lines-preserved g c = record {
 }
 
 pub returns-in-Err-answer_line-clause-stopped : goal.returns-in-Err-answer_line-clause-stopped
-returns-in-Err-answer_line-clause-stopped g c asks since first_router first some held_before consumed p n =
-    let was = c.lines.invariant.went asks since first_router first some held_before consumed p n in
-    let then = c.in-Err-answer_line.ensures.stopped asks (with_notes since was.0) first_router first some held_before was.2.0 c.in-Some.behind.now
+returns-in-Err-answer_line-clause-stopped g c asks told since first_router first some parts held_before consumed p n =
+    let was = c.lines.invariant.went asks told since first_router first some parts held_before consumed p n in
+    let then = c.in-Err-answer_line.ensures.stopped asks told (with_notes since was.0) first_router first some parts held_before was.2.0 c.in-Some.behind.now
     was.2.2 was.1 in (
       then.0,
       then.1,
@@ -87,8 +87,8 @@ returns-in-Err-answer_line-clause-stopped g c asks since first_router first some
     )
 
 pub returns-in-Ok-extend_from_slice-clause-played : goal.returns-in-Ok-extend_from_slice-clause-played
-returns-in-Ok-extend_from_slice-clause-played g c asks since first_router first some held_before consumed p n =
-    let was = c.lines.invariant.went asks since first_router first some held_before consumed p n in (
+returns-in-Ok-extend_from_slice-clause-played g c asks told since first_router first some parts held_before consumed p n =
+    let was = c.lines.invariant.went asks told since first_router first some parts held_before consumed p n in (
       was.0,
       was.1,
       record {
@@ -99,8 +99,8 @@ returns-in-Ok-extend_from_slice-clause-played g c asks since first_router first 
     )
 
 pub returns-in-Err-extend_from_slice-clause-stopped : goal.returns-in-Err-extend_from_slice-clause-stopped
-returns-in-Err-extend_from_slice-clause-stopped g c asks since first_router first some held_before consumed p n =
-    let was = c.lines.invariant.went asks since first_router first some held_before consumed p n in (
+returns-in-Err-extend_from_slice-clause-stopped g c asks told since first_router first some parts held_before consumed p n =
+    let was = c.lines.invariant.went asks told since first_router first some parts held_before consumed p n in (
       was.0,
       was.1,
       record {

@@ -1,7 +1,8 @@
-use Rattle.std.proofs.Common.{◌≡◌, ℕ, List, ◌<◌, ◌++◌, length}
-use Rattle.std.specs.Prelude.{vec_len}
+use Rattle.std.proofs.Common.{◌≡◌, ℕ, List, ◌++◌, length}
+use Rattle.std.specs.Prelude.{IsTrue, vec_len}
 use Rattle.node_model.specs.World.{World}
 use Rattle.driver_steps.specs.Crashes.{Since, with_notes}
+use Rattle.driver_steps.specs.Restarts.{HaveParts}
 use Rattle.driver_steps.specs.Seats.{AreOpen, faults_of, places_of, seat_since}
 use Rattle.driver_steps.specs.Together.{hosted}
 use Rattle.driver_steps.specs.Worlds.{network_view}
@@ -28,7 +29,7 @@ invariant-lines g l = record {
   sink_calm : g.K.Sink.fault_count l.out ≡ g.K.Sink.fault_count l.fn.out;
   disks_calm : faults_of g.L.Log.facts.fault_count l.seats.items ≡ faults_of g.L.Log.facts.fault_count l.fn.seats.items;
   places : places_of g.L.Log.facts.place l.seats.items ≡ places_of g.L.Log.facts.place l.fn.seats.items;
-  went : AreAskedAsRead g.N.Node.asks → (since : Since g.row.L.Denot) (first_router : ℕ) (first : World) → MayPlay first_router first →
+  went : AreAskedAsRead g.N.Node.asks → IsTrue g.L.Log.facts.tells → (since : Since g.row.L.Denot) (first_router : ℕ) (first : World) → MayPlay first_router first → HaveParts (g.O.Opens.part l.opener) first.nodes →
       (held_before consumed : List ℕ) →
       Playing (seat_since g.N.Node.state g.L.Log.facts since)
       (hosted g.K.Sink.tells g.L.Log.facts since (g.K.Sink.noted l.fn.out) l.fn.seats.items) (network_view (λ m. g.N.Mail.Mail.letter m) l.fn.network) first_router first g.K.Sink.tells since.noted held_before

@@ -4,7 +4,7 @@ use Rattle.driver_steps.specs.Together.{hosted}
 use Rattle.driver_steps.specs.Worlds.{network_view}
 use Rattle.script_lines.specs.Lines.{next_line}
 use Rattle.sim_driver.specs.Moves.{IsPartOfDelivery}
-use Rattle.sim_driver.specs.Plays.{IsPartOfLine, none_of_kind}
+use Rattle.sim_driver.specs.Plays.{IsPartOfWhole, none_of_kind}
 use Rattle.sim_driver.specs.LineOutcomes.{stops_unplayed}
 use Rattle.sim_driver.specs.Scripts.{next_from, script_view}
 use Rattle.sim_driver.proofs.Deliveries.{all_sent}
@@ -29,7 +29,7 @@ returns-in-Err-clause-stops g c since w handed s =
     (next_line c.args.kind.now) (script_view c.args.script.now) c.in-Err.status c.in-Err.ensures.other
     (cut_as (seat_since g.N.Node.state g.L.Log.facts since) _ w
     (IsPartOfDelivery w c.in-Some.at)
-    (IsPartOfLine w (script_view c.args.script.now) (next_line c.args.kind.now)) c.in-Err.status
+    (IsPartOfWhole w (script_view c.args.script.now) (next_line c.args.kind.now)) c.in-Err.status
     (λ events p. next_part (seat_since g.N.Node.state g.L.Log.facts since)
     (hosted g.K.Sink.tells g.L.Log.facts since (g.K.Sink.noted c.args.out.now) c.args.seats.now.items) (network_view (λ m. g.N.Mail.Mail.letter m) c.args.network.now) handed w
     (script_view c.args.script.now) c.args.kind.now c.in-Some.at events place p)

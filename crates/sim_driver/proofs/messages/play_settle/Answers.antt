@@ -1,7 +1,7 @@
 use Rattle.std.specs.Prelude.{option_map}
 use Rattle.driver_steps.specs.Seats.{seat_since}
 use Rattle.script_lines.specs.Lines.{settle_line}
-use Rattle.sim_driver.specs.Plays.{IsPartOfLine, IsPartOfSettling, part_of_settle}
+use Rattle.sim_driver.specs.Plays.{IsPartOfWhole, IsPartOfSettling, part_of_settle}
 use Rattle.sim_driver.specs.Scripts.{script_view}
 use Rattle.sim_driver.proofs.Faults.{cut_as}
 use Rattle.sim_driver.proofs.PlayedLines.{settle_played, stops_either}
@@ -20,6 +20,6 @@ returns-in-Err-clause-stops g c since w handed known s =
     c.in-Err.ensures.other
     (cut_as (seat_since g.N.Node.state g.L.Log.facts since) _ w
     (IsPartOfSettling (option_map (λ k. k.now) c.args.except) w c.args.script.now.delivered)
-    (IsPartOfLine w (script_view c.args.script.now) (settle_line (option_map (λ k. k.now) c.args.except))) c.in-Err.status
+    (IsPartOfWhole w (script_view c.args.script.now) (settle_line (option_map (λ k. k.now) c.args.except))) c.in-Err.status
     (λ events are. part_of_settle (option_map (λ k. k.now) c.args.except) events are)
     (rw c.next-first.ensures.same at (c.in-Err.ensures.cut since w handed (rw c.next-first.ensures.same known) s)))

@@ -30,7 +30,7 @@ pieces-init g c = record {
   sink_calm = refl;
   disks_calm = refl;
   places = refl;
-  went = λ asks since first some p n. (
+  went = λ asks told since first some parts p n. (
     since.noted,
     n,
     (
@@ -47,7 +47,7 @@ pieces-init g c = record {
 }
 
 pub returns-in_default-clause-simulated : goal.returns-in_default-clause-simulated
-returns-in_default-clause-simulated g c asks since first some p n =
+returns-in_default-clause-simulated g c asks told since first some parts p n =
     let view = seat_since g.N.Node.state g.L.Log.facts (with_notes since since.noted) in (
       since.noted,
       n,
@@ -61,7 +61,7 @@ returns-in_default-clause-simulated g c asks since first some p n =
     )
 
 pub returns-in_default-new_piece-clause-simulated : goal.returns-in_default-new_piece-clause-simulated
-returns-in_default-new_piece-clause-simulated g c asks since first some p n =
+returns-in_default-new_piece-clause-simulated g c asks told since first some parts p n =
     let view = seat_since g.N.Node.state g.L.Log.facts (with_notes since since.noted) in (
       since.noted,
       n,
@@ -75,8 +75,8 @@ returns-in_default-new_piece-clause-simulated g c asks since first some p n =
     )
 
 pub returns-in-Err-clause-simulated : goal.returns-in-Err-clause-simulated
-returns-in-Err-clause-simulated g c asks since first some p n =
-    let went = c.pieces.invariant.went asks since first some p n in (
+returns-in-Err-clause-simulated g c asks told since first some parts p n =
+    let went = c.pieces.invariant.went asks told since first some parts p n in (
       went.0,
       went.1,
       ended_taking (seat_since g.N.Node.state g.L.Log.facts (with_notes since went.0))
@@ -128,8 +128,8 @@ pieces-preserved g c =
       sink_calm = c.play_piece.ensures.write_fault.1 (λ e. cc) ∙ c.pieces.invariant.sink_calm;
       disks_calm = c.play_piece.ensures.disk_fault.1 (λ e. cc) ∙ c.pieces.invariant.disks_calm;
       places = c.play_piece.ensures.places ∙ c.pieces.invariant.places;
-      went = λ asks since first some p n.
-          let went = c.pieces.invariant.went asks since first some p n in
+      went = λ asks told since first some parts p n.
+          let went = c.pieces.invariant.went asks told since first some parts p n in
           let more = c.in-Ok-take_more.ensures.taken in
           let bytes : List ℕ = take c.in-Ok-take_more.count c.take_more.new.piece.items in
           let size : length bytes ≡ c.in-Ok-take_more.count =
@@ -141,7 +141,7 @@ pieces-preserved g c =
             c.pieces.invariant.room,
             c.take_more.new.piece.ok,
           )) in
-          let then = c.in-Ok-play_piece.ensures.played asks (with_notes since went.0) c.args.first_router first some
+          let then = c.in-Ok-play_piece.ensures.played asks told (with_notes since went.0) c.args.first_router first some parts
           (g.K.Sink.held c.args.out.now) went.2.0 went.2.3 went.1 in
           let h = then.2 in
           let t = piece_taken _ _ _ _ went.2.0 c.pieces.begun.items bytes _
@@ -159,8 +159,8 @@ pieces-preserved g c =
     }
 
 pub returns-in-Err-play_piece-clause-simulated : goal.returns-in-Err-play_piece-clause-simulated
-returns-in-Err-play_piece-clause-simulated g c asks since first some p n =
-    let went = c.pieces.invariant.went asks since first some p n in
+returns-in-Err-play_piece-clause-simulated g c asks told since first some parts p n =
+    let went = c.pieces.invariant.went asks told since first some parts p n in
     let more = c.in-Ok-take_more.ensures.taken in
     let bytes : List ℕ = take c.in-Ok-take_more.count c.take_more.new.piece.items in
     let size : length bytes ≡ c.in-Ok-take_more.count =
@@ -175,7 +175,7 @@ returns-in-Err-play_piece-clause-simulated g c asks since first some p n =
     let t = piece_taken _ _ _ _ went.2.0 c.pieces.begun.items bytes _
     c.pieces.taken c.in-Ok-take_more.count went.2.2 more.took
     (ap (λ (b : List ℕ). take c.in-Ok-take_more.count b) c.deref.ensures.value) went.2.1 size in
-    let then = c.in-Err-play_piece.ensures.stopped asks (with_notes since went.0) c.args.first_router first some
+    let then = c.in-Err-play_piece.ensures.stopped asks told (with_notes since went.0) c.args.first_router first some parts
     (g.K.Sink.held c.args.out.now) went.2.0 went.2.3 went.1 in (
       then.0,
       then.1,
@@ -203,8 +203,8 @@ returns-in-Err-play_piece-clause-disk_fault g c =
     c.pieces.invariant.disks_calm c.play_piece.ensures.disk_fault
 
 pub returns-clause-simulated : goal.returns-clause-simulated
-returns-clause-simulated g c asks since first some p n =
-    let went = c.pieces.invariant.went asks since first some p n in (
+returns-clause-simulated g c asks told since first some parts p n =
+    let went = c.pieces.invariant.went asks told since first some parts p n in (
       went.0,
       went.1,
       ended_at_limit (seat_since g.N.Node.state g.L.Log.facts (with_notes since went.0))

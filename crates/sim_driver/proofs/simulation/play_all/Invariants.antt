@@ -1,8 +1,9 @@
-use Rattle.std.proofs.Common.{◌≡◌, ℕ, List, [], ◌+◌, ◌-◌, ◌<◌, ◌≤◌, ◌++◌, length}
-use Rattle.std.specs.Prelude.{vec_len}
+use Rattle.std.proofs.Common.{◌≡◌, ℕ, List, [], ◌+◌, ◌-◌, ◌≤◌, ◌++◌, length}
+use Rattle.std.specs.Prelude.{IsTrue, vec_len}
 use Rattle.outside.specs.Streams.{Took}
 use Rattle.node_model.specs.World.{World}
 use Rattle.driver_steps.specs.Crashes.{Since, with_notes}
+use Rattle.driver_steps.specs.Restarts.{HaveParts}
 use Rattle.driver_steps.specs.Seats.{AreOpen, faults_of, places_of, seat_since}
 use Rattle.driver_steps.specs.Together.{hosted}
 use Rattle.driver_steps.specs.Worlds.{network_view}
@@ -33,7 +34,7 @@ invariant-pieces g l = record {
   sink_calm : g.K.Sink.fault_count l.out ≡ g.K.Sink.fault_count l.fn.out;
   disks_calm : faults_of g.L.Log.facts.fault_count l.seats.items ≡ faults_of g.L.Log.facts.fault_count l.fn.seats.items;
   places : places_of g.L.Log.facts.place l.seats.items ≡ places_of g.L.Log.facts.place l.fn.seats.items;
-  went : AreAskedAsRead g.N.Node.asks → (since : Since g.row.L.Denot) (first : World) → MayPlay l.first_router first
+  went : AreAskedAsRead g.N.Node.asks → IsTrue g.L.Log.facts.tells → (since : Since g.row.L.Denot) (first : World) → MayPlay l.first_router first → HaveParts (g.O.Opens.part l.opener) first.nodes
       → Playing (seat_since g.N.Node.state g.L.Log.facts since)
       (hosted g.K.Sink.tells g.L.Log.facts since (g.K.Sink.noted l.fn.out) l.fn.seats.items) (network_view (λ m. g.N.Mail.Mail.letter m) l.fn.network) l.first_router first g.K.Sink.tells since.noted (g.K.Sink.held l.fn.out)
       (g.K.Sink.held l.fn.out) (new_script l.first_router (router_count l.first_router first)) []

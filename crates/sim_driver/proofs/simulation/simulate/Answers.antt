@@ -19,7 +19,7 @@ use Rattle.pipe_driver.proofs.Serving.{but_for_disks}
 use Rattle.sim_driver.proofs.simulation.simulate.Goals as goal
 
 pub returns-in-Ok-clause-simulated : goal.returns-in-Ok-clause-simulated
-returns-in-Ok-clause-simulated g c = λ asks first some are.
+returns-in-Ok-clause-simulated g c = λ asks told first some parts are.
     let facts = g.L.Log.facts in
     let seats = c.args.seats.now.items in
     let since = since_noted seats first (g.K.Sink.noted c.args.out.now) in
@@ -32,7 +32,7 @@ returns-in-Ok-clause-simulated g c = λ asks first some are.
     (leave_at_start facts g.N.Node.state g.K.Sink.tells seats first (g.K.Sink.noted c.args.out.now) (g.K.Sink.noted c.note_cut.new.out)
     (length (g.K.Sink.held c.args.out.now)) c.requires.«open» c.note_cut.ensures.durable seated c.note_cut.ensures.noted)
     c.new-network.ensures.waiting c.new-network.ensures.replies in
-    let played = c.play_all.ensures.simulated asks since first some
+    let played = c.play_all.ensures.simulated asks told since first some parts
     (opened_playing _ _ c.args.first_router first _ _ (vec_len c.args.seats.now) as_many _ some.begins
     (c.in-Ok.ensures.opened since first 0 (puts_given first.answered) s)) (none_noted _ _ _) in
     simulated_as _ _ _ _ _ _ _ _ _ first _ _
@@ -40,11 +40,11 @@ returns-in-Ok-clause-simulated g c = λ asks first some are.
     (λ w leave. without_notes g.N.Node.state facts since played.0 _ w refl leave)
     (λ w put leave owed.
     acknowledged g.N.Node.state facts since played.0 (all_printed c.args.first_router first) first _ _ _ _ w put leave.each played.1
-    (λ told. subst (λ (b : List ℕ). AreCovered (all_printed c.args.first_router first) first played.0 b put w) held (owed told)))
+    (λ shown. subst (λ (b : List ℕ). AreCovered (all_printed c.args.first_router first) first played.0 b put w) held (owed shown)))
     (simulated_by _ _ _ _ _ _ _ first _ _ (same_sink g.K.Sink.tells g.K.Sink.held g.K.Sink.fault_count _ _ _ _ held calm refl refl) played.2)
 
 pub returns-in-Err-clause-simulated : goal.returns-in-Err-clause-simulated
-returns-in-Err-clause-simulated g c = λ asks first some are.
+returns-in-Err-clause-simulated g c = λ asks told first some parts are.
     let facts = g.L.Log.facts in
     let seats = c.args.seats.now.items in
     let since = since_noted seats first (g.K.Sink.noted c.args.out.now) in
@@ -69,7 +69,7 @@ returns-in-Err-clause-simulated g c = λ asks first some are.
     (sink_call g.K.Sink.tells g.K.Sink.held g.K.Sink.fault_count c.args.out.now c.args.out.now) [] c.args.first_router first c.args.limit
     c.of.result [] [] c.of.result refl
     (opening_stopped _ _ c.args.first_router first _ _ (vec_len c.args.seats.now) as_many [] _ c.in-Err.e _ c.of.ensures
-    (c.in-Err.ensures.stopped since first 0 (puts_given first.answered) s)) (λ told. refl) (omega arith)))
+    (c.in-Err.ensures.stopped since first 0 (puts_given first.answered) s)) (λ shown. refl) (omega arith)))
 
 pub returns-in-Err-clause-open : goal.returns-in-Err-clause-open
 returns-in-Err-clause-open g c = λ disk. but_for_disks c.in-Err.e _ _ c.of.ensures disk c.in-Err.ensures.«open»
