@@ -9,6 +9,7 @@ The pages of the examples go to examples-README-parts.md at the top, to be put i
 import pathlib
 
 import alone
+import alone_writes
 import ceilings
 import chunk_scripts
 import chunks
@@ -52,6 +53,7 @@ def main():
     put_file(SERVED / "links.rows", serving.links_rows())
     put_file(SERVED / "ends.rows", serving.ends_rows())
     put_file(ALONE / "reads.txt", alone.lines())
+    put_file(ALONE / "writes.txt", alone_writes.lines())
     sessions.put(TOP / "examples", TOP / "examples-README-parts.md")
 
 

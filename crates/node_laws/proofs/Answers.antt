@@ -17,12 +17,12 @@ use Rattle.history_model.specs.Documents.{documents_at}
 use Rattle.pipeline_model.specs.Runs.{Outcome, Allows}
 use Rattle.history_model.specs.History.{StatementNumber, Operation, Entry, IsIn}
 use Rattle.base_model.specs.Identities.{RequestId}
-use Rattle.reply_model.specs.Exchanges.{Asked, Answered, number_for, entries_by}
-use Rattle.reply_facts.proofs.Statements.{told_stays}
+use Rattle.reply_model.specs.Exchanges.{Asked, Answered, number_for}
+use Rattle.reply_facts.proofs.Statements.{one_number, told_stays, part_whole}
 use Rattle.reply_model.specs.Accounts.{Account}
-use Rattle.reply_model.specs.Outcomes.{StatementOutcome, was_done, was_refused, Done, done_of, time_of, answer_of, later as greatest}
+use Rattle.reply_model.specs.Outcomes.{StatementOutcome, was_done, was_refused, Done, time_of, answer_of, later as greatest}
 use Rattle.reply_model.specs.Reads.{MayGive, IsExcess, excess_answer, excess_half, IsAhead, owned_by}
-use Rattle.reply_model.specs.Right.{ends, MayBeTold, told_own, told_other, told_older, AreTold, AreAll, IsWhole, Reads, find_reads, count_reads, IsReadRefused, refused_overflow, refused_excess, refused_ahead, IsRight, right_write, right_find, right_count, right_refused_read, right_more, right_no_cursor, right_kill, right_shard, right_split, right_not_sharded, right_hello, right_legacy, right_ping, right_end_sessions, right_refusal}
+use Rattle.reply_model.specs.Right.{ends, MayBeTold, told_own, told_other, told_older, AreTold, IsPart, IsWhole, Reads, find_reads, count_reads, IsReadRefused, refused_overflow, refused_excess, refused_ahead, IsRight, right_write, right_find, right_count, right_refused_read, right_more, right_no_cursor, right_kill, right_shard, right_split, right_not_sharded, right_hello, right_legacy, right_ping, right_end_sessions, right_refusal}
 use Rattle.reply_model.specs.OneHistory.{StandsInPart, IsPlaced, KeepsNumbers}
 use Rattle.node_laws.proofs.Views.{View, changes_in, IsShardAt, history_in, IsWithin, IsBeyond, Later, account_in}
 use Rattle.node_laws.proofs.TimeFacts.{IsToldOf}
@@ -32,7 +32,6 @@ use Rattle.node_laws.proofs.KeptDocuments.{AreOwned, all_owned, owned_same}
 use Rattle.node_laws.proofs.SeenStatements.{true_false}
 use Rattle.node_laws.proofs.LongerJournals.{change_stays}
 use Rattle.node_laws.proofs.Histories.{history_extends, passed_of, passed_later, stored_passed, IsStoredOrNew, stored_or_new, history_stays}
-use Rattle.node_laws.proofs.WholeWrites.{whole_extended}
 use Rattle.node_laws.proofs.Growth.{begun_grows, begins_grows, began_grows, documents_stay}
 use Rattle.node_laws.proofs.AnswerTimes.{IsBelow, AreBelow, greatest_below, time_shown}
 
@@ -60,16 +59,6 @@ pub record Grows (v w : View) (asked more : List Asked) (answered news : List An
   pub after : NeighboursFit w (asked ++ more)
   pub came : AllByRecursion (λ (a : Asked). a.came < now + 1) asked
   pub steps : AllByRecursion (λ (t : Answered). t.step ≡ now) news
-
--- REPLIES TO WRITES
-
--- the entries of a write whose reply was whole are all that it makes
-closed_write : (v w : View) (asked more : List Asked) (a : Asked) (write : WriteCommand) → Later v w → NeighboursFit w (asked ++ more) → IsIn a asked
-    → command_of a.request ≡ Ok (write_command write) → write.number ≡ None → IsWhole (history_in v) a.id write
-    → entries_by a.id (history_in w) ≡ entries_by a.id (history_in v)
-closed_write v w asked more a write later after taken asks own whole =
-    whole_extended (IsBeyond v.bound) (history_in v) (history_in w) a.id write (history_extends v w later)
-    (all_at (StandsInPart (history_in w)) a (asked ++ more) after.parts (in_prefix a asked more taken) write asks own) whole
 
 -- TIMES THAT WERE RETURNED
 
@@ -295,56 +284,61 @@ module _ (v w : View) (asked more : List Asked) (answered news : List Answered) 
   refused_stays a t read cursors came reads (refused_ahead ahead told) fixed =
       record { right = right_refused_read read reads (refused_ahead (ahead_stays a t read came ahead) told); settled = tt }
 
-  right_stays : (cursors next : List Cursor) (a : Asked) (t : Answered) → IsIn a asked
+  one_entry : (d e : Entry) → IsIn d (history_in w) → IsIn e (history_in w) → d.number ≡ e.number → d ≡ e
+  one_entry d e i j same =
+      one_number (history_in w) g.after.numbers
+      (λ x k. placed_first (changes_in w) g.after.begun.still x (all_at (IsPlaced (changes_in w)) x (history_in w) g.after.placed k)) d e i j same
+
+  right_stays : (cursors next : List Cursor) (a : Asked) (t : Answered) → IsIn a asked → a.id ≡ t.id
       → (r : IsRight (account_in v asked answered) cursors a t next)
       → IsSettled v (account_in v asked answered) cursors a t next r → After cursors a t next
-  right_stays cursors _ a t taken (right_write write dones c asks may whole begun name past told) settled = record {
-    right = right_write write dones c asks
-        (told_stays (account_in v asked answered) (account_in w (asked ++ more) (answered ++ news)) t (λ d i. history_stays v w d g.later i)
-        (λ b i. in_prefix b asked more i) write 0 write.operations dones may)
-        (λ own.
-        let same = closed_write v w asked more a write g.later g.after taken asks own (whole own) in
-        record {
-          part = all_at (StandsInPart (history_in w)) a (asked ++ more) g.after.parts (in_prefix a asked more taken) write asks own;
-          all = subst (λ l. AreAll write.ordered write.operations (map done_of l)) (sym same) (whole own).all;
-        })
-        (change_stays v w (create_change c) g.later begun) name past told;
-    settled = settled;
-  }
-  right_stays cursors _ a t taken (right_find find time documents batch next asks of may small name when shows told) settled = record {
+  right_stays cursors _ a t taken own (right_write write dones c asks may whole begun name past told) settled =
+      let still : AreTold (account_in w (asked ++ more) (answered ++ news)) t write 0 write.operations dones =
+      told_stays (account_in v asked answered) (account_in w (asked ++ more) (answered ++ news)) t (λ d i. history_stays v w d g.later i)
+      (λ b i. in_prefix b asked more i) write 0 write.operations dones may in
+      record {
+        right = right_write write dones c asks still
+            (λ none. subst (λ (i : RequestId). IsWhole (history_in w) i write dones) (sym own)
+            (part_whole (account_in w (asked ++ more) (answered ++ news)) t write none one_entry dones still
+            (subst (λ (i : RequestId). IsPart (history_in w) i write) own
+            (all_at (StandsInPart (history_in w)) a (asked ++ more) g.after.parts (in_prefix a asked more taken) write asks none))))
+            (change_stays v w (create_change c) g.later begun) name past told;
+        settled = settled;
+      }
+  right_stays cursors _ a t taken own (right_find find time documents batch next asks of may small name when shows told) settled = record {
     right = right_find find time documents batch next asks of (give_stays v w find.reading time _ g.later settled g.after.placed may) small name
         when shows told;
     settled = fixed_grows v w find.reading time g.later settled;
   }
-  right_stays cursors _ a t taken (right_count read time n asks of may told) settled = record {
+  right_stays cursors _ a t taken own (right_count read time n asks of may told) settled = record {
     right = right_count read time n asks of (give_stays v w read time _ g.later settled g.after.placed may) told;
     settled = fixed_grows v w read time g.later settled;
   }
-  right_stays cursors _ a t taken (right_refused_read read reads refused) settled =
+  right_stays cursors _ a t taken own (right_refused_read read reads refused) settled =
       refused_stays a t read cursors (all_at (λ (b : Asked). b.came < now + 1) a asked g.came taken) reads refused settled
-  right_stays cursors _ a t taken (right_more get c batch next asks found shows told) settled = record
+  right_stays cursors _ a t taken own (right_more get c batch next asks found shows told) settled = record
       { right = right_more get c batch next asks found shows told; settled = tt }
-  right_stays cursors _ a t taken (right_no_cursor get asks none told) settled = record { right = right_no_cursor get asks none told; settled = tt }
-  right_stays cursors _ a t taken (right_kill kill killed missing next asks ended told) settled =
+  right_stays cursors _ a t taken own (right_no_cursor get asks none told) settled = record { right = right_no_cursor get asks none told; settled = tt }
+  right_stays cursors _ a t taken own (right_kill kill killed missing next asks ended told) settled =
       record { right = right_kill kill killed missing next asks ended told; settled = tt }
-  right_stays cursors _ a t taken (right_shard namespace asks created told) settled =
+  right_stays cursors _ a t taken own (right_shard namespace asks created told) settled =
       record { right = right_shard namespace asks (begun_grows v w t.time namespace g.later created) told; settled = tt }
-  right_stays cursors _ a t taken (right_split split asks begins told) settled = record {
+  right_stays cursors _ a t taken own (right_split split asks begins told) settled = record {
     right = right_split split asks (begins_grows v w split.namespace split.middle t.time t.time g.later (omega arith) begins) told;
     settled = tt;
   }
-  right_stays cursors _ a t taken (right_not_sharded split asks told) settled = record { right = right_not_sharded split asks told; settled = tt }
-  right_stays cursors _ a t taken (right_hello asks told) settled = record { right = right_hello asks told; settled = tt }
-  right_stays cursors _ a t taken (right_legacy legacy asks told) settled = record { right = right_legacy legacy asks told; settled = tt }
-  right_stays cursors _ a t taken (right_ping asks told) settled = record { right = right_ping asks told; settled = tt }
-  right_stays cursors _ a t taken (right_end_sessions asks told) settled = record { right = right_end_sessions asks told; settled = tt }
-  right_stays cursors _ a t taken (right_refusal refusal asks told) settled = record { right = right_refusal refusal asks told; settled = tt }
+  right_stays cursors _ a t taken own (right_not_sharded split asks told) settled = record { right = right_not_sharded split asks told; settled = tt }
+  right_stays cursors _ a t taken own (right_hello asks told) settled = record { right = right_hello asks told; settled = tt }
+  right_stays cursors _ a t taken own (right_legacy legacy asks told) settled = record { right = right_legacy legacy asks told; settled = tt }
+  right_stays cursors _ a t taken own (right_ping asks told) settled = record { right = right_ping asks told; settled = tt }
+  right_stays cursors _ a t taken own (right_end_sessions asks told) settled = record { right = right_end_sessions asks told; settled = tt }
+  right_stays cursors _ a t taken own (right_refusal refusal asks told) settled = record { right = right_refusal refusal asks told; settled = tt }
 
   pub answers_grow : (cursors last : List Cursor) (told : List Answered) → AnswersFit v asked answered cursors told last
       → AnswersFit w (asked ++ more) (answered ++ news) cursors told last
   answers_grow _ _ _ (no_answer cursors) = no_answer cursors
   answers_grow _ _ _ (one_answer cursors next last t rest f others) =
-      let s = right_stays cursors next f.request t f.taken f.right f.settled in
+      let s = right_stays cursors next f.request t f.taken f.own f.right f.settled in
       one_answer cursors next last t rest (record {
         request = f.request;
         taken = in_prefix f.request asked more f.taken;

@@ -10,7 +10,7 @@ use Rattle.history_model.proofs.Lists.{in_cons, in_none, in_first, in_later}
 use Rattle.value_model.specs.Keys.{Span}
 use Rattle.chunk_model.specs.Tables.{Chunk, Table, owner_among, owner_at}
 use Rattle.chunk_model.specs.Targets.{meets_any, with_shard, targets_among, targets}
-use Rattle.node_model.specs.RouterRows.{owners_of_span, has_owner, is_owned_at}
+use Rattle.node_model.specs.RouterRequests.{owners_of_span, has_owner, is_owned_at}
 
 -- a shard is among others once it is added
 with_itself : (shard : ℕ) (shards : List ℕ) → IsIn shard (with_shard shard shards)

@@ -1,13 +1,13 @@
 -- Where the reply to a request to split is that no such collection exists, there was none as the request came.
 use Rattle.std.proofs.Common.{◌≡◌, ℕ, ◌+◌, ◌*◌, ◌<◌, ◌≤◌, List, [], ◌∷◌, ◌++◌, refl, sym, ap, subst, ◌∙◌, arith, Bool}
-use Rattle.std.specs.Prelude.{Option, Some, None, Result, Ok, true, false, ◌&&◌, map, nat_lt, if◌then◌else◌}
+use Rattle.std.specs.Prelude.{is_some, Result, Ok, true, false, not, ◌&&◌, map, nat_lt, if◌then◌else◌}
 use Rattle.std.specs.List.{AllByRecursion, flat_map}
 use Rattle.std.specs.Str.{bytes_eq}
 use Rattle.history_model.proofs.Lists.{all_weaken, all_append, all_at}
 use Rattle.history_model.specs.History.{Entry}
 use Rattle.base_model.specs.Identities.{RequestId}
 use Rattle.base_model.specs.Refusals.{Refusal}
-use Rattle.bson_model.specs.Tree.{Fields}
+use Rattle.bson_model.specs.Tree.{Datum, Fields}
 use Rattle.command_model.specs.Split.{SplitCommand}
 use Rattle.command_model.specs.Command.{Command, write_command, find_command, count_command, shard_collection_command, split_command, command_of}
 use Rattle.command_model.specs.Reading.{Reading}
@@ -15,7 +15,9 @@ use Rattle.command_model.specs.GetMore.{GetMore}
 use Rattle.command_model.specs.KillCursors.{KillCursors}
 use Rattle.pipeline_model.specs.Runs.{Outcome}
 use Rattle.command_model.specs.Answers.{Answer, sharded_answer}
-use Rattle.chunk_model.specs.Tables.{Table}
+use Rattle.chunk_model.specs.Tables.{Table, table_of}
+use Rattle.command_model.specs.Writes.{WriteKind}
+use Rattle.pipeline_model.specs.Stages.{Stage}
 use Rattle.chunk_model.specs.Changes.{known_table}
 use Rattle.opmsg_model.specs.Requests.{Request}
 use Rattle.reply_model.specs.Exchanges.{Asked, Answered}
@@ -25,11 +27,13 @@ use Rattle.reply_model.specs.Right.{not_sharded}
 use Rattle.reply_model.specs.Cursors.{Cursor}
 use Rattle.reply_facts.proofs.Requests.{one_asked}
 use Rattle.node_model.specs.Journal.{Kept, kept_entry, kept_block}
-use Rattle.node_model.specs.Letters.{At, split_done, Input, client_input, letter_input, moment_input, opened_input, Reply, Effect}
-use Rattle.node_model.specs.States.{Telling, Work, writing, reading, sharding, splitting, Open, Router, Catalogue, Shard}
+use Rattle.node_model.specs.Letters.{At, Statement, split_done, Input, client_input, letter_input, moment_input, opened_input, Reply, Effect}
+use Rattle.node_model.specs.States.{Course, Telling, Work, writing, reading, sharding, splitting, Open, Router, Catalogue, Shard}
 use Rattle.node_model.specs.CatalogueRows.{CatalogueRow, catalogue_create, catalogue_tell, catalogue_split, catalogue_bound, catalogue_none, catalogue_skip, catalogue_moment, catalogue_opened, catalogue_client}
 use Rattle.node_model.specs.ShardRows.{ShardRow, shard_write, shard_repeat, shard_empty, shard_park, shard_waits, shard_stale, shard_read, shard_read_above, shard_rows, shard_excess, shard_overflow, shard_time, shard_learn, shard_known, shard_skip, shard_moment, shard_opened, shard_client}
-use Rattle.node_model.specs.RouterRows.{table_for, is_for, is_for_catalogue, reply_to, empty_answer, Next, replies_in, stays, is_told, next_waiting, next_of, RequestPlan, at_once, needs, needs_batch, needs_end, plan_of, block_size, Opened, gives_number, Tells, tells_overflow, tells_excess, tells_number, tells_batch, tells_cursor, RouterRow, router_begin, router_opened, router_plain, router_more, router_no_cursor, router_kill, router_take, router_learn, router_split, router_not_sharded, router_reach, router_hear, router_ahead, router_note, router_wrote, router_part, router_read, router_excess, router_overflow, router_late, router_skip, router_moment}
+use Rattle.node_model.specs.RouterRequests.{id_of, heard, reached, table_to_read, RequestPlan, at_once, needs, needs_batch, needs_end, plan_of}
+use Rattle.node_model.specs.RouterNext.{noted, served_in_part, settled, is_for, is_for_catalogue, reply_to, empty_answer, Next, replies_in, stays, is_told, write_on, read_on, begins_work, next_of}
+use Rattle.node_model.specs.RouterRows.{opened_request, block_size, Opened, gives_number, Tells, tells_overflow, tells_excess, tells_number, tells_batch, tells_cursor, RouterRow, router_begin, router_opened, router_plain, router_more, router_no_cursor, router_kill, router_take, router_learn, router_split, router_not_sharded, router_reach, router_hear, router_ahead, router_note, router_part, router_read, router_excess, router_overflow, router_late, router_skip, router_moment}
 use Rattle.node_model.specs.World.{World, answered_by, dated_onto}
 use Rattle.node_laws.proofs.Views.{Book, View, view_of}
 use Rattle.node_laws.proofs.ReadFacts.{IsTelling, tells_find, tells_count}
@@ -39,6 +43,7 @@ use Rattle.node_laws.proofs.Owes.{InputFits}
 use Rattle.node_laws.proofs.Dates.{IsNoChange, missing_grows}
 use Rattle.node_laws.proofs.ReplySteps.{changed_differs, IsBased}
 use Rattle.node_laws.proofs.OpenRequests.{open_of_found}
+use Rattle.node_laws.proofs.NextKeeps.{Continues, write_keeps, read_keeps, begins_keeps}
 use Rattle.node_laws.proofs.RouterAnswers.{as_answered}
 use Rattle.node_laws.proofs.RouterLater.{of_answers}
 
@@ -124,8 +129,7 @@ router_aside _ _ _ _ (router_not_sharded r m id q middle says o work) = tt
 router_aside _ _ _ _ (router_reach r m id q named at stages telling says o w t le) = tt
 router_aside _ _ _ _ (router_hear r m id q named at stages telling says o w t le some) = tt
 router_aside _ _ _ _ (router_ahead r m id q named at stages telling says o w t le all) = tt
-router_aside _ _ _ _ (router_note r m id dones q kind ordered statements answers says o w n c) = tt
-router_aside _ _ _ _ (router_wrote r m id dones q kind ordered statements answers says o w n c) = tt
+router_aside _ _ _ _ (router_note r m id dones q kind ordered statements c next says o w n is) = tt
 router_aside _ _ _ _ (router_part r m id rows q named at stages telling says o w target some) = tt
 router_aside _ _ _ _ (router_read r m id rows q named at stages telling all out answer f says o w target whole got merged tells) =
     tells_stored r q at telling out answer f tells
@@ -162,7 +166,7 @@ TellsTruly dated asked (moment_input moment) = Unit {0}
 TellsTruly dated asked opened_input = Unit {0}
 
 abbrev IsNoSplitting : Work → Type 0
-IsNoSplitting (writing kind ordered statements answers) = Unit {0}
+IsNoSplitting (writing kind ordered statements c) = Unit {0}
 IsNoSplitting (reading named at stages telling) = Unit {0}
 IsNoSplitting sharding = Unit {0}
 IsNoSplitting (splitting middle) = ⊥
@@ -175,7 +179,7 @@ reads_no_split a _ _ split (tells_count read asks) e = let both : Ok (count_comm
 
 other_work : (a : Asked) (namespace : List ℕ) (work : Work) (split : SplitCommand) → WorkFits a namespace work → IsNoSplitting work
     → command_of a.request ≡ Ok (split_command split) → ⊥
-other_work a namespace (writing kind ordered statements answers) split w other e =
+other_work a namespace (writing kind ordered statements c) split w other e =
     let both : Ok (write_command w.0) ≡ Ok (split_command split) = sym w.1 ∙ e in cc
 other_work a namespace (reading named at stages telling) split w other e = reads_no_split a w.read telling split w.tells e
 other_work a namespace sharding split w other e =
@@ -189,38 +193,54 @@ module _ (dated : List Dated) (asked : List Asked) (r : Router) where
   abbrev True : Reply → Type 0
   True x = IsTrueReply dated asked x
 
+  -- what becomes of a request that does not split
+  of_next : (time : ℕ) (q : Open) (next : Next) → HasWork q → IsNoSplitting q.work → Continues r time q next → AllByRecursion True (replies_in next)
+  of_next time q (stays p letters) h other is = tt
+  of_next time q (is_told reply) h other is = ((λ split asks none. absurd (none_split q split h other (ap (λ x. command_of x) (sym is.request) ∙ asks))), tt)
+
   -- of what a table brings
   next_true : (time : ℕ) (tables : List Table) (namespace : List ℕ) (made : Bool) (told : At) (q : Open) → HasWork q
       → AllByRecursion True (replies_in (next_of r time tables namespace made told q))
   next_true time tables namespace made told q h = by_test (is_for_catalogue q.wait && bytes_eq q.namespace namespace)
     where
-      of_work : (answer : Answer) → IsNoSplitting q.work → True (reply_to r time q answer)
-      of_work answer other = λ split asks none. absurd (none_split q split h other asks)
-
       by_told : (answer : Answer) (b : Bool) → IsNoSplitting q.work
           → AllByRecursion True (replies_in (if b then is_told (reply_to r time q answer) else stays q []))
-      by_told answer true other = (of_work answer other, tt)
+      by_told answer true other =
+          of_next time q (is_told (reply_to r time q answer)) h other (record { id = refl; link = refl; number = refl; request = refl; time = refl })
       by_told answer false other = tt
 
+      by_read : (named : Bool) (at : ℕ) (stages : List Stage) (telling : Telling) (b : Bool) → IsNoSplitting q.work → AllByRecursion True (replies_in
+          (if b then is_told (reply_to r time q (empty_answer q at telling)) else read_on r time tables false q named at stages telling))
+      by_read named at stages telling true other = by_told (empty_answer q at telling) true other
+      by_read named at stages telling false other =
+          of_next time q (read_on r time tables false q named at stages telling) h other (read_keeps r time tables false q named at stages telling)
+
       by_work : (work : Work) → q.work ≡ work → AllByRecursion True (replies_in (elim work as (λ (x : Work). Next) [
-        | writing kind ordered statements answers ↦ stays q []
-        | reading named at stages telling ↦ if is_for told at then is_told (reply_to r time q (empty_answer q at telling)) else stays q []
+        | writing kind ordered statements c ↦ write_on r time tables false [] q kind ordered statements c
+        | reading named at stages telling ↦
+            if is_for told at && not (is_some (table_to_read (table_of q.namespace tables) at)) then is_told (reply_to r time q (empty_answer q at telling))
+            else read_on r time tables false q named at stages telling
         | sharding ↦ if made then is_told (reply_to r time q (sharded_answer q.namespace time)) else stays q []
         | splitting middle ↦ stays q []
       ]))
-      by_work (writing kind ordered statements answers) is = tt
+      by_work (writing kind ordered statements c) is =
+          of_next time q (write_on r time tables false [] q kind ordered statements c) h (subst (λ x. IsNoSplitting x) (sym is) tt)
+          (write_keeps r time tables false [] q kind ordered statements c)
       by_work (reading named at stages telling) is =
-          by_told (empty_answer q at telling) (is_for told at) (subst (λ x. IsNoSplitting x) (sym is) tt)
+          by_read named at stages telling (is_for told at && not (is_some (table_to_read (table_of q.namespace tables) at)))
+          (subst (λ x. IsNoSplitting x) (sym is) tt)
       by_work sharding is = by_told (sharded_answer q.namespace time) made (subst (λ x. IsNoSplitting x) (sym is) tt)
       by_work (splitting middle) is = tt
 
-      by_table : (table : Option Table) → AllByRecursion True (replies_in (next_waiting r time made told q table))
-      by_table None = by_work q.work refl
-      by_table (Some t) = tt
-
-      by_test : (b : Bool)
-          → AllByRecursion True (replies_in (if b then next_waiting r time made told q (table_for tables q.namespace q.work) else stays q []))
-      by_test true = by_table (table_for tables q.namespace q.work)
+      by_test : (b : Bool) → AllByRecursion True (replies_in (if not b then stays q [] else elim q.work as (λ (x : Work). Next) [
+        | writing kind ordered statements c ↦ write_on r time tables false [] q kind ordered statements c
+        | reading named at stages telling ↦
+            if is_for told at && not (is_some (table_to_read (table_of q.namespace tables) at)) then is_told (reply_to r time q (empty_answer q at telling))
+            else read_on r time tables false q named at stages telling
+        | sharding ↦ if made then is_told (reply_to r time q (sharded_answer q.namespace time)) else stays q []
+        | splitting middle ↦ stays q []
+      ]))
+      by_test true = by_work q.work refl
       by_test false = tt
 
   all_true : (time : ℕ) (tables : List Table) (namespace : List ℕ) (made : Bool) (told : At) (requests : List Open) → AllByRecursion HasWork requests
@@ -245,6 +265,35 @@ batch_not get namespace work e = cc
 end_not : (kill : KillCursors) (namespace : List ℕ) (work : Work) → needs_end kill ≡ needs namespace work → ⊥
 end_not kill namespace work e = cc
 
+work_not : (namespace name : List ℕ) (work : Work) (middle : Datum) → IsNoSplitting work → needs namespace work ≡ needs name (splitting middle) → ⊥
+work_not namespace name (writing kind ordered statements c) middle other e = cc
+work_not namespace name (reading named at stages telling) middle other e = cc
+work_not namespace name sharding middle other e = cc
+work_not namespace name (splitting own) middle other e = other
+
+-- a request that begins its work
+begun_true : (dated : List Dated) (asked : List Asked) (r : Router) (time : ℕ) (q : Open) (namespace : List ℕ) (work : Work) (id : RequestId) (silent : Bool)
+    → plan_of r id silent (command_of q.request) ≡ needs namespace work → AllByRecursion (IsTrueReply dated asked) (replies_in (begins_work r time q work))
+begun_true dated asked r time q namespace work id silent plan = by_work work refl
+  where
+    of_next_begun : (next : Next) → IsNoSplitting work → Continues r time q next → AllByRecursion (IsTrueReply dated asked) (replies_in next)
+    of_next_begun (stays p letters) other is = tt
+    of_next_begun (is_told reply) other is = (
+      (λ split asks none. absurd (work_not namespace split.namespace work split.middle other
+          (planned_otherwise r id silent (command_of q.request) split (needs namespace work) plan (ap (λ x. command_of x) (sym is.request) ∙ asks)))),
+      tt,
+    )
+
+    by_work : (own : Work) → work ≡ own → AllByRecursion (IsTrueReply dated asked) (replies_in (begins_work r time q own))
+    by_work (writing kind ordered statements c) is =
+        of_next_begun (begins_work r time q (writing kind ordered statements c)) (subst (λ x. IsNoSplitting x) (sym is) tt)
+        (begins_keeps r time q (writing kind ordered statements c))
+    by_work (reading named at stages telling) is =
+        of_next_begun (begins_work r time q (reading named at stages telling)) (subst (λ x. IsNoSplitting x) (sym is) tt)
+        (begins_keeps r time q (reading named at stages telling))
+    by_work sharding is = tt
+    by_work (splitting middle) is = tt
+
 -- each row
 pub row_true : (dated : List Dated) (asked : List Asked) (r q : Router) (i : Input) (f : Effect) → AllByRecursion HasWork r.requests
     → TellsTruly dated asked i → RouterRow r i f q → AllByRecursion (IsTrueReply dated asked) f.replies
@@ -258,26 +307,30 @@ row_true dated asked _ _ _ _ works truly (router_no_cursor r link number request
     ((λ split asks none. absurd (batch_not get _ _ (planned_otherwise r _ request.more (command_of request) split _ plan asks))), tt)
 row_true dated asked _ _ _ _ works truly (router_kill r link number request kill killed missing next b plan ends) =
     ((λ split asks none. absurd (end_not kill _ _ (planned_otherwise r _ request.more (command_of request) split _ plan asks))), tt)
-row_true dated asked _ _ _ _ works truly (router_take r link number request namespace work b plan) = tt
+row_true dated asked _ _ _ _ works truly (router_take r link number request namespace work b plan) =
+    begun_true dated asked r r.time (opened_request r link number request namespace work) namespace work (id_of r (r.count + 1)) request.more plan
 row_true dated asked _ _ _ _ works truly (router_learn r m namespace create at table says) =
     all_true dated asked r _ _ namespace _ at r.requests works
 row_true dated asked _ _ _ _ works truly (router_split r m id q middle says o work) =
     ((λ split asks none. absurd (changed_differs _ none)), tt)
 row_true dated asked _ _ _ _ works truly (router_not_sharded r m id q middle says o work) =
     ((λ split asks none. subst (λ i. WasMissing dated asked i) (open_of_found r id q o).own (truly id says)), tt)
-row_true dated asked _ _ _ _ works truly (router_reach r m id q named at stages telling says o work t le) = tt
+row_true dated asked _ _ _ _ works truly (router_reach r m id q named at stages telling says o work t le) =
+    of_next dated asked r (heard r m) q (begins_work r (heard r m) q (reached (heard r m) q.work))
+    (all_at HasWork q r.requests works (open_of_found r id q o).stands)
+    (subst (λ x. IsNoSplitting x) (sym work) tt) (begins_keeps r (heard r m) q (reached (heard r m) q.work))
 row_true dated asked _ _ _ _ works truly (router_hear r m id q named at stages telling says o work t le some) = tt
 row_true dated asked _ _ _ _ works truly (router_ahead r m id q named at stages telling says o work t le all) = (
   (λ split asks none. absurd (none_split q split (all_at HasWork q r.requests works (open_of_found r id q o).stands)
       (subst (λ x. IsNoSplitting x) (sym work) tt) asks)),
   tt,
 )
-row_true dated asked _ _ _ _ works truly (router_note r m id dones q kind ordered statements answers says o work n c) = tt
-row_true dated asked _ _ _ _ works truly (router_wrote r m id dones q kind ordered statements answers says o work n c) = (
-  (λ split asks none. absurd (none_split q split (all_at HasWork q r.requests works (open_of_found r id q o).stands)
-      (subst (λ x. IsNoSplitting x) (sym work) tt) asks)),
-  tt,
-)
+row_true dated asked _ _ _ _ works truly (router_note r m id dones q kind ordered statements c next says o work n is) =
+    of_next dated asked r (heard r m) q next (all_at HasWork q r.requests works (open_of_found r id q o).stands)
+    (subst (λ x. IsNoSplitting x) (sym work) tt)
+    (subst (λ x. Continues r (heard r m) q x) (sym is)
+    (write_keeps r (heard r m) r.tables ordered (served_in_part (noted ordered c.answers dones) c.runs) q kind ordered statements
+    (settled c (noted ordered c.answers dones))))
 row_true dated asked _ _ _ _ works truly (router_part r m id rows q named at stages telling says o work target some) = tt
 row_true dated asked _ _ _ _ works truly (router_read r m id rows q named at stages telling all out answer f says o work target whole got merged tells) = (
   (λ split asks none. absurd (none_split q split (all_at HasWork q r.requests works (open_of_found r id q o).stands)

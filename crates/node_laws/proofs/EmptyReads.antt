@@ -8,12 +8,11 @@ use Rattle.bson_model.specs.Tree.{null_value}
 use Rattle.chunk_model.specs.Catalogue.{Creation}
 use Rattle.chunk_model.specs.Changes.{Change, create_change, split_change, commit_change, time_of}
 use Rattle.chunk_model.specs.Tables.{Table, owner_at, table_of, with_table}
-use Rattle.pipeline_model.specs.Stages.{Stage}
 use Rattle.history_model.specs.History.{IsIn}
 use Rattle.reply_model.specs.Exchanges.{Asked}
 use Rattle.node_model.specs.Letters.{At, no_time, at_time}
-use Rattle.node_model.specs.States.{Telling, reading}
-use Rattle.node_model.specs.RouterRows.{is_owned_at, enough_of, table_for, is_for, adopted}
+use Rattle.node_model.specs.RouterRequests.{is_owned_at, table_to_read}
+use Rattle.node_model.specs.RouterNext.{is_for, adopted}
 use Rattle.node_laws.proofs.Views.{View, changes_in}
 use Rattle.node_laws.proofs.ReadFacts.{BeginsAfter, NoneBegan}
 use Rattle.node_laws.proofs.Facts.{IsKnownTable, TableFits, AreMade, NeighboursFit}
@@ -54,14 +53,14 @@ unowned v known namespace at t begun k name lacks =
 
 -- the catalogue returned no table, or one that does not say who owned each key: for the time that is read at
 pub told_nothing : (v : View) (asked : List Asked) (told_at known : ℕ) (namespace : List ℕ) (told : At) (table : Option Table)
-    (tables : List Table) (named : Bool) (at : ℕ) (stages : List Stage) (telling : Telling)
+    (tables : List Table) (at : ℕ)
     → NeighboursFit v asked → TableFits v told_at namespace told table → AllByRecursion (IsKnownTable v known) (adopted table tables)
-    → is_for told at ≡ true → table_for (adopted table tables) namespace (reading named at stages telling) ≡ None → NoneBegan v namespace at
-told_nothing v asked told_at known namespace no_time None tables named at stages telling n fits all own none = absurd (cc)
-told_nothing v asked told_at known namespace (at_time time) None tables named at stages telling n fits all own none =
+    → is_for told at ≡ true → table_to_read (table_of namespace (adopted table tables)) at ≡ None → NoneBegan v namespace at
+told_nothing v asked told_at known namespace no_time None tables at n fits all own none = absurd (cc)
+told_nothing v asked told_at known namespace (at_time time) None tables at n fits all own none =
     subst (λ x. NoneBegan v namespace x) (eqb-true time at own) fits
-told_nothing v asked told_at known namespace told (Some t) tables named at stages telling n fits all own none =
-    by_owned (is_owned_at there.0 at) refl (ap (λ x. enough_of x (reading named at stages telling)) (sym there.1) ∙ none)
+told_nothing v asked told_at known namespace told (Some t) tables at n fits all own none =
+    by_owned (is_owned_at there.0 at) refl (ap (λ x. table_to_read x at) (sym there.1) ∙ none)
   where
     there : (u : Table) × (table_of namespace (with_table t tables) ≡ Some u)
     there = table_there namespace t tables fits.1

@@ -10,18 +10,20 @@ use Rattle.reply_model.specs.Cursors.{Cursor}
 use Rattle.chunk_model.specs.Changes.{Change, time_of}
 use Rattle.chunk_model.specs.Placement.{AreFitting}
 use Rattle.chunk_model.specs.Tables.{Table, first_shard}
-use Rattle.history_model.specs.History.{Entry, Legal, IsIn}
+use Rattle.history_model.specs.History.{Operation, Entry, Legal, IsIn}
 use Rattle.base_model.specs.Identities.{RequestId}
-use Rattle.reply_model.specs.Exchanges.{Asked, Answered}
+use Rattle.reply_model.specs.Exchanges.{Asked, Answered, number_for}
 use Rattle.reply_model.specs.Accounts.{Given, Dated, Account, changes_in as changes_of}
-use Rattle.reply_model.specs.Outcomes.{Done}
+use Rattle.reply_model.specs.Outcomes.{StatementOutcome, Done}
 use Rattle.reply_model.specs.Right.{ends, IsReadRefused, refused_overflow, refused_excess, refused_ahead, WasCreated, IsRight, right_write, right_find, right_count, right_refused_read, right_more, right_no_cursor, right_kill, right_shard, right_split, right_not_sharded, right_hello, right_legacy, right_ping, right_end_sessions, right_refusal}
 use Rattle.reply_model.specs.OneHistory.{IsWriteIn, WasWanted, StandsInPart, IsPlaced, AreNumbered, IsFresh, IsInOrder, WasMet, ids_asked, ids_told, AreDifferent}
 use Rattle.node_model.specs.Journal.{Kept, entries_kept, changes_kept, greatest_kept}
 use Rattle.node_model.specs.ShardRows.{top}
 use Rattle.node_model.specs.Letters.{At, no_time, at_time, Statement, Body, table_ask, table_told, split_ask, split_done, write_ask, write_done, read_ask, half_ask, read_rows, stale, time_ask, time_told, Letter}
-use Rattle.node_model.specs.States.{Catalogue, Shard, Router, Work, writing, reading, sharding, splitting, Wait, for_time, Open, NodeState, catalogue_state, shard_state, router_state, time_of_node}
-use Rattle.node_model.specs.RouterRows.{id_of, statements_from, owner_of_statement, is_ahead, block_size}
+use Rattle.node_model.specs.States.{Catalogue, Shard, Router, Run, Course, Work, writing, reading, sharding, splitting, Wait, for_time, Open, NodeState, catalogue_state, shard_state, router_state, time_of_node}
+use Rattle.node_model.specs.RouterRequests.{id_of, statements_from, owner_of_statement}
+use Rattle.node_model.specs.RouterNext.{is_answered}
+use Rattle.node_model.specs.RouterRows.{block_size}
 use Rattle.node_model.specs.World.{Held, World, journal_at, entries_at}
 use Rattle.node_laws.proofs.Views.{Choice, Book, View, view_of, entries_in, changes_in, IsShardAt, history_in, HavePassed, IsWithin, MovesNothing, account_in}
 use Rattle.node_laws.proofs.Places.{EachAt}
@@ -30,7 +32,9 @@ use Rattle.node_laws.proofs.WriteFacts.{IsDoneAt, AreAnswers, OnlyLast, WasMade}
 use Rattle.node_laws.proofs.TimeFacts.{IsPast, HeardFits}
 pub use Rattle.node_laws.proofs.TableFacts.{IsKnownTable}
 use Rattle.node_laws.proofs.TableFacts.{IsSentTo}
-use Rattle.node_laws.proofs.ReadFacts.{NoneBegan, WaitsFor, IsDecided, IsReading, IsReadOf, IsShown, RowsFit}
+use Rattle.node_laws.proofs.Outcomes.{AreOutcomes, IsFront}
+use Rattle.node_laws.proofs.SentRuns.{InRun, IsNextRun}
+use Rattle.node_laws.proofs.ReadFacts.{is_ahead, NoneBegan, WaitsFor, IsDecided, IsReading, IsReadOf, IsShown, RowsFit}
 
 -- a statement goes to this shard: it owns the key, by a table of the collection that the catalogue had by a time
 pub record IsOwned (v : View) (time : ℕ) (namespace : List ℕ) (shard : ℕ) (s : Statement) : Type 0 where
@@ -41,24 +45,50 @@ pub record IsOwned (v : View) (time : ℕ) (namespace : List ℕ) (shard : ℕ) 
 
 -- WRITES
 
--- The statements of a message are the next ones of a request, after those that are answered and did not end it; the shard that receives it
--- owns their keys, and the message is not older than what the router knew.
+-- a statement of a write
+pub record IsStatementOf (write : WriteCommand) (id : RequestId) (s : Statement) : Type 0 where
+  pub before : List Operation
+  pub operation : Operation
+  pub back : List Operation
+  pub all : write.operations ≡ before ++ operation ∷ back
+  pub numbered : s.number ≡ number_for write.number id (length before)
+  pub does : s.operation ≡ operation
+
+-- statements are the next ones of an ordered write, after those that are answered and did not end it
+pub record AreNext (v : View) (time : ℕ) (write : WriteCommand) (id : RequestId) (statements : List Statement) : Type 0 where
+  pub front : List Done
+  pub back : List Statement
+  pub answered : AreAnswers (history_in v) time write id 0 front
+  pub goes_on : AllByRecursion (λ d. ends true d ≡ false) front
+  pub next : drop (length front) (statements_from write.number id 0 write.operations) ≡ statements ++ back
+
+-- The statements of a message are some of a request, if it is ordered the next ones; the shard that receives it owns their keys, and the message is not older
+-- than what the router knew.
 pub record IsWriteOf (v : View) (asked : List Asked) (receiver time : ℕ) (id : RequestId) (ordered : Bool) (namespace : List ℕ)
     (statements : List Statement) : Type 0 where
   pub request : Asked
   pub write : WriteCommand
-  pub front : List Done
-  pub back : List Statement
   pub taken : IsIn request asked
   pub own : request.id ≡ id
   pub asks : command_of request.request ≡ Ok (write_command write)
   pub order : ordered ≡ write.ordered
   pub name : namespace ≡ write.namespace
-  pub answered : AreAnswers (history_in v) time write id 0 front
-  pub goes_on : AllByRecursion (λ d. ends ordered d ≡ false) front
-  pub next : drop (length front) (statements_from write.number id 0 write.operations) ≡ statements ++ back
+  pub each : AllByRecursion (IsStatementOf write id) statements
+  pub next : ordered ≡ true → AreNext v time write id statements
   pub owned : AllByRecursion (IsOwned v time namespace receiver) statements
   pub fresh : request.time ≤ time
+
+-- what was sent of an open write: the shard owns the keys of the run's statements, and those of an ordered one are the next ones
+pub record RunFits (v : View) (time : ℕ) (namespace : List ℕ) (ordered : Bool) (statements : List Statement) (answers : List (Option StatementOutcome))
+    (run : Run) : Type 0 where
+  pub owned : InRun run (IsOwned v time namespace run.shard) statements
+  pub next : ordered ≡ true → IsNextRun statements answers run
+
+-- The outcomes of an open write belong to its statements, by index; of an ordered one the first have theirs; and it is not answered.
+pub record CourseFits (ordered : Bool) (statements : List Statement) (c : Course) : Type 0 where
+  pub long : length c.answers ≡ length statements
+  pub front : ordered ≡ true → IsFront c.answers
+  pub open_yet : is_answered ordered c.answers ≡ false
 
 -- a collection of this name was created by a time
 abbrev pub HasBegun : View → (time : ℕ) → (namespace : List ℕ) → Type 0
@@ -151,17 +181,18 @@ pub record ShardFits (v : View) (asked : List Asked) (at : ℕ) (kept : List Kep
 
 -- what a request still has to do
 abbrev pub WorkFits : Asked → (namespace : List ℕ) → Work → Type 0
-WorkFits a namespace (writing kind ordered statements answers) =
+WorkFits a namespace (writing kind ordered statements c) =
     (write : WriteCommand) × (command_of a.request ≡ Ok (write_command write)) × (kind ≡ write.kind) × (namespace ≡ write.namespace) × (ordered ≡ write.ordered)
-    × (statements ≡ statements_from write.number a.id 0 write.operations) × AllByRecursion (λ d. ends ordered d ≡ false) answers
+    × (statements ≡ statements_from write.number a.id 0 write.operations) × CourseFits ordered statements c
 WorkFits a namespace (reading named at stages telling) = IsReading a namespace named at stages telling
 WorkFits a namespace sharding = command_of a.request ≡ Ok (shard_collection_command namespace)
 WorkFits a namespace (splitting middle) = command_of a.request ≡ Ok (split_command (record { namespace = namespace; middle = middle }))
 
--- the outcomes of a write that arrived, of entries that are not above a time
+-- the outcomes of a write that arrived, of entries that are not above a time, and what was sent for it, by tables that the catalogue had by then
 abbrev pub AreSeen : View → ℕ → Asked → Work → Type 0
-AreSeen v time a (writing kind ordered statements answers) =
-    (write : WriteCommand) → command_of a.request ≡ Ok (write_command write) → AreAnswers (history_in v) time write a.id 0 answers
+AreSeen v time a (writing kind ordered statements c) =
+    (write : WriteCommand) → command_of a.request ≡ Ok (write_command write) → AreOutcomes (history_in v) time write a.id 0 c.answers
+    × AllByRecursion (RunFits v time write.namespace ordered statements c.answers) c.runs
 AreSeen v time a (reading named at stages telling) = Unit {0}
 AreSeen v time a sharding = Unit {0}
 AreSeen v time a (splitting middle) = Unit {0}

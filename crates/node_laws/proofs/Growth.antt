@@ -17,15 +17,17 @@ use Rattle.reply_model.specs.Accounts.{Given}
 use Rattle.reply_model.specs.Outcomes.{StatementOutcome, Done}
 use Rattle.reply_model.specs.OneHistory.{WasWanted, IsPlaced}
 use Rattle.node_model.specs.Letters.{At, no_time, at_time, Statement, HalfFault, half_overflow, half_excess, Body, table_ask, table_told, split_ask, split_done, write_ask, write_done, read_ask, half_ask, read_rows, stale, time_ask, time_told, Letter}
-use Rattle.node_model.specs.States.{Work, writing, reading, sharding, splitting}
+use Rattle.node_model.specs.RouterRequests.{has_index}
+use Rattle.node_model.specs.States.{Run, Work, writing, reading, sharding, splitting}
 use Rattle.reply_model.specs.Right.{WasSplit}
 use Rattle.node_laws.proofs.Views.{View, entries_in, changes_in, history_in, HavePassed, IsBeyond, MovesNothing, Later}
 use Rattle.node_laws.proofs.LongerJournals.{IsNewAt, IsNewChange, more_entries, more_changes, entry_stays, change_stays, still_grows}
 use Rattle.node_laws.proofs.CatalogueTables.{unmoved, owned_from}
 use Rattle.node_laws.proofs.ReadFacts.{BeginsAfter, NoneBegan, IsReadOf, IsShown, IsMade, RowsFit}
 use Rattle.node_laws.proofs.WriteFacts.{IsAnswerOf, by_entry, by_older, IsDoneAt, AreAnswers, WasMade}
+use Rattle.node_laws.proofs.Outcomes.{AreOutcomes}
 use Rattle.node_laws.proofs.SplitFacts.{IsSplitOf, IsSplitDone}
-use Rattle.node_laws.proofs.Facts.{IsKnownTable, IsOwned, IsWriteOf, HasBegun, IsDoneOf, TableFits, IsWanted, IsOfRequest, BodyFits, LetterFits, AreSeen, IsMet}
+use Rattle.node_laws.proofs.Facts.{IsKnownTable, IsOwned, AreNext, IsWriteOf, RunFits, HasBegun, IsDoneOf, TableFits, IsWanted, IsOfRequest, BodyFits, LetterFits, AreSeen, IsMet}
 use Rattle.node_laws.proofs.Choices.{decided_stays}
 use Rattle.node_laws.proofs.KeptDocuments.{Counts, documents_unchanged}
 use Rattle.node_laws.proofs.Histories.{history_extends, passed_of, documents_extended, history_stays}
@@ -197,6 +199,34 @@ answers_later v w early late write id index (d ∷ dones) later le all = (
   answers_later v w early late write id (index + 1) dones later le all.2,
 )
 
+pub outcomes_later : (v w : View) (early late : ℕ) (write : WriteCommand) (id : RequestId) (index : ℕ) (answers : List (Option StatementOutcome)) → Later v w
+    → early ≤ late → AreOutcomes (history_in v) early write id index answers → AreOutcomes (history_in w) late write id index answers
+outcomes_later v w early late write id index [] later le all = tt
+outcomes_later v w early late write id index (None ∷ answers) later le all = outcomes_later v w early late write id (index + 1) answers later le all
+outcomes_later v w early late write id index (Some x ∷ answers) later le all = (
+  done_at_grows (history_in v) (history_in w) early late write id (record { index = index; answer = x }) (λ e i. history_stays v w e later i) le all.0,
+  outcomes_later v w early late write id (index + 1) answers later le all.1,
+)
+
+pub run_later : (v w : View) (early late : ℕ) (namespace : List ℕ) (ordered : Bool) (statements : List Statement) (answers : List (Option StatementOutcome))
+    (run : Run) → Later v w → early ≤ late → RunFits v early namespace ordered statements answers run → RunFits w late namespace ordered statements answers run
+run_later v w early late namespace ordered statements answers run later le f = record {
+  owned = all_weaken (λ (s : Statement). has_index run.indices s.number.index ≡ true → IsOwned v early namespace run.shard s)
+      (λ (s : Statement). has_index run.indices s.number.index ≡ true → IsOwned w late namespace run.shard s) statements
+      (λ s h is. owned_grows v w early late namespace run.shard s later le (h is)) f.owned;
+  next = f.next;
+}
+
+pub next_later : (v w : View) (early late : ℕ) (write : WriteCommand) (id : RequestId) (statements : List Statement) → Later v w → early ≤ late
+    → AreNext v early write id statements → AreNext w late write id statements
+next_later v w early late write id statements later le n = record {
+  front = n.front;
+  back = n.back;
+  answered = answers_later v w early late write id 0 n.front later le n.answered;
+  goes_on = n.goes_on;
+  next = n.next;
+}
+
 pub write_grows : (v w : View) (asked more : List Asked) (receiver time : ℕ) (id : RequestId) (ordered : Bool) (namespace : List ℕ)
     (statements : List Statement) → Later v w → IsWriteOf v asked receiver time id ordered namespace statements
     → IsWriteOf w (asked ++ more) receiver time id ordered namespace statements
@@ -204,16 +234,13 @@ write_grows v w asked more receiver time id ordered namespace statements later a
     record {
       request = a.request;
       write = a.write;
-      front = a.front;
-      back = a.back;
       taken = in_prefix a.request asked more a.taken;
       own = a.own;
       asks = a.asks;
       order = a.order;
       name = a.name;
-      answered = answers_later v w time time a.write id 0 a.front later (omega arith) a.answered;
-      goes_on = a.goes_on;
-      next = a.next;
+      each = a.each;
+      next = λ is. next_later v w time time a.write id statements later (omega arith) (a.next is);
       owned = all_weaken (IsOwned v time namespace receiver) (IsOwned w time namespace receiver) statements
           (λ s o. owned_grows v w time time namespace receiver s later (omega arith) o) a.owned;
       fresh = a.fresh;
@@ -316,8 +343,12 @@ letter_grows v w asked more m later f = body_grows v w asked more m.sender m.rec
 -- WORK, ENTRIES AND TIMES
 
 pub seen_grows : (v w : View) (early late : ℕ) (a : Asked) (work : Work) → Later v w → early ≤ late → AreSeen v early a work → AreSeen w late a work
-seen_grows v w early late a (writing kind ordered statements answers) later le seen =
-    λ write asks. answers_later v w early late write a.id 0 answers later le (seen write asks)
+seen_grows v w early late a (writing kind ordered statements c) later le seen =
+    λ write asks. (
+      outcomes_later v w early late write a.id 0 c.answers later le (seen write asks).0,
+      all_weaken (RunFits v early write.namespace ordered statements c.answers) (RunFits w late write.namespace ordered statements c.answers) c.runs
+          (λ run f. run_later v w early late write.namespace ordered statements c.answers run later le f) (seen write asks).1,
+    )
 seen_grows v w early late a (reading named at stages telling) later le seen = tt
 seen_grows v w early late a sharding later le seen = tt
 seen_grows v w early late a (splitting middle) later le seen = tt

@@ -1,25 +1,26 @@
 -- What a router heard of the times of shards: it stays true in each step of the router, and where all shards returned theirs, it is said of all.
 use Rattle.std.proofs.Common.{◌≡◌, ◌≢◌, ◌⊎◌, inl, inr, ℕ, zero, suc, ◌+◌, ◌<◌, ◌≤◌, List, [], ◌∷◌, ◌++◌, refl, sym, ap, subst, ◌∙◌, arith, append-nil, Bool}
-use Rattle.std.specs.Prelude.{Option, Some, None, true, false, not, ◌==◌, ◌&&◌, ◌||◌, if◌then◌else◌}
+use Rattle.std.specs.Prelude.{true, false, not, ◌==◌, ◌||◌, if◌then◌else◌}
 use Rattle.std.specs.List.{AllByRecursion, flat_map, list_any}
-use Rattle.std.specs.Str.{bytes_eq}
 use Rattle.std.proofs.lemmas.Bool.{eqb-true}
 use Rattle.history_model.proofs.Lists.{all_push, all_weaken, all_append, all_at, all_from, in_first, in_later, in_cons, in_none, in_prefix, in_back, in_append}
-use Rattle.command_model.specs.Answers.{sharded_answer}
 use Rattle.command_model.specs.Writes.{WriteCommand}
-use Rattle.chunk_model.specs.Tables.{Table, first_shard}
+use Rattle.chunk_model.specs.Tables.{first_shard}
 use Rattle.history_model.specs.History.{Entry, IsIn}
 use Rattle.base_model.specs.Identities.{RequestId}
 use Rattle.reply_model.specs.Exchanges.{Asked, Answered}
 use Rattle.reply_model.specs.OneHistory.{ids_asked, AreDifferent}
-use Rattle.node_model.specs.Letters.{At, time_told, Letter, Input, client_input, letter_input, moment_input, opened_input, Taken, Effect}
-use Rattle.node_model.specs.States.{Telling, Work, writing, reading, sharding, splitting, Open, Router, replaced, without}
-use Rattle.node_model.specs.RouterRows.{id_of, heard, table_for, places_from, untold, also_told, with_told, with_part, reached, going_on, noted, is_for, is_for_catalogue, was_created, adopted, opened_request, reply_to, empty_answer, Next, stays, is_told, next_waiting, next_of, stay_in, taken_now, RouterRow, router_begin, router_opened, router_plain, router_more, router_no_cursor, router_kill, router_take, router_learn, router_split, router_not_sharded, router_reach, router_hear, router_ahead, router_note, router_wrote, router_part, router_read, router_excess, router_overflow, router_late, router_skip, router_moment}
+use Rattle.node_model.specs.Letters.{time_told, Letter, Input, client_input, letter_input, moment_input, opened_input, Taken, Effect}
+use Rattle.node_model.specs.States.{Open, Router, replaced, without}
+use Rattle.node_model.specs.RouterRequests.{id_of, heard, places_from, untold, reached}
+use Rattle.node_model.specs.RouterNext.{also_told, with_told, with_part, noted, served_in_part, settled, was_created, adopted, Next, stays, is_told, begins_work, next_of, stay_in, after_next}
+use Rattle.node_model.specs.RouterRows.{opened_request, taken_now, RouterRow, router_begin, router_opened, router_plain, router_more, router_no_cursor, router_kill, router_take, router_learn, router_split, router_not_sharded, router_reach, router_hear, router_ahead, router_note, router_part, router_read, router_excess, router_overflow, router_late, router_skip, router_moment}
 use Rattle.node_model.specs.World.{asked_by, answered_by}
 use Rattle.reply_facts.proofs.Requests.{one_asked}
 use Rattle.node_laws.proofs.Views.{View, history_in}
 use Rattle.node_laws.proofs.TimeFacts.{IsToldOf, IsPast, IsHeard, HasHeard}
 use Rattle.node_laws.proofs.Requests.{answered_now}
+use Rattle.node_laws.proofs.NextKeeps.{Continues, write_keeps, begins_keeps, next_keeps}
 use Rattle.node_laws.proofs.OpenRequests.{open_of_found, all_without, all_replaced}
 
 -- THE SHARDS THAT RETURNED THEIR TIME
@@ -72,42 +73,6 @@ pub record LeavesTimes (r : Router) (i : Input) (f : Effect) (s : Router) : Type
   pub later : r.time ≤ s.time
   pub requests : AllByRecursion (IsFrom r i f s) s.requests
 
--- what stays of an open request
-abbrev KeepsTold : Open → Next → Type 0
-KeepsTold q (stays p letters) = (p.count ≡ q.count) × (p.told ≡ q.told)
-KeepsTold q (is_told reply) = Unit {0}
-
-next_keeps_told : (r : Router) (time : ℕ) (tables : List Table) (namespace : List ℕ) (made : Bool) (told : At) (q : Open)
-    → KeepsTold q (next_of r time tables namespace made told q)
-next_keeps_told r time tables namespace made told q = by_test (is_for_catalogue q.wait && bytes_eq q.namespace namespace)
-  where
-    by_own : (at : ℕ) (telling : Telling) (b : Bool) → KeepsTold q (if b then is_told (reply_to r time q (empty_answer q at telling)) else stays q [])
-    by_own at telling true = tt
-    by_own at telling false = (refl, refl)
-
-    by_made : (b : Bool) → KeepsTold q (if b then is_told (reply_to r time q (sharded_answer q.namespace time)) else stays q [])
-    by_made true = tt
-    by_made false = (refl, refl)
-
-    by_work : (work : Work) → KeepsTold q (elim work as (λ (x : Work). Next) [
-      | writing kind ordered statements answers ↦ stays q []
-      | reading named at stages telling ↦ if is_for told at then is_told (reply_to r time q (empty_answer q at telling)) else stays q []
-      | sharding ↦ if made then is_told (reply_to r time q (sharded_answer q.namespace time)) else stays q []
-      | splitting middle ↦ stays q []
-    ])
-    by_work (writing kind ordered statements answers) = (refl, refl)
-    by_work (reading named at stages telling) = by_own at telling (is_for told at)
-    by_work sharding = by_made made
-    by_work (splitting middle) = (refl, refl)
-
-    by_table : (table : Option Table) → KeepsTold q (next_waiting r time made told q table)
-    by_table None = by_work q.work
-    by_table (Some t) = (refl, refl)
-
-    by_test : (b : Bool) → KeepsTold q (if b then next_waiting r time made told q (table_for tables q.namespace q.work) else stays q [])
-    by_test true = by_table (table_for tables q.namespace q.work)
-    by_test false = (refl, refl)
-
 module _ (r : Router) (i : Input) (f : Effect) (s : Router) where
   same_from : (q : Open) → IsIn q r.requests → IsFrom r i f s q
   same_from q stands = from_before q stands refl refl
@@ -122,15 +87,27 @@ module _ (r : Router) (i : Input) (f : Effect) (s : Router) where
   from_without : (count : ℕ) → AllByRecursion (IsFrom r i f s) (without count r.requests)
   from_without count = all_without (IsFrom r i f s) count r.requests all_from_before
 
-  from_next : (next : Open → Next) → ((q : Open) → KeepsTold q (next q)) → (requests : List Open) → AllByRecursion (λ q. IsIn q r.requests) requests
+  from_next : (time : ℕ) (next : Open → Next) → ((q : Open) → Continues r time q (next q)) → (requests : List Open) → AllByRecursion (λ q. IsIn q r.requests) requests
       → AllByRecursion (IsFrom r i f s) (flat_map (λ q. stay_in (next q)) requests)
-  from_next next keeps [] all = tt
-  from_next next keeps (q ∷ requests) all =
-      all_append (IsFrom r i f s) (stay_in (next q)) (flat_map (λ p. stay_in (next p)) requests) (by_next (next q) (keeps q)) (from_next next keeps requests all.1)
+  from_next time next keeps [] all = tt
+  from_next time next keeps (q ∷ requests) all =
+      all_append (IsFrom r i f s) (stay_in (next q)) (flat_map (λ p. stay_in (next p)) requests) (by_next (next q) (keeps q)) (from_next time next keeps requests all.1)
     where
-      by_next : (n : Next) → KeepsTold q n → AllByRecursion (IsFrom r i f s) (stay_in n)
-      by_next (stays p letters) is = (from_before q all.0 is.0 is.1, tt)
+      by_next : (n : Next) → Continues r time q n → AllByRecursion (IsFrom r i f s) (stay_in n)
+      by_next (stays p letters) is = (from_before q all.0 is.count is.told, tt)
       by_next (is_told reply) is = tt
+
+  -- one of them continues
+  from_after : (time : ℕ) (q : Open) (next : Next) → IsIn q r.requests → Continues r time q next → AllByRecursion (IsFrom r i f s) (after_next q next r.requests)
+  from_after time q (stays p letters) stands is = from_replaced p (from_before q stands is.count is.told)
+  from_after time q (is_told reply) stands is = from_without q.count
+
+  -- a new one begins
+  from_taken : (time : ℕ) (x : Taken) (q : Open) (next : Next) → IsIn x f.taken → x.id ≡ id_of r q.count → q.told ≡ [] → Continues r time q next
+      → AllByRecursion (IsFrom r i f s) (stay_in next)
+  from_taken time x q (stays p letters) stands own none is =
+      (from_request x stands (own ∙ ap (λ n. id_of r n) (sym is.count)) (is.told ∙ none), tt)
+  from_taken time x q (is_told reply) stands own none is = tt
 
 -- where no open request changes
 leaves_all : (r : Router) (i : Input) (f : Effect) (s : Router) → ((n : ℕ) → id_of r n ≡ id_of s n) → s.shards ≡ r.shards → r.time ≤ s.time
@@ -155,15 +132,17 @@ row_times _ _ _ _ (router_take r link number request namespace work b p) = recor
   same = λ n. refl;
   shards = refl;
   later = omega arith;
-  requests = all_append _ r.requests (opened_request r link number request namespace work ∷ []) (all_from_before r _ _ _)
-      (from_request (taken_now r link number request) (in_first (taken_now r link number request) []) refl refl, tt);
+  requests = all_append _ r.requests (stay_in (begins_work r r.time (opened_request r link number request namespace work) work)) (all_from_before r _ _ _)
+      (from_taken r _ _ _ r.time (taken_now r link number request) (opened_request r link number request namespace work)
+      (begins_work r r.time (opened_request r link number request namespace work) work) (in_first (taken_now r link number request) []) refl refl
+      (begins_keeps r r.time (opened_request r link number request namespace work) work));
 }
 row_times _ _ _ _ (router_learn r m namespace create at table says) = record {
   same = λ n. refl;
   shards = refl;
   later = omega arith;
-  requests = from_next r _ _ _ (λ q. next_of r (heard r m) (adopted table r.tables) namespace (was_created create table) at q)
-      (λ q. next_keeps_told r (heard r m) (adopted table r.tables) namespace (was_created create table) at q) r.requests
+  requests = from_next r _ _ _ (heard r m) (λ q. next_of r (heard r m) (adopted table r.tables) namespace (was_created create table) at q)
+      (λ q. next_keeps r (heard r m) (adopted table r.tables) namespace (was_created create table) at q) r.requests
       (all_from (λ q. IsIn q r.requests) r.requests (λ q stands. stands));
 }
 row_times _ _ _ _ (router_split r m id q middle says o work) =
@@ -174,7 +153,8 @@ row_times _ _ _ _ (router_reach r m id q named at stages telling says o w t le) 
   same = λ n. refl;
   shards = refl;
   later = omega arith;
-  requests = from_replaced r _ _ _ (going_on r (heard r m) q (reached (heard r m) q.work)) (from_before q (open_of_found r id q o).stands refl refl);
+  requests = from_after r _ _ _ (heard r m) q (begins_work r (heard r m) q (reached (heard r m) q.work)) (open_of_found r id q o).stands
+      (begins_keeps r (heard r m) q (reached (heard r m) q.work));
 }
 row_times _ _ _ _ (router_hear r m id q named at stages telling says o w t le some) = record {
   same = λ n. refl;
@@ -185,15 +165,15 @@ row_times _ _ _ _ (router_hear r m id q named at stages telling says o w t le so
 }
 row_times _ _ _ _ (router_ahead r m id q named at stages telling says o w t le all) =
     record { same = λ n. refl; shards = refl; later = omega arith; requests = from_without r _ _ _ q.count }
-row_times _ _ _ _ (router_note r m id dones q kind ordered statements answers says o w n c) = record {
+row_times _ _ _ _ (router_note r m id dones q kind ordered statements c next says o w n is) = record {
   same = λ n. refl;
   shards = refl;
   later = omega arith;
-  requests = from_replaced r _ _ _ (going_on r (heard r m) q (writing kind ordered statements (noted answers dones)))
-      (from_before q (open_of_found r id q o).stands refl refl);
+  requests = from_after r _ _ _ (heard r m) q next (open_of_found r id q o).stands
+      (subst (λ x. Continues r (heard r m) q x) (sym is)
+      (write_keeps r (heard r m) r.tables ordered (served_in_part (noted ordered c.answers dones) c.runs) q kind ordered statements
+      (settled c (noted ordered c.answers dones))));
 }
-row_times _ _ _ _ (router_wrote r m id dones q kind ordered statements answers says o w n c) =
-    record { same = λ n. refl; shards = refl; later = omega arith; requests = from_without r _ _ _ q.count }
 row_times _ _ _ _ (router_part r m id rows q named at stages telling says o w target some) = record {
   same = λ n. refl;
   shards = refl;

@@ -15,7 +15,8 @@ use Rattle.pipeline_model.specs.Split.{split}
 use Rattle.history_model.specs.History.{IsIn}
 use Rattle.reply_model.specs.Right.{WasCreated}
 use Rattle.node_model.specs.States.{Target}
-use Rattle.node_model.specs.RouterRows.{owners_of_span, targets_at, is_owned_at, adopted}
+use Rattle.node_model.specs.RouterRequests.{owners_of_span, targets_at, is_owned_at}
+use Rattle.node_model.specs.RouterNext.{adopted}
 use Rattle.node_laws.proofs.Views.{View, changes_in, MovesNothing}
 use Rattle.node_laws.proofs.TableFacts.{IsSentBy}
 use Rattle.node_laws.proofs.Facts.{IsKnownTable}

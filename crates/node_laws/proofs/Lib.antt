@@ -7,6 +7,9 @@ pub mod CatalogueAnswers
 pub mod Places
 pub mod ReadFacts
 pub mod WriteFacts
+pub mod Outcomes
+pub mod SentRuns
+pub mod SingleParts
 pub mod TimeFacts
 pub mod SplitFacts
 pub mod TableFacts
@@ -19,7 +22,6 @@ pub mod KeptDocuments
 pub mod OwnCursors
 pub mod LongerJournals
 pub mod Histories
-pub mod WholeWrites
 pub mod Growth
 pub mod Journals
 pub mod Dates
@@ -34,11 +36,14 @@ pub mod Neighbours
 pub mod OneJournal
 pub mod OpenRequests
 pub mod NextRequests
+pub mod NextKeeps
+pub mod NextCases
 pub mod KnownTables
 pub mod TableVersions
 pub mod NotedOutcomes
 pub mod ReadTimes
 pub mod RouterAsks
+pub mod Goings
 pub mod EmptyReads
 pub mod RouterAnswers
 pub mod ReadAnswers

@@ -14,7 +14,7 @@ use Rattle.reply_model.specs.Outcomes.{StatementOutcome, is_older, Done, answer_
 use Rattle.reply_model.specs.Right.{ends, IsEntryAt}
 use Rattle.node_model.specs.Letters.{Statement}
 use Rattle.node_model.specs.Service.{entry_for, Serves, serves_no_more, serves_again, serves_new, ends_again, ends_new}
-use Rattle.node_model.specs.RouterRows.{statements_from}
+use Rattle.node_model.specs.RouterRequests.{statements_from}
 use Rattle.node_laws.proofs.WriteFacts.{IsAnswerOf, by_entry, by_older, AreAnswers, AreDoneBefore}
 use Rattle.node_laws.proofs.SeenStatements.{true_false, IsFound, found_entry, found_older, seen_found}
 use Rattle.node_laws.proofs.ServedStatements.{AreUpTo, up_to_next, IsOf, AreOf}

@@ -12,7 +12,7 @@ use Rattle.node_model.specs.Letters.{Letter, Input, client_input, letter_input, 
 use Rattle.node_model.specs.States.{Catalogue, Shard, Router, NodeState, catalogue_state, shard_state, router_state}
 use Rattle.node_model.specs.CatalogueRows.{CatalogueRow, catalogue_create, catalogue_tell, catalogue_split, catalogue_bound, catalogue_none, catalogue_skip, catalogue_moment, catalogue_opened, catalogue_client}
 use Rattle.node_model.specs.ShardRows.{ShardRow, shard_write, shard_repeat, shard_empty, shard_park, shard_waits, shard_stale, shard_read, shard_read_above, shard_rows, shard_excess, shard_overflow, shard_time, shard_learn, shard_known, shard_skip, shard_moment, shard_opened, shard_client}
-use Rattle.node_model.specs.RouterRows.{RouterRow, begins, router_begin, router_opened, router_plain, router_more, router_no_cursor, router_kill, router_take, router_learn, router_split, router_not_sharded, router_reach, router_hear, router_ahead, router_note, router_wrote, router_part, router_read, router_excess, router_overflow, router_late, router_skip, router_moment}
+use Rattle.node_model.specs.RouterRows.{RouterRow, begins, router_begin, router_opened, router_plain, router_more, router_no_cursor, router_kill, router_take, router_learn, router_split, router_not_sharded, router_reach, router_hear, router_ahead, router_note, router_part, router_read, router_excess, router_overflow, router_late, router_skip, router_moment}
 use Rattle.node_model.specs.Steps.{Step, catalogue_step, shard_step, router_step, begin_step, other_step}
 use Rattle.node_model.specs.World.{World, asked_by, moment_in, Moves}
 use Rattle.node_laws.proofs.Places.{EachAt, each_get, each_set}
@@ -82,9 +82,7 @@ row_moments _ _ _ _ (router_hear r m id q named at stages telling says o w t le 
     { me = refl; moment = refl; time = omega arith; reached = λ h. omega arith; taken = tt }
 row_moments _ _ _ _ (router_ahead r m id q named at stages telling says o w t le all) = record
     { me = refl; moment = refl; time = omega arith; reached = λ h. omega arith; taken = tt }
-row_moments _ _ _ _ (router_note r m id dones q kind ordered statements answers says o w n c) = record
-    { me = refl; moment = refl; time = omega arith; reached = λ h. omega arith; taken = tt }
-row_moments _ _ _ _ (router_wrote r m id dones q kind ordered statements answers says o w n c) = record
+row_moments _ _ _ _ (router_note r m id dones q kind ordered statements c next says o w n is) = record
     { me = refl; moment = refl; time = omega arith; reached = λ h. omega arith; taken = tt }
 row_moments _ _ _ _ (router_part r m id rows q named at stages telling says o w target some) = record
     { me = refl; moment = refl; time = omega arith; reached = λ h. omega arith; taken = tt }

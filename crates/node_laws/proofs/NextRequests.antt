@@ -8,7 +8,8 @@ use Rattle.reply_model.specs.Exchanges.{Answered}
 use Rattle.reply_model.specs.OneHistory.{ids_told}
 use Rattle.node_model.specs.Letters.{Letter, Reply}
 use Rattle.node_model.specs.States.{Open, Router}
-use Rattle.node_model.specs.RouterRows.{id_of, Next, stays, is_told, stay_in, letters_in, replies_in}
+use Rattle.node_model.specs.RouterRequests.{id_of}
+use Rattle.node_model.specs.RouterNext.{Next, stays, is_told, stay_in, letters_in, replies_in}
 use Rattle.node_model.specs.World.{answered_by}
 use Rattle.node_laws.proofs.Facts.{counts_of, AreDifferentCounts}
 use Rattle.node_laws.proofs.OpenRequests.{IsParted}

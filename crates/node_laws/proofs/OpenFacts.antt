@@ -1,15 +1,18 @@
 -- What open requests are, at a later time of their router and with other work.
-use Rattle.std.proofs.Common.{◌≡◌, inl, inr, ℕ, ◌<◌, ◌≤◌, List, [], ◌++◌, refl, ap, subst, ◌∙◌, arith, append-nil, Bool}
+use Rattle.std.proofs.Common.{◌≡◌, inl, inr, ℕ, ◌<◌, ◌≤◌, ◌≢◌, List, [], ◌++◌, refl, ap, subst, ◌∙◌, arith, append-nil, Bool}
 use Rattle.std.specs.Prelude.{None, true, false, nat_lt}
 use Rattle.std.specs.List.{AllByRecursion}
 use Rattle.std.proofs.lemmas.Bool.{ltb-true, ltb-false}
 use Rattle.history_model.proofs.Lists.{all_at}
 use Rattle.base_model.specs.Identities.{RequestId}
+use Rattle.history_model.specs.History.{IsIn}
 use Rattle.reply_model.specs.Exchanges.{Asked, Answered}
 use Rattle.node_model.specs.Letters.{Letter}
 use Rattle.node_model.specs.States.{Target, Work, writing, reading, sharding, splitting, Wait, Open, Router}
-use Rattle.node_model.specs.RouterRows.{id_of, is_ahead, with_work}
+use Rattle.node_model.specs.RouterRequests.{id_of}
+use Rattle.node_model.specs.RouterNext.{with_work}
 use Rattle.node_laws.proofs.Views.{View, chosen_time, Later}
+use Rattle.node_laws.proofs.ReadFacts.{is_ahead}
 use Rattle.node_laws.proofs.TableFacts.{IsSentTo}
 use Rattle.node_laws.proofs.Facts.{LetterFits, WorkFits, AreSeen, HasTime, IsOpenOf, IsBy}
 use Rattle.node_laws.proofs.Growth.{letter_grows, seen_grows}
@@ -47,14 +50,20 @@ ahead_later a b (reading named at stages telling) le not_ahead = by_test (nat_lt
 ahead_later a b sharding le not_ahead = refl
 ahead_later a b (splitting middle) le not_ahead = refl
 
--- an open request proceeds, with other work
-pub open_goes : (v : View) (asked : List Asked) (answered : List Answered) (r s : Router) (q : Open) (wait : Wait) (targets : List Target) (work : Work)
-    → r.time ≤ s.time
-    → (o : IsOpenOf v asked answered r q)
-    → HasTime v o.request (id_of r q.count) s.time wait work
-    → WorkFits o.request q.namespace work → AreSeen v s.time o.request work → IsSentTo v s.time q.namespace wait work targets
-    → IsOpenOf v asked answered (with_own r s) (with_work q wait targets work)
-open_goes v asked answered r s q wait targets work later o reached fits seen sent = record {
+-- what is known of an open request whatever it has to do
+pub record IsOpener (v : View) (asked : List Asked) (answered : List Answered) (r : Router) (time : ℕ) (q : Open) : Type 0 where
+  pub request : Asked
+  pub taken : IsIn request asked
+  pub own : request.id ≡ id_of r q.count
+  pub link : request.link ≡ q.link
+  pub number : request.number ≡ q.number
+  pub asks : request.request ≡ q.request
+  pub past : request.time ≤ time
+  pub silent : AllByRecursion (λ (t : Answered). t.id ≢ id_of r q.count) answered
+
+abbrev pub opener_of : (v : View) (asked : List Asked) (answered : List Answered) (r : Router) (time : ℕ) (q : Open) → r.time ≤ time → IsOpenOf v asked answered r q
+    → IsOpener v asked answered r time q
+opener_of v asked answered r time q later o = record {
   request = o.request;
   taken = o.taken;
   own = o.own;
@@ -62,8 +71,25 @@ open_goes v asked answered r s q wait targets work later o reached fits seen sen
   number = o.number;
   asks = o.asks;
   past = (let p = o.past in omega arith);
-  reached = reached;
   silent = o.silent;
+}
+
+-- an open request proceeds, with other work
+pub opens_with : (v : View) (asked : List Asked) (answered : List Answered) (r s : Router) (q : Open) (wait : Wait) (targets : List Target) (work : Work)
+    → (k : IsOpener v asked answered r s.time q)
+    → HasTime v k.request (id_of r q.count) s.time wait work
+    → WorkFits k.request q.namespace work → AreSeen v s.time k.request work → IsSentTo v s.time q.namespace wait work targets
+    → IsOpenOf v asked answered (with_own r s) (with_work q wait targets work)
+opens_with v asked answered r s q wait targets work k reached fits seen sent = record {
+  request = k.request;
+  taken = k.taken;
+  own = k.own;
+  link = k.link;
+  number = k.number;
+  asks = k.asks;
+  past = k.past;
+  reached = reached;
+  silent = k.silent;
   work = fits;
   seen = seen;
   sent = sent;

@@ -9,7 +9,8 @@ use Rattle.base_model.specs.Identities.{RequestId, same_request}
 use Rattle.reply_model.specs.Exchanges.{Answered}
 use Rattle.reply_model.specs.OneHistory.{ids_told, AreDifferent}
 use Rattle.node_model.specs.States.{Open, Router, open_with, without, replaced}
-use Rattle.node_model.specs.RouterRows.{id_of, open_of}
+use Rattle.node_model.specs.RouterRequests.{id_of}
+use Rattle.node_model.specs.RouterRows.{open_of}
 use Rattle.node_laws.proofs.Facts.{counts_of, AreDifferentCounts}
 use Rattle.node_laws.proofs.Lists.{all_of}
 use Rattle.reply_facts.proofs.Requests.{same_id}

@@ -12,7 +12,7 @@ use Rattle.node_model.specs.Journal.{Kept}
 use Rattle.node_model.specs.Letters.{Letter}
 use Rattle.reply_model.specs.Cursors.{Cursor}
 use Rattle.node_model.specs.States.{Target, Router, Wait, for_time, for_catalogue, for_shards, Work, writing, reading, sharding, splitting, Open, NodeState, catalogue_state, shard_state, router_state, time_of_node}
-use Rattle.node_model.specs.RouterRows.{id_of}
+use Rattle.node_model.specs.RouterRequests.{id_of}
 use Rattle.node_model.specs.World.{Held}
 use Rattle.node_laws.proofs.Views.{Choice, View, chosen_time, changes_in, history_in, Later}
 use Rattle.node_laws.proofs.ReadFacts.{WaitsFor, IsDecided}

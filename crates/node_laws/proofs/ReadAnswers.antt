@@ -33,7 +33,8 @@ use Rattle.reply_model.specs.Reads.{IsTimeRead, MayGive, IsExcess, excess_half}
 use Rattle.reply_model.specs.Right.{asks_for_one, usual_size, refused_overflow, refused_excess, right_find, right_count, right_refused_read}
 use Rattle.reply_model.specs.OneHistory.{ids_asked, AreDifferent}
 use Rattle.node_model.specs.States.{Telling, in_batches, as_number, Open}
-use Rattle.node_model.specs.RouterRows.{too_much, empty_answer}
+use Rattle.node_model.specs.RouterNext.{empty_answer}
+use Rattle.node_model.specs.RouterRows.{too_much}
 use Rattle.node_model.specs.ShardRows.{IsTold}
 use Rattle.reply_facts.proofs.Requests.{one_asked}
 use Rattle.node_laws.proofs.Views.{View, entries_in, changes_in, chosen_time, history_in, HavePassed, account_in}

@@ -1,6 +1,6 @@
 -- What is known of reads: of which time they are, how their results are returned, and what a shard has for them.
 use Rattle.std.proofs.Common.{◌≡◌, ℕ, ◌<◌, ◌≤◌, List}
-use Rattle.std.specs.Prelude.{Some, None, Result, Ok, Err, Bool, true, false}
+use Rattle.std.specs.Prelude.{Some, None, Result, Ok, Err, Bool, true, false, nat_lt}
 use Rattle.std.specs.List.{AllByRecursion}
 use Rattle.std.specs.Option.{unwrap_or}
 use Rattle.bson_model.specs.Tree.{Fields}
@@ -35,6 +35,13 @@ NoneBegan v namespace time = (time ≤ v.bound 0) × AllByRecursion (BeginsAfter
 
 -- THE TIME OF A READ
 
+-- it reads at a time that is not reached
+abbrev pub is_ahead : ℕ → Work → Bool
+is_ahead time (writing kind ordered statements c) = false
+is_ahead time (reading named at stages telling) = nat_lt time at
+is_ahead time sharding = false
+is_ahead time (splitting middle) = false
+
 -- a read of a request is of this time: of the one that it names, of the router's as it took the request, or of one that is reached later
 pub data IsTimeAt (a : Asked) (read : Reading) (at : ℕ) : (named : Bool) → Type 0 where
   is_named : read.at ≡ Some at → IsTimeAt a read at true
@@ -50,13 +57,13 @@ pub record IsAwaited (v : View) (a : Asked) (id : RequestId) (at : ℕ) : Type 0
   pub undecided : chosen_time id v.chosen ≡ None
 
 abbrev pub WaitsFor : View → Asked → RequestId → Work → Type 0
-WaitsFor v a id (writing kind ordered statements answers) = ⊥
+WaitsFor v a id (writing kind ordered statements c) = ⊥
 WaitsFor v a id (reading named at stages telling) = IsAwaited v a id at
 WaitsFor v a id sharding = ⊥
 WaitsFor v a id (splitting middle) = ⊥
 
 abbrev pub IsDecided : View → RequestId → Work → Type 0
-IsDecided v id (writing kind ordered statements answers) = Unit {0}
+IsDecided v id (writing kind ordered statements c) = Unit {0}
 IsDecided v id (reading named at stages telling) = chosen_time id v.chosen ≡ Some at
 IsDecided v id sharding = Unit {0}
 IsDecided v id (splitting middle) = Unit {0}

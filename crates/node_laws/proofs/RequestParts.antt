@@ -2,7 +2,7 @@
 use Rattle.std.proofs.Common.{◌≡◌, ◌≢◌, ℕ, ◌+◌, ◌<◌, List, [], ◌∷◌, ◌++◌, refl, sym, ap, subst, ◌∙◌, arith, append_assoc, append-nil, Bool}
 use Rattle.std.specs.Prelude.{Option, Some, None, Result, Ok, true, false, map, length, drop, if◌then◌else◌}
 use Rattle.std.specs.List.{AllByRecursion}
-use Rattle.std.proofs.lemmas.List.{length-map}
+use Rattle.std.proofs.lemmas.List.{length-map, length-append}
 use Rattle.history_model.proofs.Keyed.{written_is_key}
 use Rattle.bson_model.specs.Tree.{Datum}
 use Rattle.command_model.specs.Writes.{ClientNumber, WriteCommand}
@@ -17,19 +17,22 @@ use Rattle.reply_model.specs.Right.{ends, AreStatements, IsPart, told_by}
 use Rattle.reply_model.specs.OneHistory.{StandsInPart, IsPlaced, ids_asked, AreDifferent}
 use Rattle.node_model.specs.Letters.{Statement}
 use Rattle.node_model.specs.Service.{Serves}
-use Rattle.node_model.specs.RouterRows.{statements_from, owner_of_statement}
+use Rattle.node_model.specs.RouterRequests.{statements_from, owner_of_statement}
 use Rattle.node_laws.proofs.Views.{View, changes_in}
-use Rattle.node_laws.proofs.Facts.{IsOwned, IsWriteOf}
+use Rattle.node_laws.proofs.Facts.{IsOwned, IsStatementOf, IsWriteOf}
 use Rattle.node_laws.proofs.CatalogueTables.{owned_from}
 use Rattle.node_laws.proofs.KnownTables.{table_created, known_now}
 use Rattle.node_laws.proofs.Lists.{all_unmapped, all_within, all_prefix}
 use Rattle.node_laws.proofs.Growth.{entries_by_longer}
 use Rattle.reply_facts.proofs.Requests.{same_id, one_asked}
+use Rattle.reply_facts.proofs.Statements.{part_same}
+use Rattle.node_laws.proofs.Outcomes.{index_is}
+use Rattle.history_model.proofs.Lists.{all_weaken}
 use Rattle.node_laws.proofs.Requests.{other_number}
 use Rattle.node_laws.proofs.SeenStatements.{true_false, own_session}
 use Rattle.node_laws.proofs.NotedOutcomes.{HasNoOther}
 use Rattle.node_laws.proofs.ServedStatements.{IsOf, AreOf, IsEntryOf, statement_of}
-use Rattle.node_laws.proofs.MadeEntries.{drop_statements, statements_of}
+use Rattle.node_laws.proofs.MadeEntries.{drop_statements}
 use Rattle.node_laws.proofs.ServedParts.{GoOn, front_below, behind_front, other_back, serves_stands}
 
 -- OWNERS
@@ -80,7 +83,14 @@ owned_placed v time namespace receiver e (shard, name, o) later =
 pub ask_own : (v : View) (asked : List Asked) (receiver time : ℕ) (id : RequestId) (ordered : Bool) (namespace : List ℕ) (statements : List Statement)
     → (a : IsWriteOf v asked receiver time id ordered namespace statements) → AreOf a.write id statements
 ask_own v asked receiver time id ordered namespace statements a =
-    all_prefix (IsOf a.write id) statements a.back (subst (λ l. AreOf a.write id l) a.next (statements_of a.write id (length a.front)))
+    all_weaken (IsStatementOf a.write id) (IsOf a.write id) statements (λ s f. own s f) a.each
+  where
+    own : (s : Statement) → IsStatementOf a.write id s → IsOf a.write id s
+    own s f =
+        let at : s.number.index ≡ length f.before = ap (λ (n : StatementNumber). n.index) f.numbered ∙ index_is a.write.number id (length f.before) in
+        let long : length a.write.operations ≡ length (f.before ++ f.operation ∷ f.back) = ap (λ (l : List Operation). length l) f.all in
+        let parts : length (f.before ++ f.operation ∷ f.back) ≡ length f.before + length (f.operation ∷ f.back) = length-append f.before (f.operation ∷ f.back) in
+        record { numbered = f.numbered ∙ ap (λ n. number_for a.write.number id n) (sym at); within = omega (arith, at, long, parts) }
 
 -- the outcomes of some entries are those of the first of them
 pub record ToldFirst (entries : List Entry) (front : List Done) : Type 0 where
@@ -158,7 +168,7 @@ parts_longer asked entries made own write different taken asks mine part parts =
         let different : own.id ≢ a.id = λ e. true_false (sym (own_session own.id) ∙ ap (λ n. same_request own.id n) e ∙ other) in
         let same : entries_by a.id (entries ++ made) ≡ entries_by a.id entries = entries_by_longer a.id entries made
         ∙ ap (λ l. entries_by a.id entries ++ l) (none_of_other write.number own.id a.id made different mine) ∙ append-nil (entries_by a.id entries) in
-        subst (λ l. AreStatements a.id wanted.namespace wanted.ordered 0 wanted.operations l) (sym same) (old wanted is none)
+        part_same entries (entries ++ made) a.id wanted same (old wanted is none)
 
     each : (a : Asked) → IsIn a asked → StandsInPart entries a → StandsInPart (entries ++ made) a
     each a i p = by_id a i p (same_request own.id a.id) refl

@@ -7,11 +7,12 @@ use Rattle.command_model.specs.Writes.{ClientNumber}
 use Rattle.history_model.specs.History.{Session, client_session, router_session, StatementNumber, Entry}
 use Rattle.base_model.specs.Identities.{RequestId, same_request}
 use Rattle.reply_model.specs.Exchanges.{Asked, Answered, number_for, is_session_of, entries_by}
-use Rattle.reply_model.specs.Right.{Sends, AreStatements}
+use Rattle.reply_model.specs.Right.{Sends}
 use Rattle.reply_model.specs.OneHistory.{StandsInPart, IsNotBefore, IsFresh, ids_asked, AreDifferent}
 use Rattle.node_model.specs.Letters.{Taken, Reply}
 use Rattle.node_model.specs.World.{asked_by, answered_by}
 use Rattle.reply_facts.proofs.Requests.{same_id}
+use Rattle.reply_facts.proofs.Statements.{part_none}
 use Rattle.node_laws.proofs.WriteFacts.{WasMade}
 use Rattle.node_laws.proofs.Lists.{all_of}
 use Rattle.node_laws.proofs.SeenStatements.{own_session}
@@ -71,8 +72,7 @@ pub parts_grow : (asked more : List Asked) (history entries : List Entry) → Ar
 parts_grow asked more history entries different sent parts =
     all_append (StandsInPart entries) asked more parts
     (all_weaken (IsNew asked) (StandsInPart entries) more
-    (λ a new write asks own. subst (λ l. AreStatements a.id write.namespace write.ordered 0 write.operations l)
-    (sym (none_by history asked a entries new sent)) tt)
+    (λ a new write asks own. part_none entries a.id write (none_by history asked a entries new sent))
     (new_ones asked more different))
 
 -- what is answered in this step is answered in it, by this router

@@ -1,6 +1,6 @@
 -- The replies of a router are right, and stay so.
 use Rattle.std.proofs.Common.{◌≡◌, ◌≢◌, ◌⊎◌, inl, inr, ℕ, ◌+◌, ◌<◌, ◌≤◌, List, [], ◌∷◌, ◌++◌, refl, sym, ap, subst, ◌∙◌, arith, append-nil, append_assoc, Bool}
-use Rattle.std.specs.Prelude.{pos, Option, Some, None, Result, Ok, Err, true, false, length, int_lt, if◌then◌else◌}
+use Rattle.std.specs.Prelude.{pos, Option, Some, None, Result, Ok, Err, true, false, is_some, length, int_lt, ◌&&◌, if◌then◌else◌}
 use Rattle.std.specs.List.{AllByRecursion}
 use Rattle.history_model.proofs.Lists.{all_weaken, all_at, in_push}
 use Rattle.base_model.specs.Refusals.{Refusal, time_ahead}
@@ -10,24 +10,30 @@ use Rattle.command_model.specs.Answers.{Answer, hello_answer, legacy_answer, ref
 use Rattle.reply_model.specs.Cursors.{Cursor}
 use Rattle.history_model.specs.History.{StatementNumber, Operation, Entry, IsIn}
 use Rattle.base_model.specs.Identities.{RequestId}
-use Rattle.reply_model.specs.Exchanges.{Asked, Answered, number_for, entries_by}
-use Rattle.reply_model.specs.Outcomes.{StatementOutcome, Done, answer_of}
-use Rattle.reply_model.specs.Right.{ends, IsStatement, HadSent, MayBeTold, told_own, told_other, told_older, AreTold, IsPart, told_by, AreAll, right_write, right_refused_read, refused_ahead, right_hello, right_legacy, right_ping, right_end_sessions, right_refusal}
-use Rattle.reply_model.specs.OneHistory.{StandsInPart, ids_asked, AreDifferent}
+use Rattle.reply_model.specs.Exchanges.{Asked, Answered, number_for}
+use Rattle.reply_model.specs.Outcomes.{StatementOutcome, Done, refusal_in, dones_from, answer_of}
+use Rattle.reply_model.specs.Accounts.{Account}
+use Rattle.command_model.proofs.Taken.{some_operations}
+use Rattle.reply_model.specs.Right.{IsStatement, HadSent, MayBeTold, told_own, told_other, told_older, AreTold, IsPart, IsWhole, right_write, right_refused_read, refused_ahead, right_hello, right_legacy, right_ping, right_end_sessions, right_refusal}
+use Rattle.reply_model.specs.OneHistory.{StandsInPart, IsPlaced, ids_asked, AreDifferent}
 use Rattle.node_model.specs.Letters.{Statement, Reply}
-use Rattle.node_model.specs.States.{writing, Open, Router}
-use Rattle.node_model.specs.RouterRows.{statements_from, noted, is_answered, at_once, plan_of, reply_to}
+use Rattle.node_model.specs.States.{Course, writing, Open, Router}
+use Rattle.node_model.specs.RouterRequests.{statements_from, at_once, plan_of}
+use Rattle.node_model.specs.RouterNext.{noted, is_answered, reply_to}
 use Rattle.reply_facts.proofs.Requests.{number_same, one_asked}
-use Rattle.node_laws.proofs.Views.{View, entries_in, history_in, IsShardAt, account_in}
+use Rattle.reply_facts.proofs.Statements.{one_number, part_whole}
+use Rattle.node_laws.proofs.Views.{View, entries_in, changes_in, history_in, IsShardAt, account_in}
 use Rattle.node_laws.proofs.ReadFacts.{IsAwaited}
 use Rattle.node_laws.proofs.TimeFacts.{IsToldOf, IsPast}
-use Rattle.node_laws.proofs.WriteFacts.{IsAnswerOf, by_entry, by_older, IsDoneAt, AreAnswers, OnlyLast, WasMade}
+use Rattle.node_laws.proofs.WriteFacts.{IsAnswerOf, by_entry, by_older, IsDoneAt, OnlyLast, WasMade}
+use Rattle.node_laws.proofs.Outcomes.{AreOutcomes, AreNone, IsFront, no_dones, open_ends, noted_long, noted_outcomes, noted_front, statements_long}
+use Rattle.node_laws.proofs.CatalogueTables.{placed_first}
 use Rattle.node_laws.proofs.Facts.{HasBegun, IsDoneOf, WorkFits, AreSeen, IsOpenOf, AnswerFits, NeighboursFit}
 use Rattle.node_laws.proofs.SeenStatements.{true_false}
 use Rattle.node_laws.proofs.Histories.{entry_of_shard}
 use Rattle.node_laws.proofs.Growth.{done_at_grows}
 use Rattle.node_laws.proofs.Answers.{StaysRight}
-use Rattle.node_laws.proofs.NotedOutcomes.{HasNoOther, made_no_other, answers_stand, noted_answers, noted_last, IsAllTold, told_whole}
+use Rattle.node_laws.proofs.NotedOutcomes.{made_no_other}
 use Rattle.node_laws.proofs.AnswerTimes.{ShowsBelow, refusal_below, hello_below, legacy_below, done_below}
 
 -- the answer that a reply is, in a step
@@ -159,72 +165,70 @@ module _ (v : View) (asked : List Asked) (answered : List Answered) (a : Asked) 
       by_number None none answer is = of_own (number_for write.number t.id (length prefix)) refl none answer is
       by_number (Some by) some answer is = of_client by some answer is
 
-  -- answers to all statements, or up to the error that ends the command
-  are_told : (given : Option ClientNumber) (prefix operations : List Operation) (dones : List Done) → write.operations ≡ prefix ++ operations
-      → AreAnswers (history_in v) t.time write t.id (length prefix) dones → OnlyLast write.ordered dones
-      → is_answered write.ordered (statements_from given t.id (length prefix) operations) dones ≡ true
-      → AreTold (account_in v asked answered) t write (length prefix) operations dones
-  are_told given prefix [] [] both all last whole = refl
-  are_told given prefix [] (d ∷ dones) both all last whole =
-      let none : length write.operations ≡ length prefix = ap (λ (l : List Operation). length l) (both ∙ append-nil prefix) in
-      let within = all.1.within in
-      let at = all.0 in
-      absurd (omega arith)
-  are_told given prefix (operation ∷ operations) [] both all last whole = absurd (cc)
-  are_told given prefix (operation ∷ operations) (d ∷ dones) both all last whole =
-      let longer : length (prefix ++ operation ∷ []) ≡ length prefix + 1 = length_push prefix in (
-        all.0,
-        may_tell prefix operation operations d.answer both
-            (subst (λ n. IsAnswerOf (history_in v) t.time (number_for write.number t.id n) d.answer) all.0 all.1.answer),
-        by_end (ends write.ordered d) refl whole
-            (λ rest. subst (λ n. AreTold (account_in v asked answered) t write n operations dones) longer
-            (are_told given (prefix ++ operation ∷ []) operations dones (both ∙ sym (append_assoc prefix (operation ∷ []) operations))
-            (subst (λ n. AreAnswers (history_in v) t.time write t.id n dones) (sym longer) all.2) last.1
-            (subst (λ n. is_answered write.ordered (statements_from given t.id n operations) dones ≡ true) (sym longer) rest))),
-      )
+  -- outcomes of all statements, or up to the error that ends the command
+  are_told : (prefix operations : List Operation) (answers : List (Option StatementOutcome)) → write.operations ≡ prefix ++ operations
+      → length answers ≡ length operations → AreOutcomes (history_in v) t.time write t.id (length prefix) answers
+      → (write.ordered ≡ true → IsFront answers) → is_answered write.ordered answers ≡ true
+      → AreTold (account_in v asked answered) t write (length prefix) operations (dones_from (length prefix) answers)
+  are_told prefix [] [] both long all front whole = refl
+  are_told prefix [] (x ∷ answers) both long all front whole = absurd (omega arith)
+  are_told prefix (operation ∷ operations) [] both long all front whole = absurd (omega arith)
+  are_told prefix (operation ∷ operations) (None ∷ answers) both long all front whole = absurd (cc)
+  are_told prefix (operation ∷ operations) (Some x ∷ answers) both long all front whole = (
+    refl,
+    may_tell prefix operation operations x both all.0.answer,
+    by_end write.ordered (is_some (refusal_in x)) refl refl whole front
+        (λ front rest. subst (λ n. AreTold (account_in v asked answered) t write n operations (dones_from n answers)) (length_push prefix)
+        (are_told (prefix ++ operation ∷ []) operations answers (both ∙ sym (append_assoc prefix (operation ∷ []) operations)) (omega arith)
+        (subst (λ n. AreOutcomes (history_in v) t.time write t.id n answers) (sym (length_push prefix)) all.1) front rest)),
+  )
     where
       length_push : (xs : List Operation) → length (xs ++ operation ∷ []) ≡ length xs + 1
       length_push [] = refl
       length_push (y ∷ xs) = let n = length_push xs in omega (arith, n)
 
-      by_end : (b : Bool) → ends write.ordered d ≡ b
-          → (if b then true else is_answered write.ordered (statements_from given t.id (length prefix + 1) operations) dones) ≡ true
-          → (is_answered write.ordered (statements_from given t.id (length prefix + 1) operations) dones ≡ true
-          → AreTold (account_in v asked answered) t write (length prefix + 1) operations dones)
-          → (elim b as (λ z. Type 0) [
-            | true ↦ dones ≡ []
-            | false ↦ AreTold (account_in v asked answered) t write (length prefix + 1) operations dones
+      by_end : (o b : Bool) → write.ordered ≡ o → is_some (refusal_in x) ≡ b → (if o && b then true else is_answered o answers) ≡ true
+          → (o ≡ true → elim b as (λ z. Type 0) [ true ↦ AreNone answers | false ↦ IsFront answers ])
+          → ((write.ordered ≡ true → IsFront answers) → is_answered write.ordered answers ≡ true
+          → AreTold (account_in v asked answered) t write (length prefix + 1) operations (dones_from (length prefix + 1) answers))
+          → (elim (o && b) as (λ z. Type 0) [
+            | true ↦ dones_from (length prefix + 1) answers ≡ []
+            | false ↦ AreTold (account_in v asked answered) t write (length prefix + 1) operations (dones_from (length prefix + 1) answers)
           ])
-      by_end true h w more = last.0 h
-      by_end false h w more = more w
+      by_end true true order ends whole front more = no_dones (length prefix + 1) answers (front refl)
+      by_end true false order ends whole front more = more (λ e. front refl) (ap (λ b. is_answered b answers) order ∙ whole)
+      by_end false b order ends whole front more =
+          more (λ e. absurd (true_false (sym e ∙ order))) (ap (λ b. is_answered b answers) order ∙ whole)
 
 -- what is noted of an open write
 pub record NotedFits (v : View) (a : Asked) (time : ℕ) (namespace : List ℕ) (kind : WriteKind) (ordered : Bool) (statements : List Statement)
-    (told : List Done) : Type 0 where
+    (answers : List (Option StatementOutcome)) : Type 0 where
   pub write : WriteCommand
   pub asks : command_of a.request ≡ Ok (write_command write)
   pub is : kind ≡ write.kind
   pub name : namespace ≡ write.namespace
   pub order : ordered ≡ write.ordered
   pub all : statements ≡ statements_from write.number a.id 0 write.operations
-  pub answers : AreAnswers (history_in v) time write a.id 0 told
-  pub last : OnlyLast write.ordered told
+  pub long : length answers ≡ length statements
+  pub outcomes : AreOutcomes (history_in v) time write a.id 0 answers
+  pub front : ordered ≡ true → IsFront answers
   pub begun : HasBegun v time write.namespace
 
 pub noted_fits : (v : View) (asked : List Asked) (a : Asked) (sender early time : ℕ) (id : RequestId) (namespace : List ℕ)
-    (kind : WriteKind) (ordered : Bool) (statements : List Statement) (answers dones : List Done)
-    → AreDifferent (ids_asked asked) → IsIn a asked → a.id ≡ id → WorkFits a namespace (writing kind ordered statements answers)
-    → AreSeen v time a (writing kind ordered statements answers) → early ≤ time → IsShardAt sender
-    → IsDoneOf v asked sender early id dones → NotedFits v a time namespace kind ordered statements (noted answers dones)
-noted_fits v asked a sender early time id namespace kind ordered statements answers dones different taken own
-    (write, asks, is, name, order, all, goes_on) seen le of_shard done =
+    (kind : WriteKind) (ordered : Bool) (statements : List Statement) (c : Course) (dones : List Done)
+    → AreDifferent (ids_asked asked) → IsIn a asked → a.id ≡ id → WorkFits a namespace (writing kind ordered statements c)
+    → AreSeen v time a (writing kind ordered statements c) → early ≤ time → IsShardAt sender
+    → IsDoneOf v asked sender early id dones → NotedFits v a time namespace kind ordered statements (noted ordered c.answers dones)
+noted_fits v asked a sender early time id namespace kind ordered statements c dones different taken own
+    (write, asks, is, name, order, all, course) seen le of_shard done =
     let one : done.request ≡ a = one_asked done.request a asked different done.taken taken (done.own ∙ sym own) in
     let same : done.write ≡ write = same_write done.write write (command_of a.request)
     (ap (λ (b : Asked). command_of b.request) (sym one) ∙ done.asks) asks in
     let each : AllByRecursion (IsDoneAt (entries_in v sender) early write a.id) dones =
     subst (λ i. AllByRecursion (IsDoneAt (entries_in v sender) early write i) dones) (sym own)
-    (subst (λ c. AllByRecursion (IsDoneAt (entries_in v sender) early c id) dones) same done.each) in
-    let begun : HasBegun v early write.namespace = subst (λ (c : WriteCommand). HasBegun v early c.namespace) same done.begun in
+    (subst (λ x. AllByRecursion (IsDoneAt (entries_in v sender) early x id) dones) same done.each) in
+    let last : OnlyLast write.ordered dones = subst (λ (x : WriteCommand). OnlyLast x.ordered dones) same done.last in
+    let begun : HasBegun v early write.namespace = subst (λ (x : WriteCommand). HasBegun v early x.namespace) same done.begun in
     let before = begun.before in
     record {
       write = write;
@@ -233,40 +237,48 @@ noted_fits v asked a sender early time id namespace kind ordered statements answ
       name = name;
       order = order;
       all = all;
-      answers = noted_answers (history_in v) time write a.id answers dones (seen write asks)
+      long = noted_long ordered c.answers dones ∙ course.long;
+      outcomes = noted_outcomes (history_in v) time write a.id ordered c.answers dones (seen write asks).0
           (all_weaken (IsDoneAt (entries_in v sender) early write a.id) (IsDoneAt (history_in v) time write a.id) dones
           (λ d x. done_at_grows (entries_in v sender) (history_in v) early time write a.id d (λ e i. entry_of_shard v sender e of_shard i) le x) each);
-      last = noted_last write.ordered answers dones (subst (λ b. AllByRecursion (λ d. ends b d ≡ false) answers) order goes_on)
-          (subst (λ (c : WriteCommand). OnlyLast c.ordered dones) same done.last);
+      front = λ in_order.
+          subst (λ b. IsFront (noted b c.answers dones)) (sym in_order)
+          (noted_front c.answers dones (course.front in_order)
+          (open_ends c.answers (course.front in_order) (subst (λ b. is_answered b c.answers ≡ false) in_order course.open_yet))
+          (subst (λ b. OnlyLast b dones) (sym order ∙ in_order) last));
       begun = record { creation = begun.creation; begun = begun.begun; name = begun.name; before = omega arith };
     }
 
+-- a write has statements
+some_told : (account : Account) (t : Answered) (write : WriteCommand) (operations : List Operation) (dones : List Done) → operations ≢ []
+    → AreTold account t write 0 operations dones → dones ≢ []
+some_told account t write [] dones some told none = some refl
+some_told account t write (operation ∷ operations) [] some told none = told
+some_told account t write (operation ∷ operations) (d ∷ dones) some told none = cc
+
 pub wrote_right : (v : View) (asked : List Asked) (old : List Answered) (cursors : List Cursor) (a : Asked) (t : Answered) (namespace : List ℕ)
-    (kind : WriteKind) (ordered : Bool)
-    (statements : List Statement) (told : List Done) → (n : NotedFits v a t.time namespace kind ordered statements told)
-    → IsTelling v asked a n.write t → is_answered ordered statements told ≡ true → told ≢ []
-    → t.document ≡ answer_document (answer_of kind t.time told) → StaysRight v asked old cursors a t cursors
-wrote_right v asked old cursors a t namespace kind ordered statements told n x whole some document =
-    let every : is_answered n.write.ordered (statements_from n.write.number a.id 0 n.write.operations) told ≡ true =
-    ap (λ l. is_answered n.write.ordered l told) (sym n.all) ∙ ap (λ b. is_answered b statements told) (sym n.order) ∙ whole in
+    (kind : WriteKind) (ordered : Bool) (statements : List Statement) (answers : List (Option StatementOutcome))
+    → (n : NotedFits v a t.time namespace kind ordered statements answers)
+    → IsTelling v asked a n.write t → is_answered ordered answers ≡ true
+    → t.document ≡ answer_document (answer_of kind t.time (dones_from 0 answers)) → StaysRight v asked old cursors a t cursors
+wrote_right v asked old cursors a t namespace kind ordered statements answers n x whole document =
+    let long : length answers ≡ length n.write.operations =
+    n.long ∙ ap (λ (l : List Statement). length l) n.all ∙ statements_long n.write.number a.id 0 n.write.operations in
+    let told : AreTold (account_in v asked old) t n.write 0 n.write.operations (dones_from 0 answers) =
+    are_told v asked old a n.write t x [] n.write.operations answers refl long
+    (subst (λ i. AreOutcomes (history_in v) t.time n.write i 0 answers) x.own n.outcomes) (λ e. n.front (n.order ∙ e))
+    (ap (λ b. is_answered b answers) (sym n.order) ∙ whole) in
     record {
-      right = right_write n.write told n.begun.creation n.asks
-          (are_told v asked old a n.write t x n.write.number [] n.write.operations told refl
-          (subst (λ i. AreAnswers (history_in v) t.time n.write i 0 told) x.own n.answers) n.last
-          (subst (λ i. is_answered n.write.ordered (statements_from n.write.number i 0 n.write.operations) told ≡ true) x.own every))
-          (λ own.
-          let part : IsPart (history_in v) a.id n.write =
-          all_at (StandsInPart (history_in v)) a asked x.around.parts x.taken n.write n.asks own in
-          let stands = answers_stand (history_in v) t.time n.write a.id told own
-          (all_weaken (WasMade (history_in v) asked) HasNoOther (history_in v)
-          (λ e m. made_no_other (history_in v) asked e m) x.around.sent) part n.answers in
-          let w : IsAllTold n.write.ordered n.write.operations told stands.0 =
-          told_whole n.write.number a.id n.write.namespace n.write.ordered 0 n.write.operations (entries_by a.id (history_in v)) told stands.0 part
-          stands.1 every in
-          let same : told_by a.id (history_in v) ≡ told = stands.1 ∙ ap (λ l. told ++ l) w.last ∙ append-nil told in
-          record { part = part; all = subst (λ l. AreAll n.write.ordered n.write.operations l) (sym same) w.all })
-          n.begun.begun n.begun.name n.begun.before (document ∙ ap (λ k. answer_document (answer_of k t.time told)) n.is);
-      settled = some;
+      right = right_write n.write (dones_from 0 answers) n.begun.creation n.asks told
+          (λ none. subst (λ (i : RequestId). IsWhole (history_in v) i n.write (dones_from 0 answers)) (sym x.own)
+          (part_whole (account_in v asked old) t n.write none
+          (one_number (history_in v) x.around.numbers
+          (λ e i. placed_first (changes_in v) x.around.begun.still e (all_at (IsPlaced (changes_in v)) e (history_in v) x.around.placed i)))
+          (dones_from 0 answers) told
+          (subst (λ (i : RequestId). IsPart (history_in v) i n.write) x.own
+          (all_at (StandsInPart (history_in v)) a asked x.around.parts x.taken n.write n.asks none))))
+          n.begun.begun n.begun.name n.begun.before (document ∙ ap (λ k. answer_document (answer_of k t.time (dones_from 0 answers))) n.is);
+      settled = some_told (account_in v asked old) t n.write n.write.operations (dones_from 0 answers) (some_operations a.request n.write n.asks) told;
     }
 
 -- AT ONCE

@@ -1,28 +1,32 @@
 -- The forms of the steps in which a router takes no request.
 use Rattle.std.proofs.Common.{◌≡◌, ◌≢◌, inr, ℕ, ◌+◌, ◌<◌, ◌≤◌, List, [], ◌∷◌, ◌++◌, refl, sym, ap, subst, ◌∙◌, arith, append-nil, Bool}
-use Rattle.std.specs.Prelude.{Option, Some, None, true, false, max, nat_lt, if◌then◌else◌}
+use Rattle.std.specs.Prelude.{None, true, false, max, nat_lt, ◌==◌, if◌then◌else◌}
 use Rattle.std.specs.List.{AllByRecursion, flat_map}
 use Rattle.std.proofs.lemmas.Bool.{ltb-true}
+use Rattle.std.proofs.lemmas.Bool.Decides.{Decides-eqb}
 use Rattle.history_model.proofs.Lists.{all_weaken, all_append, all_at}
 use Rattle.base_model.specs.Times.{time_of_moment}
 use Rattle.command_model.specs.Answers.{Answer}
 use Rattle.reply_model.specs.Cursors.{Cursor}
 use Rattle.chunk_model.specs.Tables.{Table}
 use Rattle.history_model.specs.History.{IsIn}
-use Rattle.base_model.specs.Identities.{RequestId}
-use Rattle.reply_model.specs.Exchanges.{Asked}
+use Rattle.reply_model.specs.Exchanges.{Asked, Answered}
 use Rattle.reply_model.specs.OneHistory.{ids_asked}
 use Rattle.node_model.specs.Journal.{Kept}
-use Rattle.node_model.specs.States.{Work, for_time, Open, Router, router_state, replaced, without}
-use Rattle.node_model.specs.RouterRows.{id_of, Opened, as_before, table_for, wait_by, asks_for, asks_again, wait_of, going_on, is_ahead, reply_to}
+use Rattle.node_model.specs.States.{Open, Router, router_state, replaced, without}
+use Rattle.node_model.specs.RouterRequests.{id_of}
+use Rattle.node_model.specs.RouterNext.{asks_again, reply_to, Next, stays, is_told, letters_in, replies_in, after_next}
+use Rattle.node_model.specs.RouterRows.{Opened, as_before}
 use Rattle.node_model.specs.World.{World, journal_at}
 use Rattle.node_laws.proofs.Views.{Choice, Book, View, view_of, chosen_time, Later}
-use Rattle.node_laws.proofs.ReadFacts.{IsDecided}
-use Rattle.node_laws.proofs.Facts.{IsKnownTable, WorkFits, AreSeen, IsOpenOf, ToldBelow, RouterFits, HeldFits, IsMet, AnswerFits, AnswersFit, no_answer, one_answer, NeighboursFit, Good}
+use Rattle.node_laws.proofs.SeenStatements.{true_false}
+use Rattle.node_laws.proofs.NextRequests.{KeepsCount, NextIs}
+use Rattle.node_laws.proofs.NextFacts.{IsToldRightly}
+use Rattle.node_laws.proofs.Facts.{IsKnownTable, IsOpenOf, ToldBelow, RouterFits, HeldFits, IsMet, AnswerFits, AnswersFit, no_answer, one_answer, NeighboursFit, Good}
 use Rattle.node_laws.proofs.Owes.{IsSaid, Owes}
 use Rattle.node_laws.proofs.Growth.{known_grows, met_later, met_max}
 use Rattle.node_laws.proofs.OpenRequests.{all_without, all_replaced, parted_same, parted_replaced, parted_without}
-use Rattle.node_laws.proofs.RouterAsks.{sent_for, asks_fit, again_fits}
+use Rattle.node_laws.proofs.RouterAsks.{again_fits}
 use Rattle.node_laws.proofs.Neighbours.{neighbours}
 use Rattle.node_laws.proofs.RouterAnswers.{as_answered}
 use Rattle.node_laws.proofs.OpenFacts.{with_own, open_rises, open_stays}
@@ -37,24 +41,6 @@ not_ahead time at reached = by_test (nat_lt time at) refl
     by_test : (t : Bool) → nat_lt time at ≡ t → nat_lt time at ≡ false
     by_test true h = let less : time < at = ltb-true time at h in absurd (omega arith)
     by_test false h = h
-
--- a request whose time is reached does not wait for it
-pub waits_not : (r : Router) (time : ℕ) (namespace : List ℕ) (work : Work) → is_ahead time work ≡ false → wait_of r time namespace work ≢ for_time
-waits_not r time namespace work reached = by_ahead (is_ahead time work) reached
-  where
-    by_table : (t : Option Table) → wait_by t ≢ for_time
-    by_table None e = cc
-    by_table (Some t) e = cc
-
-    by_ahead : (b : Bool) → b ≡ false → (if b then for_time else wait_by (table_for r.tables namespace work)) ≢ for_time
-    by_ahead true e = absurd (cc)
-    by_ahead false e = by_table (table_for r.tables namespace work)
-
--- what a request proceeds with fits
-pub record GoesOn (v : View) (request : Asked) (id : RequestId) (time : ℕ) (namespace : List ℕ) (work : Work) : Type 0 where
-  pub does : WorkFits request namespace work
-  pub decided : IsDecided v id work
-  pub seen : AreSeen v time request work
 
 module _ (w : World) (book : Book) (at : ℕ) (kept : List Kept) (r : Router) (good : Good w book)
     (h : HeldFits (view_of w.nodes book) w.asked w.answered w.given at (record { state = router_state r; kept = kept })) where
@@ -162,62 +148,79 @@ module _ (w : World) (book : Book) (at : ℕ) (kept : List Kept) (r : Router) (g
           let o = all.0 in
           all_append (IsSaid v w.asked w.given) (asks_again r (max r.time (time_of_moment moment)) q)
           (flat_map (λ q. asks_again r (max r.time (time_of_moment moment)) q) requests)
-          (again_fits v w.asked w.given r (max r.time (time_of_moment moment)) met q o.request o.taken o.own o.past o.work o.seen
-          (known_tables v behind (max r.time (time_of_moment moment)) (omega arith)) o.reached o.sent)
+          (again_fits v w.asked w.given r (max r.time (time_of_moment moment)) met q o.request o.taken o.own o.past o.work o.seen o.reached o.sent)
           (each_again v behind moment met requests all.1)
 
-  -- an open request proceeds with this work, of a time that is decided
-  pub goes_on_owes : (q : Open) (work : Work) (time : ℕ) (news : List Choice) → (o : IsOpenOf (view_of w.nodes book) w.asked w.answered r q)
-      → IsIn q r.requests → r.time ≤ time → IsMet (view_of w.nodes book) w.given time
-      → is_ahead time work ≡ false → AllByRecursion (λ (c : Choice). (c.id.router ≡ at) × IsIn c.id (ids_asked w.asked)) news
+  -- what becomes of an open request, of a time that is decided
+  pub next_owes : (q : Open) (next : Next) (time : ℕ) (news : List Choice) → IsIn q r.requests → KeepsCount r q next
+      → r.time ≤ time → IsMet (view_of w.nodes book) w.given time
+      → AllByRecursion (λ (c : Choice). (c.id.router ≡ at) × IsIn c.id (ids_asked w.asked)) news
       → ((n : ℕ) → n ≢ q.count → chosen_time (id_of r n) news ≡ None)
-      → ((v : View) → IsBehind v → v.chosen ≡ book.chosen ++ news → NeighboursFit v w.asked
-      → GoesOn v o.request (id_of r q.count) time q.namespace work)
-      → Owes w book at (record { state = router_state r; kept = kept }) (tells (as_before r) (asks_for r time q.count q.namespace work) [])
-      (router_state (goes_to r time r.moment r.tables (replaced (going_on r time q work) r.requests) (as_before r)))
-  goes_on_owes q work time news o stands later met reached chose none does =
-      goes_owes w book at r fits good kept time r.moment r.tables (replaced (going_on r time q work) r.requests) (as_before r)
-      (asks_for r time q.count q.namespace work) [] later h.within
-      met (parted_replaced r (going_on r time q work) r.requests fits.different)
+      → ((said : List Answered) (v : View) → IsBehind v → v.chosen ≡ book.chosen ++ news → NeighboursFit v w.asked → AllByRecursion (IsKnownTable v time) r.tables
+      → IsMet v w.given time
+      → NextIs (IsOpenOf v w.asked w.answered (goes_to r time r.moment r.tables (after_next q next r.requests) (as_before r))) (IsSaid v w.asked w.given)
+      (IsToldRightly v w.asked said book.cursors time w.now) next)
+      → Owes w book at (record { state = router_state r; kept = kept }) (tells (as_before r) (letters_in next) (replies_in next))
+      (router_state (goes_to r time r.moment r.tables (after_next q next r.requests) (as_before r)))
+  next_owes q (stays p letters) time news stands same later met chose none becomes =
+      goes_owes w book at r fits good kept time r.moment r.tables (replaced p r.requests) (as_before r) letters [] later h.within
+      met (parted_replaced r p r.requests fits.different)
       (record {
         news = news;
         chose = chose;
         cursors = book.cursors;
-        turns = turns_stay time r.moment r.tables (replaced (going_on r time q work) r.requests) later;
+        turns = turns_stay time r.moment r.tables (replaced p r.requests) later;
         timeless = tt;
       })
       (λ v grows others chosen cursors.
-      let g = does v (grows, others) chosen (around v (grows, others)) in
-      let past = o.past in
+      let known = known_tables v (grows, others) time later in
+      let g = becomes (w.answered ++ []) v (grows, others) chosen (around v (grows, others)) known
+      (met_later (view_of w.nodes book) v w.given time grows met) in
       record {
-        tables = known_tables v (grows, others) time later;
-        requests = all_replaced (IsOpenOf v w.asked w.answered (goes_to r time r.moment r.tables (replaced (going_on r time q work) r.requests) (as_before r)))
-            (going_on r time q work) r.requests
-            (record {
-              request = o.request;
-              taken = o.taken;
-              own = o.own;
-              link = o.link;
-              number = o.number;
-              asks = o.asks;
-              past = omega arith;
-              reached = inr (waits_not r time q.namespace work reached, reached, g.decided);
-              silent = o.silent;
-              work = g.does;
-              seen = g.seen;
-              sent = sent_for v w.asked w.given r time (met_later (view_of w.nodes book) v w.given time grows met) q.namespace work
-                  (known_tables v (grows, others) time later);
-              parts = refl;
-            })
-            (others_open v (grows, others) news chosen (goes_to r time r.moment r.tables (replaced (going_on r time q work) r.requests) (as_before r)) later
-            q.count none);
-        letters = asks_fit v w.asked w.given r time (met_later (view_of w.nodes book) v w.given time grows met) q.count q.namespace work
-            (record { request = o.request; taken = o.taken; own = o.own; past = omega arith; does = g.does; seen = g.seen; decided = λ e. g.decided })
-            (known_tables v (grows, others) time later);
+        tables = known;
+        requests = all_replaced (IsOpenOf v w.asked w.answered (goes_to r time r.moment r.tables (replaced p r.requests) (as_before r))) p r.requests g.0
+            (others_open v (grows, others) news chosen (goes_to r time r.moment r.tables (replaced p r.requests) (as_before r)) later
+            p.count (λ n other. none n (λ e. other (e ∙ sym same))));
+        letters = g.1;
         answers = no_answers v cursors;
         below = tt;
         times = tt;
       })
+  next_owes q (is_told reply) time news stands same later met chose none becomes =
+      goes_owes w book at r fits good kept time r.moment r.tables (without q.count r.requests) (as_before r) [] (reply ∷ []) later h.within
+      met (parted_without r q (as_answered w.now reply) r.requests fits.different stands same)
+      (record {
+        news = news;
+        chose = chose;
+        cursors = book.cursors;
+        turns = turns_stay time r.moment r.tables (without q.count r.requests) later;
+        timeless = tt;
+      })
+      (λ v grows others chosen cursors.
+      let known = known_tables v (grows, others) time later in
+      let g = becomes (w.answered ++ as_answered w.now reply ∷ []) v (grows, others) chosen (around v (grows, others)) known
+      (met_later (view_of w.nodes book) v w.given time grows met) in
+      record {
+        tables = known;
+        requests = all_left (IsOpenOf v w.asked w.answered (goes_to r time r.moment r.tables (without q.count r.requests) (as_before r))) q.count r.requests
+            (others_open v (grows, others) news chosen (goes_to r time r.moment r.tables (without q.count r.requests) (as_before r)) later q.count none);
+        letters = tt;
+        answers = subst (λ l. AnswersFit v w.asked (w.answered ++ as_answered w.now reply ∷ []) book.cursors (as_answered w.now reply ∷ []) l)
+            (sym cursors) (one_answer book.cursors book.cursors book.cursors (as_answered w.now reply) [] g.0 (no_answer book.cursors));
+        below = (g.1, tt);
+        times = (g.2, tt);
+      })
+    where
+      -- the others stay
+      all_left : (P : Open → Type 0) (count : ℕ) (requests : List Open) → AllByRecursion (λ (p : Open). p.count ≢ count → P p) requests
+          → AllByRecursion P (without count requests)
+      all_left P count [] all = tt
+      all_left P count (p ∷ requests) all = by_test (p.count == count) refl (all_left P count requests all.1)
+        where
+          by_test : (b : Bool) → (p.count == count) ≡ b → AllByRecursion P (without count requests)
+              → AllByRecursion P (if b then without count requests else p ∷ without count requests)
+          by_test true h more = more
+          by_test false h more = (all.0 (λ e. absurd (true_false (sym ((Decides-eqb p.count count).1 e) ∙ h))), more)
 
   -- an open request is answered
   pub told_owes : (q : Open) (answer : Answer) (time : ℕ) (f : Opened) (next : List Cursor) → IsIn q r.requests → r.time ≤ time

@@ -13,7 +13,8 @@ use Rattle.node_model.specs.Journal.{Kept, time_kept, greatest_kept}
 use Rattle.node_model.specs.Letters.{Letter, Reply, Effect}
 use Rattle.node_model.specs.States.{Open, Router, router_state}
 use Rattle.reply_model.specs.Cursors.{Cursor}
-use Rattle.node_model.specs.RouterRows.{id_of, Opened}
+use Rattle.node_model.specs.RouterRequests.{id_of}
+use Rattle.node_model.specs.RouterRows.{Opened}
 use Rattle.node_model.specs.World.{World, answered_by, journal_at}
 use Rattle.node_laws.proofs.Views.{Choice, Book, View, view_of, IsAbove, Later}
 use Rattle.node_laws.proofs.GreatestTimes.{within_more}

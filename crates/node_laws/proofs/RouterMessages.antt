@@ -1,31 +1,34 @@
 -- What a message carries for a router, and what the router requests and replies then.
 use Rattle.std.proofs.Common.{◌≡◌, ◌≢◌, inl, inr, ℕ, ◌+◌, ◌<◌, ◌≤◌, List, [], ◌∷◌, ◌++◌, refl, sym, ap, subst, ◌∙◌, arith, append-nil, Bool}
 use Rattle.std.specs.Prelude.{Option, Some, None, true, false, nat_lt, if◌then◌else◌}
-use Rattle.std.specs.List.{AllByRecursion}
-use Rattle.history_model.proofs.Lists.{all_weaken, all_at}
+use Rattle.std.specs.List.{AllByRecursion, list_any}
+use Rattle.history_model.proofs.Lists.{all_weaken, all_filter, all_at}
 use Rattle.base_model.specs.Refusals.{time_ahead}
 use Rattle.command_model.specs.Answers.{refusal_answer}
 use Rattle.reply_model.specs.Cursors.{Cursor}
 use Rattle.pipeline_model.specs.Stages.{Stage}
 use Rattle.chunk_model.specs.Tables.{Table, first_shard}
-use Rattle.command_model.specs.Writes.{WriteCommand, WriteKind}
-use Rattle.command_model.specs.Command.{command_of}
+use Rattle.command_model.specs.Writes.{WriteKind}
 use Rattle.history_model.specs.History.{IsIn}
 use Rattle.base_model.specs.Identities.{RequestId}
 use Rattle.reply_model.specs.Exchanges.{Asked, Answered}
 use Rattle.reply_model.specs.OneHistory.{IsPlaced, ids_asked}
-use Rattle.reply_model.specs.Outcomes.{Done, answer_of}
+use Rattle.reply_model.specs.Outcomes.{StatementOutcome, Done, has_outcome, dones_from, answer_of}
 use Rattle.node_model.specs.Journal.{Kept, entries_kept}
 use Rattle.node_model.specs.Letters.{At, Statement, Body, table_told, write_done, time_told, Letter, letter_input, Reply}
-use Rattle.node_model.specs.States.{Telling, writing, reading, for_time, Open, Router, router_state, replaced, without}
-use Rattle.node_model.specs.RouterRows.{id_of, heard, untold, also_told, with_told, shards_of, as_before, reached, asks_for, going_on, noted, is_answered, reply_to, adopted, next_of, was_created, Next}
+use Rattle.node_model.specs.States.{Run, Course, Telling, writing, reading, for_time, Open, Router, router_state, replaced, without}
+use Rattle.node_model.specs.RouterRequests.{id_of, heard, untold, shards_of, reached}
+use Rattle.node_model.specs.RouterNext.{also_told, with_told, noted, left_of, served_in_part, settled, reply_to, adopted, next_of, was_created, Next, letters_in, replies_in, after_next, write_on, begins_work}
+use Rattle.node_model.specs.RouterRows.{as_before}
 use Rattle.node_model.specs.World.{World, answered_by}
 use Rattle.reply_facts.proofs.Requests.{one_asked}
+use Rattle.node_laws.proofs.SeenStatements.{true_false}
+use Rattle.node_laws.proofs.Outcomes.{HasMore, outcomes_below, noted_more}
+use Rattle.node_laws.proofs.SentRuns.{rest_of, all_left, rest_owned, rest_next}
 use Rattle.node_laws.proofs.Views.{Book, View, view_of, changes_in, chosen_time, history_in, IsShardAt}
-use Rattle.node_laws.proofs.WriteFacts.{AreAnswers}
-use Rattle.node_laws.proofs.ReadFacts.{IsAwaited, WaitsFor}
+use Rattle.node_laws.proofs.ReadFacts.{IsAwaited, WaitsFor, IsDecided}
 use Rattle.node_laws.proofs.TimeFacts.{IsPast, IsHeard, HasHeard}
-use Rattle.node_laws.proofs.Facts.{IsKnownTable, TableFits, IsDoneOf, BodyFits, WorkFits, AreSeen, HasTime, IsOpenOf, ToldBelow, HeldFits, IsMet, AnswerFits, AnswersFit, no_answer, one_answer, TimeFits, SentFits, Good}
+use Rattle.node_laws.proofs.Facts.{IsKnownTable, IsOwned, RunFits, TableFits, IsDoneOf, BodyFits, WorkFits, AreSeen, HasTime, IsOpenOf, ToldBelow, HeldFits, IsMet, AnswerFits, AnswersFit, no_answer, one_answer, NeighboursFit, TimeFits, SentFits, Good}
 use Rattle.node_laws.proofs.Owes.{IsSaid, Owes}
 use Rattle.node_laws.proofs.Lists.{map_longer}
 use Rattle.node_laws.proofs.Choices.{chosen_last, none_of_others}
@@ -36,14 +39,15 @@ use Rattle.node_laws.proofs.NextRequests.{NextIs, left_by, sent_by, told_by, eac
 use Rattle.node_laws.proofs.HeardTimes.{TellsTime, all_told, first_of_all, told_past}
 use Rattle.node_laws.proofs.CatalogueTables.{placed_first}
 use Rattle.node_laws.proofs.KnownTables.{all_adopted}
-use Rattle.node_laws.proofs.NotedOutcomes.{noted_some, answers_below, none_ends}
 use Rattle.node_laws.proofs.AnswerTimes.{refusal_below, write_below}
 use Rattle.node_laws.proofs.ReadTimes.{reads_of, reached_time}
-use Rattle.node_laws.proofs.RouterAnswers.{as_answered, answer_fits, ahead_right, same_write, NotedFits, noted_fits, wrote_right}
-use Rattle.node_laws.proofs.OpenFacts.{letter_stays}
-use Rattle.node_laws.proofs.NextFacts.{IsToldRightly, next_keeps, next_fits}
+use Rattle.node_laws.proofs.RouterAnswers.{as_answered, answer_fits, ahead_right, NotedFits, noted_fits, wrote_right}
+use Rattle.node_laws.proofs.OpenFacts.{opener_of, letter_stays}
+use Rattle.node_laws.proofs.Goings.{write_goes, begins_goes}
+use Rattle.node_laws.proofs.NextFacts.{IsToldRightly, next_fits}
+use Rattle.node_laws.proofs.NextKeeps.{keeps_count, write_keeps, begins_keeps, next_keeps}
 use Rattle.node_laws.proofs.RouterLater.{goes_to, tells, goes_owes}
-use Rattle.node_laws.proofs.RouterForms.{not_ahead, GoesOn, IsBehind, around, each_open, risen_open, known_tables, came_by, turns_stay, quiet, no_answers, goes_on_owes, told_owes}
+use Rattle.node_laws.proofs.RouterForms.{not_ahead, IsBehind, around, each_open, risen_open, known_tables, came_by, turns_stay, quiet, no_answers, next_owes, told_owes}
 
 -- what becomes of each open request where a message carries a table
 abbrev next_by : Router → Letter → Option Table → (namespace : List ℕ) → (create : Bool) → At → Open → Next
@@ -64,13 +68,6 @@ all_same v asked said cursors now (x ∷ replies) all =
 in_ids : (a : Asked) (asked : List Asked) → IsIn a asked → IsIn a.id (ids_asked asked)
 in_ids a asked (front, back, e) =
     (ids_asked front, ids_asked back, ap (λ l. ids_asked l) e ∙ map_longer (λ (b : Asked). b.id) front (a ∷ back))
-
--- what is noted of a write was seen
-seen_of : (v : View) (a : Asked) {time : ℕ} {namespace : List ℕ} {kind : WriteKind} {ordered : Bool} {statements : List Statement} {told : List Done}
-    → NotedFits v a time namespace kind ordered statements told → AreSeen v time a (writing kind ordered statements told)
-seen_of v a {time = time} {told = told} f = λ write asks.
-    subst (λ (c : WriteCommand). AreAnswers (history_in v) time c a.id 0 told) (same_write f.write write (command_of a.request) f.asks asks)
-    f.answers
 
 -- a time that is decided for one request is for no other of its router's life
 not_others : (r : Router) (count at n : ℕ) → n ≢ count → chosen_time (id_of r n) (record { id = id_of r count; at = at } ∷ []) ≡ None
@@ -141,7 +138,8 @@ module _ (w : World) (book : Book) (at : ℕ) (kept : List Kept) (r : Router) (g
       (as_before r)
       (sent_by (next_by r m table namespace create told) r.requests) (told_by (next_by r m table namespace create told) r.requests) later h.within met_time
       (parted_next r w.now (next_by r m table namespace create told)
-      (λ q. next_keeps r (heard r m) (adopted table r.tables) namespace (was_created create table) told q) r.requests h.state.different)
+      (λ q. keeps_count r (heard r m) q (next_by r m table namespace create told q)
+      (next_keeps r (heard r m) (adopted table r.tables) namespace (was_created create table) told q)) r.requests h.state.different)
       (quiet w book at kept r good h (heard r m) r.moment (adopted table r.tables) (left_by (next_by r m table namespace create told) r.requests) later)
       (λ v grows others chosen cursors.
       let fit : TableFits v m.time namespace told table = body_in v (grows, others) (table_told namespace create told table) says in
@@ -188,18 +186,29 @@ module _ (w : World) (book : Book) (at : ℕ) (kept : List Kept) (r : Router) (g
       → q.work ≡ reading named time stages telling → q.wait ≡ for_time
       → time ≤ heard r m
       → Owes w book at (record { state = router_state r; kept = kept })
-      (tells (as_before r) (asks_for r (heard r m) q.count q.namespace (reached (heard r m) q.work)) [])
-      (router_state (goes_to r (heard r m) r.moment r.tables (replaced (going_on r (heard r m) q (reached (heard r m) q.work)) r.requests) (as_before r)))
+      (tells (as_before r) (letters_in (begins_work r (heard r m) q (reached (heard r m) q.work)))
+      (replies_in (begins_work r (heard r m) q (reached (heard r m) q.work))))
+      (router_state (goes_to r (heard r m) r.moment r.tables (after_next q (begins_work r (heard r m) q (reached (heard r m) q.work)) r.requests) (as_before r)))
   reach_owes q named time stages telling stands work wait le =
       subst (λ x. Owes w book at (record { state = router_state r; kept = kept })
-      (tells (as_before r) (asks_for r (heard r m) q.count q.namespace (reached (heard r m) x)) [])
-      (router_state (goes_to r (heard r m) r.moment r.tables (replaced (going_on r (heard r m) q (reached (heard r m) x)) r.requests)
+      (tells (as_before r) (letters_in (begins_work r (heard r m) q (reached (heard r m) x))) (replies_in (begins_work r (heard r m) q (reached (heard r m) x))))
+      (router_state (goes_to r (heard r m) r.moment r.tables (after_next q (begins_work r (heard r m) q (reached (heard r m) x)) r.requests)
       (as_before r)))) (sym work)
-      (goes_on_owes w book at kept r good h q (reading named (if named then time else heard r m) stages telling) (heard r m)
-      (record { id = id_of r q.count; at = if named then time else heard r m } ∷ []) (open_now q stands) stands later met_time (in_time named)
+      (next_owes w book at kept r good h q (begins_work r (heard r m) q (reading named (if named then time else heard r m) stages telling)) (heard r m)
+      (record { id = id_of r q.count; at = if named then time else heard r m } ∷ []) stands
+      (keeps_count r (heard r m) q (begins_work r (heard r m) q (reading named (if named then time else heard r m) stages telling))
+      (begins_keeps r (heard r m) q (reading named (if named then time else heard r m) stages telling))) later met_time
       ((h.state.own, asked_now (open_now q stands)), tt)
       (λ n other. not_others r q.count (if named then time else heard r m) n other)
-      (λ v behind chosen n. goes_on v chosen (open_now q stands)))
+      (λ said v behind chosen n known met.
+      let o = open_now q stands in
+      let k = opener_of (view_of w.nodes book) w.asked w.answered r (heard r m) q later o in
+      begins_goes v w.asked w.answered w.given r (goes_to r (heard r m) r.moment r.tables
+      (after_next q (begins_work r (heard r m) q (reading named (if named then time else heard r m) stages telling)) r.requests) (as_before r)) met known
+      (IsToldRightly v w.asked said book.cursors (heard r m) w.now) q
+      (record { request = k.request; taken = k.taken; own = k.own; link = k.link; number = k.number; asks = k.asks; past = k.past; silent = k.silent })
+      (reading named (if named then time else heard r m) stages telling) (does o) tt
+      (λ ahead. absurd (true_false (sym ahead ∙ in_time named))) (λ e. decided v chosen o)))
     where
       in_time : (b : Bool) → nat_lt (heard r m) (if b then time else heard r m) ≡ false
       in_time true = not_ahead (heard r m) time le
@@ -208,27 +217,28 @@ module _ (w : World) (book : Book) (at : ℕ) (kept : List Kept) (r : Router) (g
       asked_now : IsOpenOf (view_of w.nodes book) w.asked w.answered r q → IsIn (id_of r q.count) (ids_asked w.asked)
       asked_now o = subst (λ i. IsIn i (ids_asked w.asked)) o.own (in_ids o.request w.asked o.taken)
 
-      goes_on : (v : View) → v.chosen ≡ book.chosen ++ record { id = id_of r q.count; at = if named then time else heard r m } ∷ []
-          → (o : IsOpenOf (view_of w.nodes book) w.asked w.answered r q)
-          → GoesOn v o.request (id_of r q.count) (heard r m) q.namespace (reading named (if named then time else heard r m) stages telling)
-      goes_on v chosen o =
-          let does : WorkFits o.request q.namespace (reading named time stages telling) =
-          subst (λ x. WorkFits o.request q.namespace x) work o.work in
-          let waits : IsAwaited (view_of w.nodes book) o.request (id_of r q.count) time =
-          awaited (view_of w.nodes book) q o.request named time stages telling work wait o.reached in
+      waits : (o : IsOpenOf (view_of w.nodes book) w.asked w.answered r q) → IsAwaited (view_of w.nodes book) o.request (id_of r q.count) time
+      waits o = awaited (view_of w.nodes book) q o.request named time stages telling work wait o.reached
+
+      does : (o : IsOpenOf (view_of w.nodes book) w.asked w.answered r q)
+          → WorkFits o.request q.namespace (reading named (if named then time else heard r m) stages telling)
+      does o =
+          let old : WorkFits o.request q.namespace (reading named time stages telling) = subst (λ x. WorkFits o.request q.namespace x) work o.work in
           record {
-            does = record {
-              read = does.read;
-              tells = does.tells;
-              name = does.name;
-              words = does.words;
-              time = reached_time (view_of w.nodes book) o.request (id_of r q.count) does.read time (heard r m) named
-                  (reads_of o.request does.read telling does.tells) does.time waits le;
-            };
-            decided = ap (λ l. chosen_time (id_of r q.count) l) chosen
-                ∙ chosen_last (id_of r q.count) (if named then time else heard r m) book.chosen waits.undecided;
-            seen = tt;
+            read = old.read;
+            tells = old.tells;
+            name = old.name;
+            words = old.words;
+            time = reached_time (view_of w.nodes book) o.request (id_of r q.count) old.read time (heard r m) named
+                (reads_of o.request old.read telling old.tells) old.time (waits o) le;
           }
+
+      decided : (v : View) → v.chosen ≡ book.chosen ++ record { id = id_of r q.count; at = if named then time else heard r m } ∷ []
+          → (o : IsOpenOf (view_of w.nodes book) w.asked w.answered r q)
+          → IsDecided v (id_of r q.count) (reading named (if named then time else heard r m) stages telling)
+      decided v chosen o =
+          ap (λ l. chosen_time (id_of r q.count) l) chosen
+          ∙ chosen_last (id_of r q.count) (if named then time else heard r m) book.chosen (waits o).undecided
 
   -- a shard returned its time, and others have not
   pub hear_owes : (id : RequestId) (q : Open) → IsOpenWith r id q
@@ -302,67 +312,99 @@ module _ (w : World) (book : Book) (at : ℕ) (kept : List Kept) (r : Router) (g
 
   -- OUTCOMES
 
+  seen_in : (v : View) (q : Open) (kind : WriteKind) (ordered : Bool) (statements : List Statement) (c : Course) → q.work ≡ writing kind ordered statements c
+      → (o : IsOpenOf v w.asked w.answered r q) → AreSeen v (heard r m) o.request (writing kind ordered statements c)
+  seen_in v q kind ordered statements c work o =
+      subst (λ x. AreSeen v (heard r m) o.request x) work (seen_grows v v r.time (heard r m) o.request q.work (later_self v) later o.seen)
+
   -- what is noted of an open write
   noted_in : (v : View) → Behind v
-      → (id : RequestId) (dones : List Done) (q : Open) (kind : WriteKind) (ordered : Bool) (statements : List Statement) (answers : List Done)
+      → (id : RequestId) (dones : List Done) (q : Open) (kind : WriteKind) (ordered : Bool) (statements : List Statement) (c : Course)
       → m.body ≡ write_done id dones
-      → id ≡ id_of r q.count → q.work ≡ writing kind ordered statements answers → (o : IsOpenOf v w.asked w.answered r q)
-      → NotedFits v o.request (heard r m) q.namespace kind ordered statements (noted answers dones)
-  noted_in v behind id dones q kind ordered statements answers says own work o =
+      → id ≡ id_of r q.count → q.work ≡ writing kind ordered statements c → (o : IsOpenOf v w.asked w.answered r q)
+      → NotedFits v o.request (heard r m) q.namespace kind ordered statements (noted ordered c.answers dones)
+  noted_in v behind id dones q kind ordered statements c says own work o =
       let done : IsShardAt m.sender × IsDoneOf v w.asked m.sender m.time id dones = body_in v behind (write_done id dones) says in
-      let seen : AreSeen v (heard r m) o.request (writing kind ordered statements answers) = subst (λ x. AreSeen v (heard r m) o.request x) work
-      (seen_grows v v r.time (heard r m) o.request q.work (later_self v) later o.seen) in
-      noted_fits v w.asked o.request m.sender m.time (heard r m) id q.namespace kind ordered statements answers dones good.one o.taken (o.own ∙ sym own)
-      (subst (λ x. WorkFits o.request q.namespace x) work o.work) seen (omega arith) done.0 done.1
+      noted_fits v w.asked o.request m.sender m.time (heard r m) id q.namespace kind ordered statements c dones good.one o.taken (o.own ∙ sym own)
+      (subst (λ x. WorkFits o.request q.namespace x) work o.work) (seen_in v q kind ordered statements c work o) (omega arith) done.0 done.1
 
-  pub note_owes : (id : RequestId) (dones : List Done) (q : Open) (kind : WriteKind) (ordered : Bool) (statements : List Statement) (answers : List Done)
-      → m.body ≡ write_done id dones
-      → IsOpenWith r id q → q.work ≡ writing kind ordered statements answers → is_answered ordered statements (noted answers dones) ≡ false
-      → Owes w book at (record { state = router_state r; kept = kept })
-      (tells (as_before r) (asks_for r (heard r m) q.count q.namespace (writing kind ordered statements (noted answers dones))) [])
-      (router_state (goes_to r (heard r m) r.moment r.tables
-      (replaced (going_on r (heard r m) q (writing kind ordered statements (noted answers dones))) r.requests) (as_before r)))
-  note_owes id dones q kind ordered statements answers says found work open_yet =
-      goes_on_owes w book at kept r good h q (writing kind ordered statements (noted answers dones)) (heard r m) [] (open_now q found.stands) found.stands
-      later met_time refl tt (λ n other. refl)
-      (λ v behind chosen n.
-      let o = all_at (IsOpenOf v w.asked w.answered r) q r.requests (each_open w book at kept r good h v behind chosen) found.stands in
-      let f = noted_in v behind id dones q kind ordered statements answers says found.own work o in
-      let same : o.request ≡ (open_now q found.stands).request =
-      one_asked o.request (open_now q found.stands).request w.asked good.one o.taken (open_now q found.stands).taken
-      (o.own ∙ sym (open_now q found.stands).own) in
-      record {
-        does = subst (λ a. WorkFits a q.namespace (writing kind ordered statements (noted answers dones))) same
-            (f.write, f.asks, f.is, f.name, f.order, f.all, none_ends ordered statements (noted answers dones) open_yet);
-        decided = tt;
-        seen = subst (λ a. AreSeen v (heard r m) a (writing kind ordered statements (noted answers dones))) same (seen_of v o.request f);
-      })
+  -- what is left of the runs fits, with the outcomes that are noted
+  runs_left : (v : View) (namespace : List ℕ) (ordered : Bool) (statements : List Statement) (old new : List (Option StatementOutcome)) (runs : List Run)
+      → HasMore old new → AllByRecursion (RunFits v (heard r m) namespace ordered statements old) runs
+      → AllByRecursion (RunFits v (heard r m) namespace ordered statements new) (left_of new runs)
+  runs_left v namespace ordered statements old new runs more all =
+      all_left (RunFits v (heard r m) namespace ordered statements new) new runs
+      (all_weaken (RunFits v (heard r m) namespace ordered statements old) (λ run. RunFits v (heard r m) namespace ordered statements new (rest_of new run)) runs
+      (λ run f. record {
+        owned = rest_owned (IsOwned v (heard r m) namespace run.shard) statements new run f.owned;
+        next = λ in_order. rest_next statements old new run more (f.next in_order);
+      }) all)
 
-  pub wrote_owes : (id : RequestId) (dones : List Done) (q : Open) (kind : WriteKind) (ordered : Bool) (statements : List Statement) (answers : List Done)
+  pub note_owes : (id : RequestId) (dones : List Done) (q : Open) (kind : WriteKind) (ordered : Bool) (statements : List Statement) (c : Course)
       → m.body ≡ write_done id dones
-      → IsOpenWith r id q → q.work ≡ writing kind ordered statements answers → noted answers dones ≢ answers
-      → is_answered ordered statements (noted answers dones) ≡ true
-      → Owes w book at (record { state = router_state r; kept = kept })
-      (tells (as_before r) [] (reply_to r (heard r m) q (answer_of kind (heard r m) (noted answers dones)) ∷ []))
-      (router_state (goes_to r (heard r m) r.moment r.tables (without q.count r.requests) (as_before r)))
-  wrote_owes id dones q kind ordered statements answers says found work news whole =
-      told_owes w book at kept r good h q (answer_of kind (heard r m) (noted answers dones)) (heard r m) (as_before r) book.cursors found.stands later
-      met_time tt
-      (turns_stay w book at kept r good h (heard r m) r.moment r.tables (without q.count r.requests) later)
-      (λ v behind o n.
-      let f = noted_in v behind id dones q kind ordered statements answers says found.own work o in
-      let t : Answered = as_answered w.now (reply_to r (heard r m) q (answer_of kind (heard r m) (noted answers dones))) in (
-        answer_fits v w.asked w.answered (w.answered ++ t ∷ []) r
-            (heard r m) w.now q (answer_of kind (heard r m) (noted answers dones)) book.cursors book.cursors o later
-            (came_by w book at kept r good h o.request o.taken)
-            (wrote_right v w.asked (w.answered ++ t ∷ []) book.cursors o.request t q.namespace kind ordered statements (noted answers dones) f
-            (record {
-              around = n;
-              taken = o.taken;
-              asks = f.asks;
-              own = o.own;
-              came = all_weaken (λ (a : Asked). a.came < w.now + 1) (λ (a : Asked). a.came ≤ w.now) w.asked (λ a l. omega arith) good.came;
-            }) whole (noted_some answers dones news) refl),
-        write_below (heard r m) kind (heard r m) (noted answers dones) (omega arith)
-            (answers_below (history_in v) (heard r m) f.write o.request.id 0 (noted answers dones) f.answers),
-      ))
+      → IsOpenWith r id q → q.work ≡ writing kind ordered statements c → (next : Next)
+      → next ≡ write_on r (heard r m) r.tables ordered (served_in_part (noted ordered c.answers dones) c.runs) q kind ordered statements
+      (settled c (noted ordered c.answers dones))
+      → Owes w book at (record { state = router_state r; kept = kept }) (tells (as_before r) (letters_in next) (replies_in next))
+      (router_state (goes_to r (heard r m) r.moment r.tables (after_next q next r.requests) (as_before r)))
+  note_owes id dones q kind ordered statements c says found work next is =
+      subst (λ x. Owes w book at (record { state = router_state r; kept = kept }) (tells (as_before r) (letters_in x) (replies_in x))
+      (router_state (goes_to r (heard r m) r.moment r.tables (after_next q x r.requests) (as_before r)))) (sym is)
+      (next_owes w book at kept r good h q (write_on r (heard r m) r.tables ordered Again q kind ordered statements (settled c New)) (heard r m) [] found.stands
+      (keeps_count r (heard r m) q (write_on r (heard r m) r.tables ordered Again q kind ordered statements (settled c New))
+      (write_keeps r (heard r m) r.tables ordered Again q kind ordered statements (settled c New))) later met_time tt (λ n other. refl)
+      (λ said v behind chosen n known met.
+      let o = all_at (IsOpenOf v w.asked w.answered r) q r.requests (each_open w book at kept r good h v behind (chosen)) found.stands in
+      goes said v behind n known met o))
+    where
+      New : List (Option StatementOutcome)
+      New = noted ordered c.answers dones
+
+      Again : List Run
+      Again = served_in_part New c.runs
+
+      After : Router
+      After = goes_to r (heard r m) r.moment r.tables
+          (after_next q (write_on r (heard r m) r.tables ordered Again q kind ordered statements (settled c New)) r.requests) (as_before r)
+
+      goes : (said : List Answered) (v : View) → Behind v → NeighboursFit v w.asked → (known : AllByRecursion (IsKnownTable v (heard r m)) r.tables)
+          → (met : IsMet v w.given (heard r m)) → (o : IsOpenOf v w.asked w.answered r q)
+          → NextIs (IsOpenOf v w.asked w.answered After) (IsSaid v w.asked w.given) (IsToldRightly v w.asked said book.cursors (heard r m) w.now)
+          (write_on r (heard r m) r.tables ordered Again q kind ordered statements (settled c New))
+      goes said v behind n known met o =
+          let f = noted_in v behind id dones q kind ordered statements c says found.own work o in
+          let seen = seen_in v q kind ordered statements c work o f.write f.asks in
+          let more : HasMore c.answers New = noted_more ordered c.answers dones in
+          write_goes v w.asked w.answered w.given r After met r.tables known (IsToldRightly v w.asked said book.cursors (heard r m) w.now) ordered Again q
+          (opener_of v w.asked w.answered r (heard r m) q later o) kind ordered statements (settled c New)
+          (record {
+            write = f.write;
+            asks = f.asks;
+            is = f.is;
+            name = f.name;
+            order = f.order;
+            all = f.all;
+            long = f.long;
+            front = f.front;
+            outcomes = f.outcomes;
+            runs = runs_left v f.write.namespace ordered statements c.answers New c.runs more seen.1;
+            again_fits = runs_left v f.write.namespace ordered statements c.answers New Again more
+                (all_filter (RunFits v (heard r m) f.write.namespace ordered statements c.answers) (λ (run : Run). list_any (has_outcome New) run.indices) c.runs
+                seen.1);
+          })
+          (λ whole. (
+            answer_fits v w.asked w.answered said r (heard r m) w.now q (answer_of kind (heard r m) (dones_from 0 New)) book.cursors book.cursors o later
+                (came_by w book at kept r good h o.request o.taken)
+                (wrote_right v w.asked said book.cursors o.request (as_answered w.now (reply_to r (heard r m) q (answer_of kind (heard r m) (dones_from 0 New))))
+                q.namespace kind ordered statements New f
+                (record {
+                  around = n;
+                  taken = o.taken;
+                  asks = f.asks;
+                  own = o.own;
+                  came = all_weaken (λ (a : Asked). a.came < w.now + 1) (λ (a : Asked). a.came ≤ w.now) w.asked (λ a l. omega arith) good.came;
+                }) whole refl),
+            write_below (heard r m) kind (heard r m) (dones_from 0 New) (omega arith)
+                (outcomes_below (history_in v) (heard r m) f.write o.request.id 0 New f.outcomes),
+            refl,
+          ))

@@ -21,7 +21,9 @@ use Rattle.reply_model.specs.Reads.{MayGive, excess_answer}
 use Rattle.node_model.specs.Journal.{Kept}
 use Rattle.node_model.specs.Letters.{HalfFault, half_overflow, half_excess, read_rows, Letter}
 use Rattle.node_model.specs.States.{Telling, in_batches, as_number, reading, Open, Router, router_state, without}
-use Rattle.node_model.specs.RouterRows.{id_of, heard, is_target, also_part, awaited, rows_of, Opened, as_before, too_much, block_size, gives_number, next_number, new_cursor, batch_of, reply_to, Tells, tells_overflow, tells_excess, tells_number, tells_batch, tells_cursor}
+use Rattle.node_model.specs.RouterRequests.{id_of, heard}
+use Rattle.node_model.specs.RouterNext.{is_target, also_part, awaited, rows_of, reply_to}
+use Rattle.node_model.specs.RouterRows.{Opened, as_before, too_much, block_size, gives_number, next_number, new_cursor, batch_of, Tells, tells_overflow, tells_excess, tells_number, tells_batch, tells_cursor}
 use Rattle.node_model.specs.World.{World}
 use Rattle.node_laws.proofs.Views.{Book, View, view_of, chosen_time, history_in}
 use Rattle.node_laws.proofs.ReadFacts.{WaitsFor, IsDecided, IsReading, IsMade, IsTooMuch}

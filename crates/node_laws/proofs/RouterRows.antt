@@ -1,5 +1,5 @@
 -- Each row of a router owes nothing that it does not give.
-use Rattle.std.proofs.Common.{◌≡◌, inl, inr, ℕ, ℤ, ◌+◌, ◌≤◌, List, [], ◌∷◌, ◌++◌, refl, sym, ap, subst, ◌∙◌, arith, append-nil, Bool}
+use Rattle.std.proofs.Common.{◌≡◌, ◌≢◌, inl, inr, ℕ, ℤ, ◌+◌, ◌≤◌, List, [], ◌∷◌, ◌++◌, refl, sym, ap, subst, ◌∙◌, arith, append-nil, Bool}
 use Rattle.std.specs.Prelude.{Option, Some, None, Result, Ok, Err, true, false, max, length, drop, ◌||◌, if◌then◌else◌}
 use Rattle.std.specs.List.{AllByRecursion, slice_get}
 use Rattle.std.specs.Option.{unwrap_or}
@@ -17,19 +17,27 @@ use Rattle.command_model.specs.Answers.{Answer, next_answer, killed_answer, refu
 use Rattle.reply_model.specs.Cursors.{Cursor, open_cursor, with_remaining, ShowsNext, Kills}
 use Rattle.history_model.specs.History.{IsIn}
 use Rattle.base_model.specs.Identities.{RequestId}
+use Rattle.history_model.specs.History.{Operation}
+use Rattle.command_model.specs.Writes.{WriteCommand}
+use Rattle.command_model.proofs.Taken.{some_operations}
+use Rattle.reply_model.specs.Outcomes.{none_yet}
+use Rattle.node_laws.proofs.Outcomes.{none_front, none_are, none_long, none_outcomes}
+use Rattle.node_laws.proofs.SeenStatements.{true_false}
 use Rattle.reply_model.specs.Exchanges.{Asked, Answered}
 use Rattle.reply_model.specs.Right.{asks_for_one, usual_size, unless_silent, right_more, right_no_cursor, right_kill}
 use Rattle.node_model.specs.Journal.{Kept}
 use Rattle.node_model.specs.Letters.{Input, Reply, Effect}
-use Rattle.node_model.specs.States.{Telling, in_batches, as_number, Work, writing, reading, sharding, splitting, for_time, Open, Router, router_state}
-use Rattle.node_model.specs.RouterRows.{id_of, heard, is_ahead, table_for, wait_by, wait_of, asks_for, RequestPlan, at_once, needs, needs_batch, needs_end, plan_of, plan_read, opened_request, taken_now, RouterRow, router_begin, router_opened, router_plain, router_more, router_no_cursor, router_kill, router_take, router_learn, router_split, router_not_sharded, router_reach, router_hear, router_ahead, router_note, router_wrote, router_part, router_read, router_excess, router_overflow, router_late, router_skip, router_moment}
+use Rattle.node_model.specs.States.{Telling, in_batches, as_number, Work, writing, reading, sharding, splitting, Open, Router, router_state}
+use Rattle.node_model.specs.RouterRequests.{id_of, begun_write, statements_from, heard, RequestPlan, at_once, needs, needs_batch, needs_end, plan_of, plan_read}
+use Rattle.node_model.specs.RouterNext.{Next, stays, is_told, stay_in, letters_in, replies_in, is_answered, begins_work}
+use Rattle.node_model.specs.RouterRows.{opened_request, taken_now, RouterRow, router_begin, router_opened, router_plain, router_more, router_no_cursor, router_kill, router_take, router_learn, router_split, router_not_sharded, router_reach, router_hear, router_ahead, router_note, router_part, router_read, router_excess, router_overflow, router_late, router_skip, router_moment}
 use Rattle.node_model.specs.World.{Held, World}
-use Rattle.node_laws.proofs.Views.{Choice, Book, View, view_of, chosen_time}
+use Rattle.node_laws.proofs.Views.{Choice, Book, View, view_of, chosen_time, history_in}
 use Rattle.node_laws.proofs.Places.{each_get}
 use Rattle.node_laws.proofs.TimeFacts.{HeardFits}
-use Rattle.node_laws.proofs.ReadFacts.{is_named, WaitsFor, IsDecided, IsTelling, tells_find, tells_count}
-use Rattle.node_laws.proofs.Facts.{WorkFits, AreSeen, HasTime, IsOpenOf, CursorsFit, HeldFits, AnswerFits, AnswersFit, no_answer, one_answer, Good}
-use Rattle.node_laws.proofs.Owes.{InputFits, Owes}
+use Rattle.node_laws.proofs.ReadFacts.{is_ahead, is_named, WaitsFor, IsDecided, IsTelling, tells_find, tells_count}
+use Rattle.node_laws.proofs.Facts.{WorkFits, AreSeen, IsOpenOf, CursorsFit, HeldFits, AnswerFits, AnswersFit, no_answer, one_answer, Good}
+use Rattle.node_laws.proofs.Owes.{IsSaid, InputFits, Owes}
 use Rattle.node_laws.proofs.Choices.{chosen_last}
 use Rattle.node_laws.proofs.OwnCursors.{open_own, kills_all}
 use Rattle.node_laws.proofs.Growth.{met_later}
@@ -37,12 +45,15 @@ use Rattle.node_laws.proofs.Answers.{StaysRight}
 use Rattle.node_laws.proofs.OpenRequests.{open_of_found}
 use Rattle.node_laws.proofs.AnswerTimes.{ShowsBelow, refusal_below, next_below, killed_below}
 use Rattle.node_laws.proofs.ReadTimes.{reads_of, first_time, planned_time, awaits_first, awaits_named}
-use Rattle.node_laws.proofs.RouterAsks.{sent_for, asks_fit}
+use Rattle.node_laws.proofs.NextRequests.{KeepsCount, NextIs}
+use Rattle.node_laws.proofs.NextFacts.{IsStay, begins_stay}
+use Rattle.node_laws.proofs.NextKeeps.{keeps_count, begins_keeps}
+use Rattle.node_laws.proofs.Goings.{begins_goes}
 use Rattle.node_laws.proofs.RouterAnswers.{as_answered, IsPlain, plain_fits}
 use Rattle.node_laws.proofs.Turns.{Turns, turns_same, turns_left, turns_closed, open_past}
 use Rattle.node_laws.proofs.RouterLater.{told_now}
-use Rattle.node_laws.proofs.RouterForms.{waits_not, IsBehind, known_tables, stays_owes, again_owes}
-use Rattle.node_laws.proofs.RouterMessages.{heard_met, learn_owes, reach_owes, hear_owes, ahead_owes, note_owes, wrote_owes}
+use Rattle.node_laws.proofs.RouterForms.{IsBehind, known_tables, stays_owes, again_owes}
+use Rattle.node_laws.proofs.RouterMessages.{heard_met, learn_owes, reach_owes, hear_owes, ahead_owes, note_owes}
 use Rattle.node_laws.proofs.RouterReads.{part_is_all, read_owes, much_owes, none_overflows}
 use Rattle.node_laws.proofs.RouterSplits.{split_owes, unsplit_owes}
 use Rattle.node_laws.proofs.RouterTakes.{asked_now, took, counts_behind, new_answer, undecided, begin_owes, takes_owes}
@@ -86,6 +97,32 @@ module _ (v : View) (r : Router) (a : Asked) (time : a.time ≡ r.time) where
       by_at None none = planned_first read telling tells read.after none refl
       by_at (Some named) names = planned_named read telling tells named names
 
+  -- a write of which nothing was sent
+  begun_planned : (write : WriteCommand) → command_of a.request ≡ Ok (write_command write)
+      → IsPlanned v r a (needs write.namespace (begun_write write.kind write.ordered (statements_from write.number a.id 0 write.operations)))
+  begun_planned write asks = (
+    (
+      write,
+      asks,
+      refl,
+      refl,
+      refl,
+      refl,
+      record {
+        long = none_long (statements_from write.number a.id 0 write.operations);
+        front = λ ordered. none_front (none_yet (statements_from write.number a.id 0 write.operations))
+            (none_are (statements_from write.number a.id 0 write.operations));
+        open_yet = open_yet write.operations (some_operations a.request write asks);
+      },
+    ),
+    (λ own of. (none_outcomes (history_in v) a.time own a.id 0 (statements_from write.number a.id 0 write.operations), tt)),
+    λ ahead undecided. absurd (cc),
+  )
+    where
+      open_yet : (operations : List Operation) → operations ≢ [] → is_answered write.ordered (none_yet (statements_from write.number a.id 0 operations)) ≡ false
+      open_yet [] some = absurd (some refl)
+      open_yet (operation ∷ operations) some = refl
+
   planned : (silent : Bool) (namespace : List ℕ) (work : Work) (command : Result Command Refusal) → command_of a.request ≡ command → a.request.more ≡ silent
       → plan_of r a.id silent command ≡ needs namespace work → IsPlanned v r a (needs namespace work)
   planned silent namespace work (Err refusal) asks more plan = absurd (cc)
@@ -96,8 +133,7 @@ module _ (v : View) (r : Router) (a : Asked) (time : a.time ≡ r.time) where
   planned silent namespace work (Ok (more_command get)) asks more plan = absurd (cc)
   planned silent namespace work (Ok (kill_command kill)) asks more plan = absurd (cc)
   planned silent namespace work (Ok (write_command write)) asks more plan =
-      subst (λ p. IsPlanned v r a p) plan
-      ((write, asks, refl, refl, refl, refl, tt), (λ own of. tt), λ ahead undecided. absurd (cc))
+      subst (λ p. IsPlanned v r a p) plan (begun_planned write asks)
   planned silent namespace work (Ok (find_command find)) asks more plan =
       subst (λ p. IsPlanned v r a p) plan
       (subst (λ b. IsPlanned v r a (plan_read r find.reading (in_batches (unwrap_or find.batches.size usual_size) (find.batches.single || b)))) more
@@ -111,20 +147,20 @@ module _ (v : View) (r : Router) (a : Asked) (time : a.time ≡ r.time) where
 
 -- the time of a read that can proceed
 abbrev pub choice_of : RequestId → Work → List Choice
-choice_of id (writing kind ordered statements answers) = []
+choice_of id (writing kind ordered statements c) = []
 choice_of id (reading named at stages telling) = record { id = id; at = at } ∷ []
 choice_of id sharding = []
 choice_of id (splitting middle) = []
 
 choice_own : (id : RequestId) (work : Work) → AllByRecursion (λ (c : Choice). c.id ≡ id) (choice_of id work)
-choice_own id (writing kind ordered statements answers) = tt
+choice_own id (writing kind ordered statements c) = tt
 choice_own id (reading named at stages telling) = (refl, tt)
 choice_own id sharding = tt
 choice_own id (splitting middle) = tt
 
 choice_decides : (v : View) (id : RequestId) (old : List Choice) (work : Work) → chosen_time id old ≡ None → v.chosen ≡ old ++ choice_of id work
     → IsDecided v id work
-choice_decides v id old (writing kind ordered statements answers) none same = tt
+choice_decides v id old (writing kind ordered statements c) none same = tt
 choice_decides v id old (reading named at stages telling) none same = ap (λ l. chosen_time id l) same ∙ chosen_last id at old none
 choice_decides v id old sharding none same = tt
 choice_decides v id old (splitting middle) none same = tt
@@ -297,30 +333,52 @@ module _ (w : World) (book : Book) (at : ℕ) (kept : List Kept) (r : Router) (g
   abbrev Asking : List ℕ → Work → Open
   Asking namespace work = opened_request r link number request namespace work
 
-  work_owes : (namespace : List ℕ) (work : Work) (news : List Choice) → ((v : View) → IsPlanned v r New (needs namespace work))
+  -- what becomes of it: it stays open
+  stays_owes_of : (namespace : List ℕ) (work : Work) (next : Next) (news : List Choice) → KeepsCount r (Asking namespace work) next → IsStay next
       → AllByRecursion (λ (c : Choice). c.id ≡ id_of r (r.count + 1)) news
-      → ((v : View) → v.chosen ≡ book.chosen ++ news → HasTime v New (id_of r (r.count + 1)) r.time (wait_of r r.time namespace work) work
-      × (is_ahead r.time work ≡ false → IsDecided v (id_of r (r.count + 1)) work))
+      → ((v : View) → IsBehind w book at kept r good h v → v.chosen ≡ book.chosen ++ news
+      → NextIs (IsOpenOf v (w.asked ++ New ∷ []) w.answered (took r r.cursors (stay_in next))) (IsSaid v (w.asked ++ New ∷ []) w.given) (λ x. Unit {0}) next)
       → Owes w book at (record { state = router_state r; kept = kept })
-      (record { written = []; mail = asks_for r r.time (r.count + 1) namespace work; taken = taken_now r link number request ∷ []; replies = [] })
-      (router_state (took r r.cursors (Asking namespace work ∷ [])))
-  work_owes namespace work news does chose timed =
-      takes_owes w book at kept r good h link number request begun news r.cursors book.cursors (Asking namespace work ∷ [])
-      (asks_for r r.time (r.count + 1) namespace work) [] chose (turns_kept (Asking namespace work ∷ []))
-      (tt, tt) (refl, tt) tt tt tt tt (inl (counts_behind (r.count + 1) r.requests (Asking namespace work ∷ []) (in_first (r.count + 1) [])))
-      (λ v behind chosen cursors. record {
-        requests = (opens v behind chosen, tt);
-        letters = asks_fit v (w.asked ++ New ∷ []) w.given r r.time (met_later (view_of w.nodes book) v w.given r.time behind.0 h.met) (r.count + 1)
-            namespace work
-            (record { request = New; taken = taken; own = refl; past = omega arith; does = (does v).0; seen = (does v).1; decided = (timed v chosen).1 })
-            (known_tables w book at kept r good h v behind r.time (omega arith));
+      (record { written = []; mail = letters_in next; taken = taken_now r link number request ∷ []; replies = replies_in next })
+      (router_state (took r r.cursors (stay_in next)))
+  stays_owes_of namespace work (is_told reply) news same stay chose becomes = absurd stay
+  stays_owes_of namespace work (stays q letters) news same stay chose becomes =
+      takes_owes w book at kept r good h link number request begun news r.cursors book.cursors (q ∷ [])
+      letters [] chose (turns_kept (q ∷ []))
+      (tt, tt) (same, tt) tt tt tt tt
+      (inl (counts_behind (r.count + 1) r.requests (q ∷ []) (subst (λ n. IsIn (r.count + 1) (n ∷ [])) (sym same) (in_first (r.count + 1) []))))
+      (λ v behind chosen cursors.
+      let g = becomes v behind chosen in
+      record {
+        requests = (subst (λ l. IsOpenOf v (w.asked ++ New ∷ []) l (took r r.cursors (q ∷ [])) q) (sym (append-nil w.answered)) g.0, tt);
+        letters = g.1;
         answers = subst (λ l. AnswersFit v (w.asked ++ New ∷ []) (w.answered ++ []) book.cursors [] l) (sym cursors) (no_answer book.cursors);
       })
-    where
-      opens : (v : View) → IsBehind w book at kept r good h v → v.chosen ≡ book.chosen ++ news
-          → IsOpenOf v (w.asked ++ New ∷ []) (w.answered ++ []) (took r r.cursors (opened_request r link number request namespace work ∷ []))
-          (opened_request r link number request namespace work)
-      opens v behind chosen = record {
+
+  work_owes : (namespace : List ℕ) (work : Work) (news : List Choice) → ((v : View) → IsPlanned v r New (needs namespace work))
+      → AllByRecursion (λ (c : Choice). c.id ≡ id_of r (r.count + 1)) news
+      → ((v : View) → v.chosen ≡ book.chosen ++ news → (is_ahead r.time work ≡ true → WaitsFor v New (id_of r (r.count + 1)) work)
+      × (is_ahead r.time work ≡ false → IsDecided v (id_of r (r.count + 1)) work))
+      → Owes w book at (record { state = router_state r; kept = kept })
+      (record {
+        written = [];
+        mail = letters_in (begins_work r r.time (Asking namespace work) work);
+        taken = taken_now r link number request ∷ [];
+        replies = replies_in (begins_work r r.time (Asking namespace work) work);
+      })
+      (router_state (took r r.cursors (stay_in (begins_work r r.time (Asking namespace work) work))))
+  work_owes namespace work news does chose timed =
+      stays_owes_of namespace work (begins_work r r.time (opened_request r link number request namespace work) work) news
+      (keeps_count r r.time (opened_request r link number request namespace work)
+      (begins_work r r.time (opened_request r link number request namespace work) work)
+      (begins_keeps r r.time (opened_request r link number request namespace work) work))
+      (begins_stay r r.time (opened_request r link number request namespace work) New namespace work (does (view_of w.nodes book)).0) chose
+      (λ v behind chosen.
+      begins_goes v (w.asked ++ New ∷ []) w.answered w.given r
+      (took r r.cursors (stay_in (begins_work r r.time (opened_request r link number request namespace work) work)))
+      (met_later (view_of w.nodes book) v w.given r.time behind.0 h.met)
+      (known_tables w book at kept r good h v behind r.time (omega arith)) (λ x. Unit {0}) (opened_request r link number request namespace work)
+      (record {
         request = New;
         taken = taken;
         own = refl;
@@ -328,46 +386,44 @@ module _ (w : World) (book : Book) (at : ℕ) (kept : List Kept) (r : Router) (g
         number = refl;
         asks = refl;
         past = omega arith;
-        reached = (timed v chosen).0;
-        silent = rw (append-nil w.answered) (new_answer w book at kept r good h);
-        work = (does v).0;
-        seen = (does v).1;
-        sent = sent_for v (w.asked ++ New ∷ []) w.given r r.time (met_later (view_of w.nodes book) v w.given r.time behind.0 h.met) namespace work
-            (known_tables w book at kept r good h v behind r.time (omega arith));
-        parts = refl;
-      }
+        silent = new_answer w book at kept r good h;
+      }) work (does v).0 (does v).1 (timed v chosen).0 (timed v chosen).1)
 
   take_owes : (namespace : List ℕ) (work : Work) → plan_of r (id_of r (r.count + 1)) request.more (command_of request) ≡ needs namespace work
       → Owes w book at (record { state = router_state r; kept = kept })
-      (record { written = []; mail = asks_for r r.time (r.count + 1) namespace work; taken = taken_now r link number request ∷ []; replies = [] })
-      (router_state (took r r.cursors (Asking namespace work ∷ [])))
+      (record {
+        written = [];
+        mail = letters_in (begins_work r r.time (Asking namespace work) work);
+        taken = taken_now r link number request ∷ [];
+        replies = replies_in (begins_work r r.time (Asking namespace work) work);
+      })
+      (router_state (took r r.cursors (stay_in (begins_work r r.time (Asking namespace work) work))))
   take_owes namespace work plan = by_ahead (is_ahead r.time work) refl
     where
       does : (v : View) → IsPlanned v r New (needs namespace work)
       does v = planned v r New refl request.more namespace work (command_of request) refl refl plan
 
-      none_yet : (v : View) → v.chosen ≡ book.chosen ++ [] → chosen_time (id_of r (r.count + 1)) v.chosen ≡ None
-      none_yet v same = ap (λ l. chosen_time (id_of r (r.count + 1)) l) (same ∙ append-nil book.chosen) ∙ undecided w book at kept r good h
+      none_chosen : (v : View) → v.chosen ≡ book.chosen ++ [] → chosen_time (id_of r (r.count + 1)) v.chosen ≡ None
+      none_chosen v same = ap (λ l. chosen_time (id_of r (r.count + 1)) l) (same ∙ append-nil book.chosen) ∙ undecided w book at kept r good h
 
       by_ahead : (b : Bool) → is_ahead r.time work ≡ b
           → Owes w book at (record { state = router_state r; kept = kept })
-          (record { written = []; mail = asks_for r r.time (r.count + 1) namespace work; taken = taken_now r link number request ∷ []; replies = [] })
-          (router_state (took r r.cursors (opened_request r link number request namespace work ∷ [])))
+          (record {
+            written = [];
+            mail = letters_in (begins_work r r.time (opened_request r link number request namespace work) work);
+            taken = taken_now r link number request ∷ [];
+            replies = replies_in (begins_work r r.time (opened_request r link number request namespace work) work);
+          })
+          (router_state (took r r.cursors (stay_in (begins_work r r.time (opened_request r link number request namespace work) work))))
       by_ahead true ahead =
           work_owes namespace work [] does tt
-          (λ v same. (
-            inl (ap (λ b. if b then for_time else wait_by (table_for r.tables namespace work)) ahead, (does v).2 ahead (none_yet v same)),
-            λ e.
-                true_false (sym ahead ∙ e),
-          ))
-        where
-          true_false : {X : Type 0} → true ≡ false → X
-          true_false e = absurd (cc)
+          (λ v same. ((λ e. (does v).2 ahead (none_chosen v same)), λ e. absurd (true_false (sym ahead ∙ e))))
       by_ahead false reached =
           work_owes namespace work (choice_of (id_of r (r.count + 1)) work) does (choice_own (id_of r (r.count + 1)) work)
-          (λ v same.
-          let d = choice_decides v (id_of r (r.count + 1)) book.chosen work (undecided w book at kept r good h) same in
-          (inr (waits_not r r.time namespace work reached, reached, d), λ e. d))
+          (λ v same. (
+            (λ e. absurd (true_false (sym e ∙ reached))),
+            λ e. choice_decides v (id_of r (r.count + 1)) book.chosen work (undecided w book at kept r good h) same,
+          ))
 
 -- ALL ROWS
 
@@ -400,10 +456,8 @@ router_owes w book at kept _ _ _ _ good here h comes (router_hear r m id q named
 router_owes w book at kept _ _ _ _ good here h comes (router_ahead r m id q named time stages telling says found work wait ahead all) =
     ahead_owes w book at kept r good h m comes id q named time stages telling says (open_of_found r id q found) work wait ahead
     (each_get (λ k (x : Held). HeardFits (view_of w.nodes book) w.asked w.answered x.state) 0 at w.nodes _ good.heard here) all
-router_owes w book at kept _ _ _ _ good here h comes (router_note r m id dones q kind ordered statements answers says found work news open_yet) =
-    note_owes w book at kept r good h m comes id dones q kind ordered statements answers says (open_of_found r id q found) work open_yet
-router_owes w book at kept _ _ _ _ good here h comes (router_wrote r m id dones q kind ordered statements answers says found work news whole) =
-    wrote_owes w book at kept r good h m comes id dones q kind ordered statements answers says (open_of_found r id q found) work news whole
+router_owes w book at kept _ _ _ _ good here h comes (router_note r m id dones q kind ordered statements c next says found work news is) =
+    note_owes w book at kept r good h m comes id dones q kind ordered statements c says (open_of_found r id q found) work next is
 router_owes w book at kept _ _ _ _ good here h comes (router_part r m id rows q named time stages telling says found work target some) =
     absurd (some (part_is_all w book at kept r good h m comes id rows q (open_of_found r id q found) target))
 router_owes w book at kept _ _ _ _ good here h comes

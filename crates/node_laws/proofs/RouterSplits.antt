@@ -13,7 +13,9 @@ use Rattle.reply_model.specs.Right.{WasSplit, right_split, right_not_sharded}
 use Rattle.node_model.specs.Journal.{Kept}
 use Rattle.node_model.specs.Letters.{split_done, Letter}
 use Rattle.node_model.specs.States.{splitting, Open, Router, router_state, without}
-use Rattle.node_model.specs.RouterRows.{heard, as_before, reply_to}
+use Rattle.node_model.specs.RouterRequests.{heard}
+use Rattle.node_model.specs.RouterNext.{reply_to}
+use Rattle.node_model.specs.RouterRows.{as_before}
 use Rattle.node_model.specs.World.{World}
 use Rattle.reply_facts.proofs.Requests.{one_asked}
 use Rattle.node_laws.proofs.Views.{Book, View, view_of, changes_in}

@@ -12,7 +12,8 @@ use Rattle.node_model.specs.Journal.{Kept, kept_life}
 use Rattle.node_model.specs.Letters.{Letter, Reply, writes}
 use Rattle.reply_model.specs.Cursors.{Cursor}
 use Rattle.node_model.specs.States.{Open, Router, router_state}
-use Rattle.node_model.specs.RouterRows.{id_of, begins, takes, with_cursors, taken_now}
+use Rattle.node_model.specs.RouterRequests.{id_of}
+use Rattle.node_model.specs.RouterRows.{begins, takes, with_cursors, taken_now}
 use Rattle.node_model.specs.World.{World, answered_by}
 use Rattle.node_laws.proofs.Views.{Choice, Book, View, view_of, chosen_time}
 use Rattle.node_laws.proofs.GreatestTimes.{within_more}

@@ -16,7 +16,7 @@ use Rattle.node_model.specs.World.{Held, World, Event, Run, shards_from, routers
 use Rattle.node_laws.proofs.Views.{View, view_of, changes_in, MovesNothing, account_in}
 use Rattle.node_laws.proofs.Places.{EachAt}
 use Rattle.node_laws.proofs.WriteFacts.{WasMade}
-use Rattle.node_laws.proofs.SentEntries.{was_sent, is_reached}
+use Rattle.node_laws.proofs.SentEntries.{shows_of, was_sent, is_reached}
 use Rattle.node_laws.proofs.TimeFacts.{HeardFits}
 use Rattle.node_laws.proofs.Facts.{CatalogueFits, StateFits, CursorsFit, HeldFits, IsMet, AnswersFit, no_answer, one_answer, IsCatalogue, InOrder}
 use Rattle.node_laws.proofs.CatalogueTables.{placed_first}
@@ -201,9 +201,12 @@ first_makes_one w (known, moments, told, based) =
     let made : AllByRecursion (WasMade history w.asked) history = subst (λ l. AllByRecursion (WasMade history w.asked) l) entries s.fits.sent in
     let first : (e : Entry) → IsIn e history → e.shard ≡ first_shard =
     λ e i. placed_first (changes_in v) n.begun.still e (all_at (IsPlaced (changes_in v)) e history n.placed i) in
+    let right : AreRight (first_account w) [] w.answered =
+    all_right v w.changed w.given w.asked w.answered [] known.book.cursors w.answered good.answers good.met in
     record {
       legal = subst (λ l. Legal l) entries s.fits.legal;
-      sent = all_weaken (WasMade history w.asked) (WasSent (first_account w)) history (λ e m. was_sent (first_account w) numbers first e m) made;
+      sent = all_weaken (WasMade history w.asked) (WasSent (first_account w)) history
+          (λ e m. was_sent (first_account w) numbers first e m (λ t a write i j own asks. shows_of (first_account w) right good.one t a write i j own asks)) made;
       numbers = numbers;
       reached = all_weaken (WasMade history w.asked) (IsReached (first_account w)) history (λ e m. is_reached (first_account w) numbers first e m) made;
       placed = n.placed;
@@ -212,7 +215,7 @@ first_makes_one w (known, moments, told, based) =
       fitting = subst (λ l. AreFitting l) changes c.fits.fitting;
       steps = good.dated;
       caused = is_caused (first_account w) v w.now w.answered [] known.book.cursors w.answered good.one good.answers told based.replies;
-      right = all_right v w.changed w.given w.asked w.answered [] known.book.cursors w.answered good.answers good.met;
+      right = right;
       one = good.one;
       once = good.once;
       fresh = good.fresh;

@@ -14,6 +14,7 @@ use Rattle.history_model.proofs.Noted.{same_session_is, same_number_is}
 use Rattle.history_model.specs.History.{Session, client_session, router_session, StatementNumber, Outcome, Entry, IsIn}
 use Rattle.base_model.specs.Identities.{RequestId, same_request}
 use Rattle.reply_model.specs.Exchanges.{is_session_of, entries_by}
+pub use Rattle.reply_facts.proofs.Requests.{own_session, entry_by}
 use Rattle.reply_model.specs.Outcomes.{was_done, is_older, Done, done_of}
 use Rattle.node_model.specs.Service.{told_again, seen_before}
 
@@ -32,12 +33,6 @@ number_itself a =
     and_both (same_session a.session a.session) (int_eq a.transaction a.transaction && (a.index == a.index)) (session_itself a.session)
     (and_both (int_eq a.transaction a.transaction) (a.index == a.index) ((Decides-int_eq a.transaction a.transaction).1 refl)
     ((Decides-eqb a.index a.index).1 refl))
-
--- the session of a request's own numbers is its own
-pub own_session : (id : RequestId) → same_request id id ≡ true
-own_session id =
-    and_both (id.router == id.router) ((id.life == id.life) && (id.count == id.count)) ((Decides-eqb id.router id.router).1 refl)
-    (and_both (id.life == id.life) (id.count == id.count) ((Decides-eqb id.life id.life).1 refl) ((Decides-eqb id.count id.count).1 refl))
 
 -- WHAT IS FOUND
 
@@ -256,22 +251,6 @@ module _ (number : StatementNumber) (entries : List Entry) where
       by_greatest (Some g) most (Some n) note e = absurd (by_told g n (int_lt number.transaction g) e)
 
 -- ENTRIES OF A REQUEST
-
-pub entry_by : (id : RequestId) (e : Entry) (entries : List Entry) → IsIn e entries → is_session_of id e.number.session ≡ true
-    → IsIn e (entries_by id entries)
-entry_by id e [] stands own = absurd (in_none e stands)
-entry_by id e (d ∷ entries) stands own = by_place (in_cons e d entries stands) (λ i. entry_by id e entries i own)
-  where
-    by_test : (t : Bool) → IsIn e (entries_by id entries) → IsIn e (if t then d ∷ entries_by id entries else entries_by id entries)
-    by_test true i = in_later e d (entries_by id entries) i
-    by_test false i = i
-
-    by_place : (e ≡ d) ⊎ IsIn e entries → (IsIn e entries → IsIn e (entries_by id entries)) → IsIn e (entries_by id (d ∷ entries))
-    by_place (inl same) later =
-        let first : is_session_of id d.number.session ≡ true = ap (λ (c : Entry). is_session_of id c.number.session) (sym same) ∙ own in
-        subst (λ l. IsIn e l) (ap (λ t. if t then d ∷ entries_by id entries else entries_by id entries) (sym first))
-        (subst (λ c. IsIn e (c ∷ entries_by id entries)) same (in_first e (entries_by id entries)))
-    by_place (inr i) later = by_test (is_session_of id d.number.session) (later i)
 
 pub all_by : (P : Entry → Type 0) (id : RequestId) (entries : List Entry) → AllByRecursion P entries → AllByRecursion P (entries_by id entries)
 all_by P id [] all = tt

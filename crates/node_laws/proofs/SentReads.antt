@@ -7,7 +7,7 @@ use Rattle.chunk_model.specs.Verdicts.{sent_by}
 use Rattle.pipeline_model.specs.Halves.{Rows}
 use Rattle.node_model.specs.Letters.{HalfFault}
 use Rattle.node_model.specs.States.{Target, Part, Work, writing, reading, sharding, splitting, Wait, for_time, for_catalogue, for_shards}
-use Rattle.node_model.specs.RouterRows.{part_of, is_target, also_part, awaited, rows_of}
+use Rattle.node_model.specs.RouterNext.{part_of, is_target, also_part, awaited, rows_of}
 use Rattle.node_laws.proofs.Views.{View}
 use Rattle.node_laws.proofs.TableFacts.{IsSentTo}
 use Rattle.node_laws.proofs.KnownTables.{one_target}

@@ -12,7 +12,7 @@ use Rattle.reply_model.specs.Outcomes.{Done, done_of}
 use Rattle.reply_model.specs.Right.{IsStatement, ends, AreStatements}
 use Rattle.node_model.specs.Letters.{Statement}
 use Rattle.node_model.specs.Service.{seen_before, entry_for, Serves, serves_no_more, serves_again, serves_new, ends_again, ends_new}
-use Rattle.node_model.specs.RouterRows.{statements_from}
+use Rattle.node_model.specs.RouterRequests.{statements_from}
 use Rattle.node_laws.proofs.Lists.{all_behind}
 use Rattle.node_laws.proofs.Growth.{entries_by_longer}
 use Rattle.node_laws.proofs.NotedOutcomes.{HasNoOther}

@@ -26,7 +26,7 @@ use Rattle.node_laws.proofs.Facts.{IsKnownTable, IsOwned, HasBegun, IsDoneOf, Bo
 use Rattle.node_laws.proofs.Owes.{IsSaid, Owes}
 use Rattle.node_laws.proofs.CatalogueRows.{no_answers}
 use Rattle.node_laws.proofs.LongerJournals.{still_grows}
-use Rattle.node_laws.proofs.Growth.{answers_later, begun_grows, made_later, known_grows, owned_grows, shown_grows, letter_grows, placed_grows}
+use Rattle.node_laws.proofs.Growth.{next_later, begun_grows, made_later, known_grows, owned_grows, shown_grows, letter_grows, placed_grows}
 use Rattle.node_laws.proofs.Journals.{later_self}
 use Rattle.node_laws.proofs.ServedStatements.{up_to_later}
 use Rattle.node_laws.proofs.KnownTables.{table_created}
@@ -144,16 +144,13 @@ pub ask_retried : (v : View) (asked : List Asked) (sender other receiver early l
 ask_retried v asked sender other receiver early late (write_ask id turn ordered namespace statements sent) a is le f = record {
   request = f.request;
   write = f.write;
-  front = f.front;
-  back = f.back;
   taken = f.taken;
   own = f.own;
   asks = f.asks;
   order = f.order;
   name = f.name;
-  answered = answers_later v v early late f.write id 0 f.front (later_self v) le f.answered;
-  goes_on = f.goes_on;
-  next = f.next;
+  each = f.each;
+  next = λ in_order. next_later v v early late f.write id statements (later_self v) le (f.next in_order);
   owned = all_weaken (IsOwned v early namespace receiver) (IsOwned v late namespace receiver) statements
       (λ s o. owned_grows v v early late namespace receiver s (later_self v) le o) f.owned;
   fresh = let h = f.fresh in omega arith;

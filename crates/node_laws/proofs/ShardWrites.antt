@@ -1,26 +1,27 @@
 -- Where a shard serves a request and stores its entries, all facts stay.
 use Rattle.std.proofs.Common.{◌≡◌, ◌⊎◌, inl, inr, ℕ, ◌+◌, ◌<◌, ◌≤◌, List, [], ◌∷◌, ◌++◌, refl, sym, ap, subst, ◌∙◌, arith, append-nil, Bool}
-use Rattle.std.specs.Prelude.{Some, None, true, max, map, length, drop}
+use Rattle.std.specs.Prelude.{Some, None, true, false, max, map, length, drop}
 use Rattle.std.specs.List.{AllByRecursion, slice_get}
 use Rattle.history_model.proofs.Lists.{all_weaken, all_both, all_append, all_at, in_back}
 use Rattle.chunk_model.specs.Tables.{first_shard}
 use Rattle.history_model.specs.History.{Operation, Entry, IsIn, Legal}
 use Rattle.base_model.specs.Identities.{RequestId}
-use Rattle.reply_model.specs.Exchanges.{Asked, entries_by}
+use Rattle.reply_model.specs.Exchanges.{Asked, number_for, entries_by}
 use Rattle.reply_model.specs.Outcomes.{Done}
-use Rattle.reply_model.specs.Right.{AreStatements, IsPart}
+use Rattle.reply_model.specs.Right.{ends, AreStatements, IsPart}
+use Rattle.reply_facts.proofs.Statements.{ordered_part, part_ordered, part_single}
 use Rattle.reply_model.specs.OneHistory.{StandsInPart, IsPlaced, AreNumbered}
 use Rattle.node_model.specs.Journal.{Kept, kept_entry, entries_kept, time_kept, greatest_kept}
 use Rattle.node_model.specs.Letters.{Statement, write_done, Letter}
 use Rattle.node_model.specs.States.{Shard, shard_state}
 use Rattle.node_model.specs.Service.{Serves, serves_no_more, serves_again, serves_new, ends_again, ends_new}
-use Rattle.node_model.specs.RouterRows.{statements_from}
+use Rattle.node_model.specs.RouterRequests.{statements_from}
 use Rattle.node_model.specs.ShardRows.{heard, greatest_entry, says}
 use Rattle.node_model.specs.World.{Held, World}
 use Rattle.node_model.proofs.Journals.{journal_got}
 use Rattle.node_laws.proofs.Views.{Book, View, view_of, entries_in, changes_in, IsShardAt, history_in, IsAbove}
 use Rattle.node_laws.proofs.WriteFacts.{AreAnswers, OnlyLast, AreDoneBefore, WasMade}
-use Rattle.node_laws.proofs.Facts.{IsKnownTable, IsOwned, IsWriteOf, HasBegun, IsDoneOf, ParkedFits, ShardFits, IsMet, Good}
+use Rattle.node_laws.proofs.Facts.{IsKnownTable, IsOwned, IsStatementOf, AreNext, IsWriteOf, HasBegun, IsDoneOf, ParkedFits, ShardFits, IsMet, Good}
 use Rattle.node_laws.proofs.Owes.{Owes}
 use Rattle.node_laws.proofs.Lists.{all_mapped}
 use Rattle.node_laws.proofs.GreatestTimes.{greatest_both, greatest_entries, greatest_made, within_more}
@@ -28,6 +29,9 @@ use Rattle.node_laws.proofs.LongerJournals.{entries_longer, IsNewAt, still_grows
 use Rattle.node_laws.proofs.Histories.{shard_entries, entry_of_shard}
 use Rattle.node_laws.proofs.Growth.{entry_grows, made_later, known_grows, placed_grows, met_later}
 use Rattle.node_laws.proofs.NotedOutcomes.{HasNoOther, made_no_other, answers_stand}
+use Rattle.node_laws.proofs.SeenStatements.{true_false}
+use Rattle.node_laws.proofs.CatalogueTables.{placed_first}
+use Rattle.node_laws.proofs.SingleParts.{IsFrom, singles}
 use Rattle.node_laws.proofs.ServedStatements.{AreUpTo, Rises, IsEntryOf, up_to_later, serves_rises, serves_legal, serves_numbered, legal_joined, serves_entries, serves_told, serves_last}
 use Rattle.node_laws.proofs.MadeEntries.{drop_statements, parted, few_answers, front_done, IsMadeAt, serves_made}
 use Rattle.node_laws.proofs.RequestParts.{owned_by_first, owned_placed, ask_own, request_part, IsBy, parts_longer}
@@ -128,49 +132,126 @@ module _ (w : World) (book : Book) (at : ℕ) (kept : List Kept) (s : Shard) (is
   past : AreUpTo now s.entries
   past = up_to_later s.time now s.entries later is.fits.past
 
-  -- the outcomes that were returned before, at the request's own number
-  before : AreAnswers s.entries early ask.write Own.id 0 ask.front
-  before =
-      subst (λ i. AreAnswers s.entries early ask.write i 0 ask.front) (sym ask.own)
-      (subst (λ l. AreAnswers l early ask.write id 0 ask.front) (own_entries w book at kept s is place) ask.answered)
+  -- ORDERED
 
-  next : drop (length ask.front) (statements_from ask.write.number Own.id 0 ask.write.operations) ≡ statements ++ ask.back
-  next = subst (λ i. drop (length ask.front) (statements_from ask.write.number i 0 ask.write.operations) ≡ statements ++ ask.back) (sym ask.own) ask.next
+  module _ (in_order : ordered ≡ true) where
+    nexts : AreNext (view_of w.nodes book) early ask.write id statements
+    nexts = ask.next in_order
 
-  done_before : ordered ≡ true → AreDoneBefore s.entries (now + 1) ask.write Own.id (length ask.front)
-  done_before in_order = λ i below.
-      let d = front_done s.entries early ask.write Own.id ordered 0 ask.front in_order before ask.goes_on i (omega arith) (omega arith) in
-      let at = d.past in
-      (d.entry, d.stands, d.numbered, d.good, omega (arith, at, reached))
+    goes_on : AllByRecursion (λ d. ends ordered d ≡ false) nexts.front
+    goes_on = subst (λ b. AllByRecursion (λ d. ends b d ≡ false) nexts.front) (sym in_order) nexts.goes_on
+
+    -- the outcomes that were returned before, at the request's own number
+    before : AreAnswers s.entries early ask.write Own.id 0 nexts.front
+    before =
+        subst (λ i. AreAnswers s.entries early ask.write i 0 nexts.front) (sym ask.own)
+        (subst (λ l. AreAnswers l early ask.write id 0 nexts.front) (own_entries w book at kept s is place) nexts.answered)
+
+    next : drop (length nexts.front) (statements_from ask.write.number Own.id 0 ask.write.operations) ≡ statements ++ nexts.back
+    next = subst (λ i. drop (length nexts.front) (statements_from ask.write.number i 0 ask.write.operations) ≡ statements ++ nexts.back) (sym ask.own)
+        nexts.next
+
+    done_before : AreDoneBefore s.entries (now + 1) ask.write Own.id (length nexts.front)
+    done_before = λ i below.
+        let d = front_done s.entries early ask.write Own.id ordered 0 nexts.front in_order before goes_on i (omega arith) (omega arith) in
+        let at = d.past in
+        (d.entry, d.stands, d.numbered, d.good, omega (arith, at, reached))
+
+    made_next : AllByRecursion (IsMadeAt Own ask.write ordered (s.entries ++ made)) made
+    made_next =
+        let few = few_answers s.entries early ask.write Own.id 0 nexts.front before (omega arith) in
+        let p = parted ask.write.operations (length nexts.front) (omega (arith, few)) in
+        let zero_at : length nexts.front ≡ 0 + length nexts.front = omega arith in
+        serves_made Own ask.write s.me namespace ordered ask.name s.entries now statements dones made last serves (length nexts.front) p.front
+        (drop (length nexts.front) ask.write.operations) nexts.back p.both p.count
+        (ap (λ n. statements_from ask.write.number Own.id n (drop (length nexts.front) ask.write.operations)) zero_at
+        ∙ sym (drop_statements ask.write.number Own.id 0 (length nexts.front) ask.write.operations) ∙ next) past (λ h. done_before)
+
+    -- of a request without a client's number a prefix is stored
+    prefix_stands : ask.write.number ≡ None → IsPart (s.entries ++ made) Own.id ask.write
+    prefix_stands none =
+        let in_turn : ask.write.ordered ≡ true = sym ask.order ∙ in_order in
+        let part : AreStatements Own.id ask.write.namespace ask.write.ordered 0 ask.write.operations (entries_by Own.id s.entries) =
+        ordered_part s.entries Own.id ask.write in_turn
+        (all_at (StandsInPart s.entries) Own w.asked is.fits.parts ask.taken ask.write ask.asks none) in
+        let u : View = view_of w.nodes book in
+        let zero : AllByRecursion HasNoOther s.entries = all_weaken (WasMade (history_in u) w.asked) HasNoOther s.entries
+        (λ e m. made_no_other (history_in u) w.asked e m) is.fits.sent in
+        let told = answers_stand s.entries early ask.write Own.id nexts.front none zero part before in
+        part_ordered (s.entries ++ made) Own.id ask.write in_turn
+        (part_moved Own.id namespace ask.write.namespace ordered ask.write.ordered ask.write.operations (s.entries ++ made) ask.name ask.order
+        (request_part Own.id s.me namespace ordered ask.write.operations s.entries now statements dones made last serves nexts.front told.0 nexts.back told.1
+        goes_on zero (subst (λ g. drop (length nexts.front) (statements_from g Own.id 0 ask.write.operations) ≡ statements ++ nexts.back) none next)
+        (part_moved Own.id ask.write.namespace namespace ask.write.ordered ordered ask.write.operations s.entries (sym ask.name) (sym ask.order) part)))
+
+  -- UNORDERED
+
+  -- an entry of a statement of the write
+  loose_made : ordered ≡ false → (e : Entry) → IsEntryOf s.me namespace (IsStatementOf ask.write id) e → IsMadeAt Own ask.write ordered (s.entries ++ made) e
+  loose_made loose e (shard, name, f) = record {
+    index = length f.before;
+    entry = record {
+      prefix = f.before;
+      operation = f.operation;
+      back = f.back;
+      both = f.all;
+      at = refl;
+      statement = record {
+        same_number = f.numbered ∙ ap (λ i. number_for ask.write.number i (length f.before)) (sym ask.own);
+        name = name ∙ ask.name;
+        does = f.does;
+      };
+    };
+    reached = λ in_order. absurd (true_false (sym in_order ∙ loose));
+  }
+
+  -- EITHER
 
   made_at : AllByRecursion (IsMadeAt Own ask.write ordered (s.entries ++ made)) made
-  made_at =
-      let few = few_answers s.entries early ask.write Own.id 0 ask.front before (omega arith) in
-      let p = parted ask.write.operations (length ask.front) (omega (arith, few)) in
-      let zero_at : length ask.front ≡ 0 + length ask.front = omega arith in
-      serves_made Own ask.write s.me namespace ordered ask.name s.entries now statements dones made last serves (length ask.front) p.front
-      (drop (length ask.front) ask.write.operations) ask.back p.both p.count
-      (ap (λ n. statements_from ask.write.number Own.id n (drop (length ask.front) ask.write.operations)) zero_at
-      ∙ sym (drop_statements ask.write.number Own.id 0 (length ask.front) ask.write.operations) ∙ next) past done_before
+  made_at = by_order ordered refl
+    where
+      by_order : (b : Bool) → ordered ≡ b → AllByRecursion (IsMadeAt Own ask.write ordered (s.entries ++ made)) made
+      by_order true h = made_next h
+      by_order false h =
+          all_weaken (IsEntryOf s.me namespace (IsStatementOf ask.write id)) (IsMadeAt Own ask.write ordered (s.entries ++ made)) made
+          (λ e m. loose_made h e m)
+          (serves_entries (IsStatementOf ask.write id) s.me namespace ordered s.entries now statements dones made last serves ask.each)
 
-  -- of a request without a client's number a prefix is stored
-  part_stands : ask.write.number ≡ None → IsPart (s.entries ++ made) Own.id ask.write
-  part_stands none =
-      let part : IsPart s.entries Own.id ask.write = all_at (StandsInPart s.entries) Own w.asked is.fits.parts ask.taken ask.write ask.asks none in
-      let u : View = view_of w.nodes book in
-      let zero : AllByRecursion HasNoOther s.entries = all_weaken (WasMade (history_in u) w.asked) HasNoOther s.entries
-      (λ e m. made_no_other (history_in u) w.asked e m) is.fits.sent in
-      let told = answers_stand s.entries early ask.write Own.id ask.front none zero part before in
-      part_moved Own.id namespace ask.write.namespace ordered ask.write.ordered ask.write.operations (s.entries ++ made) ask.name ask.order
-      (request_part Own.id s.me namespace ordered ask.write.operations s.entries now statements dones made last serves ask.front told.0 ask.back told.1
-      ask.goes_on zero (subst (λ g. drop (length ask.front) (statements_from g Own.id 0 ask.write.operations) ≡ statements ++ ask.back) none next)
-      (part_moved Own.id ask.write.namespace namespace ask.write.ordered ordered ask.write.operations s.entries (sym ask.name) (sym ask.order) part))
+  part_stands : AreNumbered (s.entries ++ made) → ask.write.number ≡ None → IsPart (s.entries ++ made) Own.id ask.write
+  part_stands numbers none = by_order ordered refl
+    where
+      u : View
+      u = view_of w.nodes book
+
+      by_order : (b : Bool) → ordered ≡ b → IsPart (s.entries ++ made) Own.id ask.write
+      by_order true h = prefix_stands h none
+      by_order false h =
+          part_single (s.entries ++ made) Own.id ask.write (sym ask.order ∙ h)
+          (singles w.asked Own ask.write is.good.one ask.taken ask.asks none (s.entries ++ made)
+          (all_append (IsFrom w.asked) s.entries made
+          (all_weaken (WasMade (history_in u) w.asked) (IsFrom w.asked) s.entries
+          (λ e m. record { request = m.request; taken = m.taken; sends = m.sends }) is.fits.sent)
+          (all_weaken (IsMadeAt Own ask.write ordered (s.entries ++ made)) (IsFrom w.asked) made
+          (λ e m. record {
+            request = Own;
+            taken = ask.taken;
+            sends = record { write = ask.write; index = m.index; asks = ask.asks; entry = m.entry };
+          }) made_at))
+          numbers
+          (all_append (λ (e : Entry). e.shard ≡ first_shard) s.entries made
+          (all_weaken (IsPlaced (changes_in u)) (λ (e : Entry). e.shard ≡ first_shard) s.entries
+          (λ e p. placed_first (changes_in u) is.fits.still e p) is.fits.placed)
+          (all_weaken (IsEntryOf s.me namespace (IsOwned u early namespace receiver)) (λ (e : Entry). e.shard ≡ first_shard) made
+          (λ e o. o.0 ∙ is.fits.own ∙ place)
+          (serves_entries (IsOwned u early namespace receiver) s.me namespace ordered s.entries now statements dones made last serves ask.owned))))
 
   served_all : HasBegun (view_of w.nodes book) last ask.write.namespace → Served w book at s now id dones made last
   served_all begun =
       let u : View = view_of w.nodes book in
       let rises = serves_rises s.me namespace ordered s.entries now statements dones made last serves in
       let first : s.me ≡ first_shard = is.fits.own ∙ place in
+      let numbers : AreNumbered (s.entries ++ made) =
+      serves_numbered s.me namespace ordered s.entries now statements dones made last serves is.fits.numbers in
       let owned : AllByRecursion (IsEntryOf s.me namespace (IsOwned u early namespace receiver)) made =
       serves_entries (IsOwned u early namespace receiver) s.me namespace ordered s.entries now statements dones made last serves ask.owned in
       record {
@@ -185,13 +266,13 @@ module _ (w : World) (book : Book) (at : ℕ) (kept : List Kept) (s : Shard) (is
               later = let f = ask.fresh in omega (arith, f, above, reached);
               reached = λ in_order. h.reached (ask.order ∙ in_order);
             }) made_at rises.above;
-        numbers = serves_numbered s.me namespace ordered s.entries now statements dones made last serves is.fits.numbers;
+        numbers = numbers;
         placed = all_both (IsEntryOf s.me namespace (IsOwned u early namespace receiver)) (λ (e : Entry). now < e.time) (IsPlaced (changes_in u)) made
             (λ e h above. owned_placed u early namespace receiver e (h.0 ∙ first, h.1, h.2) (omega arith)) owned rises.above;
         parts = parts_longer w.asked s.entries made Own ask.write is.good.one ask.taken ask.asks
             (all_weaken (IsMadeAt Own ask.write ordered (s.entries ++ made)) (IsBy ask.write.number Own.id) made
             (λ e h. (h.index, h.entry.statement.same_number)) made_at)
-            part_stands is.fits.parts;
+            (part_stands numbers) is.fits.parts;
         own = all_weaken (IsEntryOf s.me namespace (IsOwned u early namespace receiver)) (λ (e : Entry). e.shard ≡ s.me) made (λ e h. h.0) owned;
         told = record {
           request = Own;

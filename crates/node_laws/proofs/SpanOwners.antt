@@ -13,7 +13,7 @@ use Rattle.chunk_model.specs.Changes.{Change, create_change, split_change, commi
 use Rattle.chunk_model.specs.Placement.{AreFitting}
 use Rattle.chunk_model.specs.Targets.{meets_any, with_shard, targets_among, targets}
 use Rattle.chunk_laws.proofs.Owners.{owners_of, now_is, at_is}
-use Rattle.node_model.specs.RouterRows.{owners_of_span, has_owner, is_owned_at}
+use Rattle.node_model.specs.RouterRequests.{owners_of_span, has_owner, is_owned_at}
 use Rattle.node_laws.proofs.Views.{MovesNothing}
 use Rattle.node_laws.proofs.CatalogueTables.{owns_now}
 

@@ -8,7 +8,7 @@ use Rattle.chunk_model.specs.Tables.{Table}
 use Rattle.pipeline_model.specs.Stages.{Stage}
 use Rattle.reply_model.specs.Right.{WasCreated}
 use Rattle.node_model.specs.States.{Target, Work, writing, reading, sharding, splitting, Wait, for_time, for_catalogue, for_shards}
-use Rattle.node_model.specs.RouterRows.{targets_at, is_owned_at}
+use Rattle.node_model.specs.RouterRequests.{targets_at, is_owned_at}
 use Rattle.node_laws.proofs.Views.{View, changes_in, MovesNothing}
 
 -- a table that the catalogue had: its changes up to one of them make it, and its collection was created by a time
@@ -31,7 +31,7 @@ pub record IsSentBy (v : View) (time : ℕ) (namespace : List ℕ) (at : ℕ) (s
 
 -- by its work, a request that waits for shards: no other than a read was sent to shards that return parts
 abbrev pub IsSentOut : View → (time : ℕ) → (namespace : List ℕ) → Work → List Target → Type 0
-IsSentOut v time namespace (writing kind ordered statements answers) targets = targets ≡ []
+IsSentOut v time namespace (writing kind ordered statements c) targets = targets ≡ []
 IsSentOut v time namespace (reading named at stages telling) targets = IsSentBy v time namespace at stages targets
 IsSentOut v time namespace sharding targets = targets ≡ []
 IsSentOut v time namespace (splitting middle) targets = targets ≡ []

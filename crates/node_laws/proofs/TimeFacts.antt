@@ -8,7 +8,7 @@ use Rattle.command_model.specs.Command.{write_command, command_of}
 use Rattle.history_model.specs.History.{Entry, IsIn}
 use Rattle.reply_model.specs.Exchanges.{Asked, Answered, number_for}
 use Rattle.node_model.specs.States.{Open, Router, NodeState, catalogue_state, shard_state, router_state}
-use Rattle.node_model.specs.RouterRows.{id_of}
+use Rattle.node_model.specs.RouterRequests.{id_of}
 use Rattle.node_laws.proofs.Views.{View, history_in}
 
 -- the entry is one of the statements of a write whose reply has the entry's time

@@ -7,7 +7,7 @@ ghost use Rattle.history_model.specs.History.{IsIn};
 ghost use Rattle.reply_model.specs.Keys.{Span};
 ghost use Rattle.reply_model.specs.OneHistory.{OneHistory};
 ghost use Rattle.node_model.specs.Journal.{changes_kept};
-ghost use Rattle.node_model.specs.RouterRows.{owners_of_span, is_owned_at};
+ghost use Rattle.node_model.specs.RouterRequests.{owners_of_span, is_owned_at};
 ghost use Rattle.node_model.specs.World.{Event, Run, World, journal_at, start, account_of};
 ghost use Rattle.reply_model.specs.Accounts.{changes_in};
 

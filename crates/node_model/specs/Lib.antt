@@ -4,6 +4,8 @@ pub mod States
 pub mod Service
 pub mod CatalogueRows
 pub mod ShardRows
+pub mod RouterRequests
+pub mod RouterNext
 pub mod RouterRows
 pub mod Steps
 pub mod World

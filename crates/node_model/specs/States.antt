@@ -5,7 +5,7 @@ use Rattle.reply_model.specs.History.{Entry}
 use Rattle.chunk_model.specs.Changes.{Change}
 use Rattle.reply_model.specs.Tables.{Table}
 use Rattle.reply_model.specs.Tree.{Datum}
-use Rattle.reply_model.specs.Outcomes.{Done}
+use Rattle.reply_model.specs.Outcomes.{StatementOutcome}
 use Rattle.reply_model.specs.Writes.{WriteKind}
 use Rattle.pipeline_model.specs.Halves.{Rows}
 use Rattle.pipeline_model.specs.Stages.{Stage}
@@ -34,10 +34,21 @@ pub data Telling : Type 0 where
   in_batches : (size : ℕ) → (single : Bool) → Telling
   as_number : Telling
 
+-- statements of a write, by their indices, that were sent to a shard together, with the versions that were sent along; those that are not answered
+pub record Run : Type 0 where
+  pub shard : ℕ
+  pub sent : Sent
+  pub indices : List ℕ
+
+-- How far a write has come: of each statement, by its index, its outcome, if it has one; and what was sent.
+pub record Course : Type 0 where
+  pub answers : List (Option StatementOutcome)
+  pub runs : List Run
+
 -- what a request has to do before it is answered
 pub data Work : Type 0 where
-  -- the statements of a write of this kind, and the outcomes of the first of them
-  writing : WriteKind → (ordered : Bool) → (statements : List Statement) → (answers : List Done) → Work
+  -- the statements of a write of this kind, with their indices from 0 on
+  writing : WriteKind → (ordered : Bool) → (statements : List Statement) → Course → Work
   -- what stages make of the documents at a time; where none is `named` it is that of the router that reaches this one
   reading : (named : Bool) → (at : ℕ) → List Stage → Telling → Work
   -- its collection is created
@@ -45,7 +56,7 @@ pub data Work : Type 0 where
   -- a chunk of it is split at the key
   splitting : (middle : Datum) → Work
 
--- what an open request waits for: the time that it reads at, the catalogue, or the shards
+-- what an open request waits for: the time that it reads at, the catalogue (a write may wait for shards too), or the shards
 pub data Wait : Type 0 where
   for_time : Wait
   for_catalogue : Wait

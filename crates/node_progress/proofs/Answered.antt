@@ -51,8 +51,8 @@ answered_served w good a taken done = λ write asks.
     ∙ asks in
     let x = told_write (account_of w) one told.0 write told.1 its in
     record {
-      whole = λ none. subst (λ id. IsWhole history id write) told.2 (x.whole none);
       tells = record { answer = told.0; told = told.1; own = told.2; dones = x.dones; tells = x.tells };
+      whole = λ none. subst (λ id. IsWhole history id write x.dones) told.2 (x.whole none);
     }
 
 -- WHERE NO MESSAGE IS LEFT

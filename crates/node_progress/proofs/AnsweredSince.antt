@@ -11,7 +11,8 @@ use Rattle.reply_model.specs.Exchanges.{Asked}
 use Rattle.reply_model.specs.OneHistory.{AreDifferent, ids_asked}
 use Rattle.node_model.specs.Letters.{no_time}
 use Rattle.node_model.specs.States.{Router, Open, shard_state, router_state}
-use Rattle.node_model.specs.RouterRows.{id_of, shards_of, untold, awaited}
+use Rattle.node_model.specs.RouterRequests.{id_of, shards_of, untold}
+use Rattle.node_model.specs.RouterNext.{awaited}
 use Rattle.node_model.specs.ShardRows.{Ask}
 use Rattle.node_model.specs.World.{Held, World, Event, client_event, deliver_event, moment_event, opened_event, Happens, Run, stands, goes, start, account_of}
 use Rattle.node_laws.proofs.Views.{Book}

@@ -4,7 +4,7 @@ use Rattle.std.specs.Prelude.{Some}
 use Rattle.std.specs.List.{slice_get}
 use Rattle.node_model.specs.Letters.{Input, client_input, letter_input, moment_input, opened_input, Taken, Effect}
 use Rattle.node_model.specs.States.{Router, NodeState, catalogue_state, shard_state, router_state}
-use Rattle.node_model.specs.RouterRows.{RouterRow, router_begin, router_opened, router_plain, router_more, router_no_cursor, router_kill, router_take, router_learn, router_split, router_not_sharded, router_reach, router_hear, router_ahead, router_note, router_wrote, router_part, router_read, router_excess, router_overflow, router_late, router_skip, router_moment}
+use Rattle.node_model.specs.RouterRows.{RouterRow, router_begin, router_opened, router_plain, router_more, router_no_cursor, router_kill, router_take, router_learn, router_split, router_not_sharded, router_reach, router_hear, router_ahead, router_note, router_part, router_read, router_excess, router_overflow, router_late, router_skip, router_moment}
 use Rattle.node_model.specs.Steps.{Step, catalogue_step, shard_step, router_step, begin_step, other_step}
 use Rattle.node_model.specs.World.{Held, World, asked_by, Moves, IsRouter, Event, Happens, client_event, deliver_event, moment_event, opened_event, comes, delivers, passes, begins as was_opened, Run, stands, goes}
 use Rattle.node_laws.proofs.Views.{view_of}
@@ -38,8 +38,7 @@ row_takes _ _ _ _ (router_not_sharded r m id q middle says found work) = refl
 row_takes _ _ _ _ (router_reach r m id q named at stages telling says found work waits le) = refl
 row_takes _ _ _ _ (router_hear r m id q named at stages telling says found work waits ahead others) = refl
 row_takes _ _ _ _ (router_ahead r m id q named at stages telling says found work waits ahead all) = refl
-row_takes _ _ _ _ (router_note r m id dones q kind ordered statements answers says found work news more) = refl
-row_takes _ _ _ _ (router_wrote r m id dones q kind ordered statements answers says found work news all) = refl
+row_takes _ _ _ _ (router_note r m id dones q kind ordered statements c next says found work news is) = refl
 row_takes _ _ _ _ (router_part r m id rows q named at stages telling says found work target some) = refl
 row_takes _ _ _ _ (router_read r m id rows q named at stages telling all out answer f says found work target whole got merged tells) = refl
 row_takes _ _ _ _ (router_excess r m id rows n q named at stages telling says found work target whole got) = refl

@@ -10,9 +10,10 @@ use Rattle.base_model.specs.Identities.{RequestId}
 use Rattle.reply_model.specs.Exchanges.{Asked}
 use Rattle.command_model.proofs.Taken.{operations_with_keys}
 use Rattle.node_model.specs.Journal.{Kept, changes_kept, greatest_kept}
-use Rattle.node_model.specs.Letters.{At, Body, table_ask, table_told, split_ask, split_done, write_ask, write_done, read_ask, half_ask, read_rows, stale, time_ask, time_told, Letter, Input, letter_input}
+use Rattle.node_model.specs.Letters.{At, Statement, Body, table_ask, table_told, split_ask, split_done, write_ask, write_done, read_ask, half_ask, read_rows, stale, time_ask, time_told, Letter, Input, letter_input}
 use Rattle.node_model.specs.States.{Target, Wait, for_time, for_catalogue, for_shards, Catalogue, Shard, Router, Work, writing, reading, sharding, splitting, Open, NodeState, catalogue_state, shard_state, router_state}
-use Rattle.node_model.specs.RouterRows.{shards_of, is_target}
+use Rattle.node_model.specs.RouterRequests.{shards_of}
+use Rattle.node_model.specs.RouterNext.{is_target}
 use Rattle.node_model.specs.World.{Held, World, journal_at}
 use Rattle.node_model.proofs.Journals.{journal_got}
 use Rattle.node_laws.proofs.Views.{Book, View, view_of, changes_in}
@@ -20,6 +21,7 @@ use Rattle.node_laws.proofs.Facts.{IsKnownTable, BodyFits, WorkFits, IsOpenOf, A
 use Rattle.node_laws.proofs.TableFacts.{IsSentTo}
 use Rattle.node_laws.proofs.KnownTables.{one_target}
 use Rattle.node_laws.proofs.Keeps.{the_begun}
+use Rattle.node_laws.proofs.Outcomes.{statements_long}
 use Rattle.node_laws.proofs.StepsKeep.{fits_here}
 use Rattle.node_progress.proofs.Versions.{IsFirst, IsTableOf, table_had, IsWell, fits_there}
 use Rattle.node_progress.proofs.ShardPasses.{FitsThere}
@@ -129,8 +131,14 @@ module _ (w : World) (book : Book) (left : Left) (good : Good w book) (bag : Bag
   router_fits r p kept here = (fits_here w book p (record { state = router_state r; kept = kept }) good here).state
 
   stated_work : (a : Asked) (namespace : List ℕ) (work : Work) → WorkFits a namespace work → IsStated work
-  stated_work a namespace (writing kind ordered statements answers) fits =
-      record { given = fits.0.number; id = a.id; operations = fits.0.operations; are = fits.5; keys = operations_with_keys a.request fits.0 fits.1 }
+  stated_work a namespace (writing kind ordered statements c) fits = record {
+    given = fits.0.number;
+    id = a.id;
+    operations = fits.0.operations;
+    are = fits.5;
+    keys = operations_with_keys a.request fits.0 fits.1;
+    long = fits.6.long ∙ (ap (λ (l : List Statement). length l) fits.5 ∙ statements_long fits.0.number a.id 0 fits.0.operations);
+  }
   stated_work a namespace (reading named at stages telling) fits = tt
   stated_work a namespace sharding fits = tt
   stated_work a namespace (splitting middle) fits = tt
@@ -178,7 +186,7 @@ module _ (w : World) (book : Book) (left : Left) (good : Good w book) (bag : Bag
       → WasSent (changes_made w) namespace wait work targets
   sent_out time namespace for_time work targets sent = tt
   sent_out time namespace for_catalogue work targets sent = tt
-  sent_out time namespace for_shards (writing kind ordered statements answers) targets sent = tt
+  sent_out time namespace for_shards (writing kind ordered statements c) targets sent = tt
   sent_out time namespace for_shards (reading named at stages telling) targets sent = record {
     table = sent.table;
     had = (table_had (now w book) time sent.table sent.known).0;

@@ -12,7 +12,8 @@ use Rattle.node_model.specs.Letters.{no_time, Letter, Input, letter_input, Taken
 use Rattle.node_model.specs.States.{Catalogue, Shard, Router, catalogue_state, shard_state, router_state}
 use Rattle.node_model.specs.CatalogueRows.{CatalogueRow}
 use Rattle.node_model.specs.ShardRows.{ShardRow}
-use Rattle.node_model.specs.RouterRows.{places_from, shards_of, RouterRow}
+use Rattle.node_model.specs.RouterRequests.{places_from, shards_of}
+use Rattle.node_model.specs.RouterRows.{RouterRow}
 use Rattle.node_model.specs.World.{World, asked_by, after, is_given, tick}
 use Rattle.node_laws.proofs.Views.{Book}
 use Rattle.node_laws.proofs.Facts.{CatalogueFits, ShardFits, RouterFits, Good}
@@ -28,6 +29,8 @@ use Rattle.node_progress.proofs.ShardSends.{shard_well}
 use Rattle.node_progress.proofs.RouterWaits.{WaitsAfter}
 use Rattle.node_progress.proofs.RouterGoesOn.{IsReady, router_waits}
 use Rattle.node_progress.proofs.RouterSends.{OpenWasSent, router_well}
+use Rattle.node_progress.proofs.RouterRuns.{router_runs}
+use Rattle.node_progress.proofs.RunVersions.{OpenRuns}
 use Rattle.node_progress.proofs.Takings.{catalogue_takes_none, shard_takes_none, IsInLife, stays_in_life}
 use Rattle.node_progress.proofs.Shards.{IsShardIn}
 use Rattle.node_progress.proofs.Bags.{Left, changes_made, IsHeldFor, OpenGoes, ParkedGoes, Bag, WasFor, Clears}
@@ -189,10 +192,13 @@ router_keeps left later w book p i kept o r u f good bag here clears fresh comes
     (lives.shards ∙ shards)
     (subst (λ l. AllByRecursion (IsWell (changes_made w) (length w.nodes)) l) (sym mail)
     (router_well (changes_made w) (length w.nodes) r i f u (subst (λ n. n < length w.nodes) (sym own) inside)
-    (omega (arith, inside, place)) known ready tables sent
+    (omega (arith, inside, place)) known ready tables sent runs
     (λ m is namespace create at t says. (told_had w book left good bag m (comes m is).1 namespace create at t says).0) row))
     (open_after left later w p i kept (router_state o) g (router_state u) bag here clears fresh r u (λ s is. cc is) goes
-    (subst (λ l. AllByRecursion (WaitsAfter r u i l) u.requests) (sym mail) (router_waits r i f u ready row)))
+    (subst (λ l. AllByRecursion (WaitsAfter r u i l) u.requests) (sym mail) (router_waits r i f u ready row))
+    (router_runs (changes_made w) (length w.nodes) r i f u (subst (λ n. n < length w.nodes) (sym own) inside)
+    (omega (arith, inside, place)) known ready tables runs
+    (λ m is namespace create at t says. (told_had w book left good bag m (comes m is).1 namespace create at t says).0) row))
     (others left later w book p i kept (router_state o) g (router_state u) good bag here clears fresh comes carries
     (λ other j s x x_goes was. absurd (away (a_table first_shard x_goes.ask.namespace false no_time) (λ e. omega (arith, e, place))
     (λ at time. let e = time.1 in absurd (cc e)) was)))
@@ -209,6 +215,9 @@ router_keeps left later w book p i kept o r u f good bag here clears fresh comes
 
     own : r.me ≡ p
     own = me ∙ fits.own
+
+    runs : AllByRecursion (OpenRuns (changes_made w)) r.requests
+    runs = all_weaken (OpenGoes left w r) (OpenRuns (changes_made w)) r.requests (λ q o. o.runs) goes
 
     lives : IsInLife r u f
     lives = stays_in_life r u i f row

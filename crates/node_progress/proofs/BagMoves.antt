@@ -10,7 +10,8 @@ use Rattle.reply_model.specs.Exchanges.{Asked}
 use Rattle.node_model.specs.Journal.{Kept}
 use Rattle.node_model.specs.Letters.{no_time, Letter, Input, letter_input, Effect}
 use Rattle.node_model.specs.States.{Shard, Router, Open, NodeState, catalogue_state, shard_state, router_state}
-use Rattle.node_model.specs.RouterRows.{id_of, shards_of, untold, awaited}
+use Rattle.node_model.specs.RouterRequests.{id_of, shards_of, untold}
+use Rattle.node_model.specs.RouterNext.{awaited}
 use Rattle.node_model.specs.World.{Held, World, asked_by, after, is_given, tick}
 use Rattle.node_laws.proofs.Views.{Book}
 use Rattle.node_laws.proofs.Facts.{RouterFits, StateFits, HeldFits, Good}

@@ -64,7 +64,7 @@ step_bag left later w book p _ kept _ _ _ good bag here clears fresh arrives nod
 step_bag left later w book p _ kept _ _ _ good bag here clears fresh arrives node (begin_step r u i f early before row) =
     router_keeps left later w book p i kept r (begins r) u f good bag here clears fresh arrives row
     (ready_begins r i (ready_here w book left good bag r p kept i here arrives node))
-    (all_weaken (OpenGoes left w r) (OpenGoes left w (begins r)) r.requests (λ q o. record { waiting = o.waiting; some = o.some; carried = o.carried }) node)
+    (all_weaken (OpenGoes left w r) (OpenGoes left w (begins r)) r.requests (λ q o. record { waiting = o.waiting; runs = o.runs; some = o.some; carried = o.carried }) node)
     (tables_here w book left good bag r p kept here) (sent_here w book left good bag r p kept here) refl refl (both (writes (kept_life r.life ∷ []) []) f)
     refl refl
 step_bag left later w book p _ kept _ _ _ good bag here clears fresh arrives node (other_step s m other) =

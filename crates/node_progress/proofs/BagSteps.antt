@@ -4,13 +4,13 @@ use Rattle.std.specs.Prelude.{Some, false}
 use Rattle.std.specs.List.{AllByRecursion, slice_get}
 use Rattle.base_model.specs.Identities.{RequestId}
 use Rattle.history_model.specs.History.{IsIn}
-use Rattle.history_model.proofs.Lists.{all_at, all_weaken, all_append, all_from}
+use Rattle.history_model.proofs.Lists.{all_at, all_weaken, all_append, all_both, all_from}
 use Rattle.chunk_model.specs.Tables.{first_shard}
 use Rattle.reply_model.specs.Exchanges.{Asked, Answered}
 use Rattle.node_model.specs.Journal.{Kept}
 use Rattle.node_model.specs.Letters.{no_time, Letter, Input, letter_input, Effect}
-use Rattle.node_model.specs.States.{Shard, Router, Wait, Work, Open, NodeState, shard_state}
-use Rattle.node_model.specs.RouterRows.{id_of}
+use Rattle.node_model.specs.States.{Shard, Router, Open, NodeState, shard_state}
+use Rattle.node_model.specs.RouterRequests.{id_of}
 use Rattle.node_model.specs.World.{Held, World, asked_by, after, is_given, tick}
 use Rattle.node_laws.proofs.Views.{View}
 use Rattle.node_laws.proofs.Lists.{all_within}
@@ -22,17 +22,13 @@ use Rattle.node_progress.proofs.Shards.{IsSameNode, shards_stay}
 use Rattle.node_progress.proofs.Versions.{IsWell, well_later}
 use Rattle.node_progress.proofs.CataloguePasses.{IsAmong}
 use Rattle.node_progress.proofs.ShardParks.{IsParkedAfter}
-use Rattle.node_progress.proofs.Lateness.{WaitFits}
-use Rattle.node_progress.proofs.Sends.{IsGoing}
+use Rattle.node_progress.proofs.RunVersions.{OpenRuns, runs_later}
 use Rattle.node_progress.proofs.RouterWaits.{WaitsAfter}
 use Rattle.node_progress.proofs.Bags.{Left, changes_made, IsHeldFor, IsCarried, OpenGoes, ParkedGoes, NodeGoes, Bag, WasFor, Clears, sent_moves, sent_anew, MoreMade, changes_more}
 
 pub each_both : (P Q : ℕ → Held → Type 0) (i : ℕ) (xs : List Held) → EachAt P i xs → EachAt Q i xs → EachAt (λ j h. P j h × Q j h) i xs
 each_both P Q i [] p q = tt
 each_both P Q i (x ∷ xs) p q = ((p.0, q.0), each_both P Q (i + 1) xs p.1 q.1)
-
-still_fits : (work before : Work) (wait was : Wait) → work ≡ before → wait ≡ was → WaitFits before was → WaitFits work wait
-still_fits work before wait was same one fits = subst (λ x. WaitFits x wait) (sym same) (subst (λ x. WaitFits before x) (sym one) fits)
 
 module _ (left later : Left) (w : World) (p : ℕ) (i : Input) (kept : List Kept) (old : NodeState) (f : Effect) (new : NodeState)
     (bag : Bag left w) (here : slice_get w.nodes p ≡ Some (record { state = old; kept = kept })) (clears : Clears left later w.sent i)
@@ -97,6 +93,7 @@ module _ (left later : Left) (w : World) (p : ℕ) (i : Input) (kept : List Kept
   pub open_moves : (r : Router) (q : Open) → ((t : Thing) → IsIn t (things_of r q) → Carries t) → OpenGoes left w r q → OpenGoes later next_world r q
   open_moves r q c o = record {
     waiting = o.waiting;
+    runs = runs_later more_made.news (changes_made w) (changes_made next_world) q.namespace q.work more_made.is o.runs;
     some = o.some;
     carried = lost_or (id_of r q.count)
         (λ all. all_within (IsCarried left w) (IsCarried later next_world) (things_of r q) (λ t there was. carried_moves t (c t there) was) all) o.carried;
@@ -154,17 +151,17 @@ module _ (left later : Left) (w : World) (p : ℕ) (i : Input) (kept : List Kept
 
   -- a router's open requests after its step
   pub open_after : (r u : Router) → ((s : Shard) → old ≡ shard_state s → ⊥) → AllByRecursion (OpenGoes left w r) r.requests
-      → AllByRecursion (WaitsAfter r u i f.mail) u.requests → AllByRecursion (OpenGoes later next_world u) u.requests
-  open_after r u no_shard before all = all_weaken (WaitsAfter r u i f.mail) (OpenGoes later next_world u) u.requests (λ q a. by_case q a) all
+      → AllByRecursion (WaitsAfter r u i f.mail) u.requests → AllByRecursion (OpenRuns (changes_made w)) u.requests
+      → AllByRecursion (OpenGoes later next_world u) u.requests
+  open_after r u no_shard before all runs =
+      all_both (WaitsAfter r u i f.mail) (OpenRuns (changes_made w)) (OpenGoes later next_world u) u.requests (λ q a sent. by_case q sent a) all runs
     where
-      by_case : (q : Open) → WaitsAfter r u i f.mail q → OpenGoes later next_world u q
-      by_case q (inl still) =
+      by_case : (q : Open) → OpenRuns (changes_made w) q → WaitsAfter r u i f.mail q → OpenGoes later next_world u q
+      by_case q sent (inl still) =
           let o = all_at (OpenGoes left w r) still.before r.requests before still.there in
           record {
-            waiting = record {
-              going = subst (λ x. IsGoing x) (sym still.work) o.waiting.going;
-              fits = still_fits q.work still.before.work q.wait still.before.wait still.work still.wait o.waiting.fits;
-            };
+            waiting = still.known o.waiting;
+            runs = runs_later more_made.news (changes_made w) (changes_made next_world) q.namespace q.work more_made.is sent;
             some = still.some o.some;
             carried = lost_or (id_of u q.count)
                 (λ all. all_from (IsCarried later next_world) (things_of u q) (λ t one.
@@ -174,8 +171,9 @@ module _ (left later : Left) (w : World) (p : ℕ) (i : Input) (kept : List Kept
                 }) (all_at (IsCarried left w) t (things_of r still.before) all (still.among t one))))
                 (subst (λ id. left.lost id ⊎ AllByRecursion (IsCarried left w) (things_of r still.before)) (sym still.own) o.carried);
           }
-      by_case q (inr anew) = record {
+      by_case q sent (inr anew) = record {
         waiting = record { going = anew.going; fits = anew.fits };
+        runs = runs_later more_made.news (changes_made w) (changes_made next_world) q.namespace q.work more_made.is sent;
         some = anew.sent.some;
         carried = inr (all_weaken (IsAmong f.mail) (IsCarried later next_world) (things_of u q)
             (λ t among. inl (sent_anew left.places later.places w.sent f.mail i t fresh among)) anew.sent.each);

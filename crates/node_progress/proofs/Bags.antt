@@ -11,7 +11,7 @@ use Rattle.node_model.specs.Journal.{Kept, changes_kept}
 use Rattle.node_model.specs.Letters.{no_time, Letter, Input, letter_input}
 use Rattle.node_model.specs.States.{Shard, Router, Open, NodeState, catalogue_state, shard_state, router_state}
 use Rattle.node_model.specs.ShardRows.{Ask, ask_in}
-use Rattle.node_model.specs.RouterRows.{id_of}
+use Rattle.node_model.specs.RouterRequests.{id_of}
 use Rattle.node_model.specs.World.{Held, World, journal_at}
 use Rattle.node_model.proofs.Journals.{journal_here, journal_got}
 use Rattle.node_laws.proofs.Places.{EachAt}
@@ -24,6 +24,7 @@ use Rattle.node_progress.proofs.Shards.{AreShards}
 use Rattle.node_progress.proofs.Versions.{IsWell}
 use Rattle.node_progress.proofs.CataloguePasses.{IsAmong}
 use Rattle.node_progress.proofs.RouterWaits.{IsWaiting}
+use Rattle.node_progress.proofs.RunVersions.{OpenRuns}
 
 -- THE BAG
 
@@ -57,6 +58,7 @@ IsCarried left w t = IsSent left.places w.sent t ⊎ IsHeldFor w.nodes t
 
 pub record OpenGoes (left : Left) (w : World) (r : Router) (q : Open) : Type 0 where
   pub waiting : IsWaiting q
+  pub runs : OpenRuns (changes_made w) q
   pub some : things_of r q ≢ []
   pub carried : left.lost (id_of r q.count) ⊎ AllByRecursion (IsCarried left w) (things_of r q)
 

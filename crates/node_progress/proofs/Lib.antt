@@ -1,8 +1,11 @@
 pub mod Members
 pub mod Places
 pub mod Things
-pub mod Lateness
 pub mod Versions
+pub mod FirstLeft
+pub mod OneRun
+pub mod RunVersions
+pub mod Lateness
 pub mod CataloguePasses
 pub mod ShardPasses
 pub mod ShardParks
@@ -12,10 +15,13 @@ pub mod Shards
 pub mod Sends
 pub mod Plans
 pub mod RouterWaits
+pub mod NextWaits
+pub mod RouterLearns
 pub mod RouterHears
 pub mod RouterParts
 pub mod RouterGoesOn
 pub mod RouterSends
+pub mod RouterRuns
 pub mod Arrivals
 pub mod Bags
 pub mod Lives

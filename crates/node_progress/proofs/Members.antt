@@ -5,7 +5,8 @@ use Rattle.std.specs.List.{list_any}
 use Rattle.std.proofs.lemmas.Bool.{eqb-false}
 use Rattle.history_model.specs.History.{IsIn}
 use Rattle.history_model.proofs.Lists.{in_first, in_later, in_cons, in_none}
-use Rattle.node_model.specs.RouterRows.{untold, also_told}
+use Rattle.node_model.specs.RouterRequests.{untold}
+use Rattle.node_model.specs.RouterNext.{also_told}
 
 pub in_map : {X Y : Type 0} (g : X → Y) (x : X) (xs : List X) → IsIn x xs → IsIn (g x) (map g xs)
 in_map g x [] i = absurd (in_none x i)

@@ -1,38 +1,44 @@
 -- In each transition of a router: what its open requests wait for, and what it sends.
-use Rattle.std.proofs.Common.{◌≡◌, ◌≢◌, inl, inr, ℕ, ℤ, ◌+◌, List, [], ◌∷◌, ◌++◌, refl, sym, ap, subst, ◌∙◌, Bool}
-use Rattle.std.specs.Prelude.{Some, Result, true, false, Bool, ◌==◌, not}
+use Rattle.std.proofs.Common.{◌≡◌, ◌≢◌, ◌⊎◌, inl, inr, ℕ, ℤ, ◌+◌, ◌≤◌, List, [], ◌∷◌, ◌++◌, refl, sym, ap, subst, ◌∙◌, Bool}
+use Rattle.std.specs.Prelude.{Option, Some, None, Result, true, false, Bool, ◌==◌, not, nat_lt, if◌then◌else◌}
 use Rattle.std.specs.List.{AllByRecursion, list_any}
 use Rattle.history_model.specs.History.{IsIn}
-use Rattle.history_model.proofs.Lists.{all_at, all_append}
-use Rattle.chunk_model.specs.Tables.{Table, first_shard}
+use Rattle.history_model.proofs.Lists.{all_at, all_append, in_cons, in_none}
+use Rattle.chunk_model.specs.Tables.{Table, first_shard, table_of}
 use Rattle.base_model.specs.Identities.{RequestId}
 use Rattle.command_model.specs.Writes.{WriteKind}
 use Rattle.command_model.specs.Command.{command_of}
 use Rattle.opmsg_model.specs.Requests.{Request}
-use Rattle.reply_model.specs.Outcomes.{Done}
-use Rattle.node_model.specs.Letters.{At, table_told, split_done, write_done, read_rows, time_told, HalfFault, Statement, Letter, Input, client_input, letter_input, Effect}
-use Rattle.node_model.specs.States.{Telling, for_time, for_shards, Router, Work, writing, reading, sharding, splitting, Open, without, replaced}
+use Rattle.reply_model.specs.Outcomes.{StatementOutcome, Done}
+use Rattle.node_model.specs.Letters.{At, no_time, table_told, split_done, write_done, read_rows, time_told, HalfFault, Statement, Letter, Input, client_input, letter_input, Effect}
+use Rattle.node_model.specs.States.{Course, Telling, for_time, for_catalogue, for_shards, Router, Work, writing, reading, sharding, splitting, Open, without, replaced}
 use Rattle.pipeline_model.specs.Halves.{Rows}
 use Rattle.pipeline_model.specs.Stages.{Stage}
-use Rattle.node_model.specs.RouterRows.{id_of, is_target, also_part, awaited, shards_of, untold, also_told, with_told, with_part, is_ahead, heard, knows, noted, reached, going_on, asks_for, opened_request, takes, needs, plan_of, IsLate, TellsNothing, RouterRow, router_begin, router_opened, router_plain, router_more, router_no_cursor, router_kill, router_take, router_learn, router_split, router_not_sharded, router_reach, router_hear, router_ahead, router_note, router_wrote, router_part, router_read, router_excess, router_overflow, router_late, router_skip, router_moment}
+use Rattle.node_model.specs.RouterRequests.{id_of, shards_of, untold, heard, reached, needs, plan_of}
+use Rattle.node_model.specs.RouterNext.{is_target, also_part, awaited, also_told, with_told, with_part, with_work, knows, noted, served_in_part, settled, Next, stays, is_told, letters_in, stay_in, after_next, write_on, begins_work}
+use Rattle.node_model.specs.RouterRows.{opened_request, takes, IsLate, TellsNothing, RouterRow, router_begin, router_opened, router_plain, router_more, router_no_cursor, router_kill, router_take, router_learn, router_split, router_not_sharded, router_reach, router_hear, router_ahead, router_note, router_part, router_read, router_excess, router_overflow, router_late, router_skip, router_moment}
 use Rattle.node_laws.proofs.Facts.{counts_of, AreDifferentCounts}
 use Rattle.node_laws.proofs.KnownTables.{table_found, all_adopted}
+use Rattle.node_laws.proofs.NextKeeps.{keeps_count, write_keeps, begins_keeps}
+use Rattle.node_laws.proofs.NextRequests.{KeepsCount}
 use Rattle.node_laws.proofs.OpenRequests.{open_of_found}
-use Rattle.node_progress.specs.UnderWay.{Thing, things_of, Brings, IsFor}
+use Rattle.node_progress.specs.UnderWay.{Thing, a_table, things_sent, things_by, things_of, Brings, IsFor}
 use Rattle.node_progress.proofs.Members.{in_filtered}
 use Rattle.node_progress.proofs.Things.{Awaits, awaits, InSameLife, IsTimeAt, router_idle}
-use Rattle.node_progress.proofs.Lateness.{named_in, wants_time, not_late}
+use Rattle.node_progress.proofs.Lateness.{WaitFits, named_in, wants_time, not_late}
 use Rattle.node_progress.proofs.Versions.{IsFirst}
-use Rattle.node_progress.proofs.Sends.{IsGoing, AreStated, going_of, asks_send, waits_fit}
-use Rattle.node_progress.proofs.Plans.{plan_goes}
-use Rattle.node_progress.proofs.RouterWaits.{WaitsAfter, IsWaiting, all_wait, answered_wait, replaced_wait, learned_wait}
+use Rattle.node_progress.proofs.OneRun.{AreStated, HasNext, unsent_course}
+use Rattle.node_progress.proofs.Plans.{Starts, plan_goes}
+use Rattle.node_progress.proofs.RouterWaits.{StillWaits, WaitsAfter, IsWaiting, unchanged_as, all_wait, answered_wait, replaced_wait}
+use Rattle.node_progress.proofs.NextWaits.{NextWaits, next_after, note_waits, begins_waits}
+use Rattle.node_progress.proofs.RouterLearns.{learned_wait}
 use Rattle.node_progress.proofs.RouterHears.{heard_waits, reached_now}
 use Rattle.node_progress.proofs.RouterParts.{parted_waits}
 
 -- WHAT IS KNOWN BEFORE
 
 abbrev pub IsStated : Work → Type 0
-IsStated (writing kind ordered statements answers) = AreStated statements
+IsStated (writing kind ordered statements c) = AreStated statements c.answers
 IsStated (reading named at stages telling) = Unit {0}
 IsStated sharding = Unit {0}
 IsStated (splitting middle) = Unit {0}
@@ -56,6 +62,10 @@ pub record IsReady (r : Router) (i : Input) : Type 0 where
   pub told : (m : Letter) → i ≡ letter_input m → (namespace : List ℕ) (create : Bool) (at : At) (t : Table) → m.body ≡ table_told namespace create at (Some t)
       → IsFirst t × (t.namespace ≡ namespace)
 
+pub stated_of : (q : Open) (kind : WriteKind) (ordered : Bool) (statements : List Statement) (c : Course) → q.work ≡ writing kind ordered statements c
+    → IsStated q.work → AreStated statements c.answers
+stated_of q kind ordered statements c is stated = subst (λ w. IsStated w) is stated
+
 -- the message names this request
 abbrev pub NamesOne : Letter → RequestId → Type 0
 NamesOne m id = (t : Thing) → IsFor t m → named_in t ≡ Some id
@@ -76,20 +86,87 @@ names_run m id (d ∷ dones) says t is = ap (λ x. named_in x) (subst (λ b. Bri
 -- ONE REQUEST PROCEEDS, OR IS ANSWERED
 
 module _ (r : Router) (m : Letter) (id : RequestId) (q : Open) (ready : IsReady r (letter_input m)) (names : NamesOne m id) (own : id ≡ id_of r q.count) where
-  proceeds : (time : ℕ) (work : Work) → IsGoing work → is_ahead time work ≡ false
-      → AllByRecursion (WaitsAfter r (knows r time r.tables (replaced (going_on r time q work) r.requests)) (letter_input m)
-      (asks_for r time q.count q.namespace work)) (replaced (going_on r time q work) r.requests)
-  proceeds time work going not_ahead =
-      replaced_wait r (knows r time r.tables (replaced (going_on r time q work) r.requests)) m (asks_for r time q.count q.namespace work) q id
-      (record { me = refl; shards = refl; life = refl }) own names (going_on r time q work) refl (inr (record {
-        going = going;
-        fits = waits_fit r time q.count q.namespace work;
-        sent = asks_send r time q.count q.namespace (untold q.told (shards_of r)) work
-            (λ t got. all_at IsFirst t r.tables ready.tables (table_found q.namespace r.tables t got).stands) ready.some going (λ ahead. absurd (cc (ahead, not_ahead)));
-      }))
+  abbrev after : ℕ → Next → Router
+  after time next = knows r time r.tables (after_next q next r.requests)
+
+  first_by : (t : Table) → table_of q.namespace r.tables ≡ Some t → IsFirst t
+  first_by t got = all_at IsFirst t r.tables ready.tables (table_found q.namespace r.tables t got).stands
 
   is_over : (u : Router) (mail : List Letter) → InSameLife r u → AllByRecursion (WaitsAfter r u (letter_input m) mail) (without q.count r.requests)
   is_over u mail same = answered_wait r u m mail q id same own names
+
+  goes : (time : ℕ) (next : Next) → KeepsCount r q next → NextWaits r (after time next) (letter_input m) next
+      → AllByRecursion (WaitsAfter r (after time next) (letter_input m) (letters_in next)) (after_next q next r.requests)
+  goes time (stays p letters) count (inl still) =
+      replaced_wait r (after time (stays p letters)) m letters q id (record { me = refl; shards = refl; life = refl }) own names p count (inl still)
+  goes time (stays p letters) count (inr anew) =
+      replaced_wait r (after time (stays p letters)) m letters q id (record { me = refl; shards = refl; life = refl }) own names p count
+      (inr (record { going = anew.0; fits = anew.1; sent = anew.2 }))
+  goes time (is_told reply) count waits = is_over (after time (is_told reply)) [] (record { me = refl; shards = refl; life = refl })
+
+  -- a read whose time is reached
+  proceeds : (time : ℕ) (named : Bool) (at : ℕ) (stages : List Stage) (telling : Telling) → q.work ≡ reading named at stages telling → at ≤ time
+      → AllByRecursion (WaitsAfter r (after time (begins_work r time q (reached time q.work))) (letter_input m)
+      (letters_in (begins_work r time q (reached time q.work)))) (after_next q (begins_work r time q (reached time q.work)) r.requests)
+  proceeds time named at stages telling work le =
+      goes time (begins_work r time q (reached time q.work)) (keeps_count r time q (begins_work r time q (reached time q.work))
+      (begins_keeps r time q (reached time q.work)))
+      (begins_waits r (after time (begins_work r time q (reached time q.work))) (letter_input m) time q (reached time q.work)
+      (record { me = refl; shards = refl; life = refl }) first_by ready.some (subst (λ w. Starts (reached time w)) (sym work) (tt, tt))
+      (λ n a s t is ahead.
+      let same : reading named (if named then at else time) stages telling ≡ reading n a s t = ap (λ w. reached time w) (sym work) ∙ is in
+      let when : (if named then at else time) ≡ a = cc same in
+      let now : nat_lt time a ≡ false = ap (λ x. nat_lt time x) (sym when) ∙ reached_now named at time le in
+      absurd (cc (ahead, now))))
+
+  -- outcomes of a write
+  notes : (kind : WriteKind) (ordered : Bool) (statements : List Statement) (c : Course) (dones : List Done) (next : Next) → m.body ≡ write_done id dones
+      → IsIn q r.requests → q.work ≡ writing kind ordered statements c → noted ordered c.answers dones ≢ c.answers
+      → next ≡ write_on r (heard r m) r.tables ordered (served_in_part (noted ordered c.answers dones) c.runs) q kind ordered statements
+      (settled c (noted ordered c.answers dones))
+      → AllByRecursion (WaitsAfter r (after (heard r m) next) (letter_input m) (letters_in next)) (after_next q next r.requests)
+  notes kind ordered statements c dones next says there work news is =
+      goes (heard r m) next
+      (subst (λ x. KeepsCount r q x) (sym is) (keeps_count r (heard r m) q proceeding
+      (write_keeps r (heard r m) r.tables ordered (served_in_part new c.runs) q kind ordered statements (settled c new))))
+      (subst (λ x. NextWaits r (after (heard r m) next) (letter_input m) x) (sym is)
+      (note_waits r (after (heard r m) next) (letter_input m) (heard r m) r.tables q alive first_by kind ordered statements ordered c dones q.wait stated fits news
+      stay))
+    where
+      new : List (Option StatementOutcome)
+      new = noted ordered c.answers dones
+
+      proceeding : Next
+      proceeding = write_on r (heard r m) r.tables ordered (served_in_part new c.runs) q kind ordered statements (settled c new)
+
+      alive : InSameLife r (after (heard r m) next)
+      alive = record { me = refl; shards = refl; life = refl }
+
+      stated : AreStated statements c.answers
+      stated = stated_of q kind ordered statements c work (all_at (λ (x : Open). IsStated x.work) q r.requests ready.stated there)
+
+      fits : WaitFits (writing kind ordered statements c) q.wait
+      fits = subst (λ w. WaitFits w q.wait) work (all_at IsWaiting q r.requests ready.waiting there).fits
+
+      one_thing : q.wait ≡ for_catalogue → things_of r q ≡ a_table r.me q.namespace true no_time ∷ []
+      one_thing wait =
+          let none : c.runs ≡ [] = subst (λ w. WaitFits (writing kind ordered statements c) w) wait fits in
+          ap (λ w. things_by (id_of r q.count) r.me (untold q.told (shards_of r)) (awaited q.targets q.parts) q.namespace q.work w) wait
+          ∙ (ap (λ w. things_by (id_of r q.count) r.me (untold q.told (shards_of r)) (awaited q.targets q.parts) q.namespace w for_catalogue) work
+          ∙ ap (λ runs. a_table r.me q.namespace true no_time ∷ things_sent (id_of r q.count) runs) none)
+
+      no_run : (t : Thing) → named_in t ≡ Some id → (t ≡ a_table r.me q.namespace true no_time) ⊎ IsIn t [] → ⊥
+      no_run t named (inl is) = let none : named_in t ≡ None = ap (λ x. named_in x) is in cc (named, none)
+      no_run t named (inr i) = in_none t i
+
+      stay : HasNext statements new → q.wait ≡ for_catalogue
+          → StillWaits r (after (heard r m) next) (letter_input m) (with_work q for_catalogue [] (writing kind ordered statements (unsent_course new)))
+      stay n wait =
+          unchanged_as r (after (heard r m) next) (letter_input m) q (with_work q for_catalogue [] (writing kind ordered statements (unsent_course new))) alive there refl
+          (sym (one_thing wait)) (λ w. record { going = n; fits = refl }) (λ t one x same brings.
+          let letter : m ≡ x = cc same in
+          let named : named_in t ≡ Some id = names t (subst (λ y. IsFor t y) (sym letter) brings) in
+          no_run t named (in_cons t (a_table r.me q.namespace true no_time) [] (subst (λ l. IsIn t l) (one_thing wait) one)))
 
   hears : (time : ℕ) → m.body ≡ time_told id → IsIn q r.requests → q.wait ≡ for_time → untold (also_told q.told m.sender) (shards_of r) ≢ []
       → AllByRecursion (WaitsAfter r (knows r time r.tables (replaced (with_told q m.sender) r.requests)) (letter_input m) [])
@@ -120,23 +197,20 @@ nothing_more P requests all = all_append P requests [] all tt
 
 taken_waits : (r : Router) (link : ℕ) (number : ℤ) (request : Request) (namespace : List ℕ) (work : Work) → IsReady r (client_input link number request)
     → plan_of r (id_of r (r.count + 1)) request.more (command_of request) ≡ needs namespace work
-    → AllByRecursion (WaitsAfter r (takes r (opened_request r link number request namespace work ∷ [])) (client_input link number request)
-    (asks_for r r.time (r.count + 1) namespace work)) (r.requests ++ opened_request r link number request namespace work ∷ [])
+    → AllByRecursion (WaitsAfter r (takes r (stay_in (begins_work r r.time (opened_request r link number request namespace work) work)))
+    (client_input link number request) (letters_in (begins_work r r.time (opened_request r link number request namespace work) work)))
+    (r.requests ++ stay_in (begins_work r r.time (opened_request r link number request namespace work) work))
 taken_waits r link number request namespace work ready plan =
-    let going = plan_goes r (id_of r (r.count + 1)) request.more request namespace work (command_of request) refl plan in
-    let u : Router = takes r (opened_request r link number request namespace work ∷ []) in
-    all_append (WaitsAfter r u (client_input link number request) (asks_for r r.time (r.count + 1) namespace work)) r.requests
-    (opened_request r link number request namespace work ∷ [])
-    (all_wait r u (client_input link number request) (asks_for r r.time (r.count + 1) namespace work) (record { me = refl; shards = refl; life = refl })
-    (came_no_letter r (client_input link number request) (λ m is. cc is))) (
-      inr (record {
-        going = going;
-        fits = waits_fit r r.time (r.count + 1) namespace work;
-        sent = asks_send r r.time (r.count + 1) namespace (untold [] (shards_of r)) work
-            (λ t got. all_at IsFirst t r.tables ready.tables (table_found namespace r.tables t got).stands) ready.some going (λ ahead. refl);
-      }),
-      tt,
-    )
+    let q : Open = opened_request r link number request namespace work in
+    let u : Router = takes r (stay_in (begins_work r r.time q work)) in
+    let mail : List Letter = letters_in (begins_work r r.time q work) in
+    all_append (WaitsAfter r u (client_input link number request) mail) r.requests (stay_in (begins_work r r.time q work))
+    (all_wait r u (client_input link number request) mail (record { me = refl; shards = refl; life = refl })
+    (came_no_letter r (client_input link number request) (λ m is. cc is)))
+    (next_after r u (client_input link number request) mail (begins_work r r.time q work) (λ x i. i)
+    (begins_waits r u (client_input link number request) r.time q work (record { me = refl; shards = refl; life = refl })
+    (λ t got. all_at IsFirst t r.tables ready.tables (table_found namespace r.tables t got).stands) ready.some
+    (plan_goes r (id_of r (r.count + 1)) request.more request namespace work (command_of request) refl plan) (λ n a s t is ahead. refl)))
 
 at_once_waits : (r u : Router) (link : ℕ) (number : ℤ) (request : Request) → InSameLife r u → u.requests ≡ r.requests ++ []
     → AllByRecursion (WaitsAfter r u (client_input link number request) []) u.requests
@@ -147,16 +221,12 @@ at_once_waits r u link number request alive same =
 
 -- EACH TRANSITION
 
-pub stated_of : (q : Open) (kind : WriteKind) (ordered : Bool) (statements : List Statement) (answers : List Done)
-    → q.work ≡ writing kind ordered statements answers → IsStated q.work
-    → AreStated statements
-stated_of q kind ordered statements answers is stated = subst (λ w. IsStated w) is stated
-
 late_waits : (r : Router) (m : Letter) (u : Router) → IsReady r (letter_input m) → IsLate r m.sender m.body → InSameLife r u
     → AllByRecursion (WaitsAfter r u (letter_input m) []) r.requests
 late_waits r m u ready late alive = all_wait r u (letter_input m) [] alive (λ q there t one n is brings.
     let same : m ≡ n = cc is in
-    not_late r q t m.sender m.receiver m.body ready.different there (all_at IsWaiting q r.requests ready.waiting there).fits one late
+    let known = all_at IsWaiting q r.requests ready.waiting there in
+    not_late r q t m.sender m.receiver m.body ready.different there known.going known.fits one late
     (subst (λ x. IsFor t x) (sym same) brings))
 
 -- no request waits for a time of the router itself
@@ -193,22 +263,15 @@ router_waits _ _ _ _ ready (router_split r m id q middle says found work) =
 router_waits _ _ _ _ ready (router_not_sharded r m id q middle says found work) =
     is_over r m id q ready (names_split m id false says) (open_of_found r id q found).own _ [] (record { me = refl; shards = refl; life = refl })
 router_waits _ _ _ _ ready (router_reach r m id q named at stages telling says found work waits le) =
-    proceeds r m id q ready (names_time m id says) (open_of_found r id q found).own (heard r m) (reached (heard r m) q.work)
-    (subst (λ w. IsGoing (reached (heard r m) w)) (sym work) tt)
-    (ap (λ w. is_ahead (heard r m) (reached (heard r m) w)) work ∙ reached_now named at (heard r m) le)
+    proceeds r m id q ready (names_time m id says) (open_of_found r id q found).own (heard r m) named at stages telling work le
 router_waits _ _ _ _ ready (router_hear r m id q named at stages telling says found work waits ahead others) =
     let o = open_of_found r id q found in
     hears r m id q ready (names_time m id says) o.own (heard r m) says o.stands waits others
 router_waits _ _ _ _ ready (router_ahead r m id q named at stages telling says found work waits ahead all) =
     is_over r m id q ready (names_time m id says) (open_of_found r id q found).own _ [] (record { me = refl; shards = refl; life = refl })
-router_waits _ _ _ _ ready (router_note r m id dones q kind ordered statements answers says found work news more) =
+router_waits _ _ _ _ ready (router_note r m id dones q kind ordered statements c next says found work news is) =
     let o = open_of_found r id q found in
-    proceeds r m id q ready (names_run m id dones says) o.own (heard r m) (writing kind ordered statements (noted answers dones))
-    (going_of ordered statements (noted answers dones)
-    (stated_of q kind ordered statements answers work (all_at (λ (x : Open). IsStated x.work) q r.requests ready.stated o.stands)) more)
-    refl
-router_waits _ _ _ _ ready (router_wrote r m id dones q kind ordered statements answers says found work news all) =
-    is_over r m id q ready (names_run m id dones says) (open_of_found r id q found).own _ [] (record { me = refl; shards = refl; life = refl })
+    notes r m id q ready (names_run m id dones says) o.own kind ordered statements c dones next says o.stands work news is
 router_waits _ _ _ _ ready (router_part r m id rows q named at stages telling says found work target some) =
     let o = open_of_found r id q found in
     has_part r m id q ready (names_rows m id 1 rows says) o.own (heard r m) rows named at stages telling says o.stands

@@ -6,7 +6,8 @@ use Rattle.history_model.specs.History.{IsIn}
 use Rattle.base_model.specs.Identities.{RequestId}
 use Rattle.node_model.specs.Letters.{time_told, Letter, letter_input}
 use Rattle.node_model.specs.States.{for_time, Router, Open}
-use Rattle.node_model.specs.RouterRows.{id_of, awaited, shards_of, untold, also_told, with_told}
+use Rattle.node_model.specs.RouterRequests.{id_of, shards_of, untold}
+use Rattle.node_model.specs.RouterNext.{awaited, also_told, with_told}
 use Rattle.node_progress.specs.UnderWay.{Thing, a_time, things_by, things_of, Brings, IsFor}
 use Rattle.node_progress.proofs.Members.{in_map, still_untold}
 use Rattle.node_progress.proofs.Things.{IsAwaited, awaits, InSameLife, same_things}
@@ -45,8 +46,7 @@ module _ (r u : Router) (q : Open) (m : Letter) (waits : q.wait ≡ for_time) (s
     before = q;
     there = there;
     own = same_id r u q.count same;
-    work = refl;
-    wait = refl;
+    known = λ w. record { going = w.going; fits = w.fits };
     some = λ had none.
         some_more time_by others some
         (subst (λ w. things_by (id_of r q.count) r.me others (awaited q.targets q.parts) q.namespace q.work w ≡ []) waits (sym things ∙ none));

@@ -8,7 +8,8 @@ use Rattle.pipeline_model.specs.Halves.{Rows}
 use Rattle.pipeline_model.specs.Stages.{Stage}
 use Rattle.node_model.specs.Letters.{HalfFault, read_rows, Letter, letter_input}
 use Rattle.node_model.specs.States.{Target, Part, Telling, reading, for_shards, Router, Open}
-use Rattle.node_model.specs.RouterRows.{id_of, shards_of, untold, part_of, also_part, with_part, awaited}
+use Rattle.node_model.specs.RouterRequests.{id_of, shards_of, untold}
+use Rattle.node_model.specs.RouterNext.{part_of, also_part, with_part, awaited}
 use Rattle.node_progress.specs.UnderWay.{Thing, a_part, things_stored, things_by, things_of, Brings, IsFor}
 use Rattle.node_progress.proofs.Members.{in_map, in_filter, in_filtered, is_false}
 use Rattle.node_progress.proofs.Things.{IsAwaited, IsAwaitedStored, awaits, InSameLife, same_things}
@@ -93,8 +94,7 @@ module _ (r u : Router) (q : Open) (m : Letter) (rows : Result Rows HalfFault) (
     before = q;
     there = there;
     own = same_id r u q.count same;
-    work = refl;
-    wait = refl;
+    known = λ w. record { going = w.going; fits = w.fits };
     some = λ had none. some_more part_by others some (none_left (sym things ∙ none));
     among = still_among;
     not_come = λ t one n is brings.

@@ -7,7 +7,8 @@ use Rattle.chunk_model.specs.Tables.{first_shard}
 use Rattle.node_model.specs.Journal.{Kept}
 use Rattle.node_model.specs.Letters.{Input, Effect}
 use Rattle.node_model.specs.States.{Catalogue, Shard, Router, NodeState, catalogue_state, shard_state, router_state, new_catalogue, new_shard, new_router}
-use Rattle.node_model.specs.RouterRows.{places_from, shards_of, begins}
+use Rattle.node_model.specs.RouterRequests.{places_from, shards_of}
+use Rattle.node_model.specs.RouterRows.{begins}
 use Rattle.node_model.specs.Steps.{Step, catalogue_step, shard_step, router_step, begin_step, other_step}
 use Rattle.node_model.specs.World.{Held, shards_from, routers_from, start}
 use Rattle.node_laws.proofs.StepsKeep.{get_set}

@@ -11,7 +11,7 @@ use Rattle.reply_model.specs.Exchanges.{Asked}
 use Rattle.node_model.specs.Journal.{Kept, changes_kept}
 use Rattle.node_model.specs.Letters.{Body, table_ask, table_told, split_ask, split_done, write_ask, write_done, read_ask, half_ask, read_rows, stale, time_ask, time_told, Letter}
 use Rattle.node_model.specs.States.{NodeState, catalogue_state, shard_state, router_state}
-use Rattle.node_model.specs.RouterRows.{id_of}
+use Rattle.node_model.specs.RouterRequests.{id_of}
 use Rattle.node_model.specs.ShardRows.{Ask, ask_in}
 use Rattle.node_model.specs.World.{Held, World, journal_at, asked_by}
 use Rattle.node_laws.proofs.Views.{Book, View}
@@ -25,6 +25,7 @@ use Rattle.node_progress.proofs.Places.{length_set}
 use Rattle.node_progress.proofs.Shards.{AreShards}
 use Rattle.node_progress.proofs.RestartedShards.{occurs_shards}
 use Rattle.node_progress.proofs.Versions.{IsWell, well_later}
+use Rattle.node_progress.proofs.RunVersions.{runs_later}
 use Rattle.node_progress.proofs.Bags.{Left, left_but, changes_made, OpenGoes, ParkedGoes, NodeGoes, Bag, MoreMade, changes_more}
 use Rattle.node_progress.proofs.BagFacts.{now}
 use Rattle.node_progress.proofs.BagSteps.{each_both}
@@ -98,6 +99,7 @@ module _ (before : Left) (left : ℕ → Type 0) (u v : World) (book : Book) (go
       let f = all_at (IsOpenOf (now u book) u.asked u.answered r) q r.requests fits.requests there in
       record {
         waiting = o.waiting;
+        runs = runs_later more.news (changes_made u) (changes_made v) q.namespace q.work more.is o.runs;
         some = o.some;
         carried = inl (is_lost (id_of r q.count) (record { request = f.request; taken = f.taken; own = f.own }));
       }) goes

@@ -5,7 +5,7 @@ use Rattle.node_model.specs.Letters.{Input, Taken, Effect}
 use Rattle.node_model.specs.States.{Catalogue, Shard, Router}
 use Rattle.node_model.specs.CatalogueRows.{CatalogueRow, catalogue_create, catalogue_tell, catalogue_split, catalogue_bound, catalogue_none, catalogue_skip, catalogue_moment, catalogue_opened, catalogue_client}
 use Rattle.node_model.specs.ShardRows.{ShardRow, shard_write, shard_repeat, shard_empty, shard_park, shard_waits, shard_stale, shard_read, shard_read_above, shard_rows, shard_excess, shard_overflow, shard_time, shard_learn, shard_known, shard_skip, shard_moment, shard_opened, shard_client}
-use Rattle.node_model.specs.RouterRows.{RouterRow, router_begin, router_opened, router_plain, router_more, router_no_cursor, router_kill, router_take, router_learn, router_split, router_not_sharded, router_reach, router_hear, router_ahead, router_note, router_wrote, router_part, router_read, router_excess, router_overflow, router_late, router_skip, router_moment}
+use Rattle.node_model.specs.RouterRows.{RouterRow, router_begin, router_opened, router_plain, router_more, router_no_cursor, router_kill, router_take, router_learn, router_split, router_not_sharded, router_reach, router_hear, router_ahead, router_note, router_part, router_read, router_excess, router_overflow, router_late, router_skip, router_moment}
 
 pub catalogue_takes_none : (c d : Catalogue) (i : Input) (f : Effect) → CatalogueRow c i f d → f.taken ≡ []
 catalogue_takes_none _ _ _ _ (catalogue_create c m namespace at x says new) = refl
@@ -58,8 +58,7 @@ stays_in_life _ _ _ _ (router_not_sharded r m id q middle says found work) = rec
 stays_in_life _ _ _ _ (router_reach r m id q named at stages telling says found work waits le) = record { life = refl; shards = refl; taken = tt }
 stays_in_life _ _ _ _ (router_hear r m id q named at stages telling says found work waits ahead others) = record { life = refl; shards = refl; taken = tt }
 stays_in_life _ _ _ _ (router_ahead r m id q named at stages telling says found work waits ahead all) = record { life = refl; shards = refl; taken = tt }
-stays_in_life _ _ _ _ (router_note r m id dones q kind ordered statements answers says found work news more) = record { life = refl; shards = refl; taken = tt }
-stays_in_life _ _ _ _ (router_wrote r m id dones q kind ordered statements answers says found work news all) = record { life = refl; shards = refl; taken = tt }
+stays_in_life _ _ _ _ (router_note r m id dones q kind ordered statements c next says found work news is) = record { life = refl; shards = refl; taken = tt }
 stays_in_life _ _ _ _ (router_part r m id rows q named at stages telling says found work target some) = record { life = refl; shards = refl; taken = tt }
 stays_in_life _ _ _ _ (router_read r m id rows q named at stages telling all out answer f says found work target whole got merged tells) =
     record { life = refl; shards = refl; taken = tt }

@@ -1,33 +1,46 @@
 -- What an open request waits for, and which messages are for it.
-use Rattle.std.proofs.Common.{◌≡◌, ◌≢◌, ◌⊎◌, inl, inr, ℕ, List, [], ◌∷◌, length, refl, sym, ap, ◌∙◌, Bool}
+use Rattle.std.proofs.Common.{◌≡◌, ◌≢◌, ◌⊎◌, inl, inr, ℕ, List, [], ◌∷◌, refl, sym, ap, ◌∙◌, Bool}
 use Rattle.std.specs.Prelude.{Option, Some, None, true, false, ◌==◌, ◌&&◌}
 use Rattle.std.proofs.lemmas.Bool.{eqb-true}
 use Rattle.history_model.specs.History.{IsIn}
 use Rattle.history_model.proofs.Lists.{in_cons, in_none}
 use Rattle.chunk_model.specs.Tables.{first_shard}
 use Rattle.base_model.specs.Identities.{RequestId, same_request}
-use Rattle.node_model.specs.Letters.{no_time, Body, table_ask, table_told, split_ask, split_done, write_ask, write_done, read_ask, half_ask, read_rows, stale, time_ask, time_told}
-use Rattle.node_model.specs.States.{Target, Wait, for_time, for_catalogue, for_shards, Work, writing, reading, sharding, splitting, Open, Router}
+use Rattle.node_model.specs.Letters.{no_time, at_time, Body, table_ask, table_told, split_ask, split_done, write_ask, write_done, read_ask, half_ask, read_rows, stale, time_ask, time_told}
+use Rattle.node_model.specs.States.{Target, Run, Wait, for_time, for_catalogue, for_shards, Work, writing, reading, sharding, splitting, Open, Router}
 use Rattle.node_model.specs.CatalogueRows.{AsksNothing as AsksNoTable}
 use Rattle.node_model.specs.ShardRows.{Ask, ask_in, same_index, same_ask, AsksNothing}
-use Rattle.node_model.specs.RouterRows.{id_of, places_from, shards_of, untold, awaited, TellsNothing}
+use Rattle.node_model.specs.RouterRequests.{id_of, places_from, shards_of, untold}
+use Rattle.node_model.specs.RouterNext.{awaited}
+use Rattle.node_model.specs.RouterRows.{TellsNothing}
 use Rattle.reply_facts.proofs.Requests.{same_id}
 use Rattle.node_progress.proofs.Members.{in_mapped}
-use Rattle.node_progress.specs.UnderWay.{Thing, a_time, a_table, a_split, a_run, a_part, thing_there, things_stored, things_by, things_of, Brings}
+use Rattle.node_progress.specs.UnderWay.{Thing, a_time, a_table, a_split, a_run, a_part, thing_there, first_index, runs_of, things_sent, things_stored, things_by, things_of, Brings}
 
 -- ONE OF THE THINGS
 
--- it is the part of one of these shards, or the one thing
+-- it is one of these runs
+abbrev pub IsOfRun : RequestId → List Run → Thing → Type 0
+IsOfRun id runs t = (run : Run) × IsIn run runs × (t ≡ a_run id (first_index run.indices))
+
+-- it is the part of one of these shards, a run, or the one thing
 abbrev pub IsAwaitedStored : RequestId → (node : ℕ) → List Target → (namespace : List ℕ) → Work → Thing → Type 0
-IsAwaitedStored id node targets namespace (writing kind ordered statements answers) t = t ≡ a_run id (length answers)
+IsAwaitedStored id node targets namespace (writing kind ordered statements c) t = IsOfRun id c.runs t
 IsAwaitedStored id node targets namespace (reading named at stages telling) t = (x : Target) × IsIn x targets × (t ≡ a_part id x.shard 1)
 IsAwaitedStored id node targets namespace sharding t = t ≡ a_table node namespace true no_time
 IsAwaitedStored id node targets namespace (splitting middle) t = t ≡ a_split id
 
+-- of the catalogue it is one thing; a write may have runs under way beside that
+abbrev pub IsAwaitedThere : RequestId → (node : ℕ) → (namespace : List ℕ) → Work → Thing → Type 0
+IsAwaitedThere id node namespace (writing kind ordered statements c) t = (t ≡ a_table node namespace true no_time) ⊎ IsOfRun id c.runs t
+IsAwaitedThere id node namespace (reading named at stages telling) t = t ≡ a_table node namespace false (at_time at)
+IsAwaitedThere id node namespace sharding t = t ≡ a_table node namespace true no_time
+IsAwaitedThere id node namespace (splitting middle) t = t ≡ a_split id
+
 -- it is the time of one of these shards, the part of one of those, or the one thing
 abbrev pub IsAwaited : RequestId → (node : ℕ) → (shards : List ℕ) → List Target → (namespace : List ℕ) → Work → Wait → Thing → Type 0
 IsAwaited id node shards targets namespace work for_time t = (shard : ℕ) × IsIn shard shards × (t ≡ a_time id shard)
-IsAwaited id node shards targets namespace work for_catalogue t = t ≡ thing_there id node namespace work
+IsAwaited id node shards targets namespace work for_catalogue t = IsAwaitedThere id node namespace work t
 IsAwaited id node shards targets namespace work for_shards t = IsAwaitedStored id node targets namespace work t
 
 only_one : (t x : Thing) → IsIn t (x ∷ []) → t ≡ x
@@ -37,17 +50,31 @@ only_one t x there = by_place (in_cons t x [] there)
     by_place (inl same) = same
     by_place (inr none) = absurd (in_none t none)
 
+of_run : (id : RequestId) (runs : List Run) (t : Thing) → IsIn t (things_sent id runs) → IsOfRun id runs t
+of_run id runs t there = in_mapped (λ (run : Run). a_run id (first_index run.indices)) t runs there
+
 awaited_stored : (id : RequestId) (node : ℕ) (targets : List Target) (namespace : List ℕ) (work : Work) (t : Thing)
     → IsIn t (things_stored id node targets namespace work) → IsAwaitedStored id node targets namespace work t
-awaited_stored id node targets namespace (writing kind ordered statements answers) t there = only_one t (a_run id (length answers)) there
+awaited_stored id node targets namespace (writing kind ordered statements c) t there = of_run id c.runs t there
 awaited_stored id node targets namespace (reading named at stages telling) t there = in_mapped (λ (x : Target). a_part id x.shard 1) t targets there
 awaited_stored id node targets namespace sharding t there = only_one t (a_table node namespace true no_time) there
 awaited_stored id node targets namespace (splitting middle) t there = only_one t (a_split id) there
 
+awaited_there : (id : RequestId) (node : ℕ) (namespace : List ℕ) (work : Work) (t : Thing)
+    → IsIn t (thing_there id node namespace work ∷ things_sent id (runs_of work)) → IsAwaitedThere id node namespace work t
+awaited_there id node namespace (writing kind ordered statements c) t there = by_place (in_cons t (a_table node namespace true no_time) (things_sent id c.runs) there)
+  where
+    by_place : (t ≡ a_table node namespace true no_time) ⊎ IsIn t (things_sent id c.runs) → (t ≡ a_table node namespace true no_time) ⊎ IsOfRun id c.runs t
+    by_place (inl same) = inl same
+    by_place (inr one) = inr (of_run id c.runs t one)
+awaited_there id node namespace (reading named at stages telling) t there = only_one t (a_table node namespace false (at_time at)) there
+awaited_there id node namespace sharding t there = only_one t (a_table node namespace true no_time) there
+awaited_there id node namespace (splitting middle) t there = only_one t (a_split id) there
+
 pub is_awaited : (id : RequestId) (node : ℕ) (shards : List ℕ) (targets : List Target) (namespace : List ℕ) (work : Work) (wait : Wait) (t : Thing)
     → IsIn t (things_by id node shards targets namespace work wait) → IsAwaited id node shards targets namespace work wait t
 is_awaited id node shards targets namespace work for_time t there = in_mapped (λ shard. a_time id shard) t shards there
-is_awaited id node shards targets namespace work for_catalogue t there = only_one t (thing_there id node namespace work) there
+is_awaited id node shards targets namespace work for_catalogue t there = awaited_there id node namespace work t there
 is_awaited id node shards targets namespace work for_shards t there = awaited_stored id node targets namespace work t there
 
 -- of an open request
@@ -82,14 +109,15 @@ home (a_part id shard turn) = id.router
 pub home_of : (r : Router) (q : Open) (t : Thing) → IsIn t (things_of r q) → home t ≡ r.me
 home_of r q t there = by_wait q.wait (awaits r q t there)
   where
-    in_catalogue : (work : Work) → home (thing_there (id_of r q.count) r.me q.namespace work) ≡ r.me
-    in_catalogue (writing kind ordered statements answers) = refl
-    in_catalogue (reading named at stages telling) = refl
-    in_catalogue sharding = refl
-    in_catalogue (splitting middle) = refl
+    in_catalogue : (work : Work) → IsAwaitedThere (id_of r q.count) r.me q.namespace work t → home t ≡ r.me
+    in_catalogue (writing kind ordered statements c) (inl is) = ap (λ x. home x) is
+    in_catalogue (writing kind ordered statements c) (inr is) = ap (λ x. home x) is.2
+    in_catalogue (reading named at stages telling) is = ap (λ x. home x) is
+    in_catalogue sharding is = ap (λ x. home x) is
+    in_catalogue (splitting middle) is = ap (λ x. home x) is
 
     in_shards : (work : Work) → IsAwaitedStored (id_of r q.count) r.me (awaited q.targets q.parts) q.namespace work t → home t ≡ r.me
-    in_shards (writing kind ordered statements answers) is = ap (λ x. home x) is
+    in_shards (writing kind ordered statements c) is = ap (λ x. home x) is.2
     in_shards (reading named at stages telling) is = ap (λ x. home x) is.2
     in_shards sharding is = ap (λ x. home x) is
     in_shards (splitting middle) is = ap (λ x. home x) is
@@ -97,7 +125,7 @@ home_of r q t there = by_wait q.wait (awaits r q t there)
     by_wait : (wait : Wait) → IsAwaited (id_of r q.count) r.me (untold q.told (shards_of r)) (awaited q.targets q.parts) q.namespace q.work wait t
         → home t ≡ r.me
     by_wait for_time is = ap (λ x. home x) is.2
-    by_wait for_catalogue is = ap (λ x. home x) is ∙ in_catalogue q.work
+    by_wait for_catalogue is = in_catalogue q.work is
     by_wait for_shards is = in_shards q.work is
 
 -- the thing is the time of the node at a place

@@ -13,7 +13,7 @@ use Rattle.chunk_model.specs.Versions.{Version}
 use Rattle.chunk_model.specs.Verdicts.{fits, shard_is_old, router_is_old, sent_by, verdict_of}
 use Rattle.node_model.specs.Letters.{Body, Letter}
 use Rattle.node_model.specs.ShardRows.{Ask, ask_in}
-use Rattle.node_model.specs.RouterRows.{owners_of_span, is_owned_at}
+use Rattle.node_model.specs.RouterRequests.{owners_of_span, is_owned_at}
 use Rattle.node_laws.proofs.Views.{View, changes_in}
 use Rattle.node_laws.proofs.Facts.{IsKnownTable, AreMade}
 use Rattle.node_laws.proofs.Lists.{all_behind}
@@ -73,7 +73,7 @@ had_known v time t made h =
       still = made.still;
     }
 
-had_later : (news changes later : List Change) (t : Table) → later ≡ news ++ changes → WasHad changes t → WasHad later t
+pub had_later : (news changes later : List Change) (t : Table) → later ≡ news ++ changes → WasHad changes t → WasHad later t
 had_later news changes later t is h = record {
   more = news ++ h.more;
   older = h.older;

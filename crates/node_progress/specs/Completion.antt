@@ -43,11 +43,12 @@ pub record HasToldAll (account : Account) (a : Asked) (write : WriteCommand) : T
   pub dones : List Done
   pub tells : AreTold account answer write 0 write.operations dones
 
--- Of a write without a client's number the entries of all statements are stored, up to the error that ends an ordered one. Of each write the outcomes of the
--- statements are those of entries that are stored, under their numbers or of a greater transaction. Both also where no reply is put.
+-- Of each write the outcomes of the statements are those of entries that are stored, under their numbers or of a greater transaction. Of a write without a
+-- client's number each stored entry is one of these, and no other is stored of it: so the entries of all statements are, up to the error that ends an ordered
+-- one. Both also where no reply is put.
 pub record IsServedAs (account : Account) (a : Asked) (write : WriteCommand) : Type 0 where
-  pub whole : write.number ≡ None → IsWhole account.history a.id write
   pub tells : HasToldAll account a write
+  pub whole : write.number ≡ None → IsWhole account.history a.id write tells.dones
 
 abbrev pub IsServed : Account → Asked → Type 0
 IsServed account a = (write : WriteCommand) → command_of a.request ≡ Ok (write_command write) → IsServedAs account a write

@@ -1,7 +1,7 @@
 -- What is under way for each request that is not answered yet: of each thing that it waits for, one message is not delivered yet, which requests the
 -- thing or brings it; or such a message is parked at a shard, and the table that it wants there is under way in the same manner. This speaks of no
 -- schedule: any number of requests may be open, and messages may be delivered in any order, and again.
-use Rattle.std.specs.Prelude.{◌≡◌, ◌≢◌, ◌⊎◌, ℕ, List, [], ◌∷◌, length, map, Bool, true, false, Some, IsSome}
+use Rattle.std.specs.Prelude.{◌≡◌, ◌≢◌, ◌⊎◌, ℕ, List, [], ◌∷◌, map, Bool, true, false, Some, IsSome}
 use Rattle.std.specs.List.{AllByRecursion, slice_get}
 use Rattle.base_model.specs.Identities.{RequestId}
 use Rattle.chunk_model.specs.Tables.{first_shard}
@@ -9,9 +9,10 @@ use Rattle.history_model.specs.History.{IsIn}
 use Rattle.reply_model.specs.Exchanges.{Asked}
 use Rattle.node_model.specs.Journal.{Kept}
 use Rattle.node_model.specs.Letters.{At, no_time, at_time, Body, table_ask, table_told, split_ask, split_done, write_ask, write_done, read_ask, half_ask, read_rows, stale, time_ask, time_told, Letter}
-use Rattle.node_model.specs.States.{Target, Shard, Router, Wait, for_time, for_catalogue, for_shards, Work, writing, reading, sharding, splitting, Open, router_state, shard_state}
+use Rattle.node_model.specs.States.{Target, Run, Shard, Router, Wait, for_time, for_catalogue, for_shards, Work, writing, reading, sharding, splitting, Open, router_state, shard_state}
 use Rattle.node_model.specs.ShardRows.{Ask, ask_in}
-use Rattle.node_model.specs.RouterRows.{id_of, shards_of, untold, awaited}
+use Rattle.node_model.specs.RouterRequests.{id_of, shards_of, untold}
+use Rattle.node_model.specs.RouterNext.{awaited}
 use Rattle.node_model.specs.World.{World, Event, deliver_event}
 use Rattle.node_progress.specs.Completion.{IsAnswered, asked_since}
 
@@ -25,32 +26,46 @@ pub data Thing : Type 0 where
   a_table : (node : ℕ) → (namespace : List ℕ) → (create : Bool) → At → Thing
   -- that a chunk is split
   a_split : RequestId → Thing
-  -- the outcomes of the statements of a write, from the one with this index on
+  -- the outcomes of statements of a write that were sent together, of which the first has this index
   a_run : RequestId → (first : ℕ) → Thing
   -- a shard's part of a read, in a turn
   a_part : RequestId → (shard turn : ℕ) → Thing
 
 -- what a request with this left to do waits for from the catalogue
 abbrev pub thing_there : RequestId → (node : ℕ) → (namespace : List ℕ) → Work → Thing
-thing_there id node namespace (writing kind ordered statements answers) = a_table node namespace true no_time
+thing_there id node namespace (writing kind ordered statements c) = a_table node namespace true no_time
 thing_there id node namespace (reading named at stages telling) = a_table node namespace false (at_time at)
 thing_there id node namespace sharding = a_table node namespace true no_time
 thing_there id node namespace (splitting middle) = a_split id
 
--- and from the shards, where its collection has a table: a read waits for the parts of these
+abbrev pub first_index : List ℕ → ℕ
+first_index [] = 0
+first_index (index ∷ indices) = index
+
+-- the runs of a write that are under way
+abbrev pub runs_of : Work → List Run
+runs_of (writing kind ordered statements c) = c.runs
+runs_of (reading named at stages telling) = []
+runs_of sharding = []
+runs_of (splitting middle) = []
+
+abbrev pub things_sent : RequestId → List Run → List Thing
+things_sent id runs = map (λ (run : Run). a_run id (first_index run.indices)) runs
+
+-- and from the shards, where its collection has a table: a write waits for its runs, a read for the parts of these
 abbrev pub things_stored : RequestId → (node : ℕ) → List Target → (namespace : List ℕ) → Work → List Thing
-things_stored id node targets namespace (writing kind ordered statements answers) = a_run id (length answers) ∷ []
+things_stored id node targets namespace (writing kind ordered statements c) = things_sent id c.runs
 things_stored id node targets namespace (reading named at stages telling) = map (λ (x : Target). a_part id x.shard 1) targets
 things_stored id node targets namespace sharding = a_table node namespace true no_time ∷ []
 things_stored id node targets namespace (splitting middle) = a_split id ∷ []
 
--- what it waits for, where these shards have not returned their time to it, and these not their parts
+-- what it waits for, where these shards have not returned their time to it, and these not their parts; a write that waits for a table may have runs under way
 abbrev pub things_by : RequestId → (node : ℕ) → (shards : List ℕ) → List Target → (namespace : List ℕ) → Work → Wait → List Thing
 things_by id node shards targets namespace work for_time = map (λ shard. a_time id shard) shards
-things_by id node shards targets namespace work for_catalogue = thing_there id node namespace work ∷ []
+things_by id node shards targets namespace work for_catalogue = thing_there id node namespace work ∷ things_sent id (runs_of work)
 things_by id node shards targets namespace work for_shards = things_stored id node targets namespace work
 
--- what an open request waits for: a read may wait for several shards, and all else for one thing
+-- what an open request waits for: a read may wait for several shards, a write for several runs and the table, and all else for one thing
 abbrev pub things_of : Router → Open → List Thing
 things_of r q = things_by (id_of r q.count) r.me (untold q.told (shards_of r)) (awaited q.targets q.parts) q.namespace q.work q.wait
 

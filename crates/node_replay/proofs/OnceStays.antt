@@ -7,13 +7,15 @@ use Rattle.history_model.proofs.Lists.{all_weaken, all_append, all_at, all_both,
 use Rattle.history_model.specs.History.{Entry, IsIn}
 use Rattle.reply_model.specs.Exchanges.{Asked, Answered}
 use Rattle.reply_model.specs.OneHistory.{ids_asked, ids_told, AreDifferent}
-use Rattle.node_model.specs.Letters.{Input, Effect, Reply}
-use Rattle.node_model.specs.RouterRows.{heard, id_of, next_of, adopted, was_created, open_of, Next, stays, is_told, stay_in, begins, opened_request, RouterRow, router_begin, router_opened, router_plain, router_more, router_no_cursor, router_kill, router_take, router_learn, router_split, router_not_sharded, router_reach, router_hear, router_ahead, router_note, router_wrote, router_part, router_read, router_excess, router_overflow, router_late, router_skip, router_moment}
+use Rattle.node_model.specs.Letters.{Input, Effect, Taken, Reply}
+use Rattle.node_model.specs.RouterRequests.{heard, id_of, reached}
+use Rattle.node_model.specs.RouterNext.{noted, served_in_part, settled, write_on, begins_work, next_of, adopted, was_created, knows, Next, stays, is_told, stay_in, letters_in, replies_in, after_next}
+use Rattle.node_model.specs.RouterRows.{open_of, begins, takes, opened_request, taken_now, goes_on, RouterRow, router_begin, router_opened, router_plain, router_more, router_no_cursor, router_kill, router_take, router_learn, router_split, router_not_sharded, router_reach, router_hear, router_ahead, router_note, router_part, router_read, router_excess, router_overflow, router_late, router_skip, router_moment}
 use Rattle.node_model.specs.States.{Open, Router, without, replaced}
 use Rattle.node_model.specs.World.{asked_by, answered_by}
 use Rattle.node_laws.proofs.Facts.{counts_of, AreDifferentCounts}
 use Rattle.node_laws.proofs.Lists.{all_mapped}
-use Rattle.node_laws.proofs.NextFacts.{next_keeps}
+use Rattle.node_laws.proofs.NextKeeps.{keeps_count, write_keeps, begins_keeps, next_keeps}
 use Rattle.node_laws.proofs.NextRequests.{KeepsCount, left_by, parted_next}
 use Rattle.node_laws.proofs.OpenRequests.{open_of_found, all_without, all_replaced, IsParted, parted_replaced, parted_without}
 use Rattle.node_laws.proofs.RouterAnswers.{as_answered}
@@ -229,10 +231,10 @@ module _ (asked : List Asked) (history : List Entry) (answered : List Answered) 
       (subst (λ l. AllByRecursion (λ (y : Open). IsSilent answered r.me r.life y.count) l) (sym requests)
       (all_without (λ (y : Open). IsSilent answered r.me r.life y.count) p.count r.requests own.silent))
 
-  goes_on : (f : Effect) (q : Router) (p y : Open) (id : RequestId) → open_of r id ≡ Some p → y.count ≡ p.count → f.taken ≡ [] → f.replies ≡ [] → q.me ≡ r.me
+  goes_on_with : (f : Effect) (q : Router) (p y : Open) (id : RequestId) → open_of r id ≡ Some p → y.count ≡ p.count → f.taken ≡ [] → f.replies ≡ [] → q.me ≡ r.me
       → q.life ≡ r.life → q.requests ≡ replaced y r.requests
       → StepOnce asked answered now at f q
-  goes_on f q p y id found count none quiet me life requests =
+  goes_on_with f q p y id found count none quiet me life requests =
       let place = open_of_found r id p found in
       parted f q none me life
       (subst (λ l. IsParted r r.requests q.requests (answered_by now l)) (sym quiet)
@@ -243,6 +245,19 @@ module _ (asked : List Asked) (history : List Entry) (answered : List Answered) 
       (all_at (λ (z : Open). IsSilent answered r.me r.life z.count) p r.requests own.silent place.stands))
       (all_weaken (λ (z : Open). IsSilent answered r.me r.life z.count) (λ (z : Open). z.count ≢ y.count → IsSilent answered r.me r.life z.count) r.requests
       (λ z h apart. h) own.silent)))
+
+  -- or what becomes of it
+  continues : (p : Open) (next : Next) (id : RequestId) (time : ℕ) → open_of r id ≡ Some p → KeepsCount r p next
+      → StepOnce asked answered now at (goes_on next) (knows r time r.tables (after_next p next r.requests))
+  continues p (stays y letters) id time found count = goes_on_with _ _ p y id found count refl refl refl refl refl
+  continues p (is_told x) id time found number = closes _ _ x p id found refl refl number refl refl refl
+
+  -- of a request that comes
+  comes : r.begun ≡ true → AreDifferent (ids_asked asked) → (taken : Taken) → taken.id ≡ id_of r (r.count + 1) → (p : Open) → p.count ≡ r.count + 1
+      → (next : Next) → KeepsCount r p next
+      → StepOnce asked answered now at (record { written = []; mail = letters_in next; taken = taken ∷ []; replies = replies_in next }) (takes r (stay_in next))
+  comes begun one taken own p count (stays y letters) same = opens begun one _ _ y refl (same ∙ count) refl refl refl
+  comes begun one taken own p count (is_told x) same = answers begun one _ _ x _ refl own refl (same ∙ ap (λ n. id_of r n) count) refl refl refl
 
 -- ALL TRANSITIONS
 
@@ -263,10 +278,15 @@ router_once asked history answered now at _ _ _ _ mine one own told once (router
 router_once asked history answered now at _ _ _ _ mine one own told once (router_kill r link number request kill killed missing next begun plan ends) =
     answers asked history answered now at r mine own told once begun one _ _ _ _ refl refl refl refl refl refl refl
 router_once asked history answered now at _ _ _ _ mine one own told once (router_take r link number request namespace work begun plan) =
-    opens asked history answered now at r mine own told once begun one _ _ (opened_request r link number request namespace work) refl refl refl refl refl
+    comes asked history answered now at r mine own told once begun one (taken_now r link number request) refl
+    (opened_request r link number request namespace work) refl (begins_work r r.time (opened_request r link number request namespace work) work)
+    (keeps_count r r.time (opened_request r link number request namespace work)
+    (begins_work r r.time (opened_request r link number request namespace work) work)
+    (begins_keeps r r.time (opened_request r link number request namespace work) work))
 router_once asked history answered now at _ _ _ _ mine one own told once (router_learn r m namespace create at_told table tells) =
     let next : (q : Open) → Next = λ q. next_of r (heard r m) (adopted table r.tables) namespace (was_created create table) at_told q in
-    let keeps : (q : Open) → KeepsCount r q (next q) = λ q. next_keeps r (heard r m) (adopted table r.tables) namespace (was_created create table) at_told q in
+    let keeps : (q : Open) → KeepsCount r q (next q) = λ q. keeps_count r (heard r m) q (next q)
+    (next_keeps r (heard r m) (adopted table r.tables) namespace (was_created create table) at_told q) in
     parted asked history answered now at r mine own told once _ _ refl refl refl (parted_next r now next keeps r.requests own.different)
     (left_silent r answered next keeps r.requests own.silent)
 router_once asked history answered now at _ _ _ _ mine one own told once (router_split r m id q middle tells found work) =
@@ -274,19 +294,22 @@ router_once asked history answered now at _ _ _ _ mine one own told once (router
 router_once asked history answered now at _ _ _ _ mine one own told once (router_not_sharded r m id q middle tells found work) =
     closes asked history answered now at r mine own told once _ _ _ q id found refl refl refl refl refl refl
 router_once asked history answered now at _ _ _ _ mine one own told once (router_reach r m id q named time stages telling tells found work waits past) =
-    goes_on asked history answered now at r mine own told once _ _ q _ id found refl refl refl refl refl refl
+    continues asked history answered now at r mine own told once q (begins_work r (heard r m) q (reached (heard r m) q.work)) id (heard r m) found
+    (keeps_count r (heard r m) q (begins_work r (heard r m) q (reached (heard r m) q.work)) (begins_keeps r (heard r m) q (reached (heard r m) q.work)))
 router_once asked history answered now at _ _ _ _ mine one own told once (router_hear r m id q named time stages telling tells found work waits ahead some) =
-    goes_on asked history answered now at r mine own told once _ _ q _ id found refl refl refl refl refl refl
+    goes_on_with asked history answered now at r mine own told once _ _ q _ id found refl refl refl refl refl refl
 router_once asked history answered now at _ _ _ _ mine one own told once (router_ahead r m id q named time stages telling tells found work waits ahead all) =
     closes asked history answered now at r mine own told once _ _ _ q id found refl refl refl refl refl refl
 router_once asked history answered now at _ _ _ _ mine one own told once
-    (router_note r m id dones q kind ordered statements answers tells found work news more) =
-    goes_on asked history answered now at r mine own told once _ _ q _ id found refl refl refl refl refl refl
-router_once asked history answered now at _ _ _ _ mine one own told once
-    (router_wrote r m id dones q kind ordered statements answers tells found work news all) =
-    closes asked history answered now at r mine own told once _ _ _ q id found refl refl refl refl refl refl
+    (router_note r m id dones q kind ordered statements c next tells found work news is) =
+    continues asked history answered now at r mine own told once q next id (heard r m) found
+    (subst (λ x. KeepsCount r q x) (sym is)
+    (keeps_count r (heard r m) q (write_on r (heard r m) r.tables ordered (served_in_part (noted ordered c.answers dones) c.runs) q kind ordered statements
+    (settled c (noted ordered c.answers dones)))
+    (write_keeps r (heard r m) r.tables ordered (served_in_part (noted ordered c.answers dones) c.runs) q kind ordered statements
+    (settled c (noted ordered c.answers dones)))))
 router_once asked history answered now at _ _ _ _ mine one own told once (router_part r m id rows q named time stages telling tells found work target some) =
-    goes_on asked history answered now at r mine own told once _ _ q _ id found refl refl refl refl refl refl
+    goes_on_with asked history answered now at r mine own told once _ _ q _ id found refl refl refl refl refl refl
 router_once asked history answered now at _ _ _ _ mine one own told once
     (router_read r m id rows q named time stages telling parts out answer f tells found work target whole got merges shown) =
     closes asked history answered now at r mine own told once _ _ _ q id found refl refl refl refl refl refl

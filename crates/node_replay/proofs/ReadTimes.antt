@@ -1,25 +1,28 @@
 -- No message reads at a time that is later than itself, whatever stops.
 use Rattle.std.proofs.Common.{◌≡◌, ◌≢◌, ℕ, ◌+◌, ◌≤◌, List, [], ◌∷◌, ◌++◌, refl, sym, subst, arith, Bool}
-use Rattle.std.specs.Prelude.{max, map, filter, not, true, false, ◌&&◌, Option, Some, None, Result, if◌then◌else◌}
+use Rattle.std.specs.Prelude.{max, map, filter, not, nat_lt, true, false, ◌&&◌, Option, Some, None, Result, if◌then◌else◌}
 use Rattle.std.specs.List.{AllByRecursion, flat_map}
 use Rattle.std.specs.Str.{bytes_eq}
 use Rattle.std.proofs.lemmas.Bool.{ltb-false}
 use Rattle.base_model.specs.Times.{time_of_moment}
-use Rattle.chunk_model.specs.Tables.{Table, table_of}
-use Rattle.chunk_model.specs.Verdicts.{sent_by}
+use Rattle.chunk_model.specs.Tables.{Table}
+use Rattle.command_model.specs.Writes.{WriteKind}
+use Rattle.pipeline_model.specs.Stages.{Stage}
 use Rattle.history_model.specs.History.{IsIn}
 use Rattle.history_model.proofs.Lists.{all_weaken, all_append, all_filter, all_at}
 use Rattle.pipeline_model.specs.Halves.{Half, Rows}
 use Rattle.pipeline_model.specs.Split.{split}
-use Rattle.command_model.specs.Answers.{sharded_answer}
 use Rattle.node_model.specs.CatalogueRows.{CatalogueRow, catalogue_create, catalogue_tell, catalogue_split, catalogue_bound, catalogue_none, catalogue_skip, catalogue_moment, catalogue_opened, catalogue_client}
 use Rattle.node_model.specs.Letters.{At, no_time, at_time, Statement, HalfFault, Body, table_ask, table_told, split_ask, split_done, write_ask, write_done, read_ask, half_ask, read_rows, stale, time_ask, time_told, Letter, Input, Effect, Reply}
 use Rattle.node_model.specs.ShardRows.{heard as heard_there, Ask, ask_in, wants_table, says as says_there, asks_table, asks_again as asks_tables, ShardRow, shard_write, shard_repeat, shard_empty, shard_park, shard_waits, shard_stale, shard_read, shard_read_above, shard_rows, shard_excess, shard_overflow, shard_time, shard_learn, shard_known, shard_skip, shard_moment, shard_opened, shard_client}
-use Rattle.node_model.specs.RouterRows.{heard, id_of, says, run_to, owner_of_statement, asks_to_write, asks_to_read, asks_shards, asks_catalogue, targets_at, awaited, unanswered, shards_of, untold, asks_times, is_ahead, reached, table_for, wait_by, asks_by, wait_of, asks_for, opened_request, with_told, with_part, reply_to, empty_answer, noted, going_on, is_for, Next, stays, is_told, is_for_catalogue, next_waiting, next_of, adopted, was_created, asks_again, RouterRow, router_begin, router_opened, router_plain, router_more, router_no_cursor, router_kill, router_take, router_learn, router_split, router_not_sharded, router_reach, router_hear, router_ahead, router_note, router_wrote, router_part, router_read, router_excess, router_overflow, router_late, router_skip, router_moment, begins}
-use Rattle.node_model.specs.States.{Target, Work, writing, reading, sharding, splitting, Wait, for_time, for_catalogue, for_shards, Open, Router, Shard, Catalogue, NodeState, without, replaced}
+use Rattle.node_model.specs.RouterRequests.{heard, id_of, says, asks_to_write, asks_to_read, asks_catalogue, targets_at, shards_of, untold, asks_times, reached}
+use Rattle.node_model.specs.RouterNext.{awaited, with_work, with_told, with_part, noted, left_of, served_in_part, settled, Next, stays, is_told, stay_in, letters_in, after_next, is_for_catalogue, write_on, read_on, begins_work, next_of, adopted, was_created, asks_again}
+use Rattle.node_model.specs.RouterRows.{opened_request, RouterRow, router_begin, router_opened, router_plain, router_more, router_no_cursor, router_kill, router_take, router_learn, router_split, router_not_sharded, router_reach, router_hear, router_ahead, router_note, router_part, router_read, router_excess, router_overflow, router_late, router_skip, router_moment, begins}
+use Rattle.node_model.specs.States.{Target, Run, Course, Telling, Work, writing, reading, sharding, splitting, Wait, for_time, for_catalogue, for_shards, Open, Router, Shard, Catalogue, NodeState, without, replaced}
 use Rattle.node_model.specs.Steps.{Step, catalogue_step, shard_step, router_step, begin_step, other_step}
 use Rattle.node_laws.proofs.Lists.{all_mapped}
 use Rattle.node_laws.proofs.NextRequests.{NextIs, each_next}
+use Rattle.node_laws.proofs.NextCases.{more_of, work_after, asks_after, with_catalogue, by_write, by_read, by_next}
 use Rattle.node_laws.proofs.OpenRequests.{open_of_found, all_without, all_replaced}
 use Rattle.node_laws.proofs.ServedStatements.{serves_rises}
 use Rattle.node_replay.specs.ReadTimes.{IsNamedBy, ReadsBy, IsInTime, ComesInTime, WorksBy, WaitsBy, OpensBy, KeepsBy, ReadsInTime}
@@ -45,7 +48,7 @@ reads_later early late (time_ask id) le by = tt
 reads_later early late (time_told id) le by = tt
 
 works_later : (early late : ℕ) (work : Work) → early ≤ late → WorksBy early work → WorksBy late work
-works_later early late (writing kind ordered statements answers) le by = tt
+works_later early late (writing kind ordered statements c) le by = tt
 works_later early late (reading named at stages telling) le by = omega (arith, le, by)
 works_later early late sharding le by = tt
 works_later early late (splitting middle) le by = tt
@@ -142,38 +145,19 @@ catalogue_in_time _ _ _ _ (catalogue_client c link number request) = tt
 
 -- WHAT A ROUTER REQUESTS
 
-not_ahead : (time : ℕ) (work : Work) → is_ahead time work ≡ false → WorksBy time work
-not_ahead time (writing kind ordered statements answers) is = tt
-not_ahead time (reading named at stages telling) is = ltb-false time at is
-not_ahead time sharding is = tt
-not_ahead time (splitting middle) is = tt
-
 module _ (r : Router) (time count : ℕ) (namespace : List ℕ) where
-  write_in_time : (t : Table) (ordered : Bool) (statements : List Statement)
-      → AllByRecursion IsInTime (asks_to_write r time (id_of r count) namespace t ordered statements)
-  write_in_time t ordered [] = tt
-  write_in_time t ordered (s ∷ statements) = by_owner (owner_of_statement t s)
-    where
-      by_owner : (o : Option ℕ) → AllByRecursion IsInTime (elim o as (λ (o : Option ℕ). List Letter) [
-        | None ↦ []
-        | Some shard ↦ says r shard time (write_ask (id_of r count) 1 ordered namespace (run_to t shard (s ∷ statements)) (sent_by t shard)) ∷ []
-      ])
-      by_owner None = tt
-      by_owner (Some shard) = (tt, tt)
+  write_in_time : (ordered : Bool) (statements : List Statement) (runs : List Run)
+      → AllByRecursion IsInTime (asks_to_write r time (id_of r count) namespace ordered statements runs)
+  write_in_time ordered statements [] = tt
+  write_in_time ordered statements (run ∷ runs) = (tt, write_in_time ordered statements runs)
 
   read_in_time : (at : ℕ) (half : Half) (targets : List Target) → at ≤ time
       → AllByRecursion IsInTime (asks_to_read r time (id_of r count) namespace at half targets)
   read_in_time at half [] le = tt
   read_in_time at half (t ∷ targets) le = (le, read_in_time at half targets le)
 
-  shards_in_time : (t : Table) (work : Work) → WorksBy time work → AllByRecursion IsInTime (asks_shards r time count namespace t work)
-  shards_in_time t (writing kind ordered statements answers) by = write_in_time t ordered (unanswered statements answers)
-  shards_in_time t (reading named at stages telling) by = read_in_time at (split stages).0 (targets_at t at stages) by
-  shards_in_time t sharding by = tt
-  shards_in_time t (splitting middle) by = tt
-
   catalogue_asked : (work : Work) → WorksBy time work → IsInTime (asks_catalogue r time count namespace work)
-  catalogue_asked (writing kind ordered statements answers) by = tt
+  catalogue_asked (writing kind ordered statements c) by = tt
   catalogue_asked (reading named at stages telling) by = by
   catalogue_asked sharding by = tt
   catalogue_asked (splitting middle) by = tt
@@ -185,67 +169,62 @@ module _ (r : Router) (time count : ℕ) (namespace : List ℕ) where
       each_in_time [] = tt
       each_in_time (s ∷ shards) = (tt, each_in_time shards)
 
-  asks_in_time : (work : Work) → AllByRecursion IsInTime (asks_for r time count namespace work)
-  asks_in_time work = by_ahead (is_ahead time work) refl (table_for r.tables namespace work)
-    where
-      by_ahead : (b : Bool) → is_ahead time work ≡ b → (o : Option Table)
-          → AllByRecursion IsInTime (if b then asks_times r time (id_of r count) [] else asks_by r time count namespace work o)
-      by_ahead true is o = times_in_time []
-      by_ahead false is None = (catalogue_asked work (not_ahead time work is), tt)
-      by_ahead false is (Some t) = shards_in_time t work (not_ahead time work is)
+-- what an open request waits for is requested again
+again_in_time : (r : Router) (time : ℕ) (q : Open) → OpensBy time q → AllByRecursion IsInTime (asks_again r time q)
+again_in_time r time q by = by_work q.work refl by
+  where
+    asked : (work : Work) → q.work ≡ work → WorksBy time work → IsInTime (asks_catalogue r time q.count q.namespace q.work)
+    asked work is by = subst (λ x. IsInTime (asks_catalogue r time q.count q.namespace x)) (sym is) (catalogue_asked r time q.count q.namespace work by)
 
-  waits_in_time : (work : Work) → WaitsBy time (wait_of r time namespace work) work
-  waits_in_time work = by_ahead (is_ahead time work) refl (table_for r.tables namespace work)
-    where
-      by_ahead : (b : Bool) → is_ahead time work ≡ b → (o : Option Table) → WaitsBy time (if b then for_time else wait_by o) work
-      by_ahead true is o = tt
-      by_ahead false is None = not_ahead time work is
-      by_ahead false is (Some t) = not_ahead time work is
+    by_both : (b : Bool) (letters : List Letter) → IsInTime (asks_catalogue r time q.count q.namespace q.work) → AllByRecursion IsInTime letters
+        → AllByRecursion IsInTime (if b then asks_catalogue r time q.count q.namespace q.work ∷ letters else letters)
+    by_both true letters one all = (one, all)
+    by_both false letters one all = all
 
-  -- of shards that have not returned it
-  again_of_shards : (targets : List Target) (work : Work) (o : Option Table) → WorksBy time work
-      → AllByRecursion IsInTime (elim work as (λ (x : Work). List Letter) [
-        | writing kind ordered statements answers ↦
-            elim o as (λ (x : Option Table). List Letter) [ None ↦ [] | Some t ↦ asks_shards r time count namespace t work ]
-        | reading named at stages telling ↦ asks_to_read r time (id_of r count) namespace at (split stages).0 targets
-        | sharding ↦ []
-        | splitting middle ↦ []
-      ])
-  again_of_shards targets (writing kind ordered statements answers) None by = tt
-  again_of_shards targets (writing kind ordered statements answers) (Some t) by = shards_in_time t (writing kind ordered statements answers) by
-  again_of_shards targets (reading named at stages telling) o by = read_in_time at (split stages).0 targets by
-  again_of_shards targets sharding o by = tt
-  again_of_shards targets (splitting middle) o by = tt
+    by_wait : (at : ℕ) (half : Half) (work : Work) → q.work ≡ work → (WorksBy time work → at ≤ time) → (wait : Wait) → WaitsBy time wait work
+        → AllByRecursion IsInTime (elim wait as (λ (x : Wait). List Letter) [
+          | for_time ↦ asks_times r time (id_of r q.count) q.told
+          | for_catalogue ↦ asks_catalogue r time q.count q.namespace q.work ∷ []
+          | for_shards ↦ asks_to_read r time (id_of r q.count) q.namespace at half (awaited q.targets q.parts)
+        ])
+    by_wait at half work is past for_time by = times_in_time r time q.count q.namespace q.told
+    by_wait at half work is past for_catalogue by = (asked work is by, tt)
+    by_wait at half work is past for_shards by = read_in_time r time q.count q.namespace at half (awaited q.targets q.parts) (past by)
 
-  again_in_time : (told : List ℕ) (targets : List Target) (wait : Wait) (work : Work) (o : Option Table) → WaitsBy time wait work
-      → AllByRecursion IsInTime (elim wait as (λ (x : Wait). List Letter) [
-        | for_time ↦ asks_times r time (id_of r count) told
-        | for_catalogue ↦ asks_catalogue r time count namespace work ∷ []
-        | for_shards ↦ elim work as (λ (x : Work). List Letter) [
-          | writing kind ordered statements answers ↦ elim o as (λ
-              (x : Option Table). List Letter) [ None ↦ [] | Some t ↦ asks_shards r time count namespace t work ]
-          | reading named at stages telling ↦ asks_to_read r time (id_of r count) namespace at (split stages).0 targets
-          | sharding ↦ []
-          | splitting middle ↦ []
-        ]
-      ])
-  again_in_time told targets for_time work o by = times_in_time told
-  again_in_time told targets for_catalogue work o by = (catalogue_asked work by, tt)
-  again_in_time told targets for_shards work o by = again_of_shards targets work o by
+    by_work : (work : Work) → q.work ≡ work → OpensBy time q → AllByRecursion IsInTime (elim work as (λ (x : Work). List Letter) [
+      | writing kind ordered statements c ↦
+          if is_for_catalogue q.wait then asks_catalogue r time q.count q.namespace q.work
+          ∷ asks_to_write r time (id_of r q.count) q.namespace ordered statements c.runs
+          else asks_to_write r time (id_of r q.count) q.namespace ordered statements c.runs
+      | reading named at stages telling ↦ elim q.wait [
+        | for_time ↦ asks_times r time (id_of r q.count) q.told
+        | for_catalogue ↦ asks_catalogue r time q.count q.namespace q.work ∷ []
+        | for_shards ↦ asks_to_read r time (id_of r q.count) q.namespace at (split stages).0 (awaited q.targets q.parts)
+      ]
+      | sharding ↦ asks_catalogue r time q.count q.namespace q.work ∷ []
+      | splitting middle ↦ asks_catalogue r time q.count q.namespace q.work ∷ []
+    ])
+    by_work (writing kind ordered statements c) is by =
+        by_both (is_for_catalogue q.wait) (asks_to_write r time (id_of r q.count) q.namespace ordered statements c.runs)
+        (asked (writing kind ordered statements c) is tt) (write_in_time r time q.count q.namespace ordered statements c.runs)
+    by_work (reading named at stages telling) is by =
+        by_wait at (split stages).0 (reading named at stages telling) is (λ past. past) q.wait (subst (λ x. WaitsBy time q.wait x) is by)
+    by_work sharding is by = (asked sharding is tt, tt)
+    by_work (splitting middle) is by = (asked (splitting middle) is tt, tt)
 
 each_again : (r : Router) (time : ℕ) (requests : List Open) → AllByRecursion (OpensBy time) requests
     → AllByRecursion IsInTime (flat_map (λ q. asks_again r time q) requests)
 each_again r time [] all = tt
-each_again r time (q ∷ requests) all =
-    all_append IsInTime (asks_again r time q) _
-    (again_in_time r time q.count q.namespace q.told (awaited q.targets q.parts) q.wait q.work (table_of q.namespace r.tables) all.0)
-    (each_again r time requests all.1)
+each_again r time (q ∷ requests) all = all_append IsInTime (asks_again r time q) _ (again_in_time r time q all.0) (each_again r time requests all.1)
 
--- WHERE A TABLE ARRIVES
+-- WHAT BECOMES OF A REQUEST
 
 -- a reply reads nothing
 abbrev AnyReply : Reply → Type 0
 AnyReply x = Unit {0}
+
+abbrev Becomes : ℕ → Next → Type 0
+Becomes time next = NextIs (OpensBy time) IsInTime AnyReply next
 
 works_waiting : (time : ℕ) (wait : Wait) (b : Bool) (work : Work) → (is_for_catalogue wait && b) ≡ true → WaitsBy time wait work → WorksBy time work
 works_waiting time for_time b work is by = absurd (cc)
@@ -253,40 +232,54 @@ works_waiting time for_catalogue b work is by = by
 works_waiting time for_shards b work is by = by
 
 module _ (r : Router) (time : ℕ) where
-  without_in_time : (q : Open) (made : Bool) (told : At) (work : Work) → OpensBy time q
-      → NextIs (OpensBy time) IsInTime AnyReply (elim work as (λ (x : Work). Next) [
-        | writing kind ordered statements answers ↦ stays q []
-        | reading named at stages telling ↦ if is_for told at then is_told (reply_to r time q (empty_answer q at telling)) else stays q []
-        | sharding ↦ if made then is_told (reply_to r time q (sharded_answer q.namespace time)) else stays q []
-        | splitting middle ↦ stays q []
-      ])
-  without_in_time q made told (writing kind ordered statements answers) by = (by, tt)
-  without_in_time q made told (reading named at stages telling) by = by_test (is_for told at)
+  with_asks : (b : Bool) (letter : Letter) (letters : List Letter) → IsInTime letter → AllByRecursion IsInTime letters
+      → AllByRecursion IsInTime (with_catalogue b letter letters)
+  with_asks true letter letters one all = (one, all)
+  with_asks false letter letters one all = all
+
+  write_becomes : (tables : List Table) (asks : Bool) (again : List Run) (q : Open) (kind : WriteKind) (ordered : Bool) (statements : List Statement)
+      (c : Course) → Becomes time (write_on r time tables asks again q kind ordered statements c)
+  write_becomes tables asks again q kind ordered statements c =
+      by_write (Becomes time) r time tables q asks again kind ordered statements c (λ h. tt) (λ h none. (tt, letters)) (λ h s left some. (
+        tt,
+        with_asks asks (asks_catalogue r time q.count q.namespace (work_after tables q kind ordered statements c))
+            (asks_after r time tables q ordered statements c again) tt letters,
+      ))
     where
-      by_test : (b : Bool) → NextIs (OpensBy time) IsInTime AnyReply
-          (if b then is_told (reply_to r time q (empty_answer q at telling)) else stays q [])
-      by_test true = tt
-      by_test false = (by, tt)
-  without_in_time q made told sharding by = by_test made
+      letters : AllByRecursion IsInTime (asks_after r time tables q ordered statements c again)
+      letters = write_in_time r time q.count q.namespace ordered statements (left_of c.answers again ++ more_of tables q ordered statements c)
+
+  read_becomes : (tables : List Table) (asks : Bool) (q : Open) (named : Bool) (at : ℕ) (stages : List Stage) (telling : Telling) → at ≤ time
+      → Becomes time (read_on r time tables asks q named at stages telling)
+  read_becomes tables asks q named at stages telling le =
+      by_read (Becomes time) r time tables q asks named at stages telling
+      (λ none. (le, with_asks asks (asks_catalogue r time q.count q.namespace (reading named at stages telling)) [] le tt))
+      (λ t got. (le, read_in_time r time q.count q.namespace at (split stages).0 (targets_at t at stages) le))
+
+  begins_becomes : (q : Open) (work : Work) → Becomes time (begins_work r time q work)
+  begins_becomes q (writing kind ordered statements c) = write_becomes r.tables true [] q kind ordered statements c
+  begins_becomes q (reading named at stages telling) = by_time (nat_lt time at) refl
     where
-      by_test : (b : Bool) → NextIs (OpensBy time) IsInTime AnyReply
-          (if b then is_told (reply_to r time q (sharded_answer q.namespace time)) else stays q [])
-      by_test true = tt
-      by_test false = (by, tt)
-  without_in_time q made told (splitting middle) by = (by, tt)
+      by_time : (b : Bool) → nat_lt time at ≡ b → Becomes time
+          (if b then stays (with_work q for_time [] (reading named at stages telling)) (asks_times r time (id_of r q.count) [])
+          else read_on r time r.tables true q named at stages telling)
+      by_time true h = (tt, times_in_time r time q.count q.namespace [])
+      by_time false h = read_becomes r.tables true q named at stages telling (ltb-false time at h)
+  begins_becomes q sharding = (tt, (tt, tt))
+  begins_becomes q (splitting middle) = (tt, (tt, tt))
 
   next_in_time : (tables : List Table) (namespace : List ℕ) (made : Bool) (told : At) (q : Open) → OpensBy time q
-      → NextIs (OpensBy time) IsInTime AnyReply (next_of r time tables namespace made told q)
+      → Becomes time (next_of r time tables namespace made told q)
   next_in_time tables namespace made told q by =
-      by_test (is_for_catalogue q.wait && bytes_eq q.namespace namespace) refl (table_for tables q.namespace q.work)
-    where
-      by_test : (b : Bool) → (is_for_catalogue q.wait && bytes_eq q.namespace namespace) ≡ b → (t : Option Table)
-          → NextIs (OpensBy time) IsInTime AnyReply (if b then next_waiting r time made told q t else stays q [])
-      by_test false is t = (by, tt)
-      by_test true is None = without_in_time q made told q.work by
-      by_test true is (Some t) =
-          let works : WorksBy time q.work = works_waiting time q.wait (bytes_eq q.namespace namespace) q.work is by in
-          (works, shards_in_time r time q.count q.namespace t q.work works)
+      by_next (Becomes time) r time tables q namespace made told (λ h. (by, tt)) (λ h. (
+        (λ kind ordered statements c is. write_becomes tables false [] q kind ordered statements c),
+        (λ named at stages telling is own. tt),
+        (λ named at stages telling is. read_becomes tables false q named at stages telling
+            (subst (λ x. WorksBy time x) is (works_waiting time q.wait (bytes_eq q.namespace namespace) q.work h by))),
+        (λ is e. tt),
+        (λ e. (by, tt)),
+        λ middle is. (by, tt),
+      ))
 
 -- A ROUTER
 
@@ -302,10 +295,19 @@ module _ (r : Router) (all : AllByRecursion (OpensBy r.time) r.requests) where
   one_closed : (m : Letter) (q : Open) → AllByRecursion (OpensBy (heard r m)) (without q.count r.requests)
   one_closed m q = all_without (OpensBy (heard r m)) q.count r.requests (now_open m)
 
-  one_goes_on : (m : Letter) (q : Open) (work : Work) → AllByRecursion (OpensBy (heard r m)) (replaced (going_on r (heard r m) q work) r.requests)
-  one_goes_on m q work =
-      all_replaced (OpensBy (heard r m)) (going_on r (heard r m) q work) r.requests (waits_in_time r (heard r m) q.count q.namespace work)
-      (all_weaken (OpensBy (heard r m)) (λ (p : Open). p.count ≢ q.count → OpensBy (heard r m) p) r.requests (λ p by apart. by) (now_open m))
+  one_goes_on : (m : Letter) (q : Open) (next : Next) → Becomes (heard r m) next → AllByRecursion (OpensBy (heard r m)) (after_next q next r.requests)
+  one_goes_on m q (stays p letters) b =
+      all_replaced (OpensBy (heard r m)) p r.requests b.0
+      (all_weaken (OpensBy (heard r m)) (λ (x : Open). x.count ≢ p.count → OpensBy (heard r m) x) r.requests (λ x by apart. by) (now_open m))
+  one_goes_on m q (is_told reply) b = one_closed m q
+
+  letters_go : (time : ℕ) (next : Next) → Becomes time next → AllByRecursion IsInTime (letters_in next)
+  letters_go time (stays p letters) b = b.1
+  letters_go time (is_told reply) b = tt
+
+  one_begins : (next : Next) → Becomes r.time next → AllByRecursion (OpensBy r.time) (stay_in next)
+  one_begins (stays p letters) b = (b.0, tt)
+  one_begins (is_told reply) b = tt
 
   -- it still waits for its time
   one_waits : (m : Letter) (q : Open) → q.wait ≡ for_time → AllByRecursion (OpensBy (heard r m)) (replaced (with_told q m.sender) r.requests)
@@ -333,8 +335,11 @@ router_in_time _ _ _ _ all (router_no_cursor r link number request more begun pl
 router_in_time _ _ _ _ all (router_kill r link number request kill killed missing next begun plan ends) =
     record { requests = one_more r all [] tt; letters = tt }
 router_in_time _ _ _ _ all (router_take r link number request namespace work begun plan) = record {
-  requests = one_more r all (opened_request r link number request namespace work ∷ []) (waits_in_time r r.time (r.count + 1) namespace work, tt);
-  letters = asks_in_time r r.time (r.count + 1) namespace work;
+  requests = one_more r all (stay_in (begins_work r r.time (opened_request r link number request namespace work) work))
+      (one_begins r all (begins_work r r.time (opened_request r link number request namespace work) work)
+      (begins_becomes r r.time (opened_request r link number request namespace work) work));
+  letters = letters_go r all r.time (begins_work r r.time (opened_request r link number request namespace work) work)
+      (begins_becomes r r.time (opened_request r link number request namespace work) work);
 }
 router_in_time _ _ _ _ all (router_learn r m namespace create told table tells) =
     let next : (q : Open) → Next = λ q. next_of r (heard r m) (adopted table r.tables) namespace (was_created create table) told q in
@@ -346,19 +351,19 @@ router_in_time _ _ _ _ all (router_learn r m namespace create told table tells) 
 router_in_time _ _ _ _ all (router_split r m id q middle tells found work) = record { requests = one_closed r all m q; letters = tt }
 router_in_time _ _ _ _ all (router_not_sharded r m id q middle tells found work) = record { requests = one_closed r all m q; letters = tt }
 router_in_time _ _ _ _ all (router_reach r m id q named at stages telling tells found work waits past) = record {
-  requests = one_goes_on r all m q (reached (heard r m) q.work);
-  letters = asks_in_time r (heard r m) q.count q.namespace (reached (heard r m) q.work);
+  requests = one_goes_on r all m q (begins_work r (heard r m) q (reached (heard r m) q.work)) (begins_becomes r (heard r m) q (reached (heard r m) q.work));
+  letters = letters_go r all (heard r m) (begins_work r (heard r m) q (reached (heard r m) q.work))
+      (begins_becomes r (heard r m) q (reached (heard r m) q.work));
 }
 router_in_time _ _ _ _ all (router_hear r m id q named at stages telling tells found work waits ahead some) =
     record { requests = one_waits r all m q waits; letters = tt }
 router_in_time _ _ _ _ all (router_ahead r m id q named at stages telling tells found work waits ahead every) =
     record { requests = one_closed r all m q; letters = tt }
-router_in_time _ _ _ _ all (router_note r m id dones q kind ordered statements answers tells found work news more) = record {
-  requests = one_goes_on r all m q (writing kind ordered statements (noted answers dones));
-  letters = asks_in_time r (heard r m) q.count q.namespace (writing kind ordered statements (noted answers dones));
-}
-router_in_time _ _ _ _ all (router_wrote r m id dones q kind ordered statements answers tells found work news whole) =
-    record { requests = one_closed r all m q; letters = tt }
+router_in_time _ _ _ _ all (router_note r m id dones q kind ordered statements c next tells found work news is) =
+    let becomes : Becomes (heard r m) next = subst (λ x. Becomes (heard r m) x) (sym is)
+    (write_becomes r (heard r m) r.tables ordered (served_in_part (noted ordered c.answers dones) c.runs) q kind ordered statements
+    (settled c (noted ordered c.answers dones))) in
+    record { requests = one_goes_on r all m q next becomes; letters = letters_go r all (heard r m) next becomes }
 router_in_time _ _ _ _ all (router_part r m id rows q named at stages telling tells found work target some) =
     record { requests = one_parted r all m q rows (open_of_found r id q found).stands; letters = tt }
 router_in_time _ _ _ _ all (router_read r m id rows q named at stages telling parts out answer f tells found work target whole got merges shown) =

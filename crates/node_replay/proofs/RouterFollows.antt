@@ -11,7 +11,9 @@ use Rattle.reply_model.specs.Cursors.{Cursor}
 use Rattle.node_model.specs.Journal.{kept_block, kept_life}
 use Rattle.node_model.specs.Letters.{Input, Effect}
 use Rattle.node_model.specs.States.{Telling, Open, Router, open_with}
-use Rattle.node_model.specs.RouterRows.{heard, id_of, open_of, new_cursor, next_of, stay_in, adopted, was_created, begins, Opened, block_size, Tells, tells_overflow, tells_excess, tells_number, tells_batch, tells_cursor, RouterRow, router_begin, router_opened, router_plain, router_more, router_no_cursor, router_kill, router_take, router_learn, router_split, router_not_sharded, router_reach, router_hear, router_ahead, router_note, router_wrote, router_part as router_parted, router_read, router_excess, router_overflow, router_late, router_skip, router_moment}
+use Rattle.node_model.specs.RouterRequests.{heard, id_of}
+use Rattle.node_model.specs.RouterNext.{next_of, stay_in, adopted, was_created}
+use Rattle.node_model.specs.RouterRows.{open_of, new_cursor, begins, Opened, block_size, Tells, tells_overflow, tells_excess, tells_number, tells_batch, tells_cursor, RouterRow, router_begin, router_opened, router_plain, router_more, router_no_cursor, router_kill, router_take, router_learn, router_split, router_not_sharded, router_reach, router_hear, router_ahead, router_note, router_part as router_parted, router_read, router_excess, router_overflow, router_late, router_skip, router_moment}
 use Rattle.node_replay.specs.Durable.{DurableRouter, durable_router, next_life, router_part}
 use Rattle.node_replay.specs.Replays.{replayed, records_of}
 
@@ -135,9 +137,7 @@ router_follows _ _ _ _ holds (router_hear r m id q named at stages telling tells
     still r _ _ refl refl refl refl refl refl holds.0 (inl (in_life r id q holds.1 found))
 router_follows _ _ _ _ holds (router_ahead r m id q named at stages telling tells found work waits ahead all) =
     still r _ _ refl refl refl refl refl refl holds.0 (inl (in_life r id q holds.1 found))
-router_follows _ _ _ _ holds (router_note r m id dones q kind ordered statements answers tells found work news more) =
-    still r _ _ refl refl refl refl refl refl holds.0 (inl (in_life r id q holds.1 found))
-router_follows _ _ _ _ holds (router_wrote r m id dones q kind ordered statements answers tells found work news all) =
+router_follows _ _ _ _ holds (router_note r m id dones q kind ordered statements c next tells found work news is) =
     still r _ _ refl refl refl refl refl refl holds.0 (inl (in_life r id q holds.1 found))
 router_follows _ _ _ _ holds (router_parted r m id rows q named at stages telling tells found work target some) =
     still r _ _ refl refl refl refl refl refl holds.0 (inl (in_life r id q holds.1 found))

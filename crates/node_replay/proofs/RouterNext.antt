@@ -1,14 +1,13 @@
 -- Each transition of a router keeps the facts that stay: the rows.
 use Rattle.std.proofs.Common.{◌≡◌, ◌≢◌, inl, inr, ℕ, ℤ, ◌+◌, ◌≤◌, List, [], ◌∷◌, ◌++◌, refl, sym, ap, subst, ◌∙◌, arith, append-nil}
-use Rattle.std.specs.Prelude.{max, Bool, true, false, Some, Result}
+use Rattle.std.specs.Prelude.{max, Bool, true, false, Some, Ok, Result}
 use Rattle.std.specs.List.{AllByRecursion, flat_map}
 use Rattle.base_model.specs.Errors.{cursor_not_found, namespace_not_sharded, overflow}
 use Rattle.base_model.specs.Identities.{RequestId}
 use Rattle.base_model.specs.Refusals.{cursor_evidence, time_ahead, without_evidence}
 use Rattle.base_model.specs.Times.{time_of_moment}
-use Rattle.chunk_model.specs.Tables.{table_of}
 use Rattle.command_model.specs.Answers.{Answer, next_answer, killed_answer, changed_answer, refusal_answer, answer_document}
-use Rattle.command_model.specs.Command.{command_of}
+use Rattle.command_model.specs.Command.{write_command, command_of}
 use Rattle.command_model.specs.Writes.{WriteCommand, WriteKind}
 use Rattle.history_model.proofs.Lists.{all_weaken, all_append, all_at, in_back, in_first, in_prefix}
 use Rattle.pipeline_model.specs.Halves.{Rows}
@@ -18,22 +17,25 @@ use Rattle.pipeline_model.specs.Stages.{Stage}
 use Rattle.bson_model.specs.Tree.{Datum}
 use Rattle.reply_model.specs.Exchanges.{Asked}
 use Rattle.reply_model.specs.OneHistory.{ids_asked, AreDifferent}
-use Rattle.reply_model.specs.Outcomes.{Done, answer_of}
+use Rattle.reply_model.specs.Outcomes.{Done}
 use Rattle.node_model.specs.Letters.{Statement, HalfFault, Input, Effect}
-use Rattle.node_model.specs.RouterRows.{heard, id_of, needs, at_once, needs_batch, needs_end, statements_from, is_answered, asks_for, noted, reply_to, going_on, reached, next_of, adopted, was_created, asks_again, open_of, begins, takes, Next, wait_of, targets_for, awaited, opened_request, with_told, with_part, taken_now, too_much, RouterRow, router_begin, router_opened, router_plain, router_more, router_no_cursor, router_kill, router_take, router_learn, router_split, router_not_sharded, router_reach, router_hear, router_ahead, router_note, router_wrote, router_part, router_read, router_excess, router_overflow, router_late, router_skip, router_moment}
-use Rattle.node_model.specs.States.{Telling, Work, writing, reading, splitting, Open, Router, without, replaced}
+use Rattle.node_model.specs.RouterRequests.{heard, id_of, needs, at_once, needs_batch, needs_end, reached}
+use Rattle.node_model.specs.RouterNext.{noted, served_in_part, settled, begins_work, next_of, adopted, was_created, asks_again, Next, stays, is_told, stay_in, letters_in, replies_in, after_next, with_told, with_part}
+use Rattle.node_model.specs.RouterRows.{open_of, begins, takes, opened_request, taken_now, too_much, RouterRow, router_begin, router_opened, router_plain, router_more, router_no_cursor, router_kill, router_take, router_learn, router_split, router_not_sharded, router_reach, router_hear, router_ahead, router_note, router_part, router_read, router_excess, router_overflow, router_late, router_skip, router_moment}
+use Rattle.node_model.specs.States.{Course, Telling, Work, writing, reading, splitting, Open, Router, without, replaced}
 use Rattle.node_model.specs.World.{asked_by}
 use Rattle.node_laws.proofs.Facts.{IsBy}
 use Rattle.node_laws.proofs.NextRequests.{NextIs, each_next}
 use Rattle.node_laws.proofs.OpenFacts.{by_weaken}
 use Rattle.node_laws.proofs.OpenRequests.{open_of_found, all_without, all_replaced}
 use Rattle.node_laws.proofs.RouterAnswers.{as_answered, same_write}
+use Rattle.node_laws.proofs.Outcomes.{noted_long}
 use Rattle.reply_facts.proofs.Requests.{one_asked}
 use Rattle.node_replay.specs.Acknowledged.{IsOutcomeAt, IsStored}
 use Rattle.node_replay.proofs.StayFacts.{AreDone, BodyStays, LetterStays, IsNoWrite, WorkStays, OpenStays, RouterStays, Grows, open_grows}
-use Rattle.node_replay.proofs.Noted.{all_noted, noted_in_turn}
+use Rattle.node_replay.proofs.Noted.{IsPrefix, all_noted, noted_prefix}
 use Rattle.node_replay.proofs.ShardStays.{InputStays}
-use Rattle.node_replay.proofs.RouterStays.{planned, asks_stay, again_stays, IsOwn, IsTold, working, goes_on, plain_told, split_no_write, next_stays}
+use Rattle.node_replay.proofs.RouterStays.{planned, again_stays, IsOwn, IsTold, plain_told, split_no_write, Becomes, write_becomes, begins_becomes, next_stays}
 
 -- what a step of a router has to show, for what was requested after it
 pub record RouterNext (asked : List Asked) (history : List Entry) (now at : ℕ) (f : Effect) (q : Router) : Type 0 where
@@ -53,10 +55,7 @@ each_again : (asked : List Asked) (history : List Entry) (r : Router) (time : �
     → AllByRecursion (IsOwn asked history 0 r) requests → AllByRecursion (LetterStays asked history) (flat_map (λ q. asks_again r time q) requests)
 each_again asked history r time [] all = tt
 each_again asked history r time (q ∷ requests) all =
-    all_append (LetterStays asked history) (asks_again r time q) _
-    (again_stays asked history r time q.count q.namespace q.told (awaited q.targets q.parts) q.wait q.work
-    (table_of q.namespace r.tables) (working asked history 0 r q all.0))
-    (each_again asked history r time requests all.1)
+    all_append (LetterStays asked history) (asks_again r time q) _ (again_stays asked history 0 r time q all.0) (each_again asked history r time requests all.1)
 
 one_more : (asked : List Asked) (a : Asked) → AreDifferent (ids_asked asked) → AllByRecursion (λ (b : Asked). b.id ≢ a.id) asked
     → AreDifferent (ids_asked (asked ++ a ∷ []))
@@ -109,22 +108,16 @@ module _ (asked : List Asked) (history : List Entry) (now at : ℕ) (r : Router)
   closed : (q : Open) → AllByRecursion (IsOwn asked history now r) (without q.count r.requests)
   closed q = all_without (IsOwn asked history now r) q.count r.requests mine.requests
 
-  -- it proceeds with this work
-  proceeds : (q : Open) (time : ℕ) (work : Work) → IsOwn asked history now r q → WorkStays history (id_of r q.count) q.request q.namespace work
-      → AllByRecursion (IsOwn asked history now r) (replaced (going_on r time q work) r.requests)
-      × AllByRecursion (LetterStays asked history) (asks_for r time q.count q.namespace work)
-  proceeds q time work o does = (
-    all_replaced (IsOwn asked history now r) (going_on r time q work) r.requests
-        (goes_on asked history now r q (wait_of r time q.namespace work) (targets_for r time q.namespace work) work o does)
-        (all_weaken (IsOwn asked history now r) (λ (p : Open). p.count ≢ q.count → IsOwn asked history now r p) r.requests (λ p o apart. o) mine.requests),
-    asks_stay asked history r time q.count q.namespace work
-        (record {
-          request = o.request;
-          taken = o.taken;
-          own = o.own;
-          does = subst (λ x. WorkStays history (id_of r q.count) x q.namespace work) (sym o.asks) does;
-        }),
+  -- what becomes of it
+  becomes : (q : Open) (next : Next) → Becomes asked history now r next → AllByRecursion (IsOwn asked history now r) (after_next q next r.requests)
+      × AllByRecursion (LetterStays asked history) (letters_in next) × AllByRecursion (IsTold asked history now r) (replies_in next)
+  becomes q (stays p letters) b = (
+    all_replaced (IsOwn asked history now r) p r.requests b.0
+        (all_weaken (IsOwn asked history now r) (λ (x : Open). x.count ≢ p.count → IsOwn asked history now r x) r.requests (λ x o apart. o) mine.requests),
+    b.1,
+    tt,
   )
+  becomes q (is_told reply) b = (closed q, tt, (b, tt))
 
   -- it waits for the times of other shards
   hears : (q : Open) (shard : ℕ) → IsOwn asked history now r q
@@ -152,27 +145,33 @@ module _ (asked : List Asked) (history : List Entry) (now at : ℕ) (r : Router)
       split_no_write asked history now r q.request q.namespace middle (subst (λ w. WorkStays history (id_of r q.count) q.request q.namespace w) is o.work)
 
   -- outcomes that arrive are of the same write
-  news : (id : RequestId) (dones : List Done) (q : Open) (kind : WriteKind) (ordered : Bool) (statements : List Statement) (answers : List Done)
-      → open_of r id ≡ Some q → q.work ≡ writing kind ordered statements answers → AreDone asked history id dones
-      → WorkStays history (id_of r q.count) q.request q.namespace (writing kind ordered statements (noted answers dones))
-  news id dones q kind ordered statements answers opens_here is d =
+  news : (id : RequestId) (dones : List Done) (q : Open) (kind : WriteKind) (ordered : Bool) (statements : List Statement) (c : Course)
+      → open_of r id ≡ Some q → q.work ≡ writing kind ordered statements c → AreDone asked history id dones
+      → WorkStays history (id_of r q.count) q.request q.namespace (writing kind ordered statements (settled c (noted ordered c.answers dones)))
+  news id dones q kind ordered statements c opens_here is d =
       let o = found id q opens_here in
       let number : id ≡ id_of r q.count = (open_of_found r id q opens_here).own in
-      let w = subst (λ x. WorkStays history (id_of r q.count) q.request q.namespace x) is o.work in
       let request : d.request ≡ o.request = one_asked d.request o.request asked one d.taken o.taken (d.own ∙ number ∙ sym o.own) in
-      let write : d.write ≡ w.0 =
-      same_write d.write w.0 (command_of q.request) (ap (λ x. command_of x) (sym (ap (λ (a : Asked). a.request) request ∙ o.asks)) ∙ d.asks) w.1 in (
-        w.0,
-        w.1,
-        w.2,
-        w.3,
-        w.4,
-        all_noted (IsOutcomeAt history w.0 (id_of r q.count)) answers dones w.5
-            (subst (λ x. AllByRecursion (IsOutcomeAt history x (id_of r q.count)) dones) write
-            (subst (λ i. AllByRecursion (IsOutcomeAt history d.write i) dones) number d.each)),
-        w.6,
-        noted_in_turn answers dones w.7,
-      )
+      of_work (subst (λ x. WorkStays history (id_of r q.count) q.request q.namespace x) is o.work)
+      (subst (λ i. AllByRecursion (IsOutcomeAt history d.write i) dones) number d.each)
+      (ap (λ x. command_of x) (sym (ap (λ (a : Asked). a.request) request ∙ o.asks)) ∙ d.asks)
+    where
+      of_work : WorkStays history (id_of r q.count) q.request q.namespace (writing kind ordered statements c)
+          → AllByRecursion (IsOutcomeAt history d.write (id_of r q.count)) dones → command_of q.request ≡ Ok (write_command d.write)
+          → WorkStays history (id_of r q.count) q.request q.namespace (writing kind ordered statements (settled c (noted ordered c.answers dones)))
+      of_work (own, asks, same, name, all, each, order, long, turns) new wants =
+          let write : d.write ≡ own = same_write d.write own (command_of q.request) wants asks in (
+            own,
+            asks,
+            same,
+            name,
+            all,
+            all_noted (IsOutcomeAt history own (id_of r q.count)) ordered c.answers dones each
+                (subst (λ x. AllByRecursion (IsOutcomeAt history x (id_of r q.count)) dones) write new),
+            order,
+            noted_long ordered c.answers dones ∙ long,
+            λ in_order. subst (λ b. IsPrefix (noted b c.answers dones)) (sym in_order) (noted_prefix c.answers dones (turns in_order)),
+          )
 
   -- a life begins: of a life that did not begin there is nothing
   pub begins_stays : r.begun ≡ false → RouterStays asked history at (begins r)
@@ -265,18 +264,27 @@ module _ (asked : List Asked) (history : List Entry) (now at : ℕ) (r : Router)
       work = does;
     }
 
+    -- what becomes of it
+    taken_stays : (namespace : List ℕ) (work : Work) (next : Next) → Becomes (asked ++ Came ∷ []) history now r next
+        → RouterSteps asked history now at (record {
+          written = [];
+          mail = letters_in next;
+          taken = taken_now r link number request ∷ [];
+          replies = replies_in next;
+        }) (takes r (stay_in next))
+    taken_stays namespace work (stays q letters) b = took _ (takes r (q ∷ [])) (q ∷ []) refl refl refl refl refl refl (b.0, tt) b.1 tt
+    taken_stays namespace work (is_told reply) b = took _ (takes r []) [] refl refl refl refl refl refl tt tt (b, tt)
+
     take_stays : (namespace : List ℕ) (work : Work) → WorkStays history (id_of r (r.count + 1)) request namespace work
         → RouterSteps asked history now at (record {
           written = [];
-          mail = asks_for r r.time (r.count + 1) namespace work;
+          mail = letters_in (begins_work r r.time (opened_request r link number request namespace work) work);
           taken = taken_now r link number request ∷ [];
-          replies = [];
-        }) (takes r (opened_request r link number request namespace work ∷ []))
+          replies = replies_in (begins_work r r.time (opened_request r link number request namespace work) work);
+        }) (takes r (stay_in (begins_work r r.time (opened_request r link number request namespace work) work)))
     take_stays namespace work does =
-        took _ (takes r (opened_request r link number request namespace work ∷ [])) (opened_request r link number request namespace work ∷ [])
-        refl refl refl refl refl refl (opened namespace work does, tt)
-        (asks_stay (asked ++ Came ∷ []) history r r.time (r.count + 1) namespace work
-        (record { request = Came; taken = in_back Came asked (Came ∷ []) (in_first Came []); own = refl; does = does })) tt
+        taken_stays namespace work (begins_work r r.time (opened_request r link number request namespace work) work)
+        (begins_becomes (asked ++ Came ∷ []) history now r r.time (opened_request r link number request namespace work) work (opened namespace work does) does)
 
     -- a request that is no write is answered
     no_write_told : (answer : Answer) → IsNoWrite request
@@ -289,23 +297,6 @@ module _ (asked : List Asked) (history : List Entry) (now at : ℕ) (r : Router)
           document = answer_document answer;
         })
     no_write_told answer plain write asks = absurd (plain write asks)
-
--- the reply to a write has the outcomes that arrived
-wrote_told : (asked : List Asked) (history : List Entry) (now : ℕ) (r : Router) (q : Open) (time : ℕ) (kind : WriteKind) (ordered : Bool)
-    (statements : List Statement) (dones : List Done) → WorkStays history (id_of r q.count) q.request q.namespace (writing kind ordered statements dones)
-    → is_answered ordered statements dones ≡ true → IsTold asked history now r (reply_to r time q (answer_of kind time dones))
-wrote_told asked history now r q time kind ordered statements dones does whole write asks =
-    let of_write : is_answered does.0.ordered (statements_from does.0.number (id_of r q.count) 0 does.0.operations) dones ≡ true =
-    subst (λ o. is_answered o (statements_from does.0.number (id_of r q.count) 0 does.0.operations) dones ≡ true) does.6
-    (subst (λ l. is_answered ordered l dones ≡ true) does.4 whole) in
-    let same : does.0 ≡ write = same_write does.0 write (command_of q.request) does.1 asks in
-    record {
-      dones = dones;
-      turns = does.7;
-      all = subst (λ (w : WriteCommand). is_answered w.ordered (statements_from w.number (id_of r q.count) 0 w.operations) dones ≡ true) same of_write;
-      document = ap (λ k. answer_document (answer_of k time dones)) (does.2 ∙ ap (λ (w : WriteCommand). w.kind) same);
-      stored = subst (λ w. AllByRecursion (IsOutcomeAt history w (id_of r q.count)) dones) same does.5;
-    }
 
 -- ALL ROWS
 
@@ -362,8 +353,9 @@ router_steps asked history now at _ _ _ _ mine one input (router_reach r m id q 
     let plain = read_no_write asked history now at r mine one q named time stages telling work o in
     let does : WorkStays history (id_of r q.count) q.request q.namespace (reached (heard r m) q.work) =
     subst (λ w. WorkStays history (id_of r q.count) q.request q.namespace (reached (heard r m) w)) (sym work) plain in
-    let p = proceeds asked history now at r mine one q (heard r m) (reached (heard r m) q.work) o does in
-    still asked history now at r mine one _ _ refl refl refl refl refl p.0 p.1 tt
+    let p = becomes asked history now at r mine one q (begins_work r (heard r m) q (reached (heard r m) q.work))
+    (begins_becomes asked history now r (heard r m) q (reached (heard r m) q.work) o does) in
+    still asked history now at r mine one _ _ refl refl refl refl refl p.0 p.1 p.2
 router_steps asked history now at _ _ _ _ mine one input (router_hear r m id q named time stages telling tells opens_here work waits ahead some) =
     still asked history now at r mine one _ _ refl refl refl refl refl
     (hears asked history now at r mine one q m.sender (found asked history now at r mine one id q opens_here)) tt tt
@@ -374,17 +366,13 @@ router_steps asked history now at _ _ _ _ mine one input (router_ahead r m id q 
           (read_no_write asked history now at r mine one q named time stages telling work o),
       tt,
     )
-router_steps asked history now at _ _ _ _ mine one input (router_note r m id dones q kind ordered statements answers tells opens_here work news_come more) =
-    let does = news asked history now at r mine one id dones q kind ordered statements answers opens_here work
+router_steps asked history now at _ _ _ _ mine one input (router_note r m id dones q kind ordered statements c next tells opens_here work news_come is) =
+    let does = news asked history now at r mine one id dones q kind ordered statements c opens_here work
     (subst (λ b. BodyStays asked history b) tells input) in
-    let p = proceeds asked history now at r mine one q (heard r m) (writing kind ordered statements (noted answers dones))
-    (found asked history now at r mine one id q opens_here) does in
-    still asked history now at r mine one _ _ refl refl refl refl refl p.0 p.1 tt
-router_steps asked history now at _ _ _ _ mine one input (router_wrote r m id dones q kind ordered statements answers tells opens_here work news_come all) =
-    let does = news asked history now at r mine one id dones q kind ordered statements answers opens_here work
-    (subst (λ b. BodyStays asked history b) tells input) in
-    still asked history now at r mine one _ _ refl refl refl refl refl (closed asked history now at r mine one q) tt
-    (wrote_told asked history now r q (heard r m) kind ordered statements (noted answers dones) does all, tt)
+    let p = becomes asked history now at r mine one q next (subst (λ x. Becomes asked history now r x) (sym is)
+    (write_becomes asked history now r (heard r m) r.tables ordered (served_in_part (noted ordered c.answers dones) c.runs) q kind ordered statements
+    (settled c (noted ordered c.answers dones)) (found asked history now at r mine one id q opens_here) does)) in
+    still asked history now at r mine one _ _ refl refl refl refl refl p.0 p.1 p.2
 router_steps asked history now at _ _ _ _ mine one input (router_part r m id rows q named time stages telling tells opens_here work target some) =
     still asked history now at r mine one _ _ refl refl refl refl refl
     (has_part asked history now at r mine one q m.sender rows (found asked history now at r mine one id q opens_here)) tt tt

@@ -12,7 +12,7 @@ use Rattle.reply_model.specs.Exchanges.{Asked, number_for}
 use Rattle.reply_model.specs.Outcomes.{StatementOutcome, Done}
 use Rattle.node_model.specs.Journal.{Kept, kept_table, kept_entry, kept_ceiling, entries_kept}
 use Rattle.node_model.specs.Letters.{Statement, write_done, Letter, Input, client_input, letter_input, moment_input, opened_input, Effect, sends, writes}
-use Rattle.node_model.specs.RouterRows.{statements_from}
+use Rattle.node_model.specs.RouterRequests.{statements_from}
 use Rattle.node_model.specs.Service.{Serves, Repeats}
 use Rattle.node_model.specs.ShardRows.{heard, greatest_entry, at_later, under, Ask, ask_in, wants_table, says, asks_table, tries, asks_again, ShardRow, shard_write, shard_repeat, shard_empty, shard_park, shard_waits, shard_stale, shard_read, shard_read_above, shard_rows, shard_excess, shard_overflow, shard_time, shard_learn, shard_known, shard_skip, shard_moment, shard_opened, shard_client}
 use Rattle.node_model.specs.States.{Shard}

@@ -1,7 +1,7 @@
 -- Facts of nodes, messages and replies that stay true where nodes stop: they speak of what is stored and of what was requested, and not of
 -- the times of nodes.
 use Rattle.std.proofs.Common.{◌≡◌, ℕ, ◌<◌, ◌≤◌, List}
-use Rattle.std.specs.Prelude.{Ok, true}
+use Rattle.std.specs.Prelude.{Ok, true, length}
 use Rattle.std.specs.List.{AllByRecursion}
 use Rattle.value_model.specs.Keys.{is_key}
 use Rattle.base_model.specs.Identities.{RequestId}
@@ -11,17 +11,18 @@ use Rattle.chunk_model.specs.Tables.{first_shard}
 use Rattle.history_model.proofs.Lists.{all_weaken}
 use Rattle.history_model.specs.History.{StatementNumber, Entry, IsIn}
 use Rattle.reply_model.specs.Exchanges.{Asked, Answered, number_for}
-use Rattle.reply_model.specs.Outcomes.{StatementOutcome, Done}
+use Rattle.reply_model.specs.Outcomes.{StatementOutcome, Done, dones_from}
 use Rattle.reply_model.specs.Requests.{Request}
 use Rattle.node_model.specs.Journal.{Kept, entries_kept, changes_kept}
 use Rattle.node_model.specs.Letters.{Statement, Body, table_ask, table_told, split_ask, split_done, write_ask, write_done, read_ask, half_ask, read_rows, stale, time_ask, time_told, Letter}
-use Rattle.node_model.specs.RouterRows.{statements_from}
+use Rattle.node_model.specs.RouterRequests.{statements_from}
 use Rattle.node_model.specs.States.{Catalogue, Shard, Router, Work, writing, reading, sharding, splitting, Open, NodeState, catalogue_state, shard_state, router_state}
 use Rattle.node_model.specs.World.{Held}
 use Rattle.node_laws.proofs.Facts.{IsBy}
 use Rattle.node_replay.specs.Histories.{HasKey}
 use Rattle.node_replay.specs.Replays.{records_of}
-use Rattle.node_replay.specs.Acknowledged.{AreInTurn, IsOutcomeOf, of_entry, of_greater, IsOutcomeAt, IsAcknowledged, IsStored}
+use Rattle.node_replay.proofs.Noted.{IsPrefix}
+use Rattle.node_replay.specs.Acknowledged.{IsOutcomeOf, of_entry, of_greater, IsOutcomeAt, IsAcknowledged, IsStored}
 
 -- STATEMENTS AND OUTCOMES
 
@@ -71,10 +72,10 @@ IsNoWrite request = (write : WriteCommand) → command_of request ≡ Ok (write_
 
 -- what an open request has to do is what it asks for, and the outcomes that arrived are stored
 abbrev pub WorkStays : List Entry → RequestId → Request → (namespace : List ℕ) → Work → Type 0
-WorkStays history id request namespace (writing kind ordered statements answers) =
+WorkStays history id request namespace (writing kind ordered statements c) =
     (write : WriteCommand) × (command_of request ≡ Ok (write_command write)) × (kind ≡ write.kind) × (namespace ≡ write.namespace)
-    × (statements ≡ statements_from write.number id 0 write.operations) × AllByRecursion (IsOutcomeAt history write id) answers
-    × (ordered ≡ write.ordered) × AreInTurn 0 answers
+    × (statements ≡ statements_from write.number id 0 write.operations) × AllByRecursion (IsOutcomeAt history write id) (dones_from 0 c.answers)
+    × (ordered ≡ write.ordered) × (length c.answers ≡ length statements) × (ordered ≡ true → IsPrefix c.answers)
 WorkStays history id request namespace (reading named at stages telling) = IsNoWrite request
 WorkStays history id request namespace sharding = IsNoWrite request
 WorkStays history id request namespace (splitting middle) = command_of request ≡ Ok (split_command (record { namespace = namespace; middle = middle }))
@@ -158,8 +159,8 @@ module _ (asked more : List Asked) (history longer : List Entry) (g : Grows aske
 
   work_grows : (id : RequestId) (request : Request) (namespace : List ℕ) (work : Work) → WorkStays history id request namespace work
       → WorkStays longer id request namespace work
-  work_grows id request namespace (writing kind ordered statements answers) (write, asks, same, name, all, each, order, turns) =
-      (write, asks, same, name, all, outcomes_grow write id answers each, order, turns)
+  work_grows id request namespace (writing kind ordered statements c) (write, asks, same, name, all, each, order, long, turns) =
+      (write, asks, same, name, all, outcomes_grow write id (dones_from 0 c.answers) each, order, long, turns)
   work_grows id request namespace (reading named at stages telling) s = s
   work_grows id request namespace sharding s = s
   work_grows id request namespace (splitting middle) s = s

@@ -1,20 +1,19 @@
 -- What stays true in runs in which nodes stop and are started again (MongoDB manual, "Write Concern": an acknowledged write is not lost;
 -- "Retryable Writes": a statement is applied at most once).
-use Rattle.std.specs.Prelude.{◌≡◌, ◌<◌, ℕ, List, ◌++◌, length, Ok, true, int_lt, [], ◌∷◌, ◌+◌}
+use Rattle.std.specs.Prelude.{◌≡◌, ◌<◌, ℕ, List, ◌++◌, length, Ok, Bool, true, false, int_lt, [], ◌∷◌, ◌+◌, if◌then◌else◌}
 use Rattle.std.specs.List.{AllByRecursion}
 use Rattle.command_model.specs.Answers.{answer_document}
 use Rattle.command_model.specs.Command.{write_command, command_of}
 use Rattle.command_model.specs.Writes.{WriteCommand}
 use Rattle.base_model.specs.Identities.{RequestId}
 use Rattle.chunk_model.specs.Placement.{AreFitting}
-use Rattle.history_model.specs.History.{StatementNumber, Entry, Legal, IsIn}
+use Rattle.history_model.specs.History.{StatementNumber, Operation, Entry, Legal, IsIn}
 use Rattle.reply_model.specs.Exchanges.{Asked, Answered, number_for}
 use Rattle.reply_model.specs.Accounts.{changes_in}
 use Rattle.reply_model.specs.OneHistory.{AreNumbered, ids_asked, AreDifferent}
 use Rattle.reply_model.specs.Outcomes.{StatementOutcome, is_older, Done, answer_by, answer_of}
-use Rattle.reply_model.specs.Right.{Sends}
+use Rattle.reply_model.specs.Right.{ends, Sends}
 use Rattle.node_model.specs.Journal.{Kept, changes_kept}
-use Rattle.node_model.specs.RouterRows.{statements_from, is_answered}
 use Rattle.node_model.specs.World.{World, journal_at, history_of}
 
 -- the outcome is that of a stored entry under the number, or says that a stored entry has a greater transaction of its session
@@ -33,11 +32,17 @@ abbrev pub AreInTurn : (index : ℕ) → List Done → Type 0
 AreInTurn index [] = Unit {0}
 AreInTurn index (d ∷ dones) = (d.index ≡ index) × AreInTurn (index + 1) dones
 
+-- these are outcomes of all statements, or of those up to an error that ends the command
+abbrev pub are_all : (ordered : Bool) → List Operation → List Done → Bool
+are_all ordered [] dones = true
+are_all ordered (operation ∷ operations) [] = false
+are_all ordered (operation ∷ operations) (d ∷ dones) = if ends ordered d then true else are_all ordered operations dones
+
 -- the reply to a write returns the outcomes of all its statements, or of those up to the error that ends an ordered one, and each of these is stored
 pub record IsAcknowledged (history : List Entry) (write : WriteCommand) (t : Answered) : Type 0 where
   pub dones : List Done
   pub turns : AreInTurn 0 dones
-  pub all : is_answered write.ordered (statements_from write.number t.id 0 write.operations) dones ≡ true
+  pub all : are_all write.ordered write.operations dones ≡ true
   pub document : t.document ≡ answer_document (answer_of write.kind t.time dones)
   pub stored : AllByRecursion (IsOutcomeAt history write t.id) dones
 

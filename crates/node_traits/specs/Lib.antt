@@ -10,6 +10,8 @@ pub use Rattle.node_model.specs.Journal
 pub use Rattle.node_model.specs.Letters
 pub use Rattle.node_model.specs.Outcomes
 pub use Rattle.node_model.specs.Requests
+pub use Rattle.node_model.specs.RouterNext
+pub use Rattle.node_model.specs.RouterRequests
 pub use Rattle.node_model.specs.RouterRows
 pub use Rattle.node_model.specs.ShardRows
 pub use Rattle.node_model.specs.States

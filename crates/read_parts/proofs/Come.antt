@@ -4,7 +4,7 @@ use Rattle.std.proofs.lemmas.Bool.{eqb-true}
 use Rattle.std.specs.Prelude.{Option, Some, None, Result, is_some, not, ◌||◌}
 use Rattle.pipeline_model.specs.Halves.{Rows}
 use Rattle.node_model.specs.Letters.{HalfFault}
-use Rattle.node_model.specs.RouterRows.{also_part, awaited, part_of}
+use Rattle.node_model.specs.RouterNext.{also_part, awaited, part_of}
 use Rattle.node_model.specs.States.{Part, Target}
 
 -- the first of two values, if it is there, or else the second

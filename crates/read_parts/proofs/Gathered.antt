@@ -3,7 +3,7 @@ use Rattle.std.proofs.Common.{◌≡◌, refl, ap, sym, ◌∙◌, ℕ, List, []
 use Rattle.std.specs.Prelude.{Option, Some, None, Result, Ok, Err}
 use Rattle.pipeline_model.specs.Halves.{Rows}
 use Rattle.node_model.specs.Letters.{HalfFault}
-use Rattle.node_model.specs.RouterRows.{also_part, part_of, rows_of}
+use Rattle.node_model.specs.RouterNext.{also_part, part_of, rows_of}
 use Rattle.node_model.specs.States.{Part, Target}
 use Rattle.pipeline_eval.specs.declared.fault.EvalFault.{EvalFault}
 use Rattle.pipeline_eval.specs.declared.fault.EvalFault.TheVariants.{Overflow, TooMuch, Memory}

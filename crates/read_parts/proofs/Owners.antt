@@ -4,7 +4,7 @@ use Rattle.std.specs.Prelude.{false, ◌==◌, Option, Some, None}
 use Rattle.bson_model.specs.Tree.{null_value}
 use Rattle.chunk_model.specs.Tables.{Table, owner_at}
 use Rattle.chunk_model.specs.Targets.{targets}
-use Rattle.node_model.specs.RouterRows.{owners_of_span}
+use Rattle.node_model.specs.RouterRequests.{owners_of_span}
 use Rattle.value_model.specs.Keys.{Span}
 
 module _ (t : Table) (at : ℕ) (span : List Span) where

@@ -5,7 +5,8 @@ use Rattle.chunk_model.specs.Tables.{Table}
 use Rattle.chunk_model.specs.Verdicts.{sent_by}
 use Rattle.chunk_table.specs.VerdictMeanings.{sent_view}
 use Rattle.node_model.specs.Letters.{HalfFault, half_excess, half_overflow}
-use Rattle.node_model.specs.RouterRows as rows
+use Rattle.node_model.specs.RouterRequests as requested
+use Rattle.node_model.specs.RouterNext as nexts
 use Rattle.node_model.specs.States as states
 use Rattle.pipeline_eval.specs.Rows as evaluated
 use Rattle.pipeline_model.specs.Halves as halves
@@ -29,7 +30,7 @@ targets_to t shards = map (λ shard. record { shard = shard; sent = sent_by t sh
 
 -- which shards a read of these spans at a time is sent to, by a table
 abbrev pub targets_by : Table → (at : ℕ) → List Span → List states.Target
-targets_by t at span = targets_to t (rows.owners_of_span t at span)
+targets_by t at span = targets_to t (requested.owners_of_span t at span)
 
 -- the rows of the only part
 abbrev pub alone : Result halves.Rows HalfFault → Result (List halves.Rows) HalfFault
@@ -44,7 +45,7 @@ IsFaultOf fault Memory = ⊥
 
 -- The rows of all parts, in order of the targets, or why the first that has none has none. Nothing is said where memory runs out.
 abbrev pub IsGathered : {Z : Type 0} → List states.Target → List states.Part → Result (Vec Rows Z) EvalFault → Type 0
-IsGathered targets parts (Ok all) = rows.rows_of targets parts ≡ Ok (map evaluated.rows_of all.items)
-IsGathered targets parts (Err Overflow) = rows.rows_of targets parts ≡ Err half_overflow
-IsGathered targets parts (Err (TooMuch bytes)) = rows.rows_of targets parts ≡ Err (half_excess bytes)
+IsGathered targets parts (Ok all) = nexts.rows_of targets parts ≡ Ok (map evaluated.rows_of all.items)
+IsGathered targets parts (Err Overflow) = nexts.rows_of targets parts ≡ Err half_overflow
+IsGathered targets parts (Err (TooMuch bytes)) = nexts.rows_of targets parts ≡ Err (half_excess bytes)
 IsGathered targets parts (Err Memory) = Unit {0}

@@ -2,6 +2,7 @@
 
 ghost use Rattle.std.specs.Prelude.{◌≡◌, List, map};
 ghost use Rattle.std.specs.Option.{option_map};
+ghost use Rattle.node_model.specs.RouterNext as nexts;
 ghost use Rattle.node_model.specs.RouterRows as rows;
 ghost use Rattle.node_model.specs.States as states;
 ghost use Rattle.protocol_model.specs.Bodies.{half_fault_view, rows_view};
@@ -15,7 +16,7 @@ use std::alloc::Global;
 
 /// Returns what a shard returned, if it did.
 fn part_of(shard: NodeId, parts: &[Part]) -> Option<&Result<Rows, HalfFault>>
-    ensures { option_map (λ r. rows_view r.now) result ≡ rows.part_of shard.0 (map part_view parts.now) }
+    ensures { option_map (λ r. rows_view r.now) result ≡ nexts.part_of shard.0 (map part_view parts.now) }
 {
     for part in parts {
         if part.shard.0 == shard.0 {
@@ -33,7 +34,7 @@ fn part_among<'a>(
     sender: NodeId,
     told: &'a Result<Rows, HalfFault>,
 ) -> Option<&'a Result<Rows, HalfFault>>
-    ensures { option_map (λ r. rows_view r.now) result ≡ rows.part_of shard.0 (rows.also_part (map part_view parts.now) sender.0 (rows_view told.now)) }
+    ensures { option_map (λ r. rows_view r.now) result ≡ nexts.part_of shard.0 (nexts.also_part (map part_view parts.now) sender.0 (rows_view told.now)) }
 {
     match part_of(shard, parts) {
         Some(rows) => Some(rows),
@@ -60,7 +61,7 @@ fn fault_of(fault: HalfFault) -> EvalFault
 /// Returns the rows of the only part of a read.
 #[tactic(auto, using(crate::proofs::Gathered::fault_gathered))]
 fn gather_one(alloc: Global, told: Result<Rows, HalfFault>) -> Result<Vec<Rows>, EvalFault>
-    ensures { (targets : List states.Target) (parts : List states.Part) → rows.rows_of targets parts ≡ alone (rows_view told) →
+    ensures { (targets : List states.Target) (parts : List states.Part) → nexts.rows_of targets parts ≡ alone (rows_view told) →
         IsGathered targets parts result }
 {
     let mut all = Vec::new(alloc);
@@ -81,7 +82,7 @@ fn gather_all(
     sender: NodeId,
     told: &Result<Rows, HalfFault>,
 ) -> Result<Vec<Rows>, EvalFault>
-    ensures { IsGathered (map target_view targets.now) (rows.also_part (map part_view parts.now) sender.0 (rows_view told.now)) result }
+    ensures { IsGathered (map target_view targets.now) (nexts.also_part (map part_view parts.now) sender.0 (rows_view told.now)) result }
 {
     let mut all = Vec::with_capacity(alloc, targets.len())?;
     for target in targets {
@@ -104,7 +105,7 @@ pub fn gather(
     sender: NodeId,
     told: Result<Rows, HalfFault>,
 ) -> Result<Vec<Rows>, EvalFault>
-    ensures { IsGathered (map target_view targets.now) (rows.also_part (map part_view parts.now) sender.0 (rows_view told)) result }
+    ensures { IsGathered (map target_view targets.now) (nexts.also_part (map part_view parts.now) sender.0 (rows_view told)) result }
 {
     if let [target] = targets
         && parts.is_empty()

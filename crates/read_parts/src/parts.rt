@@ -2,7 +2,7 @@
 
 ghost use Rattle.std.specs.Prelude.{◌≡◌, ◌≢◌, [], Result, false, true, is_some, map};
 ghost use Rattle.node_model.specs.Letters as letters;
-ghost use Rattle.node_model.specs.RouterRows as rows;
+ghost use Rattle.node_model.specs.RouterNext as nexts;
 ghost use Rattle.pipeline_model.specs.Halves as halves;
 ghost use Rattle.read_parts.specs.Parts.{part_view, target_view};
 
@@ -27,7 +27,7 @@ pub struct Part {
 
 /// Returns whether a read was sent to a shard.
 pub fn is_target(shard: NodeId, targets: &[Target]) -> bool
-    ensures { result ≡ rows.is_target shard.0 (map target_view targets.now) }
+    ensures { result ≡ nexts.is_target shard.0 (map target_view targets.now) }
 {
     for target in targets {
         if target.shard.0 == shard.0 {
@@ -39,7 +39,7 @@ pub fn is_target(shard: NodeId, targets: &[Target]) -> bool
 
 /// Returns whether a shard returned its part.
 pub fn has_part(shard: NodeId, parts: &[Part]) -> bool
-    ensures { result ≡ is_some (rows.part_of shard.0 (map part_view parts.now)) }
+    ensures { result ≡ is_some (nexts.part_of shard.0 (map part_view parts.now)) }
 {
     for part in parts {
         if part.shard.0 == shard.0 {
@@ -53,7 +53,7 @@ pub fn has_part(shard: NodeId, parts: &[Part]) -> bool
 #[tactic(auto, using(crate::proofs::Come::has_come))]
 fn has_come(target: &Target, parts: &[Part], sender: NodeId) -> bool
     ensures { (told : Result halves.Rows letters.HalfFault) →
-        result ≡ is_some (rows.part_of target.now.shard.0 (rows.also_part (map part_view parts.now) sender.0 told)) }
+        result ≡ is_some (nexts.part_of target.now.shard.0 (nexts.also_part (map part_view parts.now) sender.0 told)) }
 {
     sender.0 == target.shard.0 || has_part(target.shard, parts)
 }
@@ -61,9 +61,9 @@ fn has_come(target: &Target, parts: &[Part], sender: NodeId) -> bool
 /// Returns whether all shards that a read was sent to have returned their parts, where this one returns its part now.
 pub fn have_all_come(targets: &[Target], parts: &[Part], sender: NodeId) -> bool
     ensures all { (told : Result halves.Rows letters.HalfFault) → result ≡ true →
-        rows.awaited (map target_view targets.now) (rows.also_part (map part_view parts.now) sender.0 told) ≡ [] }
+        nexts.awaited (map target_view targets.now) (nexts.also_part (map part_view parts.now) sender.0 told) ≡ [] }
     ensures some { (told : Result halves.Rows letters.HalfFault) → result ≡ false →
-        rows.awaited (map target_view targets.now) (rows.also_part (map part_view parts.now) sender.0 told) ≢ [] }
+        nexts.awaited (map target_view targets.now) (nexts.also_part (map part_view parts.now) sender.0 told) ≢ [] }
 {
     for target in targets {
         if !has_come(target, parts, sender) {

@@ -5,7 +5,7 @@ ghost use Rattle.std.specs.List.{list_all};
 ghost use Rattle.chunk_model.specs.Targets.{targets};
 ghost use Rattle.chunk_table.specs.Meanings.{chunk_view};
 ghost use Rattle.chunk_table.specs.Shards.{shard_number};
-ghost use Rattle.node_model.specs.RouterRows as rows;
+ghost use Rattle.node_model.specs.RouterRequests as requested;
 ghost use Rattle.pipeline_lang.specs.Halves.{half_of};
 ghost use Rattle.read_parts.specs.Parts.{target_view, targets_by, targets_to};
 ghost use Rattle.value_model.specs.Keys.{Span};
@@ -19,14 +19,14 @@ use std::alloc::Global;
 
 /// Returns whether a chunk has an owner at a time.
 fn has_owner(chunk: &Chunk, at: Time) -> bool
-    ensures { result ≡ rows.has_owner at.0 (chunk_view chunk.now) }
+    ensures { result ≡ requested.has_owner at.0 (chunk_view chunk.now) }
 {
     chunk.history.at(at).is_some()
 }
 
 /// Returns whether each of these chunks has an owner at a time.
 fn are_owned(chunks: &[Chunk], at: Time) -> bool
-    ensures { result ≡ list_all (rows.has_owner at.0) (map chunk_view chunks.now) }
+    ensures { result ≡ list_all (requested.has_owner at.0) (map chunk_view chunks.now) }
 {
     for chunk in chunks {
         if !has_owner(chunk, at) {
@@ -38,7 +38,7 @@ fn are_owned(chunks: &[Chunk], at: Time) -> bool
 
 /// Returns whether a table says who owned each key at a time.
 pub fn is_owned(table: &Table, at: Time) -> bool
-    ensures { result ≡ rows.is_owned_at table.now at.0 }
+    ensures { result ≡ requested.is_owned_at table.now at.0 }
 {
     are_owned(table.chunks(), at)
 }
@@ -47,7 +47,7 @@ pub fn is_owned(table: &Table, at: Time) -> bool
 #[tactic(auto, using(crate::proofs::Owners::least_owns, crate::proofs::Owners::none_owns))]
 fn least_owner(alloc: Global, table: &Table, at: Time) -> Result<Vec<NodeId>, Memory>
     ensures { (span : List Span) → targets table.now span at.0 ≡ [] →
-        IfOk result (λ owners. map shard_number owners.items ≡ rows.owners_of_span table.now at.0 span) }
+        IfOk result (λ owners. map shard_number owners.items ≡ requested.owners_of_span table.now at.0 span) }
 {
     let Some(shard) = table.owner_of_value(&Value::Null, at) else {
         return Ok(Vec::new(alloc));
@@ -61,7 +61,7 @@ fn least_owner(alloc: Global, table: &Table, at: Time) -> Result<Vec<NodeId>, Me
 /// runs out.
 #[tactic(auto, using(crate::proofs::Owners::some_own))]
 fn owners_of(alloc: Global, table: &Table, at: Time, half: &Half) -> Result<Vec<NodeId>, Memory>
-    ensures { IfOk result (λ owners. map shard_number owners.items ≡ rows.owners_of_span table.now at.0 (half_of half.now).span) }
+    ensures { IfOk result (λ owners. map shard_number owners.items ≡ requested.owners_of_span table.now at.0 (half_of half.now).span) }
 {
     let owners = table.targets(half.span.spans(), at)?;
     if owners.is_empty() {

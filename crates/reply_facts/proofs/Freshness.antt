@@ -1,6 +1,6 @@
 -- What follows where history, requests and answers are one history.
 use Rattle.std.proofs.Common.{◌≡◌, ◌≢◌, ℕ, ◌<◌, ◌≤◌, ◌⊎◌, inl, inr, List, [], ◌∷◌, refl, sym, ap, subst, ◌∙◌, arith}
-use Rattle.std.specs.Prelude.{Option, Some, None, Ok}
+use Rattle.std.specs.Prelude.{Option, Some, None, Ok, true}
 use Rattle.std.specs.Option.{unwrap_or}
 use Rattle.bson_model.specs.Tree.{Fields}
 use Rattle.base_model.specs.Refusals.{time_ahead}
@@ -10,10 +10,10 @@ use Rattle.command_model.specs.Reading.{Reading}
 use Rattle.command_model.specs.Command.{write_command, command_of}
 use Rattle.command_model.specs.Answers.{refusal_answer, answer_document}
 use Rattle.command_model.proofs.Taken.{some_operations}
-use Rattle.history_model.specs.History.{Operation, Outcome, Entry, IsIn}
+use Rattle.history_model.specs.History.{Operation, StatementNumber, Outcome, Entry, IsIn}
 use Rattle.history_model.proofs.Lists.{all_at, in_cons, in_first, in_none}
 use Rattle.base_model.specs.Identities.{RequestId}
-use Rattle.reply_model.specs.Exchanges.{Asked, Answered, number_for, entries_by}
+use Rattle.reply_model.specs.Exchanges.{Asked, Answered, number_for, is_session_of, entries_by}
 use Rattle.reply_model.specs.Accounts.{Account}
 use Rattle.reply_model.specs.Outcomes.{StatementOutcome, was_done, WasDone, Done, answer_by, time_of, answer_of}
 use Rattle.reply_model.specs.Cursors.{Cursor}
@@ -21,9 +21,9 @@ use Rattle.reply_model.specs.Reads.{IsTimeRead}
 use Rattle.reply_model.specs.Right.{Sends, MayBeTold, AreTold, told_by, IsRight, Reads}
 use Rattle.reply_model.specs.OneHistory.{WasSent, IsPlaced, IsRightOf, AreRight, nothing_told, then_told, IsNotBefore, IsFresh, IsInOrder, OneHistory}
 use Rattle.reply_facts.specs.Earlier.{IsTold, WasToldBefore, WasTakenBefore}
-use Rattle.reply_facts.proofs.Requests.{number_same, one_asked, by_in}
+use Rattle.reply_facts.proofs.Requests.{own_session, number_same, one_asked, by_in, entry_by}
 use Rattle.reply_facts.proofs.RightAnswers.{TellsWrite, right_of, write_time, most}
-use Rattle.reply_facts.proofs.Statements.{on_first, one_number, IsAnswerOf, answer_of_entry, was_done_own, told_in, all_told}
+use Rattle.reply_facts.proofs.Statements.{on_first, one_number, IsAnswerOf, answer_of_entry, was_done_own, told_in, ordered_part, all_told}
 use Rattle.reply_facts.proofs.ReadTimes.{shown_time, not_before, not_before_after, ahead_time, is_ahead, wanted_is}
 
 -- each of the answers is right, with some cursors before it and after it
@@ -100,15 +100,15 @@ module _ (account : Account)
       one_number account.history one.numbers
       (λ x k. on_first account.asked account.changes one.wanted x (all_at (IsPlaced account.changes) x account.history one.placed k)) d e i j same
 
-  -- without a client's number the reply has the outcomes of the entries of all its statements
+  -- without a client's number the reply to an ordered write has the outcomes of the entries of its statements
   pub tells_all : (t : Answered) (write : WriteCommand) → IsIn t account.answered → command_of t.request ≡ Ok (write_command write) → write.number ≡ None
-      → t.document ≡ answer_document (answer_of write.kind t.time (told_by t.id account.history))
-  tells_all t write i asks none =
+      → write.ordered ≡ true → t.document ≡ answer_document (answer_of write.kind t.time (told_by t.id account.history))
+  tells_all t write i asks none ordered =
       let told = told_write t write i asks in
-      let whole = told.whole none in
       let all : told.dones ≡ told_by t.id account.history =
-      all_told account t write none one_entry 0 write.operations told.dones (entries_by t.id account.history) told.tells whole.part whole.all
-      (λ e j. (by_in t.id account.history e j).0) in
+      all_told account t write none one_entry 0 write.operations told.dones (entries_by t.id account.history) told.tells
+      (ordered_part account.history t.id write ordered (told.whole none).part) (λ e j. (by_in t.id account.history e j).0)
+      (λ e n j le numbered. entry_by t.id e account.history j (ap (λ (k : StatementNumber). is_session_of t.id k.session) numbered ∙ own_session t.id)) in
       told.says ∙ ap (λ (dones : List Done). answer_document (answer_of write.kind t.time dones)) all
 
   -- the same statement of a session has the same entry

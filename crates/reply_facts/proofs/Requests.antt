@@ -3,6 +3,7 @@ use Rattle.std.proofs.Common.{◌≡◌, ◌⊎◌, inl, inr, ℕ, List, [], ◌
 use Rattle.std.specs.Prelude.{true, false, Option, Some, None, ◌==◌, ◌&&◌, map, if◌then◌else◌}
 use Rattle.std.specs.List.{AllByRecursion}
 use Rattle.std.proofs.lemmas.Bool.{eqb-true}
+use Rattle.std.proofs.lemmas.Bool.Decides.{Decides-eqb}
 use Rattle.command_model.specs.Writes.{ClientNumber}
 use Rattle.history_model.specs.History.{client_session, router_session, StatementNumber, Entry, IsIn}
 use Rattle.history_model.proofs.Lists.{in_cons, in_first, in_later, in_none}
@@ -24,6 +25,15 @@ same_id a b e = by_test (a.router == b.router) (a.life == b.life) (a.count == b.
     by_test true true false p q r e = absurd (cc)
     by_test true false z p q r e = absurd (cc)
     by_test false y z p q r e = absurd (cc)
+
+-- the session of a request's own numbers is its own
+pub own_session : (id : RequestId) → same_request id id ≡ true
+own_session id =
+    both (id.router == id.router) ((id.life == id.life) && (id.count == id.count)) ((Decides-eqb id.router id.router).1 refl)
+    (both (id.life == id.life) (id.count == id.count) ((Decides-eqb id.life id.life).1 refl) ((Decides-eqb id.count id.count).1 refl))
+  where
+    both : (a b : Bool) → a ≡ true → b ≡ true → (a && b) ≡ true
+    both a b h k = ap (λ x. x && b) h ∙ k
 
 -- a router's own number is of one request
 pub number_same : (a b : RequestId) (given : Option ClientNumber) (i j : ℕ) → number_for None a i ≡ number_for given b j → a ≡ b
@@ -96,3 +106,19 @@ by_in id (d ∷ history) e i = by_test (is_session_of id d.number.session) refl 
         → IsIn e (d ∷ history) × (is_session_of id e.number.session ≡ true)
     by_test true own j later = by_place own (in_cons e d (entries_by id history) j) later
     by_test false own j later = let l = later j in (in_later e d history l.0, l.1)
+
+pub entry_by : (id : RequestId) (e : Entry) (entries : List Entry) → IsIn e entries → is_session_of id e.number.session ≡ true
+    → IsIn e (entries_by id entries)
+entry_by id e [] stands own = absurd (in_none e stands)
+entry_by id e (d ∷ entries) stands own = by_place (in_cons e d entries stands) (λ i. entry_by id e entries i own)
+  where
+    by_test : (t : Bool) → IsIn e (entries_by id entries) → IsIn e (if t then d ∷ entries_by id entries else entries_by id entries)
+    by_test true i = in_later e d (entries_by id entries) i
+    by_test false i = i
+
+    by_place : (e ≡ d) ⊎ IsIn e entries → (IsIn e entries → IsIn e (entries_by id entries)) → IsIn e (entries_by id (d ∷ entries))
+    by_place (inl same) later =
+        let first : is_session_of id d.number.session ≡ true = ap (λ (c : Entry). is_session_of id c.number.session) (sym same) ∙ own in
+        subst (λ l. IsIn e l) (ap (λ t. if t then d ∷ entries_by id entries else entries_by id entries) (sym first))
+        (subst (λ c. IsIn e (c ∷ entries_by id entries)) same (in_first e (entries_by id entries)))
+    by_place (inr i) later = by_test (is_session_of id d.number.session) (later i)

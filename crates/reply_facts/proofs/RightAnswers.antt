@@ -35,7 +35,7 @@ use Rattle.reply_model.specs.Right.{AreTold, IsWhole, usual_size, asks_for_one, 
 pub record TellsWrite (account : Account) (id : RequestId) (t : Answered) (write : WriteCommand) : Type 0 where
   pub dones : List Done
   pub tells : AreTold account t write 0 write.operations dones
-  pub whole : write.number ≡ None → IsWhole account.history id write
+  pub whole : write.number ≡ None → IsWhole account.history id write dones
   pub says : t.document ≡ answer_document (answer_of write.kind t.time dones)
 
 module _ (account : Account) (cursors : List Cursor) (a : Asked)

@@ -8,8 +8,8 @@ pub mod SortedFinds
 pub mod TimedReads
 pub mod LongAnswers
 pub mod SumReads
-pub mod OwnWrites
 pub mod NumberedWrites
+pub mod OwnWrites
 pub mod StandingCursors
 pub mod CursorBatches
 pub mod StandingDocuments

@@ -17,6 +17,7 @@ ghost use Rattle.command_laws.specs.SampleCommands.{change_one};
 ghost use Rattle.command_model.specs.Writes.{delete_kind, insert_kind, update_kind};
 ghost use Rattle.history_model.specs.History.{Legal, delete_operation, done, fails_with, insert_operation, update_operation};
 ghost use Rattle.reply_model.specs.Exchanges.{reply_put};
+ghost use Rattle.reply_model.specs.Outcomes.{Done};
 ghost use Rattle.reply_model.specs.OneHistory.{AreDifferent, IsFresh, IsInOrder, IsKnown, IsPlaced, IsRightOf, OneHistory, WasSent, WasWanted, ids_asked, ids_told};
 ghost use Rattle.reply_model.specs.Cursors.{Cursor};
 ghost use Rattle.reply_model.specs.Right.{IsPart, IsWhole, Sends};
@@ -75,10 +76,9 @@ pub fn many_statements()
     ensures silent { IsToldRightly two_entries (three_asked true true) (tells (three_asked true true) 3 3 (second_fails 1 3)) }
     ensures nothing_put { reply_put (pos 1) (three_asked true true).request (second_fails 1 3) ≡ [] }
     ensures put { reply_put (pos 1) (three_asked false true).request (second_fails 1 3) ≡ reply_bytes msg_form (pos 1) (pos 1) (second_fails 1 3) }
-    ensures one_more { IsWhole three_entries (id_at 2 1)
-        (record { kind = insert_kind; namespace = codes "d.c"; operations = map insert_operation three; ordered = true; number = None }) → ⊥ }
-    ensures one_less { IsWhole two_entries (id_at 2 1)
-        (record { kind = insert_kind; namespace = codes "d.c"; operations = map insert_operation three; ordered = false; number = None }) → ⊥ }
+    ensures one_more { (dones : List Done) → IsWhole three_entries (id_at 2 1)
+        (record { kind = insert_kind; namespace = codes "d.c"; operations = map insert_operation three; ordered = true; number = None }) dones → ⊥ }
+    ensures one_less { IsToldWrongly two_entries (three_asked false false) (tells (three_asked false false) 3 3 (second_fails 1 3)) }
     ensures silent_lost { IsToldWrongly [] (three_asked true true) (tells (three_asked true true) 3 3 (second_fails 1 3)) }
 {}
 

@@ -1,31 +1,37 @@
 //! The laws between the definitions.
 
-ghost use Rattle.std.specs.Prelude.{◌≡◌, ◌≢◌, ◌<◌, ◌∷◌, ◌++◌, ℕ, List, None, Some, Ok};
+ghost use Rattle.std.specs.Prelude.{◌≡◌, ◌≢◌, ◌<◌, ◌∷◌, ◌++◌, ℕ, List, None, Some, Ok, true, false, length};
 ghost use Rattle.base_model.specs.ReplyParts.{operation_time};
 ghost use Rattle.command_model.specs.Writes.{ClientNumber, WriteCommand};
 ghost use Rattle.command_model.specs.Answers.{answer_document};
 ghost use Rattle.command_model.specs.Command.{write_command, command_of};
-ghost use Rattle.history_model.specs.History.{Entry, IsIn, Outcome};
-ghost use Rattle.reply_model.specs.Exchanges.{Asked, Answered};
+ghost use Rattle.history_model.specs.History.{Entry, IsIn, Operation, Outcome};
+ghost use Rattle.reply_model.specs.Exchanges.{Asked, Answered, number_for};
 ghost use Rattle.reply_model.specs.Accounts.{Account};
 ghost use Rattle.reply_model.specs.Outcomes.{Done, answer_of, was_done};
-ghost use Rattle.reply_model.specs.Right.{AreTold, IsWhole, Sends, told_by};
+ghost use Rattle.reply_model.specs.Right.{AreTold, IsStatement, IsWhole, Sends, told_by};
 ghost use Rattle.reply_facts.specs.Earlier.{IsTold, WasTakenBefore, WasToldBefore};
 ghost use Rattle.reply_model.specs.OneHistory.{OneHistory};
 
-/// The reply to a write has the outcomes that its statements may have, one by one. Where its client gave no number it is whole in the history, and its
-/// reply is that of all its entries.
+/// The reply to a write has the outcomes that its statements may have, one by one. Where its client gave no number it is whole in the history: the reply
+/// to an ordered write is that of all its entries, and each statement of another one has an entry.
 pub fn told_writes_stand()
     ensures statements { (account : Account) (t : Answered)
         (write : WriteCommand) → OneHistory account → IsIn t account.answered → command_of t.request ≡ Ok (write_command write)
         → (dones : List Done) × AreTold account t write 0 write.operations dones
         × (t.document ≡ answer_document (answer_of write.kind t.time dones)) }
     ensures whole { (account : Account) (t : Answered)
-        (write : WriteCommand) → OneHistory account → IsIn t account.answered → command_of t.request ≡ Ok (write_command write)
-        → write.number ≡ None → IsWhole account.history t.id write }
+        (write : WriteCommand) → OneHistory account → IsIn t account.answered → command_of t.request ≡ Ok (write_command write) → write.number ≡ None
+        → (dones : List Done) × AreTold account t write 0 write.operations dones × IsWhole account.history t.id write dones
+        × (t.document ≡ answer_document (answer_of write.kind t.time dones)) }
     ensures told { (account : Account) (t : Answered)
         (write : WriteCommand) → OneHistory account → IsIn t account.answered → command_of t.request ≡ Ok (write_command write)
-        → write.number ≡ None → t.document ≡ answer_document (answer_of write.kind t.time (told_by t.id account.history)) }
+        → write.number ≡ None → write.ordered ≡ true → t.document ≡ answer_document (answer_of write.kind t.time (told_by t.id account.history)) }
+    ensures each { (account : Account) (t : Answered)
+        (write : WriteCommand) → OneHistory account → IsIn t account.answered → command_of t.request ≡ Ok (write_command write)
+        → write.number ≡ None → write.ordered ≡ false → (before : List Operation) (operation : Operation) (back : List Operation)
+        → write.operations ≡ before ++ operation ∷ back
+        → (e : Entry) × IsIn e account.history × IsStatement (number_for None t.id (length before)) write.namespace operation e }
 {}
 
 /// An entry is that of a statement of a request that was taken; where the router gave the number, of one request alone: of one router, in one

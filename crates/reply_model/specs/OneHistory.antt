@@ -16,7 +16,7 @@ use Rattle.reply_model.specs.Exchanges.{Asked, Answered}
 use Rattle.reply_model.specs.Accounts.{Dated, changes_in, Given, nothing_stored, Account}
 use Rattle.reply_model.specs.Cursors.{Cursor}
 use Rattle.reply_model.specs.Right.{IsPart, IsRight, Sends, AreTold, WasCreated, WasSplit, ends, not_sharded}
-use Rattle.reply_model.specs.Outcomes.{Done, WasDone, answer_of}
+use Rattle.reply_model.specs.Outcomes.{Done, is_too_old, answer_of}
 use Rattle.command_model.specs.Answers.{sharded_answer, changed_answer, answer_document}
 
 -- the request is a write in the namespace
@@ -25,10 +25,17 @@ pub record IsWriteIn (namespace : List ℕ) (a : Asked) : Type 0 where
   pub asks : command_of a.request ≡ Ok (write_command write)
   pub name : write.namespace ≡ namespace
 
--- the error with which a reply ends is that of an applied statement before this index
+-- the outcomes that the reply to a write shows
+pub record Shows (account : Account) (a : Asked) (t : Answered) (write : WriteCommand) : Type 0 where
+  pub dones : List Done
+  pub told : AreTold account t write 0 write.operations dones
+  pub same : t.document ≡ answer_document (answer_of write.kind t.time dones)
+
+-- A reply ends with an error of a statement before this index, other than that of a greater transaction: a session that goes on to another transaction while
+-- an ordered command runs may leave entries after that one (MongoDB manual, "Retryable Writes", forbids such a use).
 abbrev pub EndsBefore : (index : ℕ) → WriteCommand → List Done → Type 0
 EndsBefore index write [] = ⊥
-EndsBefore index write (d ∷ dones) = ((d.index < index) × (ends write.ordered d ≡ true) × WasDone d.answer) ⊎ EndsBefore index write dones
+EndsBefore index write (d ∷ dones) = ((d.index < index) × (ends write.ordered d ≡ true) × (is_too_old d.answer ≡ false)) ⊎ EndsBefore index write dones
 
 -- The entry was made for a request that a router took and that sent its statement: it is later than what the router knew then, and the reply to the request
 -- did not say that the write had ended before that statement.
@@ -37,8 +44,8 @@ pub record WasSent (account : Account) (e : Entry) : Type 0 where
   pub taken : IsIn request account.asked
   pub sends : Sends request e
   pub later : request.time < e.time
-  pub goes_on : (t : Answered) (dones : List Done) → IsIn t account.answered → t.id ≡ request.id → AreTold account t sends.write 0 sends.write.operations dones
-      → t.document ≡ answer_document (answer_of sends.write.kind t.time dones) → ¬ EndsBefore sends.index sends.write dones
+  pub goes_on : (t : Answered) → IsIn t account.answered → t.id ≡ request.id
+      → (shown : Shows account request t sends.write) × (¬ EndsBefore sends.index sends.write shown.dones)
 
 -- the request asks for this change: as a write in the collection or to create it, or to split it at that key; no command moves a chunk yet
 abbrev pub AsksFor : Asked → Change → Type 0
@@ -53,7 +60,7 @@ pub record WasWanted (asked : List Asked) (x : Change) : Type 0 where
   pub asks : AsksFor request x
   pub later : request.time < time_of x
 
--- of a write without a client's number a prefix of the statements is stored
+-- of a write without a client's number a prefix of the statements is stored, where it is ordered; else each is stored at most once
 abbrev pub StandsInPart : List Entry → Asked → Type 0
 StandsInPart history a = (write : WriteCommand) → command_of a.request ≡ Ok (write_command write) → write.number ≡ None → IsPart history a.id write
 

@@ -1,5 +1,5 @@
 -- The outcomes of statements, and their joint answer (MongoDB manual, "insert", "update", "delete", "ordered").
-use Rattle.std.specs.Prelude.{ℕ, ℤ, ◌+◌, List, [], ◌∷◌, Option, Some, None, Bool, max, is_some}
+use Rattle.std.specs.Prelude.{ℕ, ℤ, zero, suc, ◌+◌, List, [], ◌∷◌, map, Option, Some, None, Bool, true, false, ◌==◌, max, is_some}
 use Rattle.std.specs.Option.{unwrap_or}
 use Rattle.history_model.specs.History.{Outcome, Entry}
 use Rattle.base_model.specs.Errors.{transaction_too_old}
@@ -15,6 +15,10 @@ pub data StatementOutcome : Type 0 where
 abbrev pub WasDone : StatementOutcome → Type 0
 WasDone (was_done time outcome) = Unit {0}
 WasDone (was_refused refusal) = ⊥
+
+abbrev pub WasRefused : StatementOutcome → Type 0
+WasRefused (was_done time outcome) = ⊥
+WasRefused (was_refused refusal) = Unit {0}
 
 -- its session has a greater transaction
 abbrev pub is_older : (greatest : ℤ) → StatementOutcome
@@ -32,6 +36,30 @@ answer_by e = was_done e.time e.outcome
 abbrev pub done_of : Entry → Done
 done_of e = record { index = e.number.index; answer = answer_by e }
 
+-- OUTCOMES BY INDEX: a list as long as the statements, with an outcome for each that has one
+
+abbrev pub none_yet : {A : Type 0} → List A → List (Option StatementOutcome)
+none_yet statements = map (λ s. None) statements
+
+-- the statement with this index has an outcome
+abbrev pub has_outcome : List (Option StatementOutcome) → ℕ → Bool
+has_outcome [] index = false
+has_outcome (x ∷ outcomes) zero = is_some x
+has_outcome (x ∷ outcomes) (suc index) = has_outcome outcomes index
+
+-- the statement with this index gets an outcome, unless it has one
+abbrev pub with_outcome : ℕ → StatementOutcome → List (Option StatementOutcome) → List (Option StatementOutcome)
+with_outcome index x [] = []
+with_outcome zero x (None ∷ outcomes) = Some x ∷ outcomes
+with_outcome zero x (Some y ∷ outcomes) = Some y ∷ outcomes
+with_outcome (suc index) x (y ∷ outcomes) = y ∷ with_outcome index x outcomes
+
+-- the outcomes that there are, of statements from this index on
+abbrev pub dones_from : ℕ → List (Option StatementOutcome) → List Done
+dones_from index [] = []
+dones_from index (None ∷ outcomes) = dones_from (index + 1) outcomes
+dones_from index (Some x ∷ outcomes) = record { index = index; answer = x } ∷ dones_from (index + 1) outcomes
+
 -- a statement that is refused changes nothing
 abbrev pub outcome_in : StatementOutcome → Outcome
 outcome_in (was_done time outcome) = outcome
@@ -41,6 +69,11 @@ outcome_in (was_refused refusal) = record { count = 0; modified = 0; upserted = 
 abbrev pub refusal_in : StatementOutcome → Option Refusal
 refusal_in (was_done time outcome) = elim outcome.error [ None ↦ None | Some error ↦ Some (without_evidence error) ]
 refusal_in (was_refused refusal) = Some refusal
+
+-- its session has a greater transaction (TransactionTooOld)
+abbrev pub is_too_old : StatementOutcome → Bool
+is_too_old (was_done time outcome) = false
+is_too_old (was_refused refusal) = refusal.error.number == transaction_too_old.number
 
 -- the statement has an error
 abbrev pub fails : Done → Bool

@@ -1,5 +1,5 @@
 -- Which replies are right by one history, and by what their routers knew.
-use Rattle.std.specs.Prelude.{◌≡◌, ℕ, ℤ, ◌+◌, ◌≤◌, List, [], ◌∷◌, ◌++◌, length, map, int_lt, Option, Some, None, Result, Ok, Err, Bool, true, false, ◌&&◌, ◌||◌, codes, if◌then◌else◌}
+use Rattle.std.specs.Prelude.{◌≡◌, ◌⊎◌, ℕ, ℤ, ◌+◌, ◌≤◌, List, [], ◌∷◌, ◌++◌, length, map, int_lt, Option, Some, None, Result, Ok, Err, Bool, true, false, ◌==◌, ◌&&◌, ◌||◌, codes, if◌then◌else◌}
 use Rattle.std.specs.List.{AllByRecursion}
 use Rattle.std.specs.Option.{unwrap_or}
 use Rattle.bson_model.specs.Tree.{Datum, Fields}
@@ -25,7 +25,7 @@ use Rattle.chunk_model.specs.Tables.{Table}
 use Rattle.base_model.specs.Identities.{RequestId}
 use Rattle.reply_model.specs.Exchanges.{Asked, Answered, number_for, entries_by}
 use Rattle.reply_model.specs.Accounts.{Account}
-use Rattle.reply_model.specs.Outcomes.{StatementOutcome, is_older, Done, answer_by, done_of, fails, answer_of}
+use Rattle.reply_model.specs.Outcomes.{StatementOutcome, WasRefused, is_older, Done, answer_by, done_of, fails, answer_of}
 use Rattle.reply_model.specs.Cursors.{Cursor, open_cursor, ShowsFirst, ShowsNext, Kills}
 use Rattle.reply_model.specs.Reads.{IsTimeRead, MayGive, IsExcess, IsAhead}
 
@@ -89,6 +89,15 @@ AreTold account t write index (operation ∷ operations) (d ∷ dones) =
 
 -- THE STORED PART OF A WRITE THAT HAS NO NUMBER FROM ITS CLIENT
 
+-- the entry belongs to the statement of the request that has its index
+pub record IsStored (id : RequestId) (write : WriteCommand) (e : Entry) : Type 0 where
+  pub before : List Operation
+  pub operation : Operation
+  pub back : List Operation
+  pub all : write.operations ≡ before ++ operation ∷ back
+  pub at : length before ≡ e.number.index
+  pub statement : IsStatement (number_for None id e.number.index) write.namespace operation e
+
 -- these entries belong to the statements from this index on, in their order; the first error ends an ordered command
 abbrev pub AreStatements : RequestId → List ℕ → (ordered : Bool) → ℕ → List Operation → List Entry → Type 0
 AreStatements id namespace ordered index operations [] = Unit {0}
@@ -97,24 +106,32 @@ AreStatements id namespace ordered index (operation ∷ operations) (e ∷ entri
     IsStatement (number_for None id index) namespace operation e × (ends ordered (done_of e) ≡ true → entries ≡ [])
     × AreStatements id namespace ordered (index + 1) operations entries
 
--- these outcomes belong to all statements, or to those up to the error that ends an ordered command
-abbrev pub AreAll : (ordered : Bool) → List Operation → List Done → Type 0
-AreAll ordered [] dones = dones ≡ []
-AreAll ordered (operation ∷ operations) [] = ⊥
-AreAll ordered (operation ∷ operations) (d ∷ dones) = elim (ends ordered d) [ true ↦ dones ≡ [] | false ↦ AreAll ordered operations dones ]
+-- these entries belong to statements, each to another
+abbrev pub AreSingle : RequestId → WriteCommand → List Entry → Type 0
+AreSingle id write [] = Unit {0}
+AreSingle id write (e ∷ entries) =
+    IsStored id write e × AllByRecursion (λ (d : Entry). (d.number.index == e.number.index) ≡ false) entries × AreSingle id write entries
 
--- the entries of a prefix of its statements, in order
+-- The stored part: of an ordered write the entries of a prefix of its statements, in order; of another one at most one entry for each statement.
 abbrev pub IsPart : List Entry → RequestId → WriteCommand → Type 0
-IsPart history id write = AreStatements id write.namespace write.ordered 0 write.operations (entries_by id history)
+IsPart history id write = elim write.ordered [
+  | true ↦ AreStatements id write.namespace true 0 write.operations (entries_by id history)
+  | false ↦ AreSingle id write (entries_by id history)
+]
 
--- the outcomes of its statements
+-- the outcomes of its entries, in the order of the history
 abbrev pub told_by : RequestId → List Entry → List Done
 told_by id history = map done_of (entries_by id history)
 
--- It is applied as a whole: the entries of all its statements are stored, up to the error that ends an ordered one, and no other.
-pub record IsWhole (history : List Entry) (id : RequestId) (write : WriteCommand) : Type 0 where
+-- the entry's statement has an outcome: that of the entry, or a refusal
+abbrev pub IsShown : Entry → List Done → Type 0
+IsShown e [] = ⊥
+IsShown e (d ∷ dones) = ((d ≡ done_of e) ⊎ ((d.index ≡ e.number.index) × WasRefused d.answer)) ⊎ IsShown e dones
+
+-- It is answered as a whole: each statement with a stored entry has an outcome, which is that of the entry unless it is refused.
+pub record IsWhole (history : List Entry) (id : RequestId) (write : WriteCommand) (dones : List Done) : Type 0 where
   pub part : IsPart history id write
-  pub all : AreAll write.ordered write.operations (told_by id history)
+  pub shown : AllByRecursion (λ (e : Entry). IsShown e dones) (entries_by id history)
 
 -- REPLIES TO READS
 
@@ -174,7 +191,7 @@ not_sharded = answer_document (refusal_answer (without_evidence namespace_not_sh
 -- of it begins at a key, or that there is none (`OneHistory` says when); or a reply that needs no document; or its refusal.
 pub data IsRight (account : Account) (cursors : List Cursor) (a : Asked) (t : Answered) : (next : List Cursor) → Type 0 where
   right_write : (write : WriteCommand) (dones : List Done) (c : Creation) → command_of a.request ≡ Ok (write_command write)
-      → AreTold account t write 0 write.operations dones → (write.number ≡ None → IsWhole account.history a.id write)
+      → AreTold account t write 0 write.operations dones → (write.number ≡ None → IsWhole account.history a.id write dones)
       → IsIn (create_change c) account.changes → c.namespace ≡ write.namespace → c.at ≤ t.time
       → t.document ≡ answer_document (answer_of write.kind t.time dones) → IsRight account cursors a t cursors
   right_find : (find : Find) (time : ℕ) (documents : List Fields) (batch : Batch) (next : List Cursor) → command_of a.request ≡ Ok (find_command find)

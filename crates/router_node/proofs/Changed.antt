@@ -4,9 +4,9 @@ use Rattle.std.specs.Prelude.{Option, Some, None, Result}
 use Rattle.std.specs.declared.vec.Vec.{Vec}
 use Rattle.reply_model.specs.Cursors.{Cursor}
 use Rattle.node_model.specs.Letters.{Statement}
-use Rattle.reply_model.specs.Outcomes.{Done}
-use Rattle.node_model.specs.RouterRows.{reached, with_part, with_work}
-use Rattle.node_model.specs.States.{Open, Router, Work, writing, reading, sharding, splitting, open_with, replaced}
+use Rattle.node_model.specs.RouterRequests.{reached}
+use Rattle.node_model.specs.RouterNext.{with_part, with_work}
+use Rattle.node_model.specs.States.{Course, Open, Router, Work, writing, reading, sharding, splitting, open_with, replaced}
 use Rattle.chunk_model.specs.Tables.{Table}
 use Rattle.command_model.specs.Writes.{WriteKind}
 use Rattle.cluster_base.specs.declared.identity.NodeId.{NodeId}
@@ -17,8 +17,9 @@ use Rattle.read_parts.specs.Parts.{target_view}
 use Rattle.read_parts.specs.declared.parts.Target.{Target}
 use Rattle.router_requests.specs.Works.{numbers_of, told_by, wait_view}
 use Rattle.router_requests.specs.declared.work.Wait.{Wait}
-use Rattle.protocol_model.specs.Statements.{done_view}
-use Rattle.protocol_model.specs.declared.statement.Done.{Done as StatementDone}
+use Rattle.protocol_model.specs.declared.statement.StatementOutcome.{StatementOutcome}
+use Rattle.write_runs.specs.Runs.{course_view}
+use Rattle.write_runs.specs.declared.run.Run.{Run}
 use Rattle.router_node.specs.StepPlans.{opens_then}
 use Rattle.router_node.specs.declared.step_plan.Change.TheVariants.{Reaches, Told, Gains, Notes}
 
@@ -45,22 +46,22 @@ module _ (r : Router) (time count : ℕ) (q : Open) (found : open_with count r.r
       subst (λ (o : Option Open). replaced (with_part q shard.0 (rows_view rows)) r.requests
       ≡ elim o as (λ _. List Open) [ None ↦ r.requests | Some x ↦ replaced (with_part x shard.0 (rows_view rows)) r.requests ]) (sym found) refl
 
-  pub opens_notes : (wait : Wait) (answers : Vec StatementDone Global) (kind : WriteKind) (ordered : Bool) (statements : List Statement) (before : List Done) → q.work ≡ writing kind ordered statements before
-      → replaced (with_work q (wait_view wait) [] (writing kind ordered statements (map done_view answers.items))) r.requests ≡ opens_then r time (Notes count wait answers)
-  opens_notes wait answers kind ordered statements before work =
-      subst (λ (o : Option Open). replaced (with_work q (wait_view wait) [] (writing kind ordered statements (map done_view answers.items))) r.requests
+  pub opens_notes : (wait : Wait) (answers : Vec (Option StatementOutcome) Global) (runs : Vec Run Global) (kind : WriteKind) (ordered : Bool) (statements : List Statement) (before : Course) → q.work ≡ writing kind ordered statements before
+      → replaced (with_work q (wait_view wait) [] (writing kind ordered statements (course_view answers.items runs.items))) r.requests ≡ opens_then r time (Notes count wait answers runs)
+  opens_notes wait answers runs kind ordered statements before work =
+      subst (λ (o : Option Open). replaced (with_work q (wait_view wait) [] (writing kind ordered statements (course_view answers.items runs.items))) r.requests
       ≡ elim o as (λ _. List Open) [
         | None ↦ r.requests
         | Some x ↦ elim x.work as (λ _. List Open) [
-          | writing k a s b ↦ replaced (with_work x (wait_view wait) [] (writing k a s (map done_view answers.items))) r.requests
+          | writing k a s b ↦ replaced (with_work x (wait_view wait) [] (writing k a s (course_view answers.items runs.items))) r.requests
           | reading named at stages telling ↦ r.requests
           | sharding ↦ r.requests
           | splitting middle ↦ r.requests
         ]
       ]) (sym found)
-      (subst (λ (w : Work). replaced (with_work q (wait_view wait) [] (writing kind ordered statements (map done_view answers.items))) r.requests
+      (subst (λ (w : Work). replaced (with_work q (wait_view wait) [] (writing kind ordered statements (course_view answers.items runs.items))) r.requests
       ≡ elim w as (λ _. List Open) [
-        | writing k a s b ↦ replaced (with_work q (wait_view wait) [] (writing k a s (map done_view answers.items))) r.requests
+        | writing k a s b ↦ replaced (with_work q (wait_view wait) [] (writing k a s (course_view answers.items runs.items))) r.requests
         | reading named at stages telling ↦ r.requests
         | sharding ↦ r.requests
         | splitting middle ↦ r.requests

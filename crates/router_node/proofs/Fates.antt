@@ -1,21 +1,30 @@
 -- The transitions for messages that answer an open request.
-use Rattle.std.proofs.Common.{◌≡◌, ◌≢◌, refl, sym, subst, ℕ, ◌<◌, ◌≤◌, ◌⊎◌, List, [], ◌∷◌, Bool, true, false, if◌then◌else◌}
-use Rattle.std.specs.Prelude.{Some, None, Result}
+use Rattle.std.proofs.Common.{◌≡◌, ◌≢◌, refl, ap, sym, subst, ◌∙◌, ℕ, ◌<◌, ◌≤◌, ◌⊎◌, List, [], ◌∷◌, Bool, true, false, if◌then◌else◌}
+use Rattle.std.specs.Prelude.{Option, Some, None, Result}
 use Rattle.bson_model.specs.Tree.{Datum}
 use Rattle.command_model.specs.Answers.{changed_answer, refusal_answer}
+use Rattle.command_replies.specs.Kinds.{kind_view}
 use Rattle.base_model.specs.Errors.{namespace_not_sharded}
 use Rattle.base_model.specs.Identities.{RequestId}
 use Rattle.node_model.specs.Letters as letters
-use Rattle.node_model.specs.Letters.{Letter, HalfFault, letter_input, split_done, write_done, read_rows, time_told, nothing, sends}
-use Rattle.reply_model.specs.Outcomes.{Done, answer_of}
+use Rattle.node_model.specs.Letters.{Letter, HalfFault, Reply, letter_input, split_done, write_done, read_rows, time_told, nothing}
+use Rattle.reply_model.specs.Outcomes as outcomes
+use Rattle.reply_model.specs.Outcomes.{Done}
 use Rattle.base_model.specs.Refusals.{time_ahead, without_evidence}
-use Rattle.node_model.specs.RouterRows.{router_split, router_not_sharded, router_reach, router_hear, router_ahead, router_note, router_part, router_wrote, also_part, awaited, is_target, heard, knows, open_of, reply_to, noted, is_answered, reached, asks_for, going_on, answers_now, with_work, IsLate, IsNoRead, IsNotAwaited, IsNoSplit, AreNoNews, also_told, shards_of, untold, with_part, with_told}
-use Rattle.node_model.specs.States.{Telling, Open, Router, Work, for_time, reading, writing, splitting, without, replaced}
+use Rattle.node_model.specs.RouterRequests.{heard, id_of, reached, shards_of, untold}
+use Rattle.node_model.specs.RouterNext.{Next, stays, is_told, after_next, also_part, also_told, awaited, begins_work, is_target, knows, noted, reply_to, served_in_part, settled, with_part, with_told, with_work, write_on}
+use Rattle.node_model.specs.RouterRows.{RouterRow, router_split, router_not_sharded, router_reach, router_hear, router_ahead, router_note, router_part, open_of, goes_on, answers_now, IsLate, IsNoRead, IsNotAwaited, IsNoSplit, AreNoNews}
+use Rattle.node_model.specs.States.{Course, Telling, Open, Router, Work, for_time, reading, writing, splitting, without, replaced}
 use Rattle.pipeline_model.specs.Halves.{Rows}
 use Rattle.pipeline_model.specs.Stages.{Stage}
 use Rattle.command_model.specs.Writes.{WriteKind}
 use Rattle.node_traits.specs.Effects.{puts_of}
 use Rattle.node_traits.specs.declared.outputs.ToLink.{ToLink}
+use Rattle.protocol_model.specs.declared.statement.StatementOutcome.{StatementOutcome}
+use Rattle.router_requests.specs.Works.{statements_of}
+use Rattle.router_requests.specs.declared.write.OpenWrite.{OpenWrite}
+use Rattle.write_runs.specs.Runs.{course_view, runs_view}
+use Rattle.router_node.specs.News.{IsNews, next_noted}
 use Rattle.router_node.specs.Rows.{TookRow}
 
 -- no request is open under it
@@ -68,9 +77,9 @@ module _ (r : Router) (m : Letter) (id : RequestId) (q : Open) (opened : open_of
     told = told;
   }
 
-  pub rows_of_write : (turn : ℕ) (rows : Result Rows HalfFault) (kind : WriteKind) (ordered : Bool) (statements : List letters.Statement) (answers : List Done) → m.body ≡ read_rows id turn rows
-      → q.work ≡ writing kind ordered statements answers → IsLate r m.sender m.body
-  rows_of_write turn rows kind ordered statements answers is work = rows_late turn rows (writing kind ordered statements answers) is work tt
+  pub rows_of_write : (turn : ℕ) (rows : Result Rows HalfFault) (kind : WriteKind) (ordered : Bool) (statements : List letters.Statement) (c : Course) → m.body ≡ read_rows id turn rows
+      → q.work ≡ writing kind ordered statements c → IsLate r m.sender m.body
+  rows_of_write turn rows kind ordered statements c is work = rows_late turn rows (writing kind ordered statements c) is work tt
 
   pub rows_of_turn : (turn : ℕ) (rows : Result Rows HalfFault) (named : Bool) (at : ℕ) (stages : List Stage) (telling : Telling) → m.body ≡ read_rows id turn rows → q.work ≡ reading named at stages telling
       → (turn ≢ 1) ⊎ (is_target m.sender q.targets ≡ false) → IsLate r m.sender m.body
@@ -79,8 +88,8 @@ module _ (r : Router) (m : Letter) (id : RequestId) (q : Open) (opened : open_of
   pub dones_of_read : (dones : List Done) (named : Bool) (at : ℕ) (stages : List Stage) (telling : Telling) → m.body ≡ write_done id dones → q.work ≡ reading named at stages telling → IsLate r m.sender m.body
   dones_of_read dones named at stages telling is work = dones_late dones (reading named at stages telling) is work tt
 
-  pub time_of_write : (kind : WriteKind) (ordered : Bool) (statements : List letters.Statement) (answers : List Done) → m.body ≡ time_told id → q.work ≡ writing kind ordered statements answers → IsLate r m.sender m.body
-  time_of_write kind ordered statements answers is work = time_late (writing kind ordered statements answers) is work tt
+  pub time_of_write : (kind : WriteKind) (ordered : Bool) (statements : List letters.Statement) (c : Course) → m.body ≡ time_told id → q.work ≡ writing kind ordered statements c → IsLate r m.sender m.body
+  time_of_write kind ordered statements c is work = time_late (writing kind ordered statements c) is work tt
 
   pub time_not_awaited : (named : Bool) (at : ℕ) (stages : List Stage) (telling : Telling) → m.body ≡ time_told id → q.work ≡ reading named at stages telling → q.wait ≢ for_time → IsLate r m.sender m.body
   time_not_awaited named at stages telling is work other = time_late (reading named at stages telling) is work other
@@ -122,42 +131,39 @@ module _ (r : Router) (m : Letter) (id : RequestId) (q : Open) (opened : open_of
         told = refl;
       })
 
+  -- the time is reached, and the read goes on
   pub time_reached : (named : Bool) (at : ℕ) (stages : List Stage) (telling : Telling) (mail : List Letter) (next : Open) → m.body ≡ time_told id → q.work ≡ reading named at stages telling → q.wait ≡ for_time → at ≤ heard r m
-      → mail ≡ asks_for r (heard r m) q.count q.namespace (reached (heard r m) q.work) → next ≡ going_on r (heard r m) q (reached (heard r m) q.work)
+      → begins_work r (heard r m) q (reached (heard r m) q.work) ≡ stays next mail
       → TookRow r (letter_input m) mail [] (knows r (heard r m) r.tables (replaced next r.requests))
-  time_reached named at stages telling mail next is work waits come asked goes =
-      subst (λ n. TookRow r (letter_input m) mail [] (knows r (heard r m) r.tables (replaced n r.requests))) (sym goes) (record {
-        effect = sends (asks_for r (heard r m) q.count q.namespace (reached (heard r m) q.work));
-        row = router_reach r m id q named at stages telling is opened work waits come;
-        written = refl;
-        sent = sym asked;
-        told = refl;
-      })
+  time_reached named at stages telling mail next is work waits come goes = record {
+    effect = goes_on (stays next mail);
+    row = subst (λ (n : Next). RouterRow r (letter_input m) (goes_on n) (knows r (heard r m) r.tables (after_next q n r.requests))) goes
+        (router_reach r m id q named at stages telling is opened work waits come);
+    written = refl;
+    sent = refl;
+    told = refl;
+  }
 
-  module _ (dones : List Done) (kind : WriteKind) (ordered : Bool) (statements : List letters.Statement) (answers : List Done) (is : m.body ≡ write_done id dones) (work : q.work ≡ writing kind ordered statements answers) where
-    pub dones_no_news : noted answers dones ≡ answers → IsLate r m.sender m.body
-    dones_no_news same = dones_late dones (writing kind ordered statements answers) is work same
+-- outcomes that are not new to an open write
+pub dones_no_news : (r : Router) (m : Letter) (id : RequestId) (q : Open) (dones : List Done) (kind : WriteKind) (ordered : Bool) (statements : List letters.Statement) (c : Course) → open_of r id ≡ Some q
+    → m.body ≡ write_done id dones → q.work ≡ writing kind ordered statements c → noted ordered c.answers dones ≡ c.answers → IsLate r m.sender m.body
+dones_no_news r m id q dones kind ordered statements c opened is work same = dones_late r m id q opened dones (writing kind ordered statements c) is work same
 
-    pub dones_wrote : (replies : List ToLink) → noted answers dones ≢ answers → is_answered ordered statements (noted answers dones) ≡ true
-        → replies ≡ puts_of (reply_to r (heard r m) q (answer_of kind (heard r m) (noted answers dones)) ∷ [])
-        → TookRow r (letter_input m) [] replies (knows r (heard r m) r.tables (without q.count r.requests))
-    dones_wrote replies news all told = record {
-      effect = answers_now (reply_to r (heard r m) q (answer_of kind (heard r m) (noted answers dones)));
-      row = router_wrote r m id dones q kind ordered statements answers is opened work news all;
-      written = refl;
-      sent = refl;
-      told = told;
-    }
+-- outcomes that are new
+module _ (r : Router) (m : Letter) (id : RequestId) (q : Open) (write : OpenWrite) (answers : List (Option StatementOutcome)) (news : IsNews r m id q write answers) (time : ℕ) (late : time ≡ heard r m) where
+  goes : (next : Next) → next_noted r time q write answers ≡ next → RouterRow r (letter_input m) (goes_on next) (knows r (heard r m) r.tables (after_next q next r.requests))
+  goes next is =
+      router_note r m id news.dones q (kind_view write.kind) write.ordered (statements_of (id_of r q.count) write) (course_view write.answers.items write.runs.items) next news.body news.opened news.work news.news
+      (sym is ∙ ap (λ (t : ℕ). next_noted r t q write answers) late ∙ ap (λ (xs : List (Option outcomes.StatementOutcome)). write_on r (heard r m) r.tables write.ordered
+      (served_in_part xs (runs_view write.runs.items)) q (kind_view write.kind) write.ordered (statements_of (id_of r q.count) write)
+      (settled (course_view write.answers.items write.runs.items) xs)) (sym news.are))
 
-    pub dones_noted : (mail : List Letter) (next : Open) → noted answers dones ≢ answers → is_answered ordered statements (noted answers dones) ≡ false
-        → mail ≡ asks_for r (heard r m) q.count q.namespace (writing kind ordered statements (noted answers dones))
-        → next ≡ going_on r (heard r m) q (writing kind ordered statements (noted answers dones))
-        → TookRow r (letter_input m) mail [] (knows r (heard r m) r.tables (replaced next r.requests))
-    dones_noted mail next news some asked goes =
-        subst (λ n. TookRow r (letter_input m) mail [] (knows r (heard r m) r.tables (replaced n r.requests))) (sym goes) (record {
-          effect = sends (asks_for r (heard r m) q.count q.namespace (writing kind ordered statements (noted answers dones)));
-          row = router_note r m id dones q kind ordered statements answers is opened work news some;
-          written = refl;
-          sent = sym asked;
-          told = refl;
-        })
+  -- the write is answered
+  pub news_told : (reply : Reply) (replies : List ToLink) → next_noted r time q write answers ≡ is_told reply → replies ≡ puts_of (reply ∷ [])
+      → TookRow r (letter_input m) [] replies (knows r (heard r m) r.tables (without q.count r.requests))
+  news_told reply replies is told = record { effect = goes_on (is_told reply); row = goes (is_told reply) is; written = refl; sent = refl; told = told }
+
+  -- it goes on
+  pub news_sent : (next : Open) (mail : List Letter) → next_noted r time q write answers ≡ stays next mail
+      → TookRow r (letter_input m) mail [] (knows r (heard r m) r.tables (replaced next r.requests))
+  news_sent next mail is = record { effect = goes_on (stays next mail); row = goes (stays next mail) is; written = refl; sent = refl; told = refl }

@@ -4,9 +4,10 @@ use Rattle.std.specs.Prelude.{Option, Some, None, Result}
 use Rattle.base_model.specs.Identities.{RequestId, same_request}
 use Rattle.node_model.specs.Letters as letters
 use Rattle.node_model.specs.Letters.{Letter, Input, letter_input, nothing, Effect}
-use Rattle.reply_model.specs.Outcomes.{Done}
-use Rattle.node_model.specs.RouterRows.{heard, knows, open_of, id_of, reached, with_part, with_work, router_late, IsLate, RouterRow}
-use Rattle.node_model.specs.States.{Open, Router, Work, writing, reading, sharding, splitting, open_with, replaced}
+use Rattle.node_model.specs.RouterRequests.{heard, id_of, reached}
+use Rattle.node_model.specs.RouterNext.{knows, with_part, with_work}
+use Rattle.node_model.specs.RouterRows.{open_of, router_late, IsLate, RouterRow}
+use Rattle.node_model.specs.States.{Course, Open, Router, Work, writing, reading, sharding, splitting, open_with, replaced}
 use Rattle.command_model.specs.Writes.{WriteKind}
 use Rattle.node_traits.specs.Effects.{AreReadable, puts_of, spellings}
 use Rattle.node_traits.specs.declared.outputs.ToLink.{ToLink}
@@ -18,8 +19,9 @@ use Rattle.read_parts.specs.Parts.{target_view}
 use Rattle.read_parts.specs.declared.parts.Target.{Target}
 use Rattle.router_requests.specs.Works.{numbers_of, told_by, wait_view}
 use Rattle.router_requests.specs.declared.work.Wait.{Wait}
-use Rattle.protocol_model.specs.Statements.{done_view}
-use Rattle.protocol_model.specs.declared.statement.Done.{Done as Done_told}
+use Rattle.protocol_model.specs.declared.statement.StatementOutcome.{StatementOutcome}
+use Rattle.write_runs.specs.Runs.{course_view}
+use Rattle.write_runs.specs.declared.run.Run.{Run}
 use Rattle.std.specs.declared.vec.Vec.{Vec}
 use Rattle.router_node.specs.Rows.{TookRow}
 use Rattle.router_node.specs.StepPlans.{Follows, FollowsBy, Hears, HearsKeeping, IsHeard, changed}
@@ -130,11 +132,11 @@ module _ (r : Router) (id : RequestId) (q : Open) (opened : open_of r id ≡ Som
       })) (sym found) took
 
   -- it has these answers now, and waits for this
-  pub notes_so : (i : Input) (ls : List Letter) (rs : List ToLink) (time : ℕ) (wait : Wait) (answers : Vec Done_told Global) (kind : WriteKind) (ordered : Bool) (statements : List letters.Statement) (before : List Done)
+  pub notes_so : (i : Input) (ls : List Letter) (rs : List ToLink) (time : ℕ) (wait : Wait) (answers : Vec (Option StatementOutcome) Global) (runs : Vec Run Global) (kind : WriteKind) (ordered : Bool) (statements : List letters.Statement) (before : Course)
       → q.work ≡ writing kind ordered statements before
-      → TookRow r i ls rs (knows r time r.tables (replaced (with_work q (wait_view wait) [] (writing kind ordered statements (map done_view answers.items))) r.requests))
-      → TookRow r i ls rs (changed r time r.begun r.moment (Notes id.count wait answers))
-  notes_so i ls rs time wait answers kind ordered statements before work took =
+      → TookRow r i ls rs (knows r time r.tables (replaced (with_work q (wait_view wait) [] (writing kind ordered statements (course_view answers.items runs.items))) r.requests))
+      → TookRow r i ls rs (changed r time r.begun r.moment (Notes id.count wait answers runs))
+  notes_so i ls rs time wait answers runs kind ordered statements before work took =
       subst (λ (o : Option Open). TookRow r i ls rs (record {
         me = r.me;
         shards = r.shards;
@@ -147,7 +149,7 @@ module _ (r : Router) (id : RequestId) (q : Open) (opened : open_of r id ≡ Som
         requests = elim o as (λ _. List Open) [
           | None ↦ r.requests
           | Some x ↦ elim x.work as (λ _. List Open) [
-            | writing k a s b ↦ replaced (with_work x (wait_view wait) [] (writing k a s (map done_view answers.items))) r.requests
+            | writing k a s b ↦ replaced (with_work x (wait_view wait) [] (writing k a s (course_view answers.items runs.items))) r.requests
             | reading named at stages telling ↦ r.requests
             | sharding ↦ r.requests
             | splitting middle ↦ r.requests
@@ -166,7 +168,7 @@ module _ (r : Router) (id : RequestId) (q : Open) (opened : open_of r id ≡ Som
         count = r.count;
         tables = r.tables;
         requests = elim w as (λ _. List Open) [
-          | writing k a s b ↦ replaced (with_work q (wait_view wait) [] (writing k a s (map done_view answers.items))) r.requests
+          | writing k a s b ↦ replaced (with_work q (wait_view wait) [] (writing k a s (course_view answers.items runs.items))) r.requests
           | reading named at stages telling ↦ r.requests
           | sharding ↦ r.requests
           | splitting middle ↦ r.requests

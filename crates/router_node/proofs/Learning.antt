@@ -1,35 +1,100 @@
 -- The transition for a table that arrives.
-use Rattle.std.proofs.Common.{Global, ◌≡◌, refl, ap, sym, subst, ◌∙◌, ℕ, List, [], Bool}
+use Rattle.std.proofs.Common.{Global, ◌≡◌, refl, ap, sym, subst, ◌∙◌, ℕ, zero, suc, ◌+◌, ◌<◌, ◌≤◌, List, [], ◌∷◌, ◌++◌, length, get_or, map, take, arith, add-one, append_assoc, append-nil, take-suc}
+use Rattle.std.proofs.lemmas.Grind.{flat_map-append}
+use Rattle.std.proofs.lemmas.List.{length-append, map_push}
 use Rattle.std.specs.Arc.{arc_value}
 use Rattle.std.specs.List.{flat_map}
 use Rattle.std.specs.Option.{option_map}
 use Rattle.std.specs.declared.vec.Vec.{Vec}
 use Rattle.node_model.specs.Letters.{Letter, letter_input}
-use Rattle.node_model.specs.RouterRows.{Next, next_of, router_learn, heard, knows, letters_in, replies_in, stay_in}
+use Rattle.node_model.specs.RouterRequests.{heard}
+use Rattle.node_model.specs.RouterNext.{Next, knows, letters_in, replies_in, stay_in}
+use Rattle.node_model.specs.RouterRows.{router_learn}
 use Rattle.node_model.specs.States.{Open, Router}
 use Rattle.node_traits.specs.Effects.{puts_of}
 use Rattle.node_traits.specs.declared.outputs.ToLink.{ToLink}
 use Rattle.protocol_model.specs.Bodies.{at_view, table_told_view}
+use Rattle.protocol_model.specs.Messages.{letter_of}
+use Rattle.protocol_model.specs.declared.message.Message.{Message}
 use Rattle.protocol_model.specs.declared.tables.TableTold.{TableTold}
-use Rattle.router_requests.specs.Fates.{fated}
+use Rattle.router_requests.specs.Fates.{fate_of, fated}
 use Rattle.router_requests.specs.declared.fates.Fate.{Fate}
-use Rattle.router_node.specs.Nexts.{made_by, next_at, tables_told}
+use Rattle.router_node.specs.Learned.{Adds}
+use Rattle.router_node.specs.Nexts.{next_at, tables_told}
 use Rattle.router_node.specs.Rows.{TookRow}
 use Rattle.router_node.specs.StepPlans.{changed}
+use Rattle.router_node.specs.declared.learns.Learned.{Learned}
 use Rattle.router_node.specs.declared.step_plan.Change.TheVariants.{Learns}
+use Rattle.router_node.proofs.Puts.{puts_append}
 
--- what becomes of an open request, where it was found whether its collection was created
-pub made_so : (r : Router) (time : ℕ) (told : TableTold) (q : Open) (made : Bool) (next : Next) → made ≡ made_by told
-    → next_of r time (tables_told told r.tables) told.namespace made (at_view told.at) q ≡ next → next_at r time told q ≡ next
-made_so r time told q made next same is = sym (ap (λ (b : Bool). next_of r time (tables_told told r.tables) told.namespace b (at_view told.at) q) same) ∙ is
+-- what was found of these requests
+pub record AreLearned (next : Open → Next) (requests : List Open) (l : Learned) : Type 0 where
+  pub count : length l.fates.items ≡ length requests
+  pub mail : map (λ m. letter_of m) l.mail ≡ flat_map (λ q. letters_in (next q)) requests
+  pub replies : l.replies ≡ puts_of (flat_map (λ q. replies_in (next q)) requests)
+  pub fates : fated requests l.fates.items ≡ flat_map (λ q. stay_in (next q)) requests
+
+pub none_learned : (next : Open → Next) (requests : List Open) (l : Learned) → requests ≡ [] → l.fates.items ≡ [] → l.mail ≡ [] → l.replies ≡ [] → AreLearned next requests l
+none_learned next requests l none no_fates no_mail no_replies = record {
+  count = ap (λ (fs : List Fate). length fs) no_fates ∙ sym (ap (λ (qs : List Open). length qs) none);
+  mail = ap (λ (ms : List Message). map (λ m. letter_of m) ms) no_mail ∙ sym (ap (λ (qs : List Open). flat_map (λ q. letters_in (next q)) qs) none);
+  replies = no_replies ∙ sym (ap (λ (qs : List Open). puts_of (flat_map (λ q. replies_in (next q)) qs)) none);
+  fates = ap (λ (fs : List Fate). fated requests fs) no_fates ∙ ap (λ (qs : List Open). fated qs []) none ∙ sym (ap (λ (qs : List Open). flat_map (λ q. stay_in (next q)) qs) none);
+}
+
+-- one request more, with its fate
+fated_push : (requests : List Open) (q : Open) (fates : List Fate) (f : Fate) → length fates ≡ length requests → fated (requests ++ q ∷ []) (fates ++ f ∷ []) ≡ fated requests fates ++ fate_of q f
+fated_push [] q [] f same = append-nil (fate_of q f)
+fated_push [] q (g ∷ fates) f same = absurd (omega (arith, same))
+fated_push (p ∷ requests) q [] f same = absurd (omega (arith, same))
+fated_push (p ∷ requests) q (g ∷ fates) f same =
+    ap (λ (l : List Open). fate_of p g ++ l) (fated_push requests q fates f (omega (arith, same))) ∙ sym (append_assoc (fate_of p g) (fated requests fates) (fate_of q f))
+
+-- what each of them gives
+one_more : {A : Type 0} (f : Open → List A) (requests : List Open) (q : Open) → flat_map f (requests ++ q ∷ []) ≡ flat_map f requests ++ f q
+one_more {A} f requests q = flat_map-append f requests (q ∷ []) ∙ ap (λ (l : List A). flat_map f requests ++ l) (append-nil (f q))
+
+more_learned : (next : Open → Next) (requests : List Open) (q : Open) (old new : Learned) → AreLearned next requests old → Adds q (next q) old new → AreLearned next (requests ++ q ∷ []) new
+more_learned next requests q old new before adds = record {
+  count = ap (λ (fs : List Fate). length fs) adds.fates ∙ omega (arith, length-append old.fates.items (adds.fate ∷ []), length-append requests (q ∷ []), before.count);
+  mail = adds.mail ∙ ap (λ (ls : List Letter). ls ++ letters_in (next q)) before.mail ∙ sym (one_more (λ p. letters_in (next p)) requests q);
+  replies = adds.replies ∙ ap (λ (rs : List ToLink). rs ++ puts_of (replies_in (next q))) before.replies
+      ∙ sym (puts_append (flat_map (λ p. replies_in (next p)) requests) (replies_in (next q)))
+      ∙ sym (ap puts_of (one_more (λ p. replies_in (next p)) requests q));
+  fates = ap (λ (fs : List Fate). fated (requests ++ q ∷ []) fs) adds.fates
+      ∙ fated_push requests q old.fates.items adds.fate before.count
+      ∙ ap (λ (qs : List Open). qs ++ fate_of q adds.fate) before.fates
+      ∙ ap (λ (qs : List Open). flat_map (λ p. stay_in (next p)) requests ++ qs) adds.is
+      ∙ sym (one_more (λ p. stay_in (next p)) requests q);
+}
+
+-- the first requests of a list
+module _ {X : Type 0} (meant : X → Open) (next : Open → Next) (xs : List X) where
+  pub turn_learned : (i : ℕ) (x : X) (old new : Learned) → i < length xs → x ≡ get_or xs i x → AreLearned next (map meant (take i xs)) old → Adds (meant x) (next (meant x)) old new
+      → AreLearned next (map meant (take (i + 1) xs)) new
+  turn_learned i x old new inside here before adds =
+      let cut : take (i + 1) xs ≡ take i xs ++ x ∷ [] = rw add-one (take-suc xs i x inside ∙ ap (λ (y : X). take i xs ++ y ∷ []) (sym here)) in
+      subst (λ (qs : List Open). AreLearned next qs new) (sym (ap (λ (l : List X). map meant l) cut ∙ map_push meant (take i xs) x))
+      (more_learned next (map meant (take i xs)) (meant x) old new before adds)
+
+  take_all : (i : ℕ) (ys : List X) → length ys ≤ i → take i ys ≡ ys
+  take_all zero [] past = refl
+  take_all (suc i) [] past = refl
+  take_all zero (y ∷ ys) past = absurd (omega (arith, past))
+  take_all (suc i) (y ∷ ys) past = ap (λ (l : List X). y ∷ l) (take_all i ys (omega (arith, past)))
+
+  -- all of them
+  pub all_learned : (i : ℕ) (l : Learned) → length xs ≤ i → AreLearned next (map meant (take i xs)) l → AreLearned next (map meant xs) l
+  all_learned i l past are = subst (λ (ys : List X). AreLearned next (map meant ys) l) (take_all i xs past) are
 
 pub took_learn : (r : Router) (m : Letter) (told : TableTold) (fates : Vec Fate Global) (time : ℕ) (letters : List Letter) (replies : List ToLink) → m.body ≡ table_told_view told → time ≡ heard r m
-    → fated r.requests fates.items ≡ flat_map (λ q. stay_in (next_at r (heard r m) told q)) r.requests
+    → fated r.requests fates.items ≡ flat_map (λ q. stay_in (next_at r time told q)) r.requests
     → letters ≡ flat_map (λ q. letters_in (next_at r time told q)) r.requests
     → replies ≡ puts_of (flat_map (λ q. replies_in (next_at r time told q)) r.requests)
     → TookRow r (letter_input m) letters replies (changed r (heard r m) r.begun r.moment (Learns told.table fates))
 took_learn r m told fates time letters replies is late becomes asked said =
-    subst (λ (l : List Open). TookRow r (letter_input m) letters replies (knows r (heard r m) (tables_told told r.tables) l)) (sym becomes) (record {
+    subst (λ (l : List Open). TookRow r (letter_input m) letters replies (knows r (heard r m) (tables_told told r.tables) l))
+    (sym (subst (λ (t : ℕ). fated r.requests fates.items ≡ flat_map (λ q. stay_in (next_at r t told q)) r.requests) late becomes)) (record {
       effect = record {
         written = [];
         mail = flat_map (λ q. letters_in (next_at r (heard r m) told q)) r.requests;

@@ -4,9 +4,7 @@ mod Heard
 mod Known
 mod Learning
 mod Puts
-mod Rest
 mod Started
 mod Shown
 mod Sent
 mod Told
-mod Without

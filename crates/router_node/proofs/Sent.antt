@@ -1,30 +1,102 @@
--- What requests send, by what the router knows.
-use Rattle.std.proofs.Common.{◌≡◌, ap, subst, ◌∙◌, ℕ, List, map}
+-- What becomes of open requests, by what the program finds of them.
+use Rattle.std.proofs.Common.{◌≡◌, refl, ap, sym, subst, ◌∙◌, ℕ, ◌≤◌, List, [], Bool, true, if◌then◌else◌}
+use Rattle.std.proofs.lemmas.Bool.{le-ltb}
 use Rattle.std.specs.Prelude.{Option}
-use Rattle.chunk_model.specs.Tables.{Table}
-use Rattle.node_model.specs.RouterRows.{going_on, table_for, wait_of, with_work}
-use Rattle.node_model.specs.States.{Open, Router, Target, Wait, Work}
-use Rattle.read_parts.specs.Parts.{target_view}
-use Rattle.router_requests.proofs.Sending.{sent_alike}
+use Rattle.chunk_model.specs.Tables.{Table, table_of}
+use Rattle.base_model.specs.Identities.{RequestId}
+use Rattle.command_replies.specs.Kinds.{kind_view}
+use Rattle.node_model.specs.RouterNext.{stays, begins_work, left_of, next_of, read_on, served_in_part, with_work}
+use Rattle.node_model.specs.RouterRequests.{asks_times, id_of}
+use Rattle.node_model.specs.States as states
+use Rattle.node_model.specs.States.{Open, Router, Telling, Work, for_time, reading}
+use Rattle.pipeline_model.specs.Stages.{Stage}
+use Rattle.protocol_model.specs.Bodies.{at_view}
+use Rattle.protocol_model.specs.declared.statement.StatementOutcome.{StatementOutcome}
+use Rattle.protocol_model.specs.declared.tables.TableTold.{TableTold}
+use Rattle.router_requests.proofs.Alike.{begins_alike, begun_next_alike, next_alike, next_view_alike, read_alike, write_alike, write_next_alike}
+use Rattle.router_requests.proofs.ByTables.{begins_known, read_known, write_known}
 use Rattle.router_requests.specs.Askers.{asking}
-use Rattle.router_requests.specs.Sends.{IsSent, IsSentBy}
-use Rattle.router_requests.specs.Works.{wait_view}
-use Rattle.router_requests.specs.declared.sends.Sends.{Sends}
+use Rattle.router_requests.specs.Nexts.{begins_by, begun_next, next_view, read_by, read_next, write_by, write_next}
+use Rattle.router_requests.specs.Works.{open_view, read_at, stages_of, statements_of, telling_view, work_of}
+use Rattle.router_requests.specs.declared.begins.Begun.{Begun}
+use Rattle.router_requests.specs.declared.reads.Sends.{Sends}
+use Rattle.router_requests.specs.declared.read.OpenRead.{OpenRead}
+use Rattle.router_requests.specs.declared.tables.Next.{Next}
+use Rattle.router_requests.specs.declared.work.OpenRequest.{OpenRequest}
+use Rattle.router_requests.specs.declared.write.OpenWrite.{OpenWrite}
+use Rattle.router_requests.specs.declared.writes.WriteNext.{WriteNext}
+use Rattle.router_requests.specs.declared.writes.WriteNext.TheVariants.{GoesOn, IsWritten}
+use Rattle.write_runs.specs.Runs.{answers_view, course_view, runs_view}
+use Rattle.write_runs.specs.declared.run.Run.{Run}
+use Rattle.router_node.specs.News.{next_noted}
+use Rattle.router_node.specs.Nexts.{made_by, next_at, tables_told}
 
--- it does not depend on what else the router knows
-pub sent_by_known : (r : Router) (time count : ℕ) (namespace : List ℕ) (work : Work) (known : Option Table) (s : Sends) → known ≡ table_for r.tables namespace work
-    → IsSent (asking r.me r.shards r.life) time count namespace work known s → IsSentBy r time count namespace work s
-sent_by_known r time count namespace work known s is sent =
-    subst (λ (o : Option Table). IsSent r time count namespace work o s) is (sent_alike r time count namespace work known s sent)
+module _ (r a : Router) (time : ℕ) (same : a ≡ asking r.me r.shards r.life) where
+  -- work that begins
+  pub begins_so : (q : Open) (count : ℕ) (work : RequestId → Work) (known : Option Table) (begun : Begun) → known ≡ table_of q.namespace r.tables
+      → begins_by a time known q (work (id_of a count)) ≡ begun_next a time q (work (id_of a count)) begun
+      → begins_work r time q (work (id_of r count)) ≡ begun_next r time q (work (id_of r count)) begun
+  begins_so q count work known begun is next =
+      begins_known r time q (work (id_of r count))
+      ∙ ap (λ (o : Option Table). begins_by r time o q (work (id_of r count))) (sym is)
+      ∙ sym (begins_alike r time known q (work (id_of r count)))
+      ∙ subst (λ (x : Router). begins_by x time known q (work (id_of x count)) ≡ begun_next x time q (work (id_of x count)) begun) same next
+      ∙ begun_next_alike r time q (work (id_of r count)) begun
 
--- a read of a time that is reached
-pub sent_reached : (r : Router) (time count : ℕ) (namespace : List ℕ) (read work : Work) (known : Option Table) (s : Sends) → known ≡ table_for r.tables namespace read → read ≡ work
-    → IsSent (asking r.me r.shards r.life) time count namespace read known s → IsSentBy r time count namespace work s
-sent_reached r time count namespace read work known s is same sent =
-    subst (λ (w : Work). IsSentBy r time count namespace w s) same (sent_by_known r time count namespace read known s is sent)
+  -- an open request after a table arrives
+  pub learns_so : (told : TableTold) (request : OpenRequest) (made : Bool) (next : Next) → made ≡ made_by told
+      → next_of a time (tables_told told r.tables) told.namespace made (at_view told.at) (open_view a.me a.life request) ≡ next_view a time (open_view a.me a.life request) next
+      → next_at r time told (open_view r.me r.life request) ≡ next_view r time (open_view r.me r.life request) next
+  learns_so told request made next is found =
+      let q = open_view r.me r.life request in
+      ap (λ (b : Bool). next_of r time (tables_told told r.tables) told.namespace b (at_view told.at) q) (sym is)
+      ∙ sym (next_alike r time (tables_told told r.tables) told.namespace made (at_view told.at) q)
+      ∙ subst (λ (x : Router). next_of x time (tables_told told r.tables) told.namespace made (at_view told.at) (open_view x.me x.life request)
+      ≡ next_view x time (open_view x.me x.life request) next) same found
+      ∙ next_view_alike r time q next
 
--- the open request proceeds
-pub goes_on : (r : Router) (time : ℕ) (q : Open) (work : Work) (s : Sends) → IsSentBy r time q.count q.namespace work s
-    → with_work q (wait_view s.wait) (map target_view s.targets.items) work ≡ going_on r time q work
-goes_on r time q work s sent =
-    ap (λ (w : Wait). with_work q w (map target_view s.targets.items) work) sent.wait ∙ ap (λ (ts : List Target). with_work q (wait_of r time q.namespace work) ts work) sent.targets
+  -- what becomes of a write does not depend on what was under way before
+  runs_other : (q : Open) (id : RequestId) (write : OpenWrite) (answers : List (Option StatementOutcome)) (runs others : List Run) (next : WriteNext)
+      → write_next r time q (work_of id write answers runs) next ≡ write_next r time q (work_of id write answers others) next
+  runs_other q id write answers runs others (GoesOn s) = refl
+  runs_other q id write answers runs others (IsWritten answer) = refl
+
+  -- an open write that has these answers
+  pub notes_on : (q : Open) (write : OpenWrite) (answers : List (Option StatementOutcome)) (rest left : List Run) (known : Option Table) (next : WriteNext) → known ≡ table_of q.namespace r.tables
+      → runs_view rest ≡ left_of (answers_view answers) (served_in_part (answers_view answers) (runs_view write.runs.items))
+      → runs_view left ≡ left_of (answers_view answers) (runs_view write.runs.items)
+      → write_by a time known write.ordered (runs_view rest) q (kind_view write.kind) write.ordered (statements_of (id_of a q.count) write) (course_view answers left)
+      ≡ write_next a time q (work_of (id_of a q.count) write answers left) next
+      → next_noted r time q write answers ≡ write_next r time q (work_of (id_of r q.count) write answers write.runs.items) next
+  notes_on q write answers rest left known next is again kept found =
+      let kind = kind_view write.kind in
+      let statements = statements_of (id_of r q.count) write in
+      let now = answers_view answers in
+      let served = served_in_part now (runs_view write.runs.items) in
+      write_known r time r.tables write.ordered served q kind write.ordered statements (record { answers = now; runs = left_of now (runs_view write.runs.items) })
+      ∙ ap (λ (o : Option Table). write_by r time o write.ordered (left_of now served) q kind write.ordered statements (record { answers = now; runs = left_of now (runs_view write.runs.items) })) (sym is)
+      ∙ ap (λ (runs : List states.Run). write_by r time known write.ordered runs q kind write.ordered statements (record { answers = now; runs = left_of now (runs_view write.runs.items) })) (sym again)
+      ∙ ap (λ (runs : List states.Run). write_by r time known write.ordered (runs_view rest) q kind write.ordered statements (record { answers = now; runs = runs })) (sym kept)
+      ∙ sym (write_alike r time known write.ordered (runs_view rest) q kind write.ordered statements (course_view answers left))
+      ∙ subst (λ (x : Router). write_by x time known write.ordered (runs_view rest) q kind write.ordered (statements_of (id_of x q.count) write) (course_view answers left)
+      ≡ write_next x time q (work_of (id_of x q.count) write answers left) next) same found
+      ∙ write_next_alike r time q (work_of (id_of r q.count) write answers left) next
+      ∙ runs_other q (id_of r q.count) write answers left write.runs.items next
+
+  -- a read of a time that is reached
+  begins_at : (q : Open) (named : Bool) (at : ℕ) (stages : List Stage) (telling : Telling) → at ≤ time
+      → begins_work r time q (reading named at stages telling) ≡ read_on r time r.tables true q named at stages telling
+  begins_at q named at stages telling come =
+      ap (λ (b : Bool). if b then stays (with_work q for_time [] (reading named at stages telling)) (asks_times r time (id_of r q.count) []) else read_on r time r.tables true q named at stages telling)
+      (le-ltb time at come)
+
+  pub reads_on : (q : Open) (read : OpenRead) (at : ℕ) (work : Work) (known : Option Table) (s : Sends) → known ≡ table_of q.namespace r.tables → at ≤ time → read_at read at ≡ work
+      → read_by a time known true q read.named at (stages_of read.parts) (telling_view read.telling) ≡ read_next q (read_at read at) s
+      → begins_work r time q work ≡ read_next q work s
+  reads_on q read at work known s is come reads found =
+      subst (λ (w : Work). begins_work r time q w ≡ read_next q w s) reads
+      (begins_at q read.named at (stages_of read.parts) (telling_view read.telling) come
+      ∙ read_known r time r.tables true q read.named at (stages_of read.parts) (telling_view read.telling)
+      ∙ ap (λ (o : Option Table). read_by r time o true q read.named at (stages_of read.parts) (telling_view read.telling)) (sym is)
+      ∙ sym (read_alike r time known true q read.named at (stages_of read.parts) (telling_view read.telling))
+      ∙ subst (λ (x : Router). read_by x time known true q read.named at (stages_of read.parts) (telling_view read.telling) ≡ read_next q (read_at read at) s) same found)

@@ -15,7 +15,9 @@ use Rattle.node_model.specs.Journal.{kept_block}
 use Rattle.node_model.specs.Letters.{Letter, client_input}
 use Rattle.base_model.specs.Refusals.{cursor_evidence}
 use Rattle.opmsg_model.specs.Requests.{Request}
-use Rattle.node_model.specs.RouterRows.{RouterRow, Opened, router_more, router_no_cursor, router_kill, answers_at_once, as_before, gives_number, heard, id_of, needs_batch, needs_end, next_number, plan_of, reply_to}
+use Rattle.node_model.specs.RouterRequests.{heard, id_of, needs_batch, needs_end, plan_of}
+use Rattle.node_model.specs.RouterNext.{reply_to}
+use Rattle.node_model.specs.RouterRows.{RouterRow, Opened, router_more, router_no_cursor, router_kill, answers_at_once, as_before, gives_number, next_number}
 use Rattle.node_model.specs.States.{Open, Router}
 use Rattle.node_traits.specs.Effects.{AreReadable, puts_of}
 use Rattle.node_traits.specs.declared.outputs.ToLink.{ToLink}

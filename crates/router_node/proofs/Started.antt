@@ -5,19 +5,23 @@ use Rattle.std.specs.List.{flat_map}
 use Rattle.command_model.specs.Answers.{Answer, answer_document}
 use Rattle.command_model.specs.Command.{command_of}
 use Rattle.node_model.specs.Journal.{kept_life}
-use Rattle.node_model.specs.Letters.{Letter, Input, client_input, letter_input, moment_input, opened_input, Effect, nothing, sends, writes}
+use Rattle.node_model.specs.Letters.{Letter, Input, Reply, client_input, letter_input, moment_input, opened_input, Effect, nothing, sends, writes}
 use Rattle.opmsg_model.specs.Requests.{Request}
-use Rattle.node_model.specs.RouterRows.{RouterRow, router_begin, router_opened, router_plain, router_take, router_moment, router_skip, TellsNothing, begins, takes, plan_of, at_once, needs, id_of, asks_for, asks_times, asks_again, wait_of, opened_request, is_ahead, table_for, taken_now, targets_for}
+use Rattle.node_model.specs.RouterRequests.{plan_of, at_once, id_of}
+use Rattle.node_model.specs.RouterNext.{Next, stays, is_told, asks_again, letters_in, replies_in, stay_in, with_work}
+use Rattle.node_model.specs.RouterRows.{RouterRow, router_begin, router_opened, router_plain, router_take, router_moment, router_skip, TellsNothing, begins, takes, opened_request, taken_now}
 use Rattle.node_model.specs.States.{Router, Work, Wait, Open, Target, Part, router_state}
 use Rattle.node_model.specs.Steps.{Step, IsFor, BeginsBefore, router_step, begin_step, other_step}
 use Rattle.base_model.specs.Times.{time_of_moment}
 use Rattle.node_traits.specs.Effects.{AreReadable, puts_of, spellings}
 use Rattle.node_traits.specs.declared.outputs.ToLink.{ToLink}
+use Rattle.cluster_base.specs.declared.identity.NodeId.{NodeId}
 use Rattle.read_parts.specs.Parts.{part_view, target_view}
-use Rattle.router_requests.proofs.Askers.{asked_alike}
+use Rattle.read_parts.specs.declared.parts.Part.{Part as PartTold}
 use Rattle.router_requests.specs.Works.{numbers_of, open_view, wait_view, work_view}
 use Rattle.router_requests.specs.declared.work.OpenRequest.{OpenRequest}
 use Rattle.protocol_model.specs.Heads.{head_request}
+use Rattle.router_node.specs.Begins.{Begins}
 use Rattle.router_node.specs.Rows.{TookRow, started, life_kept}
 use Rattle.router_node.proofs.Heard.{follows_so}
 use Rattle.router_node.specs.StepPlans.{FollowsBy, Hears, IsHeard, IsPlanned, Starts, changed, count_then, router_then}
@@ -146,51 +150,55 @@ module _ (r : Router) (link : ℕ) (number : ℤ) (request : Request) (answer : 
     told = told;
   }
 
-asked_started : (r : Router) (time count : ℕ) (namespace : List ℕ) (work : Work) → asks_for (started r) time count namespace work ≡ asks_for r time count namespace work
-asked_started r time count namespace work =
-    ap (λ (l : List Letter). if is_ahead time work then asks_times r time (id_of r count) [] else l)
-    (sym (asked_alike (started r) time count namespace work (table_for r.tables namespace work)) ∙ asked_alike r time count namespace work (table_for r.tables namespace work))
-
 -- by its parts
-same_open : (link : ℕ) (number : ℤ) (request : Request) (namespace : List ℕ) (work : Work) (a b : ℕ) (w v : Wait) (s t : List ℕ) (x y : List Target) (p q : List Part)
-    → a ≡ b → w ≡ v → s ≡ t → x ≡ y → p ≡ q
-    → ◌≡◌ {A = Open} (record { count = a; link = link; number = number; request = request; namespace = namespace; wait = w; told = s; targets = x; parts = p; work = work })
-    (record { count = b; link = link; number = number; request = request; namespace = namespace; wait = v; told = t; targets = y; parts = q; work = work })
-same_open link number request namespace work a b w v s t x y p q count waits told targets parts = rw (count, waits, told, targets, parts) refl
+same_open : (q : Open) (work : Work) (wait : Wait) (targets : List Target) (a : ℕ) (told : List ℕ) (parts : List Part) → a ≡ q.count → told ≡ q.told → parts ≡ []
+    → ◌≡◌ {A = Open} (record { count = a; link = q.link; number = q.number; request = q.request; namespace = q.namespace; wait = wait; told = told; targets = targets; parts = parts; work = work })
+    (with_work q wait targets work)
+same_open q work wait targets a told parts count shards none = rw (count, shards, none) refl
 
-module _ (r : Router) (o : OpenRequest) (next : o.count ≡ r.count + 1) where
-  abbrev work : Work
-  work = work_view (id_of r o.count) o.work
+-- a request whose work begins
+module _ (r : Router) (link : ℕ) (number : ℤ) (request : Request) (namespace : List ℕ) (needed : Work) (next : Next) (begun : Begins r link number request namespace needed next) where
+  abbrev effect : Next → Effect
+  effect n = record { written = []; mail = letters_in n; taken = taken_now (started r) link number request ∷ []; replies = replies_in n }
 
-  abbrev request : Request
-  request = head_request o.head
+  abbrev Takes : Next → Type 0
+  Takes n = RouterRow (started r) (client_input link number request) (effect n) (takes (started r) (stay_in n))
 
-  opens : numbers_of o.told.items ≡ [] → wait_view o.wait ≡ wait_of r r.time o.namespace work → map target_view o.targets.items ≡ targets_for r r.time o.namespace work → map part_view o.parts.items ≡ []
-      → open_view r.me r.life o ≡ opened_request (started r) o.link o.number request o.namespace work
-  opens none waits sent no_parts =
-      same_open o.link o.number request o.namespace work o.count (r.count + 1) (wait_view o.wait) (wait_of r r.time o.namespace work) (numbers_of o.told.items) []
-      (map target_view o.targets.items) (targets_for r r.time o.namespace work) (map part_view o.parts.items) [] next waits none sent no_parts
+  took : Takes next
+  took = subst (λ (n : Next). Takes n) begun.begins (router_take (started r) link number request namespace needed refl begun.plan)
 
-  abbrev effect : Effect
-  effect = record { written = []; mail = asks_for (started r) r.time (r.count + 1) o.namespace work; taken = taken_now (started r) o.link o.number request ∷ []; replies = [] }
-
-  -- kept open
-  pub took_open : (letters : List Letter) → plan_of (started r) (id_of r o.count) (head_request o.head).more (command_of (head_request o.head)) ≡ needs o.namespace (work_view (id_of r o.count) o.work)
-      → letters ≡ asks_for r r.time o.count o.namespace (work_view (id_of r o.count) o.work)
-      → numbers_of o.told.items ≡ []
-      → wait_view o.wait ≡ wait_of r r.time o.namespace (work_view (id_of r o.count) o.work)
-      → map target_view o.targets.items ≡ targets_for r r.time o.namespace (work_view (id_of r o.count) o.work)
-      → map part_view o.parts.items ≡ []
-      → TookRow (started r) (client_input o.link o.number (head_request o.head)) letters [] (changed r r.time true r.moment (Opens o))
-  took_open letters plan asked none waits sent no_parts = record {
-    effect = effect;
-    row = subst (λ (x : Open). RouterRow (started r) (client_input o.link o.number request) effect (takes (started r) (x ∷ []))) (sym (opens none waits sent no_parts))
-        (router_take (started r) o.link o.number request o.namespace work refl
-        (subst (λ (n : ℕ). plan_of (started r) (id_of r n) request.more (command_of request) ≡ needs o.namespace work) next plan));
+  -- it is kept open
+  pub took_open : (o : OpenRequest) (letters : List Letter) → next ≡ stays (open_view r.me r.life o) letters
+      → TookRow (started r) (client_input link number request) letters [] (changed r r.time true r.moment (Opens o))
+  took_open o letters is = record {
+    effect = effect (stays (open_view r.me r.life o) letters);
+    row = subst (λ (n : Next). Takes n) is took;
     written = refl;
-    sent = asked_started r r.time (r.count + 1) o.namespace work ∙ sym (subst (λ (n : ℕ). letters ≡ asks_for r r.time n o.namespace work) next asked);
+    sent = refl;
     told = refl;
   }
+
+  -- it is answered
+  pub took_done : (reply : Reply) (replies : List ToLink) → next ≡ is_told reply → replies ≡ puts_of (reply ∷ [])
+      → TookRow (started r) (client_input link number request) [] replies (changed r r.time true r.moment Counts)
+  took_done reply replies is told = record {
+    effect = effect (is_told reply);
+    row = subst (λ (l : List Open). RouterRow (started r) (client_input link number request) (effect (is_told reply))
+        (record { me = r.me; shards = r.shards; time = r.time; life = r.life; begun = true; moment = r.moment; count = r.count + 1; tables = r.tables; requests = l; cursors = r.cursors; blocks = r.blocks; gave = r.gave }))
+        (append-nil r.requests) (subst (λ (n : Next). Takes n) is took);
+    written = refl;
+    sent = refl;
+    told = told;
+  }
+
+-- an open request that was sent, of a request that just came
+pub opens_so : (r : Router) (o : OpenRequest) (needed : Work) → o.count ≡ r.count + 1 → o.told.items ≡ [] → o.parts.items ≡ []
+    → with_work (opened_request (started r) o.link o.number (head_request o.head) o.namespace needed) (wait_view o.wait) (map target_view o.targets.items) (work_view (id_of r o.count) o.work)
+    ≡ open_view r.me r.life o
+opens_so r o needed next untold none =
+    let q = opened_request (started r) o.link o.number (head_request o.head) o.namespace needed in
+    sym (same_open q (work_view (id_of r o.count) o.work) (wait_view o.wait) (map target_view o.targets.items) o.count (numbers_of o.told.items) (map part_view o.parts.items)
+    next (ap (λ (l : List NodeId). numbers_of l) untold) (ap (λ (l : List PartTold). map part_view l) none))
 
 -- what is unanswered is requested again
 pub took_moment : (r : Router) (moment time : ℕ) (letters : List Letter) → time ≡ max r.time (time_of_moment moment) → letters ≡ flat_map (λ q. asks_again (started r) time q) r.requests
@@ -238,7 +246,7 @@ quiet_then r begun (Closes count) quiet follows not_begun = quiet (follows not_b
 quiet_then r begun (Reaches count wait targets) quiet follows not_begun = quiet (follows.0 not_begun)
 quiet_then r begun (Told count told) quiet follows not_begun = quiet (follows.0 not_begun)
 quiet_then r begun (Gains count shard rows) quiet follows not_begun = quiet (follows.0 not_begun)
-quiet_then r begun (Notes count wait answers) quiet follows not_begun = quiet (follows.0 not_begun)
+quiet_then r begun (Notes count wait answers runs) quiet follows not_begun = quiet (follows.0 not_begun)
 quiet_then r begun (Learns table fates) quiet follows not_begun = quiet (follows not_begun)
 quiet_then r begun (Shelves count opened) quiet follows not_begun = quiet (follows.0 not_begun)
 quiet_then r begun (Advances number shown) quiet follows not_begun = absurd (cc (sym follows.0 ∙ not_begun))

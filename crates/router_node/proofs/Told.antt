@@ -10,7 +10,8 @@ use Rattle.pipeline_model.specs.Halves.{Merge, Rows, MergesInTurn}
 use Rattle.pipeline_model.specs.Lengths.{excess_of_answer}
 use Rattle.node_model.specs.Letters.{Letter, HalfFault, half_excess, half_overflow}
 use Rattle.base_model.specs.Refusals.{without_evidence}
-use Rattle.node_model.specs.RouterRows.{also_part, as_before, awaited, batch_of, gives_number, new_cursor, next_number, rows_of, router_excess, router_overflow, router_read, tells_batch, tells_cursor, tells_excess, tells_number, tells_overflow, too_much}
+use Rattle.node_model.specs.RouterNext.{also_part, awaited, rows_of}
+use Rattle.node_model.specs.RouterRows.{as_before, batch_of, gives_number, new_cursor, next_number, router_excess, router_overflow, router_read, tells_batch, tells_cursor, tells_excess, tells_number, tells_overflow, too_much}
 use Rattle.pipeline_model.specs.Runs.{Outcome, count_documents, listed, overflowed}
 use Rattle.pipeline_model.specs.Split.{split}
 use Rattle.pipeline_model.specs.Stages.{Stage}

@@ -1,19 +1,29 @@
 -- Outcomes that are new to an open write.
-use Rattle.std.specs.Prelude.{◌≡◌, ◌≢◌, Bool, List, Some}
+use Rattle.std.specs.Prelude.{◌≡◌, ◌≢◌, ℕ, List, Option, Some}
 use Rattle.base_model.specs.Identities.{RequestId}
-use Rattle.node_model.specs.Letters.{Letter, Statement, write_done}
+use Rattle.command_replies.specs.Kinds.{kind_view}
+use Rattle.node_model.specs.Letters.{Letter, write_done}
 use Rattle.reply_model.specs.Outcomes.{Done}
-use Rattle.node_model.specs.RouterRows.{noted, open_of}
-use Rattle.node_model.specs.States.{Open, Router, writing}
-use Rattle.command_model.specs.Writes.{WriteKind}
+use Rattle.node_model.specs.RouterRequests.{id_of}
+use Rattle.node_model.specs.RouterNext.{Next, noted, served_in_part, settled, write_on}
+use Rattle.node_model.specs.RouterRows.{open_of}
+use Rattle.node_model.specs.States.{Open, Router}
+use Rattle.protocol_model.specs.declared.statement.StatementOutcome.{StatementOutcome}
+use Rattle.router_requests.specs.Works.{statements_of, write_view}
+use Rattle.router_requests.specs.declared.write.OpenWrite.{OpenWrite}
+use Rattle.write_runs.specs.Runs.{answers_view, course_view, runs_view}
 
--- the message has outcomes for an open write, of these statements; with them its answers are these, which are more than it had
-pub record IsNews (r : Router) (m : Letter) (id : RequestId) (q : Open) (kind : WriteKind) (ordered : Bool)
-    (statements : List Statement) (answers : List Done) : Type 0 where
+-- the message has outcomes for an open write; with them its answers are these, which are more than it had
+pub record IsNews (r : Router) (m : Letter) (id : RequestId) (q : Open) (write : OpenWrite) (answers : List (Option StatementOutcome)) : Type 0 where
   pub dones : List Done
-  pub before : List Done
   pub opened : open_of r id ≡ Some q
   pub body : m.body ≡ write_done id dones
-  pub work : q.work ≡ writing kind ordered statements before
-  pub are : noted before dones ≡ answers
-  pub news : noted before dones ≢ before
+  pub work : q.work ≡ write_view (id_of r q.count) write
+  pub are : noted write.ordered (answers_view write.answers.items) dones ≡ answers_view answers
+  pub news : noted write.ordered (answers_view write.answers.items) dones ≢ answers_view write.answers.items
+
+-- what becomes of it at a time
+abbrev pub next_noted : Router → (time : ℕ) → Open → OpenWrite → List (Option StatementOutcome) → Next
+next_noted r time q write answers =
+    write_on r time r.tables write.ordered (served_in_part (answers_view answers) (runs_view write.runs.items)) q (kind_view write.kind) write.ordered
+    (statements_of (id_of r q.count) write) (settled (course_view write.answers.items write.runs.items) (answers_view answers))

@@ -2,7 +2,7 @@
 use Rattle.std.specs.Prelude.{ℕ, List, Bool}
 use Rattle.std.specs.Arc.{arc_value}
 use Rattle.std.specs.Option.{option_map}
-use Rattle.node_model.specs.RouterRows.{Next, adopted, next_of, was_created}
+use Rattle.node_model.specs.RouterNext.{Next, adopted, next_of, was_created}
 use Rattle.node_model.specs.States.{Open, Router}
 use Rattle.chunk_model.specs.Tables.{Table}
 use Rattle.protocol_model.specs.Bodies.{at_view}

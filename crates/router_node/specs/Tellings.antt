@@ -3,7 +3,9 @@ use Rattle.std.specs.Prelude.{◌≡◌, ℕ, List, [], ◌∷◌, Result, Some,
 use Rattle.base_model.specs.Identities.{RequestId}
 use Rattle.command_model.specs.Answers.{Answer}
 use Rattle.node_model.specs.Letters.{Letter, HalfFault, letter_input, read_rows}
-use Rattle.node_model.specs.RouterRows.{RouterRow, Opened, Tells, is_target, open_of, opens, heard, knows, reply_to}
+use Rattle.node_model.specs.RouterRequests.{heard}
+use Rattle.node_model.specs.RouterNext.{is_target, knows, reply_to}
+use Rattle.node_model.specs.RouterRows.{RouterRow, Opened, Tells, open_of, opens}
 use Rattle.pipeline_model.specs.Halves.{Merge, MergesInTurn, Rows}
 use Rattle.pipeline_model.specs.Runs.{Outcome}
 use Rattle.node_model.specs.States.{Telling, Open, Router, without}

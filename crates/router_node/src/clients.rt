@@ -7,9 +7,10 @@ use cluster_base::Namespace;
 use command_replies::Answer;
 use node_traits::MailList;
 use opmsg_frames::Request;
-use protocol_model::Head;
+use protocol_model::{Head, Message};
+use read_parts::Target;
 use router_replies::{RequestPlan, reply_to};
-use router_requests::{OpenRequest, Work};
+use router_requests::{Begun, OpenRequest, Sends, Wait, Work, WriteNext, WriteSends, spare_list};
 
 /// The head of a request that arrived on a link; the number is that of its reply.
 #[derive(Drop)]
@@ -20,31 +21,115 @@ pub(crate) struct Asked {
 }
 
 impl RouterNode {
-    ghost use Rattle.std.specs.Prelude.{◌≡◌, ◌<◌, ◌+◌, ◌-◌, ◌^◌, IfOk};
+    ghost use Rattle.std.specs.Prelude.{◌≡◌, ◌<◌, ◌+◌, ◌-◌, ◌^◌, ℕ, IfOk, List, map};
     ghost use Rattle.command_replies.specs.AnswerMeanings.{answer_view};
     ghost use Rattle.command_model.specs.Command.{command_of};
     ghost use Rattle.node_model.specs.Letters.{client_input};
-    ghost use Rattle.node_model.specs.RouterRows as rows;
+    ghost use Rattle.node_model.specs.RouterRequests as requested;
+    ghost use Rattle.node_model.specs.RouterNext.{is_told, reply_to, stays, with_work};
+    ghost use Rattle.node_model.specs.RouterRows.{opened_request};
+    ghost use Rattle.node_model.specs.States as states;
+    ghost use Rattle.protocol_model.specs.Messages.{letter_of};
+    ghost use Rattle.read_parts.specs.Parts.{target_view};
     ghost use Rattle.router_requests.specs.Lists.{taken_of};
-    ghost use Rattle.router_requests.specs.Works.{work_view};
+    ghost use Rattle.router_requests.specs.Nexts.{write_next};
+    ghost use Rattle.router_requests.specs.Works.{wait_view, work_view};
     ghost use Rattle.protocol_model.specs.Heads.{head_request};
     ghost use Rattle.protocol_model.specs.Requests.{request_of};
     ghost use Rattle.router_node.specs.RouterStates.{router_of};
+    ghost use Rattle.router_node.specs.Begins.{Begins};
     ghost use Rattle.router_node.specs.Rows.{started};
     ghost use Rattle.router_node.specs.StepPlans.{IsPlanned};
 
     // Returns the plan for a request that is answered at once, or `Memory` if memory runs out.
     fn plan_plain(&self, asked: Asked, answer: Answer) -> Result<StepPlan, Memory>
         requires few { taken_of self.now.requests < 2 ^ 64 - 1 }
-        requires plan { rows.plan_of (started (router_of self.now))
-            (rows.id_of (router_of self.now) (taken_of self.now.requests + 1)) asked.head.more (command_of (head_request asked.head))
-            ≡ rows.at_once (answer_view answer) }
+        requires plan { requested.plan_of (started (router_of self.now))
+            (requested.id_of (router_of self.now) (taken_of self.now.requests + 1)) asked.head.more (command_of (head_request asked.head))
+            ≡ requested.at_once (answer_view answer) }
         ensures { IfOk result (λ p. IsPlanned (router_of self.now) (client_input asked.link asked.number (head_request asked.head)) p) }
     {
         let Asked { link, number, head } = asked;
         let reply = reply_to(self.alloc, link, number, &head, &answer)?;
         let mail = MailList::new(self.alloc);
         self.starts(self.time, self.moment, Change::Counts, mail, reply)
+    }
+
+    // Returns the plan for a request whose work begins, and which waits for this after it was sent to these shards. Returns `Memory` if memory runs out.
+    fn plan_waits(
+        &self,
+        asked: Asked,
+        count: u64,
+        namespace: Namespace,
+        wait: Wait,
+        targets: Vec<Target>,
+        work: Work,
+        mail: Vec<Message>,
+    ) -> Result<StepPlan, Memory>
+        requires few { taken_of self.now.requests < 2 ^ 64 - 1 }
+        requires next { count ≡ taken_of self.now.requests + 1 }
+        ensures { (needed : states.Work) → Begins (router_of self.now) asked.link asked.number (head_request asked.head) namespace needed
+            (stays (with_work (opened_request (started (router_of self.now)) asked.link asked.number (head_request asked.head) namespace needed)
+            (wait_view wait) (map target_view targets.items) (work_view (requested.id_of (router_of self.now) count) work)) (map letter_of mail.items)) →
+            IfOk result (λ p. IsPlanned (router_of self.now) (client_input asked.link asked.number (head_request asked.head)) p) }
+    {
+        let Asked { link, number, head } = asked;
+        let opened = OpenRequest {
+            count,
+            link,
+            number,
+            head,
+            namespace,
+            wait,
+            told: Vec::new(self.alloc),
+            targets,
+            parts: Vec::new(self.alloc),
+            work,
+        };
+        let mail = spare_list(self.alloc, mail)?;
+        self.starts(self.time, self.moment, Change::Opens(opened), mail, None)
+    }
+
+    // Returns the plan for a request whose work is done when it begins. Returns `Memory` if memory runs out.
+    fn plan_done(&self, asked: Asked, answer: &Answer) -> Result<StepPlan, Memory>
+        requires few { taken_of self.now.requests < 2 ^ 64 - 1 }
+        ensures { (namespace : List ℕ) (needed : states.Work) → Begins (router_of self.now) asked.link asked.number (head_request asked.head) namespace needed
+            (is_told (reply_to (router_of self.now) self.now.time.0
+            (opened_request (started (router_of self.now)) asked.link asked.number (head_request asked.head) namespace needed) (answer_view answer.now))) →
+            IfOk result (λ p. IsPlanned (router_of self.now) (client_input asked.link asked.number (head_request asked.head)) p) }
+    {
+        let Asked { link, number, head } = asked;
+        let reply = reply_to(self.alloc, link, number, &head, answer)?;
+        let mail = MailList::new(self.alloc);
+        self.starts(self.time, self.moment, Change::Counts, mail, reply)
+    }
+
+    // Returns the plan for a write that begins, and of which this becomes. Returns `Memory` if memory runs out.
+    fn plan_begun(
+        &self,
+        asked: Asked,
+        count: u64,
+        namespace: Namespace,
+        work: Work,
+        next: WriteNext,
+    ) -> Result<StepPlan, Memory>
+        requires few { taken_of self.now.requests < 2 ^ 64 - 1 }
+        requires next { count ≡ taken_of self.now.requests + 1 }
+        ensures { (needed : states.Work) → needed ≡ work_view (requested.id_of (router_of self.now) count) work →
+            Begins (router_of self.now) asked.link asked.number (head_request asked.head) namespace needed
+            (write_next (started (router_of self.now)) self.now.time.0
+            (opened_request (started (router_of self.now)) asked.link asked.number (head_request asked.head) namespace needed) needed next) →
+            IfOk result (λ p. IsPlanned (router_of self.now) (client_input asked.link asked.number (head_request asked.head)) p) }
+    {
+        match next {
+            WriteNext::GoesOn(sends) => {
+                let WriteSends { wait, runs, mail } = sends;
+                let work = work.with_runs(runs);
+                let targets = Vec::new(self.alloc);
+                self.plan_waits(asked, count, namespace, wait, targets, work, mail)
+            }
+            WriteNext::IsWritten(answer) => self.plan_done(asked, &answer),
+        }
     }
 
     // Returns the plan for a request that needs work, or `Memory` if memory runs out.
@@ -57,27 +142,25 @@ impl RouterNode {
     ) -> Result<StepPlan, Memory>
         requires few { taken_of self.now.requests < 2 ^ 64 - 1 }
         requires next { count ≡ taken_of self.now.requests + 1 }
-        requires plan { rows.plan_of (started (router_of self.now))
-            (rows.id_of (router_of self.now) count) asked.head.more (command_of (head_request asked.head))
-            ≡ rows.needs namespace (work_view (rows.id_of (router_of self.now) count) work) }
+        requires plan { requested.plan_of (started (router_of self.now))
+            (requested.id_of (router_of self.now) count) asked.head.more (command_of (head_request asked.head))
+            ≡ requested.needs namespace (work_view (requested.id_of (router_of self.now) count) work) }
         ensures { IfOk result (λ p. IsPlanned (router_of self.now) (client_input asked.link asked.number (head_request asked.head)) p) }
     {
-        let sends = self.sends_for(self.time, count, &namespace, &work)?;
-        let Asked { link, number, head } = asked;
-        let opened = OpenRequest {
-            count,
-            link,
-            number,
-            head,
-            namespace,
-            wait: sends.wait,
-            told: Vec::new(self.alloc),
-            targets: sends.targets,
-            parts: Vec::new(self.alloc),
-            work,
-        };
-        let change = Change::Opens(opened);
-        self.starts(self.time, self.moment, change, sends.mail, None)
+        let table = self.table_of(&namespace);
+        let asker = self.asker();
+        let begun = asker.begins_work(self.alloc, self.time, count, &namespace, table, &work)?;
+        match begun {
+            Begun::Waits(sends) => {
+                let Sends {
+                    wait,
+                    targets,
+                    mail,
+                } = sends;
+                self.plan_waits(asked, count, namespace, wait, targets, work, mail)
+            }
+            Begun::Writes(next) => self.plan_begun(asked, count, namespace, work, next),
+        }
     }
 
     // Returns the plan for a request that arrives on a link; the number is that of its reply. Returns `Memory` if memory runs out.

@@ -16,7 +16,7 @@ impl RouterNode {
     ghost use Rattle.command_words.specs.Commands.{kill_view, more_view};
     ghost use Rattle.reply_model.specs.Cursors.{Cursor, ShowsNext, open_cursor};
     ghost use Rattle.node_model.specs.Letters.{client_input};
-    ghost use Rattle.node_model.specs.RouterRows as rows;
+    ghost use Rattle.node_model.specs.RouterRequests as requested;
     ghost use Rattle.router_requests.specs.Lists.{taken_of};
     ghost use Rattle.protocol_model.specs.Heads.{head_request};
     ghost use Rattle.router_cursors.specs.CursorLists.{advanced, batch_of};
@@ -28,14 +28,14 @@ impl RouterNode {
     // out.
     fn plan_next(&self, asked: Asked, more: GetMore, shown: Shown) -> Result<StepPlan, Memory>
         requires few { taken_of self.now.requests < 2 ^ 64 - 1 }
-        requires plan { rows.plan_of (started (router_of self.now))
-            (rows.id_of (router_of self.now) (taken_of self.now.requests + 1)) asked.head.more (command_of (head_request asked.head))
-            ≡ rows.needs_batch (more_view more) }
+        requires plan { requested.plan_of (started (router_of self.now))
+            (requested.id_of (router_of self.now) (taken_of self.now.requests + 1)) asked.head.more (command_of (head_request asked.head))
+            ≡ requested.needs_batch (more_view more) }
         requires shows { (c : Cursor)
-            × (open_cursor (rows.id_of (router_of self.now) (taken_of self.now.requests + 1)) more.cursor more.namespace (router_of self.now).cursors ≡ Some c)
-            × ShowsNext (rows.id_of (router_of self.now) (taken_of self.now.requests + 1)) more.size (router_of self.now).cursors c
+            × (open_cursor (requested.id_of (router_of self.now) (taken_of self.now.requests + 1)) more.cursor more.namespace (router_of self.now).cursors ≡ Some c)
+            × ShowsNext (requested.id_of (router_of self.now) (taken_of self.now.requests + 1)) more.size (router_of self.now).cursors c
             (batch_of more.cursor more.namespace shown)
-            (advanced (rows.id_of (router_of self.now) (taken_of self.now.requests + 1)) more.cursor (length shown.documents.items)
+            (advanced (requested.id_of (router_of self.now) (taken_of self.now.requests + 1)) more.cursor (length shown.documents.items)
             (router_of self.now).cursors) }
         ensures { IfOk result (λ p. IsPlanned (router_of self.now) (client_input asked.link asked.number (head_request asked.head)) p) }
     {
@@ -56,10 +56,10 @@ impl RouterNode {
     // Returns the plan for a request of the next batch of a cursor that is not open, or `Memory` if memory runs out.
     fn plan_not_open(&self, asked: Asked, more: GetMore) -> Result<StepPlan, Memory>
         requires few { taken_of self.now.requests < 2 ^ 64 - 1 }
-        requires plan { rows.plan_of (started (router_of self.now))
-            (rows.id_of (router_of self.now) (taken_of self.now.requests + 1)) asked.head.more (command_of (head_request asked.head))
-            ≡ rows.needs_batch (more_view more) }
-        requires none { open_cursor (rows.id_of (router_of self.now) (taken_of self.now.requests + 1)) more.cursor more.namespace
+        requires plan { requested.plan_of (started (router_of self.now))
+            (requested.id_of (router_of self.now) (taken_of self.now.requests + 1)) asked.head.more (command_of (head_request asked.head))
+            ≡ requested.needs_batch (more_view more) }
+        requires none { open_cursor (requested.id_of (router_of self.now) (taken_of self.now.requests + 1)) more.cursor more.namespace
             (router_of self.now).cursors ≡ None }
         ensures { IfOk result (λ p. IsPlanned (router_of self.now) (client_input asked.link asked.number (head_request asked.head)) p) }
     {
@@ -73,9 +73,9 @@ impl RouterNode {
     // Returns the plan for a request of the next batch of a cursor, or `Memory` if memory runs out.
     pub(crate) fn plan_more(&self, asked: Asked, more: GetMore) -> Result<StepPlan, Memory>
         requires few { taken_of self.now.requests < 2 ^ 64 - 1 }
-        requires plan { rows.plan_of (started (router_of self.now))
-            (rows.id_of (router_of self.now) (taken_of self.now.requests + 1)) asked.head.more (command_of (head_request asked.head))
-            ≡ rows.needs_batch (more_view more) }
+        requires plan { requested.plan_of (started (router_of self.now))
+            (requested.id_of (router_of self.now) (taken_of self.now.requests + 1)) asked.head.more (command_of (head_request asked.head))
+            ≡ requested.needs_batch (more_view more) }
         ensures { IfOk result (λ p. IsPlanned (router_of self.now) (client_input asked.link asked.number (head_request asked.head)) p) }
     {
         match self
@@ -91,9 +91,9 @@ impl RouterNode {
     // Returns the plan for a request to close cursors, or `Memory` if memory runs out.
     pub(crate) fn plan_end(&self, asked: Asked, kill: KillCursors) -> Result<StepPlan, Memory>
         requires few { taken_of self.now.requests < 2 ^ 64 - 1 }
-        requires plan { rows.plan_of (started (router_of self.now))
-            (rows.id_of (router_of self.now) (taken_of self.now.requests + 1)) asked.head.more (command_of (head_request asked.head))
-            ≡ rows.needs_end (kill_view kill) }
+        requires plan { requested.plan_of (started (router_of self.now))
+            (requested.id_of (router_of self.now) (taken_of self.now.requests + 1)) asked.head.more (command_of (head_request asked.head))
+            ≡ requested.needs_end (kill_view kill) }
         ensures { IfOk result (λ p. IsPlanned (router_of self.now) (client_input asked.link asked.number (head_request asked.head)) p) }
     {
         let closing = self.cursors.closing(&kill.namespace, &kill.cursors)?;

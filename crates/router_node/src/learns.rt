@@ -1,17 +1,34 @@
 //! Tables that arrive.
 
-ghost use Rattle.std.specs.Prelude.{◌≡◌, if◌then◌else◌};
+ghost use Rattle.std.specs.Prelude.{◌≡◌, ◌∷◌, ◌++◌, [], OnOk, if◌then◌else◌, map};
 ghost use Rattle.chunk_model.specs.Tables.{is_longer};
+ghost use Rattle.node_model.specs.RouterNext as nexts;
+ghost use Rattle.node_model.specs.States as states;
+ghost use Rattle.node_traits.specs.Lists.{listed};
+ghost use Rattle.protocol_model.specs.Messages.{letter_of};
+ghost use Rattle.router_requests.specs.Fates.{fate_of};
+ghost use Rattle.router_node.specs.Learned.{Adds};
 
 use crate::node::RouterNode;
 use crate::step_plan::{Change, StepPlan};
 use bson_values::Memory;
 use chunk_table::Table;
 use cluster_base::Time;
+use command_replies::Answer;
 use node_traits::{MailList, ReplyList, ToLink};
 use protocol_model::{Message, TableTold};
 use router_replies::{empty_answer, sharded_answer};
-use router_requests::{Fate, Next, OpenRequest, add_all, next_of, was_created};
+use router_requests::{
+    Fate, Next, OpenRequest, Sends, WriteNext, WriteSends, add_all, was_created,
+};
+
+/// What becomes of open requests, in their order, after a table arrived, with the messages and the replies.
+#[derive(Drop)]
+pub(crate) struct Learned {
+    pub(crate) fates: Vec<Fate>,
+    pub(crate) mail: MailList<Message>,
+    pub(crate) replies: ReplyList,
+}
 
 /// Returns the first of two tables where it is longer, else the other.
 fn longer_of<'a>(table: &'a Table, other: &'a Table) -> &'a Table
@@ -24,19 +41,42 @@ fn longer_of<'a>(table: &'a Table, other: &'a Table) -> &'a Table
     }
 }
 
+/// Appends the reply to a request, if there is one. Returns `Memory` if memory runs out.
+fn add_reply(replies: &mut ReplyList, reply: Option<ToLink>) -> Result<(), Memory>
+    ensures { OnOk result (replies.new ≡ replies.old ++ listed reply) }
+{
+    match reply {
+        Some(reply) => replies.push(reply),
+        None => Ok(()),
+    }
+}
+
+/// Appends the fate of an open request that stays open, and the messages that it sends. Returns `Memory` if memory runs out.
+fn add_stay(learned: &mut Learned, mail: Vec<Message>, fate: Fate) -> Result<(), Memory>
+    ensures { (q p : states.Open) → fate_of q fate ≡ p ∷ [] →
+        OnOk result (Adds q (nexts.stays p (map (λ m. letter_of m) mail.items)) learned.old learned.new) }
+{
+    add_all(&mut learned.mail, mail)?;
+    learned.fates.push(fate)?;
+    Ok(())
+}
+
 impl RouterNode {
-    ghost use Rattle.std.specs.Prelude.{◌≡◌, ◌++◌, ℕ, IfOk, OnOk, map};
+    ghost use Rattle.std.specs.Prelude.{◌≡◌, ℕ, IfOk, OnOk, map};
     ghost use Rattle.std.specs.List.{flat_map};
     ghost use Rattle.std.specs.Option.{option_map};
     ghost use Rattle.node_model.specs.Letters.{Letter};
-    ghost use Rattle.node_model.specs.RouterRows as rows;
+    ghost use Rattle.node_model.specs.RouterRequests as requested;
+    ghost use Rattle.node_model.specs.RouterNext as nexts;
     ghost use Rattle.chunk_model.specs.Tables.{table_of};
     ghost use Rattle.node_traits.specs.Effects.{puts_of};
-    ghost use Rattle.node_traits.specs.Lists.{listed};
+    ghost use Rattle.command_replies.specs.AnswerMeanings.{answer_view};
     ghost use Rattle.router_requests.specs.Fates.{fated};
+    ghost use Rattle.router_requests.specs.Nexts.{next_view, write_next};
     ghost use Rattle.router_requests.specs.Works.{open_view};
     ghost use Rattle.protocol_model.specs.Bodies.{table_told_view};
     ghost use Rattle.protocol_model.specs.Messages.{letter_of};
+    ghost use Rattle.router_node.specs.Learned.{Adds};
     ghost use Rattle.router_node.specs.Nexts.{next_at, tables_told};
     ghost use Rattle.router_node.specs.RouterStates.{router_of};
     ghost use Rattle.router_node.specs.StepPlans.{IsHeard};
@@ -60,158 +100,139 @@ impl RouterNode {
         }
     }
 
-    // Returns the messages that an open request sends after a table arrived, by the one that is then known. Returns `Memory` if memory runs out.
-    fn asks_next(
+    // Returns what becomes of an open request after a table arrived, by the one that is then known. Returns `Memory` if memory runs out.
+    fn next_after(
         &self,
         time: Time,
         told: &TableTold,
         known: Option<&Table>,
         request: &OpenRequest,
-    ) -> Result<Vec<Message>, Memory>
+    ) -> Result<Next, Memory>
         requires { table_of told.now.namespace (tables_told told.now self.now.tables.tables) ≡ option_map (λ t. t.now) known }
-        ensures { IfOk result (λ asks. map (λ m. letter_of m) asks.items
-            ≡ rows.letters_in (next_at (router_of self.now) time.0 told.now (open_view self.now.me.0 self.now.life request.now))) }
+        ensures { IfOk result (λ next. next_at (router_of self.now) time.0 told.now (open_view self.now.me.0 self.now.life request.now)
+            ≡ next_view (router_of self.now) time.0 (open_view self.now.me.0 self.now.life request.now) next) }
     {
-        match next_of(&told.namespace, was_created(told), told.at, known, request) {
-            Next::Stays => Ok(Vec::new(self.alloc)),
-            Next::IsTold(..) => Ok(Vec::new(self.alloc)),
-            Next::IsSharded => Ok(Vec::new(self.alloc)),
-            Next::GoesOn => match known {
-                Some(table) => self.asker().asks_shards(
-                    self.alloc,
-                    time,
-                    request.count,
-                    &request.namespace,
-                    table,
-                    &request.work,
-                ),
-                None => Ok(Vec::new(self.alloc)),
-            },
-        }
+        self.asker().next_of(
+            self.alloc,
+            time,
+            &told.namespace,
+            was_created(told),
+            told.at,
+            known,
+            request,
+        )
     }
 
-    // Returns the reply to an open request after a table arrived, by the one that is then known. Returns `Memory` if memory runs out.
-    fn reply_next(
+    // Appends the answer to an open request, which leaves. Returns `Memory` if memory runs out.
+    fn add_told(
         &self,
-        time: Time,
-        told: &TableTold,
-        known: Option<&Table>,
+        learned: &mut Learned,
         request: &OpenRequest,
-    ) -> Result<Option<ToLink>, Memory>
-        requires { table_of told.now.namespace (tables_told told.now self.now.tables.tables) ≡ option_map (λ t. t.now) known }
-        ensures { IfOk result (λ reply. listed reply
-            ≡ puts_of (rows.replies_in (next_at (router_of self.now) time.0 told.now (open_view self.now.me.0 self.now.life request.now)))) }
-    {
-        match next_of(&told.namespace, was_created(told), told.at, known, request) {
-            Next::Stays => Ok(None),
-            Next::GoesOn => Ok(None),
-            Next::IsTold(at, telling) => {
-                let answer = empty_answer(self.alloc, &request.namespace, at, telling)?;
-                self.answered(request, &answer)
-            }
-            Next::IsSharded => {
-                let answer = sharded_answer(&request.namespace, time)?;
-                self.answered(request, &answer)
-            }
-        }
-    }
-
-    // Appends the messages that an open request sends. Returns `Memory` if memory runs out.
-    fn add_next(
-        &self,
-        mail: &mut MailList<Message>,
-        time: Time,
-        told: &TableTold,
-        known: Option<&Table>,
-        request: &OpenRequest,
+        answer: &Answer,
     ) -> Result<(), Memory>
-        requires { table_of told.now.namespace (tables_told told.now self.now.tables.tables) ≡ option_map (λ t. t.now) known }
-        ensures { OnOk result (map (λ m. letter_of m) mail.new ≡ map (λ m. letter_of m) mail.old
-            ++ rows.letters_in (next_at (router_of self.now) time.0 told.now (open_view self.now.me.0 self.now.life request.now))) }
+        ensures { (time : ℕ) → OnOk result (Adds (open_view self.now.me.0 self.now.life request.now)
+            (nexts.is_told (nexts.reply_to (router_of self.now) time (open_view self.now.me.0 self.now.life request.now) (answer_view answer.now))) learned.old learned.new) }
     {
-        let asks = self.asks_next(time, told, known, request)?;
-        add_all(mail, asks)?;
+        let reply = self.answered(request, answer)?;
+        add_reply(&mut learned.replies, reply)?;
+        learned.fates.push(Fate::Leaves)?;
         Ok(())
     }
 
-    // Appends the reply to an open request. Returns `Memory` if memory runs out.
-    fn add_reply(
+    // Appends what becomes of an open write. Returns `Memory` if memory runs out.
+    fn add_write(
         &self,
-        replies: &mut ReplyList,
-        time: Time,
-        told: &TableTold,
-        known: Option<&Table>,
+        learned: &mut Learned,
         request: &OpenRequest,
+        next: WriteNext,
     ) -> Result<(), Memory>
-        requires { table_of told.now.namespace (tables_told told.now self.now.tables.tables) ≡ option_map (λ t. t.now) known }
-        ensures { OnOk result (replies.new ≡ replies.old
-            ++ puts_of (rows.replies_in (next_at (router_of self.now) time.0 told.now (open_view self.now.me.0 self.now.life request.now)))) }
+        ensures { (time : ℕ) → OnOk result (Adds (open_view self.now.me.0 self.now.life request.now)
+            (write_next (router_of self.now) time (open_view self.now.me.0 self.now.life request.now)
+            (open_view self.now.me.0 self.now.life request.now).work next) learned.old learned.new) }
     {
-        match self.reply_next(time, told, known, request)? {
-            Some(reply) => replies.push(reply),
-            None => Ok(()),
+        match next {
+            WriteNext::GoesOn(sends) => {
+                let WriteSends { wait, runs, mail } = sends;
+                add_stay(learned, mail, Fate::Writes(wait, runs))
+            }
+            WriteNext::IsWritten(answer) => self.add_told(learned, request, &answer),
         }
     }
 
-    // Returns the messages that these open requests send after a table arrived, or `Memory` if memory runs out.
-    fn mail_next(
+    // Appends what becomes of an open request at a time. Returns `Memory` if memory runs out.
+    fn add_next(
         &self,
+        learned: &mut Learned,
         time: Time,
-        told: &TableTold,
-        requests: &[OpenRequest],
-    ) -> Result<MailList<Message>, Memory>
-        ensures { IfOk result (λ mail. map (λ m. letter_of m) mail
-            ≡ flat_map (λ q. rows.letters_in (next_at (router_of self.now) time.0 told.now q))
-            (map (λ q. open_view self.now.me.0 self.now.life q) requests.now)) }
+        request: &OpenRequest,
+        next: Next,
+    ) -> Result<(), Memory>
+        ensures { OnOk result (Adds (open_view self.now.me.0 self.now.life request.now)
+            (next_view (router_of self.now) time.0 (open_view self.now.me.0 self.now.life request.now) next) learned.old learned.new) }
     {
-        let known = self.known_after(told);
-        let mut mail = MailList::new(self.alloc);
-        for request in requests {
-            self.add_next(&mut mail, time, told, known, request)?;
+        match next {
+            Next::Stays => add_stay(learned, Vec::new(self.alloc), Fate::Stays),
+            Next::Reads(sends) => {
+                let Sends {
+                    wait,
+                    targets,
+                    mail,
+                } = sends;
+                add_stay(learned, mail, Fate::Reads(wait, targets))
+            }
+            Next::Writes(next) => self.add_write(learned, request, next),
+            Next::IsEmpty(at, telling) => {
+                let answer = empty_answer(self.alloc, &request.namespace, at, telling)?;
+                self.add_told(learned, request, &answer)
+            }
+            Next::IsSharded => {
+                let answer = sharded_answer(&request.namespace, time)?;
+                self.add_told(learned, request, &answer)
+            }
         }
-        Ok(mail)
-    }
-
-    // Returns the replies to these open requests after a table arrived, or `Memory` if memory runs out.
-    #[tactic(auto, using(crate::proofs::Puts::puts_append))]
-    fn replies_next(
-        &self,
-        time: Time,
-        told: &TableTold,
-        requests: &[OpenRequest],
-    ) -> Result<ReplyList, Memory>
-        ensures { IfOk result (λ replies. replies
-            ≡ puts_of (flat_map (λ q. rows.replies_in (next_at (router_of self.now) time.0 told.now q))
-            (map (λ q. open_view self.now.me.0 self.now.life q) requests.now))) }
-    {
-        let known = self.known_after(told);
-        let mut replies = ReplyList::new(self.alloc);
-        for request in requests {
-            self.add_reply(&mut replies, time, told, known, request)?;
-        }
-        Ok(replies)
     }
 
     // Returns what becomes of the open requests after a table arrived, or `Memory` if memory runs out.
-    fn fates_next(&self, told: &TableTold) -> Result<Vec<Fate>, Memory>
-        ensures { (time : ℕ) → IfOk result (λ fates. fated (router_of self.now).requests fates.items
-            ≡ flat_map (λ q. rows.stay_in (next_at (router_of self.now) time told.now q)) (router_of self.now).requests) }
+    fn learned(
+        &self,
+        time: Time,
+        told: &TableTold,
+        requests: &[OpenRequest],
+    ) -> Result<Learned, Memory>
+        ensures mail { IfOk result (λ l. map (λ m. letter_of m) l.mail
+            ≡ flat_map (λ q. nexts.letters_in (next_at (router_of self.now) time.0 told.now q))
+            (map (λ q. open_view self.now.me.0 self.now.life q) requests.now)) }
+        ensures replies { IfOk result (λ l. l.replies
+            ≡ puts_of (flat_map (λ q. nexts.replies_in (next_at (router_of self.now) time.0 told.now q))
+            (map (λ q. open_view self.now.me.0 self.now.life q) requests.now))) }
+        ensures fates { IfOk result (λ l. fated (map (λ q. open_view self.now.me.0 self.now.life q) requests.now) l.fates.items
+            ≡ flat_map (λ q. nexts.stay_in (next_at (router_of self.now) time.0 told.now q))
+            (map (λ q. open_view self.now.me.0 self.now.life q) requests.now)) }
     {
         let known = self.known_after(told);
-        let made = was_created(told);
-        self.requests
-            .fates(self.alloc, &told.namespace, made, told.at, known)
+        let mut learned = Learned {
+            fates: Vec::with_capacity(self.alloc, requests.len())?,
+            mail: MailList::new(self.alloc),
+            replies: ReplyList::new(self.alloc),
+        };
+        for request in requests {
+            let next = self.next_after(time, told, known, request)?;
+            self.add_next(&mut learned, time, request, next)?;
+        }
+        Ok(learned)
     }
 
     // Returns the plan for a table that arrives, or `Memory` if memory runs out.
     pub(crate) fn plan_table(&self, time: Time, told: TableTold) -> Result<StepPlan, Memory>
-        ensures { (m : Letter) → m.body ≡ table_told_view told → time.0 ≡ rows.heard (router_of self.now) m →
+        ensures { (m : Letter) → m.body ≡ table_told_view told → time.0 ≡ requested.heard (router_of self.now) m →
             IfOk result (λ p. IsHeard (router_of self.now) m p) }
     {
-        let requests = self.requests.as_slice();
-        let mail = self.mail_next(time, &told, requests)?;
-        let replies = self.replies_next(time, &told, requests)?;
-        let fates = self.fates_next(&told)?;
+        let learned = self.learned(time, &told, self.requests.as_slice())?;
+        let Learned {
+            fates,
+            mail,
+            replies,
+        } = learned;
         let change = Change::Learns(told.table, fates);
         Ok(self.hears_all(time, change, mail, replies))
     }

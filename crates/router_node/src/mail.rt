@@ -26,7 +26,7 @@ pub(crate) fn mail_of(alloc: Global, message: Option<Message>) -> MailList<Messa
 impl RouterNode {
     ghost use Rattle.std.specs.Prelude.{◌≡◌, ◌∷◌, [], ℕ, IfOk};
     ghost use Rattle.command_replies.specs.AnswerMeanings.{answer_view};
-    ghost use Rattle.node_model.specs.RouterRows as rows;
+    ghost use Rattle.node_model.specs.RouterNext as nexts;
     ghost use Rattle.node_traits.specs.Effects.{puts_of};
     ghost use Rattle.node_traits.specs.Lists.{listed};
     ghost use Rattle.router_requests.specs.Works.{open_view};
@@ -40,7 +40,7 @@ impl RouterNode {
         answer: &Answer,
     ) -> Result<Option<ToLink>, Memory>
         ensures { (time : ℕ) → IfOk result (λ reply. listed reply
-            ≡ puts_of (rows.reply_to (router_of self.now) time (open_view self.now.me.0 self.now.life request.now) (answer_view answer.now) ∷ [])) }
+            ≡ puts_of (nexts.reply_to (router_of self.now) time (open_view self.now.me.0 self.now.life request.now) (answer_view answer.now) ∷ [])) }
     {
         reply_to(
             self.alloc,

@@ -10,7 +10,7 @@ use router_requests::{OpenRequest, add_all};
 impl RouterNode {
     ghost use Rattle.std.specs.Prelude.{◌≡◌, ◌++◌, map, IfOk, OnOk};
     ghost use Rattle.std.specs.List.{flat_map};
-    ghost use Rattle.node_model.specs.RouterRows as rows;
+    ghost use Rattle.node_model.specs.RouterNext as nexts;
     ghost use Rattle.router_requests.specs.Lists.{opens_of};
     ghost use Rattle.router_requests.specs.Works.{open_view};
     ghost use Rattle.protocol_model.specs.Messages.{letter_of};
@@ -25,10 +25,9 @@ impl RouterNode {
         request: &OpenRequest,
     ) -> Result<(), Memory>
         ensures { OnOk result (map (λ m. letter_of m) mail.new
-            ≡ map (λ m. letter_of m) mail.old ++ rows.asks_again (started (router_of self.now)) time.0 (open_view self.now.me.0 self.now.life request.now)) }
+            ≡ map (λ m. letter_of m) mail.old ++ nexts.asks_again (started (router_of self.now)) time.0 (open_view self.now.me.0 self.now.life request.now)) }
     {
-        let table = self.table_of(&request.namespace);
-        let asks = self.asker().asks_again(self.alloc, time, request, table)?;
+        let asks = self.asker().asks_again(self.alloc, time, request)?;
         add_all(mail, asks)?;
         Ok(())
     }
@@ -36,7 +35,7 @@ impl RouterNode {
     // Returns the messages that these open requests send again for what they wait for, or `Memory` if memory runs out.
     fn ask_each(&self, time: Time, requests: &[OpenRequest]) -> Result<MailList<Message>, Memory>
         ensures { IfOk result (λ mail. map (λ m. letter_of m) mail
-            ≡ flat_map (λ q. rows.asks_again (started (router_of self.now)) time.0 q) (map (λ q. open_view self.now.me.0 self.now.life q) requests.now)) }
+            ≡ flat_map (λ q. nexts.asks_again (started (router_of self.now)) time.0 q) (map (λ q. open_view self.now.me.0 self.now.life q) requests.now)) }
     {
         let mut mail = MailList::new(self.alloc);
         for request in requests {
@@ -47,7 +46,7 @@ impl RouterNode {
 
     // Returns the messages that all open requests send again for what they wait for, or `Memory` if memory runs out.
     pub(crate) fn ask_again(&self, time: Time) -> Result<MailList<Message>, Memory>
-        ensures { IfOk result (λ mail. map (λ m. letter_of m) mail ≡ flat_map (λ q. rows.asks_again (started (router_of self.now)) time.0 q)
+        ensures { IfOk result (λ mail. map (λ m. letter_of m) mail ≡ flat_map (λ q. nexts.asks_again (started (router_of self.now)) time.0 q)
             (opens_of self.now.me.0 self.now.life self.now.requests)) }
     {
         self.ask_each(time, self.requests.as_slice())

@@ -3,15 +3,13 @@
 ghost use Rattle.std.specs.Prelude.{◌≡◌, false};
 ghost use Rattle.router_requests.specs.Lists.{taken_of};
 
-use bson_values::Memory;
 use chunk_table::Table;
 use cluster_base::{Namespace, NodeId, RequestId, Time};
 use known_tables::TableList;
 use node_traits::StepCount;
-use read_parts::is_owned;
 use router_cursors::CursorList;
 use router_replies::known_in;
-use router_requests::{Asker, OpenList, OpenRequest, Sends, Work};
+use router_requests::{Asker, OpenList, OpenRequest};
 use std::alloc::Global;
 
 /// A router of a cluster.
@@ -35,17 +33,13 @@ pub struct RouterNode {
 }
 
 impl RouterNode {
-    ghost use Rattle.std.specs.Prelude.{◌≡◌, IfOk, Bool, List};
+    ghost use Rattle.std.specs.Prelude.{◌≡◌};
     ghost use Rattle.std.specs.Option.{option_map};
     ghost use Rattle.chunk_model.specs.Tables.{table_of};
-    ghost use Rattle.base_model.specs.Identities as identities;
     ghost use Rattle.node_model.specs.RouterRows as rows;
-    ghost use Rattle.node_model.specs.States.{Telling, reading};
     ghost use Rattle.node_traits.specs.Ids.{id_view};
-    ghost use Rattle.pipeline_model.specs.Stages.{Stage};
     ghost use Rattle.router_requests.specs.Askers.{asker_view};
-    ghost use Rattle.router_requests.specs.Sends.{IsSentBy};
-    ghost use Rattle.router_requests.specs.Works.{open_view, work_view};
+    ghost use Rattle.router_requests.specs.Works.{open_view};
     ghost use Rattle.router_node.specs.RouterStates.{router_of};
 
     // Returns itself, as the sender of requests.
@@ -75,46 +69,5 @@ impl RouterNode {
         ensures { option_map (λ t. t.now) result ≡ table_of namespace.now self.now.tables.tables }
     {
         known_in(&self.tables, namespace)
-    }
-
-    // Returns the table by which a read of this collection can proceed at a time.
-    pub(crate) fn table_at(&self, namespace: &Namespace, at: Time) -> Option<&Table>
-        ensures { (named : Bool) (stages : List Stage) (telling : Telling) → option_map (λ t. t.now) result
-            ≡ rows.table_for self.now.tables.tables namespace.now (reading named at.0 stages telling) }
-    {
-        let table = self.tables.find(namespace)?;
-        if is_owned(table, at) {
-            Some(table)
-        } else {
-            None
-        }
-    }
-
-    // Returns the table that work can proceed with.
-    #[tactic(auto, using(crate::proofs::Without::no_table_creates, crate::proofs::Without::no_table_splits))]
-    pub(crate) fn table_for(&self, namespace: &Namespace, work: &Work) -> Option<&Table>
-        ensures { (id : identities.RequestId) → option_map (λ t. t.now) result ≡ rows.table_for self.now.tables.tables namespace.now (work_view id work.now) }
-    {
-        match work {
-            Work::Writing { .. } => self.table_of(namespace),
-            Work::Reading(read) => self.table_at(namespace, read.at),
-            Work::Sharding => None,
-            Work::Splitting(_) => None,
-        }
-    }
-
-    // Returns what work waits for at a time, the shards that it is sent to, and the messages. Returns `Memory` if memory runs out.
-    pub(crate) fn sends_for(
-        &self,
-        time: Time,
-        count: u64,
-        namespace: &Namespace,
-        work: &Work,
-    ) -> Result<Sends, Memory>
-        ensures { IfOk result (λ s. IsSentBy (router_of self.now) time.0 count namespace.now (work_view (rows.id_of (router_of self.now) count) work.now) s) }
-    {
-        let table = self.table_for(namespace, work);
-        self.asker()
-            .sends_for(self.alloc, time, count, namespace, work, table)
     }
 }

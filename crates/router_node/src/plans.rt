@@ -6,7 +6,7 @@ ghost use Rattle.command_model.specs.Command.{command_in};
 ghost use Rattle.command_words.specs.Commands.{command_view, reading_view};
 ghost use Rattle.command_model.specs.CommandSizes.{IsSmallCommand};
 ghost use Rattle.base_model.specs.Identities as identities;
-ghost use Rattle.node_model.specs.RouterRows as rows;
+ghost use Rattle.node_model.specs.RouterRequests as requested;
 ghost use Rattle.router_requests.specs.Works.{telling_view};
 ghost use Rattle.opmsg_frames.specs.RequestMeanings.{form_view};
 ghost use Rattle.protocol_model.specs.Requests.{body_of};
@@ -38,7 +38,7 @@ impl RouterNode {
 
     // Returns the plan of a read: of the time that it names, or else of the router's. Returns `Memory` if memory runs out.
     fn plan_read(&self, reading: Reading, telling: Telling) -> Result<RequestPlan, Memory>
-        ensures { (id : identities.RequestId) → IfOk result (λ plan. plan_view id plan ≡ rows.plan_read (started (router_of self.now)) (reading_view reading)
+        ensures { (id : identities.RequestId) → IfOk result (λ plan. plan_view id plan ≡ requested.plan_read (started (router_of self.now)) (reading_view reading)
             (telling_view telling)) }
     {
         let Reading {
@@ -61,7 +61,7 @@ impl RouterNode {
     fn plan_command(&self, silent: bool, command: Command) -> Result<RequestPlan, Memory>
         requires { IsSmallCommand (command_view command) }
         ensures { (id : identities.RequestId) → IfOk result (λ plan. plan_view id plan
-            ≡ rows.plan_of (started (router_of self.now)) id silent (Ok (command_view command))) }
+            ≡ requested.plan_of (started (router_of self.now)) id silent (Ok (command_view command))) }
     {
         match command {
             Command::Hello => Ok(RequestPlan::AtOnce(Answer::Hello {
@@ -93,7 +93,7 @@ impl RouterNode {
         body: Body,
     ) -> Result<RequestPlan, Memory>
         ensures { (id : identities.RequestId) → IfOk result (λ plan. plan_view id plan
-            ≡ rows.plan_of (started (router_of self.now)) id silent (command_in (form_view sent) (body_of body))) }
+            ≡ requested.plan_of (started (router_of self.now)) id silent (command_in (form_view sent) (body_of body))) }
     {
         if !is_taken(&body) {
             // A framer returns no such request.

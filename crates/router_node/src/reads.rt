@@ -1,6 +1,8 @@
 //! The steps of open reads.
 
 ghost use Rattle.std.specs.Prelude.{◌≡◌, ◌≢◌, ◌⊎◌, true, false, map};
+ghost use Rattle.node_model.specs.RouterRequests as requested;
+ghost use Rattle.node_model.specs.RouterNext as nexts;
 ghost use Rattle.node_model.specs.RouterRows as rows;
 ghost use Rattle.read_parts.specs.Parts.{target_view};
 
@@ -13,13 +15,13 @@ use node_traits::ReplyList;
 use protocol_model::{ReadRows, TimeTold};
 use read_parts::{Target, is_target};
 use router_replies::{reply_to, time_ahead};
-use router_requests::{OpenRead, OpenRequest, Wait, Work, also_told, has_come};
+use router_requests::{OpenRead, OpenRequest, Sends, Wait, Work, also_told, has_come, spare_list};
 
 /// Returns whether rows are a part of a read that was sent to these shards: they are of the first turn, which is currently the only one, and from one of them.
 fn is_part(turn: u32, sender: NodeId, targets: &[Target]) -> bool
     ensures first { result ≡ true → turn ≡ 1 }
-    ensures sent { result ≡ true → rows.is_target sender.0 (map target_view targets.now) ≡ true }
-    ensures other { result ≡ false → (turn ≢ 1) ⊎ (rows.is_target sender.0 (map target_view targets.now) ≡ false) }
+    ensures sent { result ≡ true → nexts.is_target sender.0 (map target_view targets.now) ≡ true }
+    ensures other { result ≡ false → (turn ≢ 1) ⊎ (nexts.is_target sender.0 (map target_view targets.now) ≡ false) }
 {
     turn == 1 && is_target(sender, targets)
 }
@@ -29,6 +31,8 @@ impl RouterNode {
     ghost use Rattle.node_model.specs.Letters.{Letter, time_told};
     ghost use Rattle.node_model.specs.States.{for_time};
     ghost use Rattle.router_requests.specs.Works.{open_view, read_view};
+    ghost use Rattle.node_model.specs.RouterRequests as requested;
+    ghost use Rattle.node_model.specs.RouterNext as nexts;
     ghost use Rattle.node_model.specs.RouterRows as rows;
     ghost use Rattle.node_traits.specs.Ids.{id_view};
     ghost use Rattle.protocol_model.specs.Bodies.{read_rows_view, time_told_view};
@@ -42,13 +46,13 @@ impl RouterNode {
         time: Time,
         told: ReadRows,
     ) -> Result<StepPlan, Memory>
-        ensures { (m : Letter) → m.sender ≡ sender.0 → m.body ≡ read_rows_view told → time.0 ≡ rows.heard (router_of self.now) m →
+        ensures { (m : Letter) → m.sender ≡ sender.0 → m.body ≡ read_rows_view told → time.0 ≡ requested.heard (router_of self.now) m →
             IfOk result (λ p. IsHeard (router_of self.now) m p) }
     {
         match self.open_of(told.id) {
             None => Ok(self.late(time)),
             Some(request) => match &request.work {
-                Work::Writing { .. } => Ok(self.late(time)),
+                Work::Writing(_) => Ok(self.late(time)),
                 Work::Sharding => Ok(self.late(time)),
                 Work::Splitting(_) => Ok(self.late(time)),
                 Work::Reading(read) => {
@@ -74,23 +78,28 @@ impl RouterNode {
         requires waits { (open_view self.now.me.0 self.now.life request.now).wait ≡ for_time }
         requires work { (open_view self.now.me.0 self.now.life request.now).work ≡ read_view read.now }
         requires come { read.now.at.0 ≤ time.0 }
-        ensures { (m : Letter) → m.body ≡ time_told (id_view id) → time.0 ≡ rows.heard (router_of self.now) m →
+        ensures { (m : Letter) → m.body ≡ time_told (id_view id) → time.0 ≡ requested.heard (router_of self.now) m →
             IfOk result (λ p. IsHeard (router_of self.now) m p) }
     {
-        let at = read.at_reached(time);
-        let table = self.table_at(&request.namespace, at);
-        let sends = self.asker().sends_read(
+        let sends = self.asker().read_on(
             self.alloc,
             time,
             request.count,
             &request.namespace,
+            self.table_of(&request.namespace),
+            true,
             read,
-            at,
-            table,
+            read.at_reached(time),
         )?;
-        let change = Change::Reaches(id.count, sends.wait, sends.targets);
+        let Sends {
+            wait,
+            targets,
+            mail,
+        } = sends;
+        let change = Change::Reaches(id.count, wait, targets);
+        let mail = spare_list(self.alloc, mail)?;
         let replies = ReplyList::new(self.alloc);
-        Ok(self.hears_all(time, change, sends.mail, replies))
+        Ok(self.hears_all(time, change, mail, replies))
     }
 
     // Returns the plan to refuse an open read of a time that is ahead of every shard, at a time of the router. Returns `Memory` if memory runs out.
@@ -106,9 +115,9 @@ impl RouterNode {
         requires waits { (open_view self.now.me.0 self.now.life request.now).wait ≡ for_time }
         requires work { (open_view self.now.me.0 self.now.life request.now).work ≡ read_view read.now }
         requires ahead { time.0 < read.now.at.0 }
-        requires all { rows.untold (rows.also_told (open_view self.now.me.0 self.now.life request.now).told sender.0)
-            (rows.shards_of (router_of self.now)) ≡ [] }
-        ensures { (m : Letter) → m.sender ≡ sender.0 → m.body ≡ time_told (id_view id) → time.0 ≡ rows.heard (router_of self.now) m →
+        requires all { requested.untold (nexts.also_told (open_view self.now.me.0 self.now.life request.now).told sender.0)
+            (requested.shards_of (router_of self.now)) ≡ [] }
+        ensures { (m : Letter) → m.sender ≡ sender.0 → m.body ≡ time_told (id_view id) → time.0 ≡ requested.heard (router_of self.now) m →
             IfOk result (λ p. IsHeard (router_of self.now) m p) }
     {
         let answer = Answer::Refused(time_ahead(time));
@@ -136,7 +145,7 @@ impl RouterNode {
         requires waits { (open_view self.now.me.0 self.now.life request.now).wait ≡ for_time }
         requires work { (open_view self.now.me.0 self.now.life request.now).work ≡ read_view read.now }
         requires ahead { time.0 < read.now.at.0 }
-        ensures { (m : Letter) → m.sender ≡ sender.0 → m.body ≡ time_told (id_view id) → time.0 ≡ rows.heard (router_of self.now) m →
+        ensures { (m : Letter) → m.sender ≡ sender.0 → m.body ≡ time_told (id_view id) → time.0 ≡ requested.heard (router_of self.now) m →
             IfOk result (λ p. IsHeard (router_of self.now) m p) }
     {
         let told = also_told(self.alloc, &request.told, sender)?;
@@ -159,7 +168,7 @@ impl RouterNode {
         requires open { rows.open_of (router_of self.now) (id_view id) ≡ Some (open_view self.now.me.0 self.now.life request.now) }
         requires waits { (open_view self.now.me.0 self.now.life request.now).wait ≡ for_time }
         requires work { (open_view self.now.me.0 self.now.life request.now).work ≡ read_view read.now }
-        ensures { (m : Letter) → m.sender ≡ sender.0 → m.body ≡ time_told (id_view id) → time.0 ≡ rows.heard (router_of self.now) m →
+        ensures { (m : Letter) → m.sender ≡ sender.0 → m.body ≡ time_told (id_view id) → time.0 ≡ requested.heard (router_of self.now) m →
             IfOk result (λ p. IsHeard (router_of self.now) m p) }
     {
         if has_come(read.at, time) {
@@ -176,13 +185,13 @@ impl RouterNode {
         time: Time,
         told: &TimeTold,
     ) -> Result<StepPlan, Memory>
-        ensures { (m : Letter) → m.sender ≡ sender.0 → m.body ≡ time_told_view told.now → time.0 ≡ rows.heard (router_of self.now) m →
+        ensures { (m : Letter) → m.sender ≡ sender.0 → m.body ≡ time_told_view told.now → time.0 ≡ requested.heard (router_of self.now) m →
             IfOk result (λ p. IsHeard (router_of self.now) m p) }
     {
         match self.open_of(told.id) {
             None => Ok(self.late(time)),
             Some(request) => match &request.work {
-                Work::Writing { .. } => Ok(self.late(time)),
+                Work::Writing(_) => Ok(self.late(time)),
                 Work::Sharding => Ok(self.late(time)),
                 Work::Splitting(_) => Ok(self.late(time)),
                 Work::Reading(read) => match request.wait {

@@ -10,12 +10,13 @@ use chunk_table::Table;
 use cluster_base::{Namespace, NodeId, Time};
 use node_traits::{MailList, ReplyList, ToLink};
 use pipeline_eval::Rows;
-use protocol_model::{DoneList, HalfFault, Message};
+use protocol_model::{HalfFault, Message, StatementOutcome};
 use read_parts::Target;
 use router_requests::{Fate, OpenRequest, Wait};
 use std::alloc::Global;
 use std::collections::VecDeque;
 use std::sync::Arc;
+use write_runs::Run;
 
 /// The change of the open requests and the cursors.
 #[derive(Drop)]
@@ -34,8 +35,8 @@ pub(crate) enum Change {
     Told(u64, Vec<NodeId>),
     /// This shard has returned its part to the read with this count.
     Gains(u64, NodeId, Result<Rows, HalfFault>),
-    /// The write with this count has these answers, and waits for this.
-    Notes(u64, Wait, DoneList),
+    /// The write with this count has these answers, these runs of it are under way, and it waits for this.
+    Notes(u64, Wait, Vec<Option<StatementOutcome>>, Vec<Run>),
     /// A table that arrived is stored, if there is one, and this becomes of the open requests, in their order.
     Learns(Option<Arc<Table, Global>>, Vec<Fate>),
     /// The one with this count is answered with its first batch, and a cursor has the other documents.

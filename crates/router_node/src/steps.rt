@@ -10,7 +10,7 @@ use protocol_model::{Body, Input, Message};
 impl RouterNode {
     ghost use Rattle.std.specs.Prelude.{◌≡◌, IfOk, OnOk, map};
     ghost use Rattle.node_model.specs.Letters.{Letter, letter_input, moment_input, opened_input};
-    ghost use Rattle.node_model.specs.RouterRows as rows;
+    ghost use Rattle.node_model.specs.RouterRequests as requested;
     ghost use Rattle.node_model.specs.States.{router_state};
     ghost use Rattle.node_traits.specs.Effects.{StepPlanned};
     ghost use Rattle.protocol_model.specs.Bodies.{body_view};
@@ -21,7 +21,7 @@ impl RouterNode {
 
     // Returns the plan for a message from a node to this router, at the time that it carries. Returns `Memory` if memory runs out.
     fn plan_body(&self, sender: NodeId, time: Time, body: Body) -> Result<StepPlan, Memory>
-        ensures { (m : Letter) → m.sender ≡ sender.0 → m.body ≡ body_view body → time.0 ≡ rows.heard (router_of self.now) m →
+        ensures { (m : Letter) → m.sender ≡ sender.0 → m.body ≡ body_view body → time.0 ≡ requested.heard (router_of self.now) m →
             IfOk result (λ p. IsHeard (router_of self.now) m p) }
     {
         match body {

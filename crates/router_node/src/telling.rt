@@ -30,7 +30,8 @@ impl RouterNode {
     ghost use Rattle.node_model.specs.Letters.{Letter};
     ghost use Rattle.node_traits.specs.Ids.{id_view};
     ghost use Rattle.pipeline_model.specs.Split.{split};
-    ghost use Rattle.node_model.specs.RouterRows as rows;
+    ghost use Rattle.node_model.specs.RouterRequests as requested;
+    ghost use Rattle.node_model.specs.RouterNext as nexts;
     ghost use Rattle.node_model.specs.RouterRows.{as_before, batch_of, gives_number, new_cursor, next_number};
     ghost use Rattle.pipeline_model.specs.Runs.{listed};
     ghost use Rattle.node_model.specs.States as states;
@@ -49,7 +50,7 @@ impl RouterNode {
         request: &OpenRequest,
         answer: &Answer,
     ) -> Result<StepPlan, Memory>
-        ensures { (m : Letter) → time.0 ≡ rows.heard (router_of self.now) m →
+        ensures { (m : Letter) → time.0 ≡ requested.heard (router_of self.now) m →
             MayTell (router_of self.now) m (open_view self.now.me.0 self.now.life request.now) (answer_view answer.now) (as_before (router_of self.now)) →
             IfOk result (λ p. IsHeard (router_of self.now) m p) }
     {
@@ -72,7 +73,7 @@ impl RouterNode {
         at: Time,
         batch: FirstBatch,
     ) -> Result<StepPlan, Memory>
-        ensures { (m : Letter) → time.0 ≡ rows.heard (router_of self.now) m → is_left (map arc_value batch.rest.items) ≡ true →
+        ensures { (m : Letter) → time.0 ≡ requested.heard (router_of self.now) m → is_left (map arc_value batch.rest.items) ≡ true →
             MayTell (router_of self.now) m (open_view self.now.me.0 self.now.life request.now)
             (first_answer (batch_of (open_view self.now.me.0 self.now.life request.now) at.0 (pos (next_number (router_of self.now)))
             (map arc_value batch.documents.items)))
@@ -111,7 +112,7 @@ impl RouterNode {
         batch: FirstBatch,
         single: bool,
     ) -> Result<StepPlan, Memory>
-        ensures { (m : Letter) (size : ℕ) (documents : List Fields) → time.0 ≡ rows.heard (router_of self.now) m → excess_of_answer documents ≡ None →
+        ensures { (m : Letter) (size : ℕ) (documents : List Fields) → time.0 ≡ requested.heard (router_of self.now) m → excess_of_answer documents ≡ None →
             IsBatch (Some size) documents (map arc_value batch.documents.items) →
             map arc_value batch.rest.items ≡ drop (length (map arc_value batch.documents.items)) documents →
             MayTellOf (router_of self.now) m (open_view self.now.me.0 self.now.life request.now) at.0 (states.in_batches size single) (listed documents) →
@@ -134,7 +135,7 @@ impl RouterNode {
         at: Time,
         documents: &DocumentList,
     ) -> Result<StepPlan, Memory>
-        ensures { (m : Letter) → time.0 ≡ rows.heard (router_of self.now) m →
+        ensures { (m : Letter) → time.0 ≡ requested.heard (router_of self.now) m →
             MayTellOf (router_of self.now) m (open_view self.now.me.0 self.now.life request.now) at.0 states.as_number
             (listed (map arc_value documents.now.items)) →
             IfOk result (λ p. IsHeard (router_of self.now) m p) }
@@ -156,7 +157,7 @@ impl RouterNode {
         read: &OpenRead,
         documents: DocumentList,
     ) -> Result<StepPlan, Memory>
-        ensures { (m : Letter) → time.0 ≡ rows.heard (router_of self.now) m → excess_of_answer (map arc_value documents.items) ≡ None →
+        ensures { (m : Letter) → time.0 ≡ requested.heard (router_of self.now) m → excess_of_answer (map arc_value documents.items) ≡ None →
             MayTellOf (router_of self.now) m (open_view self.now.me.0 self.now.life request.now) read.now.at.0 (telling_view read.now.telling)
             (listed (map arc_value documents.items)) →
             IfOk result (λ p. IsHeard (router_of self.now) m p) }
@@ -173,7 +174,7 @@ impl RouterNode {
     // Returns the plan to refuse an open read whose result has this number of bytes, at a time of the router. Returns `Memory` if memory runs out, and where
     // the number does not fit into 64 bits.
     fn plan_excess(&self, time: Time, request: &OpenRequest, bytes: u64) -> Result<StepPlan, Memory>
-        ensures { (m : Letter) (at : ℕ) (telling : states.Telling) (documents : List Fields) → time.0 ≡ rows.heard (router_of self.now) m →
+        ensures { (m : Letter) (at : ℕ) (telling : states.Telling) (documents : List Fields) → time.0 ≡ requested.heard (router_of self.now) m →
             option_map capped (excess_of_answer documents) ≡ Some bytes →
             MayTellOf (router_of self.now) m (open_view self.now.me.0 self.now.life request.now) at telling (listed documents) →
             IfOk result (λ p. IsHeard (router_of self.now) m p) }
@@ -192,7 +193,7 @@ impl RouterNode {
         read: &OpenRead,
         all: Vec<Rows>,
     ) -> Result<StepPlan, Memory>
-        ensures { (m : Letter) → time.0 ≡ rows.heard (router_of self.now) m →
+        ensures { (m : Letter) → time.0 ≡ requested.heard (router_of self.now) m →
             MayTellMerged (router_of self.now) m (open_view self.now.me.0 self.now.life request.now) read.now.at.0 (telling_view read.now.telling)
             (split (stages_of read.now.parts)).1 (map rows_of all.items) →
             IfOk result (λ p. IsHeard (router_of self.now) m p) }
@@ -215,9 +216,9 @@ impl RouterNode {
         read: &OpenRead,
         told: Result<Rows, HalfFault>,
     ) -> Result<StepPlan, Memory>
-        ensures { (m : Letter) (id : identities.RequestId) → m.sender ≡ sender.0 → time.0 ≡ rows.heard (router_of self.now) m →
+        ensures { (m : Letter) (id : identities.RequestId) → m.sender ≡ sender.0 → time.0 ≡ requested.heard (router_of self.now) m →
             IsPart (router_of self.now) m id (open_view self.now.me.0 self.now.life request.now) (rows_view told) →
-            rows.awaited (map target_view request.now.targets.items) (rows.also_part (map part_view request.now.parts.items) sender.0 (rows_view told)) ≡ [] →
+            nexts.awaited (map target_view request.now.targets.items) (nexts.also_part (map part_view request.now.parts.items) sender.0 (rows_view told)) ≡ [] →
             (open_view self.now.me.0 self.now.life request.now).work ≡ read_view read.now → IfOk result (λ p. IsHeard (router_of self.now) m p) }
     {
         match gather(self.alloc, &request.targets, &request.parts, sender, told) {
@@ -240,7 +241,7 @@ impl RouterNode {
         read: &OpenRead,
         told: Result<Rows, HalfFault>,
     ) -> Result<StepPlan, Memory>
-        ensures { (m : Letter) → m.sender ≡ sender.0 → time.0 ≡ rows.heard (router_of self.now) m →
+        ensures { (m : Letter) → m.sender ≡ sender.0 → time.0 ≡ requested.heard (router_of self.now) m →
             IsPart (router_of self.now) m (id_view id) (open_view self.now.me.0 self.now.life request.now) (rows_view told) →
             (open_view self.now.me.0 self.now.life request.now).work ≡ read_view read.now → IfOk result (λ p. IsHeard (router_of self.now) m p) }
     {

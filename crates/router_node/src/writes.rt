@@ -1,209 +1,163 @@
 //! Answers to writes.
 
-ghost use Rattle.std.specs.Prelude.{◌≡◌, ◌≢◌, Option, length, map, true, false, IfOk};
-ghost use Rattle.command_replies.specs.AnswerMeanings.{answer_view};
-ghost use Rattle.command_replies.specs.Kinds.{kind_view};
-ghost use Rattle.base_model.specs.Identities as identities;
-ghost use Rattle.command_model.specs.Writes as writes;
-ghost use Rattle.reply_model.specs.Outcomes as outcomes;
-ghost use Rattle.node_model.specs.RouterRows as rows;
-ghost use Rattle.protocol_model.specs.Statements.{done_view, statement_view};
-
 use crate::node::RouterNode;
 use crate::step_plan::{Change, StepPlan};
 use bson_values::Memory;
-use chunk_table::Table;
 use cluster_base::{RequestId, Time};
-use command_replies::{Answer, ClientNumber, WriteKind};
-use protocol_model::{DoneList, Message, StatementList, WriteDone};
-use router_replies::reply_to;
-use router_requests::{OpenRequest, Work, wait_by};
-use router_writes::{answer_of, is_answered, note};
-use std::alloc::Global;
-
-/// Returns whether there are as many answers as before.
-fn are_as_many(before: &DoneList, answers: &DoneList) -> bool
-    ensures same { result ≡ true → length before.now.items ≡ length answers.now.items }
-    ensures other { result ≡ false → length before.now.items ≢ length answers.now.items }
-{
-    before.len() == answers.len()
-}
-
-/// Returns the answers with those of the next outcomes that are new. Returns `Memory` if memory runs out.
-fn with_told(alloc: Global, answers: &DoneList, dones: &DoneList) -> Result<DoneList, Memory>
-    ensures { IfOk result (λ list. map done_view list.items ≡ rows.noted (map done_view answers.now.items) (map done_view dones.now.items)) }
-{
-    note(alloc, answers, dones)
-}
-
-/// Returns whether all statements are answered, or the last answer ends the command.
-fn is_all(ordered: bool, statements: &StatementList, answers: &DoneList) -> bool
-    ensures { (given : Option writes.ClientNumber) (id : identities.RequestId) → result
-        ≡ rows.is_answered ordered (map (λ s. statement_view given id s) statements.now.items) (map done_view answers.now.items) }
-{
-    is_answered(ordered, statements, answers)
-}
-
-/// Returns the joint answer of the statements of a write of this kind, with this time where there is no entry. Returns `Memory` if memory runs out, and where
-/// the answer is longer than allowed.
-fn answer_to(
-    alloc: Global,
-    kind: WriteKind,
-    time: Time,
-    answers: &DoneList,
-) -> Result<Answer, Memory>
-    ensures { IfOk result (λ answer. answer_view answer ≡ outcomes.answer_of (kind_view kind) time.0 (map done_view answers.now.items)) }
-{
-    answer_of(alloc, kind, time, answers)
-}
+use command_replies::Answer;
+use node_traits::ReplyList;
+use protocol_model::{Done, StatementOutcome, WriteDone};
+use router_requests::{OpenRequest, OpenWrite, Work, WriteNext, WriteSends, spare_list};
+use router_writes::note;
+use write_runs::{left_of, rest_of_served};
 
 impl RouterNode {
-    ghost use Rattle.std.specs.Prelude.{◌≡◌, IfOk, false, true, map, List};
+    ghost use Rattle.std.specs.Prelude.{◌≡◌, IfOk, Some, map};
+    ghost use Rattle.command_replies.specs.AnswerMeanings.{answer_view};
     ghost use Rattle.node_model.specs.Letters as letters;
+    ghost use Rattle.node_model.specs.RouterRequests as requested;
+    ghost use Rattle.node_model.specs.RouterNext as nexts;
     ghost use Rattle.node_model.specs.RouterRows as rows;
-    ghost use Rattle.node_model.specs.States as states;
-    ghost use Rattle.command_model.specs.Writes as writes;
-    ghost use Rattle.command_replies.specs.Kinds.{given_view, kind_view};
-    ghost use Rattle.router_requests.specs.Askers.{asking, letters_of};
-    ghost use Rattle.router_requests.specs.Works.{open_view};
-    ghost use Rattle.std.specs.Option.{option_map};
     ghost use Rattle.node_traits.specs.Ids.{id_view};
     ghost use Rattle.protocol_model.specs.Bodies.{write_done_view};
-    ghost use Rattle.protocol_model.specs.Statements.{done_view, statement_view};
-    ghost use Rattle.router_node.specs.News.{IsNews};
+    ghost use Rattle.protocol_model.specs.Statements.{done_view};
+    ghost use Rattle.router_requests.specs.Nexts.{write_next};
+    ghost use Rattle.router_requests.specs.Works.{open_view, work_of, write_view};
+    ghost use Rattle.router_requests.specs.declared.writes.WriteNext.TheVariants.{GoesOn};
+    ghost use Rattle.router_node.specs.News.{IsNews, next_noted};
     ghost use Rattle.router_node.specs.RouterStates.{router_of};
     ghost use Rattle.router_node.specs.StepPlans.{IsHeard};
 
-    // Returns the plan where all statements of a write are answered, or `Memory` if memory runs out.
-    fn plan_all(
+    // Returns the plan where a write is answered, or `Memory` if memory runs out.
+    fn plan_written(
         &self,
         time: Time,
         id: RequestId,
         request: &OpenRequest,
-        kind: WriteKind,
-        ordered: bool,
-        noted: &DoneList,
+        write: &OpenWrite,
+        noted: &[Option<StatementOutcome>],
+        answer: &Answer,
     ) -> Result<StepPlan, Memory>
-        ensures { (m : letters.Letter) (statements : List letters.Statement) → time.0 ≡ rows.heard (router_of self.now) m →
-            IsNews (router_of self.now) m (id_view id) (open_view self.now.me.0 self.now.life request.now)
-            (kind_view kind) ordered statements (map done_view noted.now.items) →
-            rows.is_answered ordered statements (map done_view noted.now.items) ≡ true → IfOk result (λ p. IsHeard (router_of self.now) m p) }
+        ensures { (m : letters.Letter) → time.0 ≡ requested.heard (router_of self.now) m →
+            IsNews (router_of self.now) m (id_view id) (open_view self.now.me.0 self.now.life request.now) write.now noted.now →
+            next_noted (router_of self.now) time.0 (open_view self.now.me.0 self.now.life request.now) write.now noted.now
+            ≡ nexts.is_told (nexts.reply_to (router_of self.now) time.0 (open_view self.now.me.0 self.now.life request.now) (answer_view answer.now)) →
+            IfOk result (λ p. IsHeard (router_of self.now) m p) }
     {
-        let answer = answer_to(self.alloc, kind, time, noted)?;
-        let reply = reply_to(
-            self.alloc,
-            request.link,
-            request.number,
-            &request.head,
-            &answer,
-        )?;
+        let reply = self.answered(request, answer)?;
         Ok(self.hears(time, Change::Closes(request.count), None, reply))
     }
 
-    // Returns what an open write waits for and the message that it sends, by its table, if there is one, with these answers. Returns `Memory` if memory runs
-    // out.
-    fn asks_more(
-        &self,
-        time: Time,
-        request: &OpenRequest,
-        table: Option<&Table>,
-        number: Option<ClientNumber>,
-        ordered: bool,
-        statements: &StatementList,
-        noted: &DoneList,
-    ) -> Result<Option<Message>, Memory>
-        ensures { (kind : writes.WriteKind) → IfOk result (λ m. letters_of m
-            ≡ rows.asks_by (asking self.now.me.0 self.now.shards self.now.life) time.0 request.now.count request.now.namespace
-            (states.writing kind ordered
-            (map (λ s. statement_view (given_view number) (rows.id_of (router_of self.now) request.now.count) s) statements.now.items)
-            (map done_view noted.now.items))
-            (option_map (λ t. t.now) table.entry)) }
-    {
-        let namespace = &request.namespace;
-        let count = request.count;
-        let asker = self.asker();
-        asker.asks_rest(
-            self.alloc, time, count, namespace, table, number, ordered, statements, noted,
-        )
-    }
-
-    // Returns the plan where some statements of a write are answered, and the next are sent. Returns `Memory` if memory runs out.
-    fn plan_rest(
+    // Returns the plan where a write goes on. Returns `Memory` if memory runs out.
+    fn plan_sent(
         &self,
         time: Time,
         id: RequestId,
         request: &OpenRequest,
-        number: Option<ClientNumber>,
-        ordered: bool,
-        statements: &StatementList,
-        noted: DoneList,
+        write: &OpenWrite,
+        noted: Vec<Option<StatementOutcome>>,
+        sends: WriteSends,
     ) -> Result<StepPlan, Memory>
-        ensures { (m : letters.Letter) (kind : writes.WriteKind) → time.0 ≡ rows.heard (router_of self.now) m →
-            IsNews (router_of self.now) m (id_view id) (open_view self.now.me.0 self.now.life request.now) kind ordered
-            (map (λ s. statement_view (given_view number) (rows.id_of (router_of self.now) request.now.count) s) statements.now.items)
-            (map done_view noted.items) →
-            rows.is_answered ordered
-            (map (λ s. statement_view (given_view number) (rows.id_of (router_of self.now) request.now.count) s) statements.now.items)
-            (map done_view noted.items) ≡ false →
+        ensures { (m : letters.Letter) → time.0 ≡ requested.heard (router_of self.now) m →
+            IsNews (router_of self.now) m (id_view id) (open_view self.now.me.0 self.now.life request.now) write.now noted.items →
+            next_noted (router_of self.now) time.0 (open_view self.now.me.0 self.now.life request.now) write.now noted.items
+            ≡ write_next (router_of self.now) time.0 (open_view self.now.me.0 self.now.life request.now)
+            (work_of (requested.id_of (router_of self.now) request.now.count) write.now noted.items write.now.runs.items) (GoesOn sends) →
             IfOk result (λ p. IsHeard (router_of self.now) m p) }
     {
-        let table = self.table_of(&request.namespace);
-        let wait = wait_by(table);
-        let message = self.asks_more(time, request, table, number, ordered, statements, &noted)?;
-        Ok(self.hears(time, Change::Notes(id.count, wait, noted), message, None))
+        let WriteSends { wait, runs, mail } = sends;
+        let change = Change::Notes(id.count, wait, noted, runs);
+        let mail = spare_list(self.alloc, mail)?;
+        let replies = ReplyList::new(self.alloc);
+        Ok(self.hears_all(time, change, mail, replies))
     }
 
-    // Returns the plan where some statements of a write are answered, or all. Returns `Memory` if memory runs out.
+    // Returns what becomes of an open write that has these answers: the rest of the runs that were served in part is sent again, or the next run is sent, or it
+    // is answered. Returns `Memory` if memory runs out.
+    fn next_noted(
+        &self,
+        time: Time,
+        request: &OpenRequest,
+        write: &OpenWrite,
+        noted: &[Option<StatementOutcome>],
+    ) -> Result<WriteNext, Memory>
+        ensures { IfOk result (λ next. next_noted (router_of self.now) time.0 (open_view self.now.me.0 self.now.life request.now) write.now noted.now
+            ≡ write_next (router_of self.now) time.0 (open_view self.now.me.0 self.now.life request.now)
+            (work_of (requested.id_of (router_of self.now) request.now.count) write.now noted.now write.now.runs.items) next) }
+    {
+        let rest = rest_of_served(self.alloc, noted, &write.runs)?;
+        let left = left_of(self.alloc, noted, &write.runs)?;
+        self.asker().write_on(
+            self.alloc,
+            time,
+            request.count,
+            &request.namespace,
+            self.table_of(&request.namespace),
+            write.ordered,
+            &rest,
+            write,
+            noted,
+            left,
+        )
+    }
+
+    // Returns the plan where an open write has these answers, which are more than before. Returns `Memory` if memory runs out.
     fn plan_noted(
         &self,
         time: Time,
         id: RequestId,
         request: &OpenRequest,
-        kind: WriteKind,
-        number: Option<ClientNumber>,
-        ordered: bool,
-        statements: &StatementList,
-        noted: DoneList,
+        write: &OpenWrite,
+        noted: Vec<Option<StatementOutcome>>,
     ) -> Result<StepPlan, Memory>
-        ensures { (m : letters.Letter) → time.0 ≡ rows.heard (router_of self.now) m →
-            IsNews (router_of self.now) m (id_view id) (open_view self.now.me.0 self.now.life request.now) (kind_view kind) ordered
-            (map (λ s. statement_view (given_view number) (rows.id_of (router_of self.now) request.now.count) s) statements.now.items)
-            (map done_view noted.items) →
+        ensures { (m : letters.Letter) → time.0 ≡ requested.heard (router_of self.now) m →
+            IsNews (router_of self.now) m (id_view id) (open_view self.now.me.0 self.now.life request.now) write.now noted.items →
             IfOk result (λ p. IsHeard (router_of self.now) m p) }
     {
-        if is_all(ordered, statements, &noted) {
-            self.plan_all(time, id, request, kind, ordered, &noted)
-        } else {
-            self.plan_rest(time, id, request, number, ordered, statements, noted)
+        let next = self.next_noted(time, request, write, &noted)?;
+        match next {
+            WriteNext::IsWritten(answer) => {
+                self.plan_written(time, id, request, write, &noted, &answer)
+            }
+            WriteNext::GoesOn(sends) => self.plan_sent(time, id, request, write, noted, sends),
+        }
+    }
+
+    // Returns the plan for outcomes of an open write, at a time of the router. Returns `Memory` if memory runs out.
+    fn plan_told(
+        &self,
+        time: Time,
+        id: RequestId,
+        request: &OpenRequest,
+        write: &OpenWrite,
+        dones: &[Done],
+    ) -> Result<StepPlan, Memory>
+        requires open { rows.open_of (router_of self.now) (id_view id) ≡ Some (open_view self.now.me.0 self.now.life request.now) }
+        requires work { (open_view self.now.me.0 self.now.life request.now).work
+            ≡ write_view (requested.id_of (router_of self.now) request.now.count) write.now }
+        ensures { (m : letters.Letter) → m.body ≡ letters.write_done (id_view id) (map done_view dones.now) → time.0 ≡ requested.heard (router_of self.now) m →
+            IfOk result (λ p. IsHeard (router_of self.now) m p) }
+    {
+        let noted = note(self.alloc, write.ordered, &write.answers, dones)?;
+        match noted {
+            None => Ok(self.late(time)),
+            Some(noted) => self.plan_noted(time, id, request, write, noted),
         }
     }
 
     // Returns the plan for the outcomes of a write, at a time of the router. Returns `Memory` if memory runs out.
     pub(crate) fn plan_dones(&self, time: Time, told: &WriteDone) -> Result<StepPlan, Memory>
-        ensures { (m : letters.Letter) → m.body ≡ write_done_view told.now → time.0 ≡ rows.heard (router_of self.now) m →
+        ensures { (m : letters.Letter) → m.body ≡ write_done_view told.now → time.0 ≡ requested.heard (router_of self.now) m →
             IfOk result (λ p. IsHeard (router_of self.now) m p) }
     {
         match self.open_of(told.id) {
             None => Ok(self.late(time)),
             Some(request) => match &request.work {
-                Work::Reading { .. } => Ok(self.late(time)),
+                Work::Reading(_) => Ok(self.late(time)),
                 Work::Sharding => Ok(self.late(time)),
                 Work::Splitting(_) => Ok(self.late(time)),
-                Work::Writing {
-                    kind,
-                    number,
-                    ordered,
-                    statements,
-                    answers,
-                } => {
-                    let noted = with_told(self.alloc, answers, &told.dones)?;
-                    if are_as_many(answers, &noted) {
-                        Ok(self.late(time))
-                    } else {
-                        self.plan_noted(
-                            time, told.id, request, *kind, *number, *ordered, statements, noted,
-                        )
-                    }
+                Work::Writing(write) => {
+                    self.plan_told(time, told.id, request, write, &told.dones)
                 }
             },
         }

@@ -4,6 +4,7 @@ ghost use Rattle.std.specs.Prelude.{◌≡◌, ◌≤◌, ◌^◌, ◌⊎◌, []
 ghost use Rattle.std.specs.Arc.{arc_value};
 ghost use Rattle.command_replies.specs.AnswerMeanings.{answer_view};
 ghost use Rattle.command_model.specs.Answers as model;
+ghost use Rattle.node_model.specs.RouterNext as nexts;
 ghost use Rattle.node_model.specs.RouterRows as rows;
 ghost use Rattle.node_model.specs.States as states;
 ghost use Rattle.router_requests.specs.Works.{telling_view};
@@ -30,7 +31,7 @@ pub fn empty_answer(
     telling: Telling,
 ) -> Result<Answer, Memory>
     ensures { (q : states.Open) → q.namespace ≡ namespace.now → IfOk result (λ answer. answer_view answer
-        ≡ rows.empty_answer q time.0 (telling_view telling)) }
+        ≡ nexts.empty_answer q time.0 (telling_view telling)) }
 {
     match telling {
         Telling::Batches { .. } => Ok(Answer::First(Batch {

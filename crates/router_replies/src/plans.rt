@@ -1,13 +1,13 @@
 //! The answer to a request, or the work that it needs.
 
-ghost use Rattle.std.specs.Prelude.{◌≡◌, ◌||◌, [], IfOk, map};
+ghost use Rattle.std.specs.Prelude.{◌≡◌, ◌||◌, IfOk, map};
 ghost use Rattle.std.specs.Option.{unwrap_or};
 ghost use Rattle.command_replies.specs.Kinds.{given_view, kind_view};
 ghost use Rattle.command_model.specs.CommandSizes.{IsSmallWrite};
 ghost use Rattle.command_words.specs.Commands.{split_view, write_view};
 ghost use Rattle.base_model.specs.Identities as identities;
 ghost use Rattle.reply_model.specs.Right.{usual_size};
-ghost use Rattle.node_model.specs.RouterRows as rows;
+ghost use Rattle.node_model.specs.RouterRequests as requested;
 ghost use Rattle.node_model.specs.States as states;
 ghost use Rattle.router_requests.specs.Works.{stages_of, telling_view};
 ghost use Rattle.statement_views.specs.Views.{operation_view};
@@ -18,8 +18,8 @@ use bson_values::Memory;
 use cluster_base::{Namespace, Time};
 use command_replies::Answer;
 use command_words::{Batches, GetMore, KillCursors, SplitCommand, WriteCommand};
-use protocol_model::DoneList;
-use router_requests::{OpenRead, Parts, Telling, Work};
+use router_requests::{OpenRead, OpenWrite, Parts, Telling, Work};
+use router_writes::none_yet;
 use std::alloc::Global;
 
 /// The greatest size of a first batch where no size is given (MongoDB manual, "Cursor Batches").
@@ -40,8 +40,8 @@ pub enum RequestPlan {
 pub fn plan_write(alloc: Global, write: WriteCommand) -> Result<RequestPlan, Memory>
     requires { IsSmallWrite (write_view write) }
     ensures { (id : identities.RequestId) → IfOk result (λ plan. plan_view id plan
-        ≡ rows.needs write.namespace (states.writing (kind_view write.kind) write.ordered
-        (rows.statements_from (given_view write.number) id 0 (map operation_view write.operations.items)) [])) }
+        ≡ requested.needs write.namespace (requested.begun_write (kind_view write.kind) write.ordered
+        (requested.statements_from (given_view write.number) id 0 (map operation_view write.operations.items)))) }
 {
     let WriteCommand {
         kind,
@@ -51,13 +51,15 @@ pub fn plan_write(alloc: Global, write: WriteCommand) -> Result<RequestPlan, Mem
         number,
     } = write;
     let statements = statements_of(alloc, operations)?;
-    let work = Work::Writing {
+    let answers = none_yet(alloc, &statements)?;
+    let work = Work::Writing(OpenWrite {
         kind,
         number,
         ordered,
         statements,
-        answers: DoneList::new(alloc),
-    };
+        answers,
+        runs: Vec::new(alloc),
+    });
     Ok(RequestPlan::Needs { namespace, work })
 }
 
@@ -69,7 +71,7 @@ pub fn needs_read(
     parts: Parts,
     telling: Telling,
 ) -> RequestPlan
-    ensures { (id : identities.RequestId) → plan_view id result ≡ rows.needs namespace (states.reading named at.0 (stages_of parts) (telling_view telling)) }
+    ensures { (id : identities.RequestId) → plan_view id result ≡ requested.needs namespace (states.reading named at.0 (stages_of parts) (telling_view telling)) }
 {
     let read = OpenRead {
         named,
@@ -85,7 +87,7 @@ pub fn needs_read(
 
 /// Returns the plan to create a collection.
 pub fn needs_collection(namespace: Namespace) -> RequestPlan
-    ensures { (id : identities.RequestId) → plan_view id result ≡ rows.needs namespace states.sharding }
+    ensures { (id : identities.RequestId) → plan_view id result ≡ requested.needs namespace states.sharding }
 {
     RequestPlan::Needs {
         namespace,
@@ -96,7 +98,7 @@ pub fn needs_collection(namespace: Namespace) -> RequestPlan
 /// Returns the plan of a split.
 pub fn plan_split(split: SplitCommand) -> RequestPlan
     ensures { (id : identities.RequestId) → plan_view id result
-        ≡ rows.needs (split_view split).namespace (states.splitting (split_view split).middle) }
+        ≡ requested.needs (split_view split).namespace (states.splitting (split_view split).middle) }
 {
     let SplitCommand { namespace, middle } = split;
     RequestPlan::Needs {

@@ -5,7 +5,7 @@ ghost use Rattle.std.specs.List.{AllByRecursion};
 ghost use Rattle.command_model.specs.Writes.{ClientNumber};
 ghost use Rattle.command_model.specs.CommandSizes.{IsKeepable};
 ghost use Rattle.base_model.specs.Identities as identities;
-ghost use Rattle.node_model.specs.RouterRows as rows;
+ghost use Rattle.node_model.specs.RouterRequests as requested;
 ghost use Rattle.protocol_model.specs.Statements as protocol;
 ghost use Rattle.protocol_model.specs.Statements.{statement_view};
 ghost use Rattle.statement_views.specs.Views.{operation_view};
@@ -34,7 +34,7 @@ pub(crate) fn statements_of(
 ) -> Result<StatementList, Memory>
     requires { AllByRecursion IsKeepable (map operation_view operations.items) }
     ensures { (given : Option ClientNumber) (id : identities.RequestId) → IfOk result (λ list. map (λ s. statement_view given id s) list.items
-        ≡ rows.statements_from given id 0 (map operation_view operations.items)) }
+        ≡ requested.statements_from given id 0 (map operation_view operations.items)) }
 {
     let mut statements = Vec::new(alloc);
     let mut index: u32 = 0;

@@ -4,7 +4,7 @@ ghost use Rattle.std.specs.Prelude.{◌≡◌, ◌≤◌, ℕ, IfSome};
 ghost use Rattle.std.specs.Arc.{arc_value};
 ghost use Rattle.std.specs.Option.{option_map};
 ghost use Rattle.chunk_model.specs.Tables.{table_of};
-ghost use Rattle.node_model.specs.RouterRows.{adopted};
+ghost use Rattle.node_model.specs.RouterNext.{adopted};
 ghost use Rattle.router_requests.specs.Fates.{fated};
 ghost use Rattle.router_requests.specs.Lists.{opens_of, taken_of};
 

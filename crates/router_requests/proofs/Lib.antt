@@ -1,12 +1,9 @@
-mod Keys
 mod Places
-mod Remaining
 mod Rooms
-mod Runs
 mod Waits
-pub mod Askers
-pub mod Nexts
-pub mod Sending
-pub mod Resent
+pub mod ByTables
+pub mod Alike
+mod Reading
+mod Written
 mod Told
 mod Turns

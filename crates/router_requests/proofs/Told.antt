@@ -6,7 +6,7 @@ use Rattle.std.proofs.lemmas.List.Elements.{filter-append}
 use Rattle.std.proofs.lemmas.List.{map-append}
 use Rattle.cluster_base.specs.declared.identity.NodeId.{NodeId}
 use Rattle.node_model.specs.Letters.{Body, Letter}
-use Rattle.node_model.specs.RouterRows.{says, untold, places_from}
+use Rattle.node_model.specs.RouterRequests.{says, untold, places_from}
 use Rattle.node_model.specs.States.{Router}
 use Rattle.router_requests.specs.Works.{numbers_of}
 

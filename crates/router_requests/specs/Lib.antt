@@ -5,6 +5,4 @@ pub mod Lists
 pub mod Order
 pub mod Nexts
 pub mod Fates
-pub mod Sends
-pub mod Again
 pub mod Turns

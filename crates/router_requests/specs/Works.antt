@@ -1,18 +1,23 @@
 -- What open requests of the program are, by the definitions.
-use Rattle.std.specs.Prelude.{ℕ, List, map}
+use Rattle.std.specs.Prelude.{ℕ, List, map, Option}
 use Rattle.pipeline_model.specs.Stages.{Stage}
 use Rattle.base_model.specs.Identities as identities
 use Rattle.cluster_base.specs.declared.identity.NodeId.{NodeId}
+use Rattle.node_model.specs.Letters as letters
 use Rattle.node_model.specs.States as states
 use Rattle.node_model.specs.States.{in_batches, as_number, writing, reading, sharding, splitting, for_time, for_catalogue, for_shards}
 use Rattle.command_replies.specs.Kinds.{given_view, kind_view}
 use Rattle.protocol_model.specs.Heads.{head_request}
-use Rattle.protocol_model.specs.Statements.{done_view, statement_view}
+use Rattle.protocol_model.specs.Statements.{statement_view}
+use Rattle.protocol_model.specs.declared.statement.StatementOutcome.{StatementOutcome}
 use Rattle.read_parts.specs.Parts.{part_view, target_view}
+use Rattle.write_runs.specs.Runs.{course_view}
+use Rattle.write_runs.specs.declared.run.Run.{Run}
 use Rattle.router_requests.specs.declared.read.Parts.{Parts}
 use Rattle.router_requests.specs.declared.read.OpenRead.{OpenRead}
 use Rattle.router_requests.specs.declared.read.Telling.{Telling}
 use Rattle.router_requests.specs.declared.read.Telling.TheVariants.{Batches, Number}
+use Rattle.router_requests.specs.declared.write.OpenWrite.{OpenWrite}
 use Rattle.router_requests.specs.declared.work.Work.{Work}
 use Rattle.router_requests.specs.declared.work.Work.TheVariants.{Writing, Reading, Sharding, Splitting}
 use Rattle.router_requests.specs.declared.work.Wait.{Wait}
@@ -34,10 +39,20 @@ read_at read at = reading read.named at (stages_of read.parts) (telling_view rea
 abbrev pub read_view : OpenRead → states.Work
 read_view read = read_at read read.at.0
 
+-- the statements of the write with this id
+abbrev pub statements_of : identities.RequestId → OpenWrite → List letters.Statement
+statements_of id write = map (λ s. statement_view (given_view write.number) id s) write.statements.items
+
+-- a write with these answers, of which these runs are under way
+abbrev pub work_of : identities.RequestId → OpenWrite → List (Option StatementOutcome) → List Run → states.Work
+work_of id write answers runs = writing (kind_view write.kind) write.ordered (statements_of id write) (course_view answers runs)
+
+abbrev pub write_view : identities.RequestId → OpenWrite → states.Work
+write_view id write = work_of id write write.answers.items write.runs.items
+
 -- the work of the request with this id
 abbrev pub work_view : identities.RequestId → Work → states.Work
-work_view id (Writing kind number ordered statements answers) =
-    writing (kind_view kind) ordered (map (λ s. statement_view (given_view number) id s) statements.items) (map done_view answers.items)
+work_view id (Writing write) = write_view id write
 work_view id (Reading read) = read_view read
 work_view id Sharding = sharding
 work_view id (Splitting middle) = splitting middle

@@ -22,7 +22,7 @@ pub struct Asker {
 impl Asker {
     ghost use Rattle.std.specs.Prelude.{◌≡◌, IfOk, true, false};
     ghost use Rattle.node_model.specs.Letters.{no_time, at_time, split_ask, table_ask};
-    ghost use Rattle.node_model.specs.RouterRows as rows;
+    ghost use Rattle.node_model.specs.RouterRequests as requested;
     ghost use Rattle.node_traits.specs.Ids.{id_view};
     ghost use Rattle.protocol_model.specs.Bodies.{body_view};
     ghost use Rattle.protocol_model.specs.Messages.{letter_of};
@@ -30,7 +30,7 @@ impl Asker {
 
     /// Returns the id of the request that it took with this count.
     pub fn id(self, count: u64) -> RequestId
-        ensures { id_view result ≡ rows.id_of (asker_view self) count }
+        ensures { id_view result ≡ requested.id_of (asker_view self) count }
     {
         RequestId {
             router: self.me,
@@ -41,7 +41,7 @@ impl Asker {
 
     /// Returns the message that it sends to a node at a time.
     pub(crate) fn says(self, receiver: NodeId, time: Time, body: Body) -> Message
-        ensures { letter_of result ≡ rows.says (asker_view self) receiver.0 time.0 (body_view body) }
+        ensures { letter_of result ≡ requested.says (asker_view self) receiver.0 time.0 (body_view body) }
     {
         Message {
             sender: self.me,
@@ -54,7 +54,7 @@ impl Asker {
     /// Returns what a write requests of the catalogue, and what creates a collection: its table, and that it is created where it does not exist.
     /// Returns `Memory` if memory runs out.
     pub fn asks_to_begin(self, time: Time, namespace: &Namespace) -> Result<Message, Memory>
-        ensures { IfOk result (λ m. letter_of m ≡ rows.says (asker_view self) 0 time.0 (table_ask namespace.now true no_time)) }
+        ensures { IfOk result (λ m. letter_of m ≡ requested.says (asker_view self) 0 time.0 (table_ask namespace.now true no_time)) }
     {
         let ask = TableAsk {
             namespace: namespace.copy()?,
@@ -71,7 +71,7 @@ impl Asker {
         namespace: &Namespace,
         at: Time,
     ) -> Result<Message, Memory>
-        ensures { IfOk result (λ m. letter_of m ≡ rows.says (asker_view self) 0 time.0 (table_ask namespace.now false (at_time at.0))) }
+        ensures { IfOk result (λ m. letter_of m ≡ requested.says (asker_view self) 0 time.0 (table_ask namespace.now false (at_time at.0))) }
     {
         let ask = TableAsk {
             namespace: namespace.copy()?,
@@ -90,7 +90,7 @@ impl Asker {
         middle: &Key,
     ) -> Result<Message, Memory>
         ensures { IfOk result (λ m. letter_of m
-            ≡ rows.says (asker_view self) 0 time.0 (split_ask (rows.id_of (asker_view self) count) namespace.now middle.now)) }
+            ≡ requested.says (asker_view self) 0 time.0 (split_ask (requested.id_of (asker_view self) count) namespace.now middle.now)) }
     {
         let ask = SplitAsk {
             id: self.id(count),

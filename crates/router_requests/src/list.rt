@@ -3,15 +3,15 @@
 ghost use Rattle.std.specs.Prelude.{◌≡◌, true};
 ghost use Rattle.router_requests.specs.Order.{place_of, rises};
 
-use crate::fates::{Fate, fate_after};
+use crate::fates::Fate;
 use crate::work::{OpenRequest, Wait};
 use bson_values::Memory;
-use chunk_table::Table;
-use cluster_base::{Namespace, NodeId, Time};
+use cluster_base::{NodeId, Time};
 use pipeline_eval::Rows;
-use protocol_model::{At, DoneList, HalfFault};
+use protocol_model::{HalfFault, StatementOutcome};
 use read_parts::Target;
 use std::alloc::Global;
+use write_runs::Run;
 
 /// The open requests of a router in one of its lives, in the order in which it took them.
 #[derive(Drop)]
@@ -24,22 +24,20 @@ pub struct OpenList {
 
 impl OpenList {
     ghost use Rattle.std.specs.Prelude.{◌≡◌, ◌<◌, ◌^◌, ◌-◌, ◌+◌, ◌++◌, ◌∷◌, [], ℕ, List, Bool, Some, true, map, IfOk, OnOk};
-    ghost use Rattle.std.specs.List.{flat_map};
     ghost use Rattle.std.specs.Option.{option_map};
     ghost use Rattle.node_model.specs.Letters as letters;
-    ghost use Rattle.reply_model.specs.Outcomes as outcomes;
-    ghost use Rattle.node_model.specs.RouterRows as rows;
+    ghost use Rattle.node_model.specs.RouterRequests as requested;
+    ghost use Rattle.node_model.specs.RouterNext as nexts;
     ghost use Rattle.node_model.specs.States as states;
-    ghost use Rattle.chunk_model.specs.Tables as tables;
     ghost use Rattle.command_model.specs.Writes as writes;
-    ghost use Rattle.protocol_model.specs.Bodies.{at_view, rows_view};
-    ghost use Rattle.protocol_model.specs.Statements.{done_view};
+    ghost use Rattle.protocol_model.specs.Bodies.{rows_view};
     ghost use Rattle.read_parts.specs.Parts.{target_view};
     ghost use Rattle.router_requests.specs.Fates.{fated};
     ghost use Rattle.router_requests.specs.Lists.{has_room, has_room_for_part, opens_of, taken_of};
     ghost use Rattle.router_requests.specs.Turns.{settled};
     ghost use Rattle.router_requests.specs.Works.{numbers_of, open_view, told_by, wait_view};
     ghost use Rattle.router_requests.specs.declared.fates.Fate.{Fate};
+    ghost use Rattle.write_runs.specs.Runs.{course_view};
 
     /// Returns the list before a request was taken.
     pub fn new(alloc: Global) -> OpenList
@@ -154,7 +152,7 @@ impl OpenList {
         requires room { has_room_for_part count self.old ≡ true }
         ensures taken { taken_of self.new ≡ taken_of self.old }
         ensures opens { (router life : ℕ) (q : states.Open) → states.open_with count (opens_of router life self.old) ≡ Some q →
-            opens_of router life self.new ≡ states.replaced (rows.with_part q shard.0 (rows_view told)) (opens_of router life self.old) }
+            opens_of router life self.new ≡ states.replaced (nexts.with_part q shard.0 (rows_view told)) (opens_of router life self.old) }
     {
         let place = self.place(count);
         if place < self.requests.len() {
@@ -167,7 +165,7 @@ impl OpenList {
         ensures taken { taken_of self.new ≡ taken_of self.old }
         ensures opens { (router life : ℕ) (q : states.Open) → states.open_with count (opens_of router life self.old) ≡ Some q →
             opens_of router life self.new
-            ≡ states.replaced (rows.with_work q (wait_view wait) (map target_view targets.items) (rows.reached time.0 q.work))
+            ≡ states.replaced (nexts.with_work q (wait_view wait) (map target_view targets.items) (requested.reached time.0 q.work))
             (opens_of router life self.old) }
     {
         let place = self.place(count);
@@ -188,42 +186,26 @@ impl OpenList {
         }
     }
 
-    /// The write with this count has these answers now, and waits for this.
-    pub fn set_answers(&mut self, count: u64, wait: Wait, answers: DoneList)
+    /// The write with this count has these answers now, these runs of it are under way, and it waits for this.
+    pub fn set_answers(
+        &mut self,
+        count: u64,
+        wait: Wait,
+        answers: Vec<Option<StatementOutcome>>,
+        runs: Vec<Run>,
+    )
         ensures taken { taken_of self.new ≡ taken_of self.old }
         ensures opens { (router life : ℕ) (q : states.Open) (kind : writes.WriteKind) (ordered : Bool) (statements : List letters.Statement)
-            (before : List outcomes.Done) →
+            (before : states.Course) →
             states.open_with count (opens_of router life self.old) ≡ Some q → q.work ≡ states.writing kind ordered statements before →
             opens_of router life self.new
-            ≡ states.replaced (rows.with_work q (wait_view wait) [] (states.writing kind ordered statements (map done_view answers.items)))
+            ≡ states.replaced (nexts.with_work q (wait_view wait) [] (states.writing kind ordered statements (course_view answers.items runs.items)))
             (opens_of router life self.old) }
     {
         let place = self.place(count);
         if place < self.requests.len() {
-            self.requests[place].answer(wait, answers);
+            self.requests[place].answer(wait, answers, runs);
         }
-    }
-
-    /// Returns what becomes of each open request after a table of this collection arrived for a time, where this is the one that is known then: those that can
-    /// proceed with it wait for the shards, and those that are answered leave; `made` where the collection was to be created, and there it is. Returns
-    /// `Memory` if memory runs out.
-    pub fn fates(
-        &self,
-        alloc: Global,
-        namespace: &Namespace,
-        made: bool,
-        told: At,
-        known: Option<&Table>,
-    ) -> Result<Vec<Fate>, Memory>
-        ensures { (r : states.Router) (time : ℕ) (after : List tables.Table) → tables.table_of namespace.now after ≡ option_map (λ t. t.now) known.entry →
-            IfOk result (λ fates. fated (opens_of r.me r.life self.now) fates.items
-            ≡ flat_map (λ q. rows.stay_in (rows.next_of r time after namespace.now made (at_view told) q)) (opens_of r.me r.life self.now)) }
-    {
-        let mut fates = Vec::with_capacity(alloc, self.requests.len())?;
-        for request in &self.requests {
-            fates.push(fate_after(alloc, namespace, made, told, known, request)?)?;
-        }
-        Ok(fates)
     }
 
     // The request at a place has its fate, if one is there. Returns the place of the next one. Takes no memory.
@@ -238,8 +220,12 @@ impl OpenList {
         }
         match fate {
             Fate::Stays => place + 1,
-            Fate::GoesOn(targets) => {
-                self.requests[place].wait_for_shards(targets);
+            Fate::Reads(wait, targets) => {
+                self.requests[place].wait_for(wait, targets);
+                place + 1
+            }
+            Fate::Writes(wait, runs) => {
+                self.requests[place].wait_for_runs(wait, runs);
                 place + 1
             }
             Fate::Leaves => {

@@ -82,12 +82,12 @@ pub struct OpenRead {
 
 impl OpenRead {
     ghost use Rattle.std.specs.Prelude.{◌≡◌, ◌≤◌};
-    ghost use Rattle.node_model.specs.RouterRows as rows;
+    ghost use Rattle.node_model.specs.RouterRequests as requested;
     ghost use Rattle.router_requests.specs.Works.{read_at, read_view};
 
     /// Returns the time that it reads at, where the router's has come to this: its own, where that was named.
     pub fn at_reached(&self, time: Time) -> Time
-        ensures read { read_at self.now result.0 ≡ rows.reached time.0 (read_view self.now) }
+        ensures read { read_at self.now result.0 ≡ requested.reached time.0 (read_view self.now) }
         ensures come { self.now.at.0 ≤ time.0 → result.0 ≤ time.0 }
     {
         if self.named { self.at } else { time }
@@ -95,7 +95,7 @@ impl OpenRead {
 
     // Is of this time now, unless one was named.
     pub(crate) fn reach(&mut self, time: Time)
-        ensures { read_view self.new ≡ rows.reached time.0 (read_view self.old) }
+        ensures { read_view self.new ≡ requested.reached time.0 (read_view self.old) }
     {
         self.at = self.at_reached(time);
     }

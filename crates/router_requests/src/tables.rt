@@ -1,40 +1,45 @@
 //! What becomes of open requests after a table arrives.
 
-ghost use Rattle.std.specs.Prelude.{◌≡◌, ◌&&◌, ℕ, List, None};
+ghost use Rattle.std.specs.Prelude.{◌≡◌, ◌&&◌};
 ghost use Rattle.std.specs.Arc.{arc_value};
 ghost use Rattle.std.specs.Option.{is_some, option_map};
 ghost use Rattle.std.specs.Str.{bytes_eq};
-ghost use Rattle.base_model.specs.Identities as identities;
-ghost use Rattle.node_model.specs.RouterRows as rows;
-ghost use Rattle.node_model.specs.States as states;
-ghost use Rattle.chunk_model.specs.Tables as tables;
+ghost use Rattle.node_model.specs.RouterRequests as requested;
+ghost use Rattle.node_model.specs.RouterNext as nexts;
 ghost use Rattle.protocol_model.specs.Bodies.{at_view};
-ghost use Rattle.router_requests.specs.Nexts.{IsNext};
-ghost use Rattle.router_requests.specs.Works.{open_view, wait_view, work_view};
+ghost use Rattle.router_requests.specs.Works.{wait_view};
 
-use crate::read::Telling;
+use crate::asker::Asker;
+use crate::read::{OpenRead, Telling};
+use crate::reads::Sends;
 use crate::work::{OpenRequest, Wait, Work};
+use crate::writes::WriteNext;
+use bson_values::Memory;
 use chunk_table::Table;
 use cluster_base::{Namespace, Time};
 use protocol_model::{At, TableTold};
 use read_parts::is_owned;
+use std::alloc::Global;
+use write_runs::copies_of;
 
 /// What becomes of an open request after a table arrives.
-#[derive(Clone, Copy, Debug, PartialEq, Eq)]
+#[derive(Drop)]
 pub enum Next {
     /// It stays as it is.
     Stays,
-    /// It sends to the shards.
-    GoesOn,
+    /// It is a read that waits for this.
+    Reads(Sends),
+    /// It is a write.
+    Writes(WriteNext),
     /// It is answered that nothing is there, at this time.
-    IsTold(Time, Telling),
-    /// It is answered that its collection was created.
+    IsEmpty(Time, Telling),
+    /// It is answered that its collection is sharded.
     IsSharded,
 }
 
 /// Returns whether what arrives for a time is the answer to a read of this one.
 fn is_for(told: At, at: Time) -> bool
-    ensures { result ≡ rows.is_for (at_view told) at.0 }
+    ensures { result ≡ nexts.is_for (at_view told) at.0 }
 {
     match told {
         At::NoTime => false,
@@ -44,7 +49,7 @@ fn is_for(told: At, at: Time) -> bool
 
 /// Returns whether a table arrived of a collection that was to be created.
 pub fn was_created(told: &TableTold) -> bool
-    ensures { result ≡ rows.was_created told.now.create (option_map (λ t. arc_value t) told.now.table) }
+    ensures { result ≡ nexts.was_created told.now.create (option_map (λ t. arc_value t) told.now.table) }
 {
     match &told.table {
         None => false,
@@ -54,67 +59,105 @@ pub fn was_created(told: &TableTold) -> bool
 
 /// Returns whether a request waits for the catalogue's answer about this collection.
 fn waits_for(request: &OpenRequest, namespace: &Namespace) -> bool
-    ensures { result ≡ (rows.is_for_catalogue (wait_view request.now.wait) && bytes_eq request.now.namespace namespace.now) }
+    ensures { result ≡ (nexts.is_for_catalogue (wait_view request.now.wait) && bytes_eq request.now.namespace namespace.now) }
 {
     request.wait == Wait::ForCatalogue && request.namespace.as_str() == namespace.as_str()
 }
 
-/// Returns whether work can proceed with this table, if it is known.
-#[tactic(auto, using(crate::proofs::Nexts::if_enough))]
-fn can_go_on(known: Option<&Table>, work: &Work) -> bool
-    ensures { (id : identities.RequestId) → result ≡ is_some (rows.enough_of (option_map (λ t. t.now) known.entry) (work_view id work.now)) }
+/// Returns whether this table, if it is known, says who owned each key at a time.
+#[tactic(auto, using(crate::proofs::Reading::if_read))]
+fn can_read(known: Option<&Table>, at: Time) -> bool
+    ensures { result ≡ is_some (requested.table_to_read (option_map (λ t. t.now) known.entry) at.0) }
 {
     match known {
         None => false,
-        Some(table) => match work {
-            Work::Writing { .. } => true,
-            Work::Reading(read) => is_owned(table, read.at),
-            Work::Sharding => false,
-            Work::Splitting(_) => false,
-        },
+        Some(table) => is_owned(table, at),
     }
 }
 
-/// Returns what becomes of work that waits for its table, and can't proceed, after the table arrived for a time; `made` where its collection was to be
-/// created, and there it is.
-fn next_without(made: bool, told: At, work: &Work) -> Next
-    ensures { (r : states.Router) (time : ℕ) (q : states.Open) (id : identities.RequestId) → q.work ≡ work_view id work.now →
-        IsNext r time None q (rows.next_without r time made (at_view told) q) result }
-{
-    match work {
-        Work::Writing { .. } => Next::Stays,
-        Work::Reading(read) => {
-            if is_for(told, read.at) {
-                Next::IsTold(read.at, read.telling)
-            } else {
-                Next::Stays
+impl Asker {
+    ghost use Rattle.std.specs.Prelude.{◌≡◌, IfOk, List, true};
+    ghost use Rattle.std.specs.Option.{option_map};
+    ghost use Rattle.chunk_model.specs.Tables as tables;
+    ghost use Rattle.node_model.specs.RouterNext as nexts;
+    ghost use Rattle.node_model.specs.States as states;
+    ghost use Rattle.protocol_model.specs.Bodies.{at_view};
+    ghost use Rattle.router_requests.specs.Askers.{asker_view};
+    ghost use Rattle.router_requests.specs.Nexts.{next_view, read_arrives};
+    ghost use Rattle.router_requests.specs.Works.{open_view, read_view};
+
+    // Returns what becomes of a read that waits for the catalogue, after a table arrived for a time, where this is the one that is known then. Returns `Memory`
+    // if memory runs out.
+    fn next_read(
+        self,
+        alloc: Global,
+        time: Time,
+        told: At,
+        known: Option<&Table>,
+        request: &OpenRequest,
+        read: &OpenRead,
+    ) -> Result<Next, Memory>
+        requires { (open_view (asker_view self).me (asker_view self).life request.now).work ≡ read_view read.now }
+        ensures { IfOk result (λ next. read_arrives (asker_view self) time.0 (option_map (λ t. t.now) known.entry) (at_view told)
+            (open_view (asker_view self).me (asker_view self).life request.now)
+            ≡ next_view (asker_view self) time.0 (open_view (asker_view self).me (asker_view self).life request.now) next) }
+    {
+        if is_for(told, read.at) && !can_read(known, read.at) {
+            return Ok(Next::IsEmpty(read.at, read.telling));
+        }
+        let count = request.count;
+        let namespace = &request.namespace;
+        let sends = self.read_on(alloc, time, count, namespace, known, false, read, read.at)?;
+        Ok(Next::Reads(sends))
+    }
+
+    /// Returns what becomes of an open request after a table of this collection arrived for a time, where this is the one that is known then; `made` where the
+    /// collection was to be created, and there it is. Returns `Memory` if memory runs out, and where the answer to a write is longer than allowed.
+    pub fn next_of(
+        self,
+        alloc: Global,
+        time: Time,
+        namespace: &Namespace,
+        made: bool,
+        told: At,
+        known: Option<&Table>,
+        request: &OpenRequest,
+    ) -> Result<Next, Memory>
+        ensures { (after : List tables.Table) → tables.table_of namespace.now after ≡ option_map (λ t. t.now) known.entry →
+            IfOk result (λ next. nexts.next_of (asker_view self) time.0 after namespace.now made (at_view told)
+            (open_view (asker_view self).me (asker_view self).life request.now)
+            ≡ next_view (asker_view self) time.0 (open_view (asker_view self).me (asker_view self).life request.now) next) }
+    {
+        if !waits_for(request, namespace) {
+            return Ok(Next::Stays);
+        }
+        let count = request.count;
+        match &request.work {
+            Work::Writing(write) => {
+                let runs = copies_of(alloc, &write.runs)?;
+                let next = self.write_on(
+                    alloc,
+                    time,
+                    count,
+                    namespace,
+                    known,
+                    false,
+                    &[],
+                    write,
+                    &write.answers,
+                    runs,
+                )?;
+                Ok(Next::Writes(next))
             }
+            Work::Reading(read) => self.next_read(alloc, time, told, known, request, read),
+            Work::Sharding => {
+                if made {
+                    Ok(Next::IsSharded)
+                } else {
+                    Ok(Next::Stays)
+                }
+            }
+            Work::Splitting(_) => Ok(Next::Stays),
         }
-        Work::Sharding => { if made { Next::IsSharded } else { Next::Stays } }
-        Work::Splitting(_) => Next::Stays,
-    }
-}
-
-/// Returns what becomes of an open request after a table of this collection arrived for a time, where this is the one that is known then; `made` where the
-/// collection was to be created, and there it is.
-pub fn next_of(
-    namespace: &Namespace,
-    made: bool,
-    told: At,
-    known: Option<&Table>,
-    request: &OpenRequest,
-) -> Next
-    ensures { (r : states.Router) (time : ℕ) (after : List tables.Table) → tables.table_of namespace.now after ≡ option_map (λ t. t.now) known.entry →
-        IsNext r time (option_map (λ t. t.now) known.entry) (open_view r.me r.life request.now)
-        (rows.next_of r time after namespace.now made (at_view told) (open_view r.me r.life request.now)) result }
-{
-    if waits_for(request, namespace) {
-        if can_go_on(known, &request.work) {
-            Next::GoesOn
-        } else {
-            next_without(made, told, &request.work)
-        }
-    } else {
-        Next::Stays
     }
 }

@@ -2,7 +2,8 @@
 
 ghost use Rattle.std.specs.Prelude.{◌≡◌, ◌==◌, IfOk};
 ghost use Rattle.std.specs.List.{list_any};
-ghost use Rattle.node_model.specs.RouterRows as rows;
+ghost use Rattle.node_model.specs.RouterRequests as requested;
+ghost use Rattle.node_model.specs.RouterNext as nexts;
 ghost use Rattle.router_requests.specs.Works.{numbers_of};
 
 use crate::asker::Asker;
@@ -23,7 +24,7 @@ fn has_told(told: &[NodeId], shard: NodeId) -> bool
 
 /// Returns the shards that returned their time, after one did. Returns `Memory` if memory runs out.
 pub fn also_told(alloc: Global, told: &[NodeId], shard: NodeId) -> Result<Vec<NodeId>, Memory>
-    ensures { IfOk result (λ list. numbers_of list.items ≡ rows.also_told (numbers_of told.now) shard.0) }
+    ensures { IfOk result (λ list. numbers_of list.items ≡ nexts.also_told (numbers_of told.now) shard.0) }
 {
     let mut list = Vec::from_slice(alloc, told)?;
     if !has_told(told, shard) {
@@ -36,14 +37,15 @@ impl Asker {
     ghost use Rattle.std.specs.Prelude.{◌≡◌, ◌≢◌, ◌<◌, ◌≤◌, ◌+◌, ◌∷◌, ◌++◌, [], IfOk, true, false, map};
     ghost use Rattle.std.specs.Vec.{vec_capacity, vec_len};
     ghost use Rattle.node_model.specs.Letters.{time_ask};
-    ghost use Rattle.node_model.specs.RouterRows as rows;
+    ghost use Rattle.node_model.specs.RouterRequests as requested;
+    ghost use Rattle.node_model.specs.RouterNext as nexts;
     ghost use Rattle.protocol_model.specs.Messages.{letter_of};
     ghost use Rattle.router_requests.specs.Askers.{asker_view};
     ghost use Rattle.router_requests.specs.Works.{numbers_of};
 
     // Returns what a read of a time that is ahead requests of a shard: its time.
     fn asks_time(self, shard: NodeId, time: Time, count: u64) -> Message
-        ensures { letter_of result ≡ rows.says (asker_view self) shard.0 time.0 (time_ask (rows.id_of (asker_view self) count)) }
+        ensures { letter_of result ≡ requested.says (asker_view self) shard.0 time.0 (time_ask (requested.id_of (asker_view self) count)) }
     {
         let ask = TimeAsk { id: self.id(count) };
         self.says(shard, time, Body::TimeAsk(ask))
@@ -60,8 +62,8 @@ impl Asker {
     )
         requires room { vec_len asks.old < vec_capacity asks.old }
         ensures asks { map (λ m. letter_of m) asks.new.items ≡ map (λ m. letter_of m) asks.old.items
-            ++ map (λ s. rows.says (asker_view self) s time.0 (time_ask (rows.id_of (asker_view self) count)))
-            (rows.untold (numbers_of told.now) (shard.0 ∷ [])) }
+            ++ map (λ s. requested.says (asker_view self) s time.0 (time_ask (requested.id_of (asker_view self) count)))
+            (requested.untold (numbers_of told.now) (shard.0 ∷ [])) }
         ensures few { vec_len asks.new ≤ vec_len asks.old + 1 }
         ensures room { vec_capacity asks.new ≡ vec_capacity asks.old }
     {
@@ -79,7 +81,7 @@ impl Asker {
         told: &[NodeId],
     ) -> Result<Vec<Message>, Memory>
         ensures { IfOk result (λ asks. map (λ m. letter_of m) asks.items
-            ≡ rows.asks_times (asker_view self) time.0 (rows.id_of (asker_view self) count) (numbers_of told.now)) }
+            ≡ requested.asks_times (asker_view self) time.0 (requested.id_of (asker_view self) count) (numbers_of told.now)) }
     {
         let mut asks = Vec::with_capacity(alloc, self.shards as usize)?;
         for i in 0..self.shards {
@@ -90,8 +92,8 @@ impl Asker {
 
     /// Returns whether these are all shards.
     pub fn have_all_told(self, told: &[NodeId]) -> bool
-        ensures all { result ≡ true → rows.untold (numbers_of told.now) (rows.shards_of (asker_view self)) ≡ [] }
-        ensures some { result ≡ false → rows.untold (numbers_of told.now) (rows.shards_of (asker_view self)) ≢ [] }
+        ensures all { result ≡ true → requested.untold (numbers_of told.now) (requested.shards_of (asker_view self)) ≡ [] }
+        ensures some { result ≡ false → requested.untold (numbers_of told.now) (requested.shards_of (asker_view self)) ≢ [] }
     {
         for i in 0..self.shards {
             if !has_told(told, NodeId(FIRST_SHARD + i)) {

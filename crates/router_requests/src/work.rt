@@ -1,26 +1,20 @@
 //! Open requests.
 
 use crate::read::OpenRead;
+use crate::write::OpenWrite;
 use bson_values::Memory;
 use cluster_base::{Namespace, NodeId, Time};
-use command_replies::{ClientNumber, WriteKind};
 use pipeline_eval::Rows;
-use protocol_model::{DoneList, HalfFault, Head, StatementList};
+use protocol_model::{HalfFault, Head, StatementOutcome};
 use read_parts::{Part, Target, has_part};
 use value_compare::Key;
+use write_runs::Run;
 
 /// What a request has to do before it is answered.
 #[derive(Drop)]
 pub enum Work {
-    /// Its statements, of this kind, and the outcomes of the first of them.
-    Writing {
-        kind: WriteKind,
-        /// The number that the client gave them, if it gave one.
-        number: Option<ClientNumber>,
-        ordered: bool,
-        statements: StatementList,
-        answers: DoneList,
-    },
+    /// To write.
+    Writing(OpenWrite),
     /// To read.
     Reading(OpenRead),
     /// To create its collection.
@@ -66,32 +60,56 @@ pub struct OpenRequest {
 impl OpenRequest {
     ghost use Rattle.std.specs.Prelude.{◌≡◌, ℕ, List, [], Bool, true, map, OnOk};
     ghost use Rattle.node_model.specs.Letters as letters;
-    ghost use Rattle.reply_model.specs.Outcomes as outcomes;
-    ghost use Rattle.node_model.specs.RouterRows as rows;
+    ghost use Rattle.node_model.specs.RouterRequests as requested;
+    ghost use Rattle.node_model.specs.RouterNext as nexts;
     ghost use Rattle.node_model.specs.States as states;
     ghost use Rattle.command_model.specs.Writes as writes;
-    ghost use Rattle.protocol_model.specs.Statements.{done_view};
     ghost use Rattle.protocol_model.specs.Bodies.{rows_view};
     ghost use Rattle.read_parts.specs.Parts.{target_view};
     ghost use Rattle.router_requests.specs.Lists.{has_part_room};
+    ghost use Rattle.router_requests.specs.Nexts.{runs_in};
     ghost use Rattle.router_requests.specs.Works.{numbers_of, open_view, told_by, wait_view};
+    ghost use Rattle.write_runs.specs.Runs.{course_view, runs_view};
 
-    // A write has these answers now, and waits for this.
-    pub(crate) fn answer(&mut self, wait: Wait, answers: DoneList)
+    // A write has these answers now, these runs of it are under way, and it waits for this.
+    pub(crate) fn answer(
+        &mut self,
+        wait: Wait,
+        answers: Vec<Option<StatementOutcome>>,
+        runs: Vec<Run>,
+    )
         ensures count { self.new.count ≡ self.old.count }
-        ensures work { (router life : ℕ) (kind : writes.WriteKind) (ordered : Bool) (statements : List letters.Statement) (before : List outcomes.Done) →
+        ensures work { (router life : ℕ) (kind : writes.WriteKind) (ordered : Bool) (statements : List letters.Statement) (before : states.Course) →
             (open_view router life self.old).work ≡ states.writing kind ordered statements before →
             open_view router life self.new
-            ≡ rows.with_work (open_view router life self.old) (wait_view wait) [] (states.writing kind ordered statements (map done_view answers.items)) }
+            ≡ nexts.with_work (open_view router life self.old) (wait_view wait) []
+            (states.writing kind ordered statements (course_view answers.items runs.items)) }
     {
         self.wait = wait;
         self.targets.clear();
         self.parts.clear();
         match &mut self.work {
-            Work::Writing {
-                answers: before,
-                ..
-            } => *before = answers,
+            Work::Writing(write) => {
+                write.answers = answers;
+                write.runs = runs;
+            }
+            Work::Reading(_) => {}
+            Work::Sharding => {}
+            Work::Splitting(_) => {}
+        }
+    }
+
+    // It waits for this now; of a write these runs are under way.
+    pub(crate) fn wait_for_runs(&mut self, wait: Wait, runs: Vec<Run>)
+        ensures count { self.new.count ≡ self.old.count }
+        ensures waits { (router life : ℕ) → open_view router life self.new
+            ≡ nexts.with_work (open_view router life self.old) (wait_view wait) [] (runs_in (open_view router life self.old).work (runs_view runs.items)) }
+    {
+        self.wait = wait;
+        self.targets.clear();
+        self.parts.clear();
+        match &mut self.work {
+            Work::Writing(write) => write.runs = runs,
             Work::Reading(_) => {}
             Work::Sharding => {}
             Work::Splitting(_) => {}
@@ -110,7 +128,7 @@ impl OpenRequest {
     pub(crate) fn note(&mut self, shard: NodeId, told: Result<Rows, HalfFault>)
         requires room { has_part_room self.old ≡ true }
         ensures count { self.new.count ≡ self.old.count }
-        ensures part { (router life : ℕ) → open_view router life self.new ≡ rows.with_part (open_view router life self.old) shard.0 (rows_view told) }
+        ensures part { (router life : ℕ) → open_view router life self.new ≡ nexts.with_part (open_view router life self.old) shard.0 (rows_view told) }
     {
         if !has_part(shard, &self.parts) {
             self.parts.push_reserved(Part { shard, rows: told });
@@ -127,13 +145,13 @@ impl OpenRequest {
         Ok(())
     }
 
-    // It waits for these shards now, which it was sent to.
-    pub(crate) fn wait_for_shards(&mut self, targets: Vec<Target>)
+    // It waits for this now; it was sent to these shards.
+    pub(crate) fn wait_for(&mut self, wait: Wait, targets: Vec<Target>)
         ensures count { self.new.count ≡ self.old.count }
         ensures waits { (router life : ℕ) → open_view router life self.new
-            ≡ rows.with_work (open_view router life self.old) states.for_shards (map target_view targets.items) (open_view router life self.old).work }
+            ≡ nexts.with_work (open_view router life self.old) (wait_view wait) (map target_view targets.items) (open_view router life self.old).work }
     {
-        self.wait = Wait::ForShards;
+        self.wait = wait;
         self.targets = targets;
         self.parts.clear();
     }
@@ -142,17 +160,37 @@ impl OpenRequest {
     pub(crate) fn reach(&mut self, time: Time, wait: Wait, targets: Vec<Target>)
         ensures count { self.new.count ≡ self.old.count }
         ensures work { (router life : ℕ) → open_view router life self.new
-            ≡ rows.with_work (open_view router life self.old) (wait_view wait) (map target_view targets.items)
-            (rows.reached time.0 (open_view router life self.old).work) }
+            ≡ nexts.with_work (open_view router life self.old) (wait_view wait) (map target_view targets.items)
+            (requested.reached time.0 (open_view router life self.old).work) }
     {
         self.wait = wait;
         self.targets = targets;
         self.parts.clear();
         match &mut self.work {
-            Work::Writing { .. } => {}
+            Work::Writing(_) => {}
             Work::Reading(read) => read.reach(time),
             Work::Sharding => {}
             Work::Splitting(_) => {}
+        }
+    }
+}
+
+impl Work {
+    ghost use Rattle.std.specs.Prelude.{◌≡◌};
+    ghost use Rattle.base_model.specs.Identities as identities;
+    ghost use Rattle.router_requests.specs.Nexts.{runs_in};
+    ghost use Rattle.router_requests.specs.Works.{work_view};
+    ghost use Rattle.write_runs.specs.Runs.{runs_view};
+
+    /// Returns the work; of a write these runs are under way.
+    pub fn with_runs(self, runs: Vec<Run>) -> Work
+        ensures { (id : identities.RequestId) → work_view id result ≡ runs_in (work_view id self) (runs_view runs.items) }
+    {
+        match self {
+            Work::Writing(write) => Work::Writing(write.with_runs(runs)),
+            Work::Reading(read) => Work::Reading(read),
+            Work::Sharding => Work::Sharding,
+            Work::Splitting(middle) => Work::Splitting(middle),
         }
     }
 }

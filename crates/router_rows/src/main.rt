@@ -2,16 +2,19 @@
 //! file it prints how many rows hold, and each row that does not.
 #![tactic(auto)]
 
+mod asked;
 mod messages;
 mod outcome;
 mod router;
 mod steps;
 mod words;
+mod writes;
 
 use crate::steps::Steps;
 use fixtures::check_file;
 use std::io;
 
 fn main(rt: HostRuntime) -> io::Result<()> {
-    check_file(&rt, "reads.txt", &mut Steps::new())
+    check_file(&rt, "reads.txt", &mut Steps::new())?;
+    check_file(&rt, "writes.txt", &mut Steps::new())
 }

@@ -51,7 +51,7 @@ fn table_of_two(alloc: Global, namespace: Namespace, middle: Key) -> Result<Tabl
 }
 
 /// Returns the delivery of a message to the router.
-fn delivery(sender: NodeId, receiver: NodeId, time: Time, body: Body) -> Input {
+pub fn delivery(sender: NodeId, receiver: NodeId, time: Time, body: Body) -> Input {
     Input::Deliver(Message {
         sender,
         receiver,
@@ -60,17 +60,34 @@ fn delivery(sender: NodeId, receiver: NodeId, time: Time, body: Body) -> Input {
     })
 }
 
-/// Returns the delivery of the table of `d.c` for a read of the router's time: the second shard has the keys from that of the words on.
-pub fn told(alloc: Global, me: NodeId, now: Time, words: &str) -> Result<Input, RowFault> {
+/// Returns the delivery of the table of `d.c`, as the answer to a request for it: the second shard has the keys from that of the words on.
+fn table_told(
+    alloc: Global,
+    me: NodeId,
+    now: Time,
+    words: &str,
+    create: bool,
+    at: At,
+) -> Result<Input, RowFault> {
     let key = read_key(words)?;
     let table = table_of_two(alloc, read_namespace(alloc, "d.c")?, key)?;
     let body = TableTold {
         namespace: read_namespace(alloc, "d.c")?,
-        create: false,
-        at: At::Time(now),
+        create,
+        at,
         table: Some(Arc::new(alloc, table)?),
     };
     Ok(delivery(CATALOGUE, me, now, Body::TableTold(body)))
+}
+
+/// Returns the delivery of that table to a read of the router's time.
+pub fn told(alloc: Global, me: NodeId, now: Time, words: &str) -> Result<Input, RowFault> {
+    table_told(alloc, me, now, words, false, At::Time(now))
+}
+
+/// Returns the delivery of that table to a write, which created the collection where there was none.
+pub fn begun(alloc: Global, me: NodeId, now: Time, words: &str) -> Result<Input, RowFault> {
+    table_told(alloc, me, now, words, true, At::NoTime)
 }
 
 /// A part of a read: the shard that returns it, the count of the request, and its turn.

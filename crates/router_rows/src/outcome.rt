@@ -1,5 +1,6 @@
 //! What a step sends and returns.
 
+use crate::asked::asks_for;
 use bson_values::Memory;
 use fixtures::{RowFault, bytes_of, number};
 use node_traits::{Mail, Outputs, ToLink};
@@ -14,12 +15,24 @@ pub struct Sent {
 }
 
 /// Returns whether a message is of the kind and for the node that the words name, as `ReadAsk 1`.
-fn is_message(message: &Message, words: &str) -> Result<bool, RowFault> {
+fn is_to(message: &Message, words: &str) -> Result<bool, RowFault> {
     let Some((kind, to)) = words.split_once(' ') else {
         return Err(RowFault::Form);
     };
     let to: u32 = number(to)?;
     Ok(message.kind() == kind && message.receiver.0 == to)
+}
+
+/// Returns whether a message is the one that the words name; of a `WriteAsk` they may go on with its statements, as `WriteAsk 1: 0 2`.
+fn is_message(message: &Message, words: &str) -> Result<bool, RowFault> {
+    match words.split_once(": ") {
+        None => is_to(message, words),
+        Some((head, asked)) => {
+            let is_to_it = is_to(message, head)?;
+            let is_for = asks_for(message, asked)?;
+            Ok(is_to_it && is_for)
+        }
+    }
 }
 
 /// Returns whether these are the messages that the words name, in order, with commas between.
@@ -46,7 +59,7 @@ impl Sent {
         Ok(Sent { messages, replies })
     }
 
-    /// Returns whether it sent just these messages: `KIND NODE`, with commas between.
+    /// Returns whether it sent just these messages: `KIND NODE`, or `WriteAsk NODE: STATEMENTS`, with commas between.
     pub fn sends(&self, words: &str) -> Result<bool, RowFault> {
         if words.is_empty() {
             return Ok(self.messages.is_empty());

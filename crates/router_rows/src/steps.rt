@@ -1,8 +1,9 @@
 //! Steps of a router.
 
-use crate::messages::{counted, failed, read_part, shown, told};
+use crate::messages::{begun, counted, failed, read_part, shown, told};
 use crate::router::{Hosted, first_router};
 use crate::words::read_request;
+use crate::writes::done;
 use cluster_base::{NodeId, Time, moment_time};
 use fixtures::{RowFault, Rows, field, number};
 use journal_frames::Journal;
@@ -17,8 +18,11 @@ const SHARDS: u32 = 2;
 
 /// One step of a router after another: `VERB WORDS | MORE | MESSAGES | REPLY`; what is empty may be left out. `router` is a new one. Its inputs are
 /// `moment MS`, `asks NUMBER | REQUEST` (whose reply has this number), `table KEY` (that of `d.c`, of which the second shard has the keys from this one on),
-/// `part SHARD COUNT TURN | DOCUMENTS`, `counted SHARD COUNT TURN | NUMBER`, and `fault SHARD COUNT TURN | overflow`, or a number of bytes. Messages are
-/// `KIND NODE`, with commas between, as documents are; requests, documents and replies are in hexadecimal.
+/// `begun KEY` (the same table, where a write asked for it), `part SHARD COUNT TURN | DOCUMENTS`, `counted SHARD COUNT TURN | NUMBER`,
+/// `fault SHARD COUNT TURN | overflow`, or a number of bytes, and `done SHARD COUNT | OUTCOMES`. An outcome is the index of its statement and
+/// `SECONDS.COUNTER N`, or `N MODIFIED`, `upserts KEY` or `error CODE`: it was applied at that time; or `old TRANSACTION`. Messages are `KIND NODE`, with
+/// commas between, as documents and outcomes are; a `WriteAsk` may have its statements, and their transaction if they have one, as
+/// `WriteAsk 1: 0 2 txn 5`. Requests, documents and replies are in hexadecimal.
 #[derive(Drop)]
 pub struct Steps {
     hosted: Option<Hosted<Journal<MemDisk>>>,
@@ -63,6 +67,8 @@ impl Steps {
             "moment" => self.moment(words),
             "asks" => asks(alloc, words, more),
             "table" => told(alloc, ROUTER, self.now, words),
+            "begun" => begun(alloc, ROUTER, self.now, words),
+            "done" => done(alloc, ROUTER, self.now, words, more),
             "part" => shown(alloc, ROUTER, self.now, read_part(words)?, more),
             "counted" => counted(ROUTER, self.now, read_part(words)?, more),
             "fault" => failed(ROUTER, self.now, read_part(words)?, more),

@@ -5,7 +5,7 @@ ghost use Rattle.chunk_table.specs.Whole.{IsWritableBound};
 ghost use Rattle.value_compare.specs.Keys.{key_bound};
 
 use bson_values::{Aligned, Document, Value, read};
-use cluster_base::{NameFault, Namespace};
+use cluster_base::{NameFault, Namespace, Time};
 use fixtures::{RowFault, bytes_of, number};
 use opmsg_frames::{Framer, Request};
 use std::alloc::Global;
@@ -27,6 +27,16 @@ pub fn read_key(words: &str) -> Result<Key, RowFault>
 {
     let n: i32 = number(words)?;
     Key::of(Value::Int32(Aligned::of(n))).map_err(|_value| RowFault::Form)
+}
+
+/// Returns the time that is `SECONDS.COUNTER`.
+pub fn read_time(words: &str) -> Result<Time, RowFault> {
+    let Some((seconds, counter)) = words.split_once('.') else {
+        return Err(RowFault::Form);
+    };
+    let seconds: u32 = number(seconds)?;
+    let counter: u32 = number(counter)?;
+    Ok(Time((u64::from(seconds) << 32) | u64::from(counter)))
 }
 
 /// Returns the request whose message is these bytes in hexadecimal.

@@ -1,7 +1,6 @@
--- Whether a write is answered depends on the number of its statements.
+-- The keys and the errors of outcomes, one after another.
 use Rattle.std.proofs.lemmas.List.{append_assoc}
-use Rattle.std.proofs.Common.{◌≡◌, refl, ap, sym, ◌∙◌, ℕ, suc, ◌-◌, List, [], ◌∷◌, ◌++◌, drop, map, length, get_or, Bool, true, if◌then◌else◌, ◌+◌, ◌<◌, add-one, drop-cons, arith}
-use Rattle.std.proofs.Math.Dec.{eqb-suc-zero}
+use Rattle.std.proofs.Common.{◌≡◌, refl, ap, sym, ◌∙◌, ℕ, suc, ◌-◌, List, [], ◌∷◌, ◌++◌, drop, map, length, get_or, ◌+◌, ◌<◌, add-one, drop-cons}
 use Rattle.std.specs.Arc.{arc_value}
 use Rattle.std.specs.Prelude.{Option, Some, None}
 use Rattle.bson_model.specs.Spelling.{written_value}
@@ -10,27 +9,12 @@ use Rattle.command_replies.specs.declared.answer.Upserted.{Upserted}
 use Rattle.command_replies.specs.Errors.{errors_view, error_view}
 use Rattle.command_replies.specs.Upserts.{upserted_view, key_view}
 use Rattle.command_model.specs.CommandSizes.{keys_length}
-use Rattle.command_model.specs.Writes.{ClientNumber}
-use Rattle.base_model.specs.Identities.{RequestId}
 use Rattle.bson_model.specs.Tree.{Datum}
 use Rattle.command_model.specs.Writes as writes
 use Rattle.reply_model.specs.Outcomes.{Done, errors_of, outcome_in, refusal_in, upserted_by}
 use Rattle.base_model.specs.Refusals.{Refusal}
-use Rattle.reply_model.specs.Right.{ends}
-use Rattle.node_model.specs.RouterRows.{is_answered}
-use Rattle.protocol_model.specs.Statements.{statement_view, done_view}
+use Rattle.protocol_model.specs.Statements.{done_view}
 use Rattle.protocol_model.specs.declared.statement.Done as program
-use Rattle.protocol_model.specs.declared.statement.Statement.{Statement}
-use Rattle.router_writes.specs.Counts.{are_all}
-
-pub answered_by_count : (given : Option ClientNumber) (id : RequestId) (ordered : Bool) (statements : List Statement) (answers : List Done)
-    → is_answered ordered (map (λ s. statement_view given id s) statements) answers ≡ are_all ordered (length statements) answers
-answered_by_count given id ordered [] [] = refl
-answered_by_count given id ordered [] (d ∷ answers) = refl
-answered_by_count given id ordered (s ∷ statements) [] = sym (eqb-suc-zero (length statements))
-answered_by_count given id ordered (s ∷ statements) (d ∷ answers) =
-    let down : suc (length statements) - 1 ≡ length statements = omega arith in
-    rw (eqb-suc-zero (length statements), down) (ap (λ (b : Bool). if ends ordered d then true else b) (answered_by_count given id ordered statements answers))
 
 pub errors_pushed : (errors : List WriteError) (e : WriteError) → errors_view (errors ++ e ∷ []) ≡ errors_view errors ++ error_view e ∷ []
 errors_pushed [] e = refl

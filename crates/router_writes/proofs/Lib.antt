@@ -1,3 +1,4 @@
 mod Counted
+mod Joint
+mod Places
 mod Times
-pub mod Noted

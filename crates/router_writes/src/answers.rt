@@ -1,78 +1,22 @@
 //! Answers to writes.
 
-ghost use Rattle.std.specs.Prelude.{◌≡◌, ◌+◌, IfOk, Option, map};
+ghost use Rattle.std.specs.Prelude.{◌≡◌, ◌+◌, ◌++◌, ◌∷◌, [], IfOk, OnOk, map};
 ghost use Rattle.std.specs.Option.{option_map};
-ghost use Rattle.command_model.specs.Writes.{ClientNumber};
-ghost use Rattle.base_model.specs.Identities as identities;
 ghost use Rattle.reply_model.specs.Outcomes as outcomes;
-ghost use Rattle.reply_model.specs.Right as right;
-ghost use Rattle.node_model.specs.RouterRows as rows;
 ghost use Rattle.command_replies.specs.AnswerMeanings.{answer_view};
 ghost use Rattle.command_replies.specs.Kinds.{kind_view};
 ghost use Rattle.protocol_model.specs.Statements as told;
-ghost use Rattle.protocol_model.specs.Statements.{done_view, statement_view};
+ghost use Rattle.protocol_model.specs.Statements.{done_view};
 ghost use Rattle.router_writes.specs.Counts as counts;
+ghost use Rattle.write_runs.specs.Runs.{answers_view};
 
+use crate::copies::copy_outcome;
 use crate::told::{errors_of, upserted_by};
 use bson_values::Memory;
 use cluster_base::Time;
 use command_replies::{Answer, WriteKind};
-use protocol_model::{Done, DoneList, Statement, StatementOutcome};
+use protocol_model::{Done, DoneList, StatementOutcome};
 use std::alloc::Global;
-
-/// Returns copies of the outcomes, or `Memory` if memory runs out.
-fn copies_of(alloc: Global, dones: &[Done]) -> Result<DoneList, Memory>
-    ensures { IfOk result (λ list. map done_view list.items ≡ map done_view dones.now) }
-{
-    let mut copies = Vec::new(alloc);
-    for done in dones {
-        copies.push(done.copy()?)?;
-    }
-    Ok(copies)
-}
-
-/// Returns the answers with those of the next outcomes that are new, in the order of the statements. Returns `Memory` if memory runs out.
-pub fn note(alloc: Global, answers: &[Done], dones: &[Done]) -> Result<DoneList, Memory>
-    ensures { IfOk result (λ list. map done_view list.items ≡ rows.noted (map done_view answers.now) (map done_view dones.now)) }
-{
-    let mut noted = copies_of(alloc, answers)?;
-    for done in dones {
-        if done.index as usize == noted.len() {
-            noted.push(done.copy()?)?;
-        }
-    }
-    Ok(noted)
-}
-
-/// Returns whether a statement ends its command: it has an error, and the command is ordered.
-fn ends(ordered: bool, done: &Done) -> bool
-    ensures { result ≡ right.ends ordered (done_view done.now) }
-{
-    ordered && done.answer.fails()
-}
-
-/// Returns whether `count` statements are answered, or the last answer ends the command.
-fn are_all(ordered: bool, count: usize, answers: &[Done]) -> bool
-    ensures { result ≡ counts.are_all ordered count (map done_view answers.now) }
-{
-    let mut left = count;
-    for done in answers {
-        if left == 0 || ends(ordered, done) {
-            return true;
-        }
-        left -= 1;
-    }
-    left == 0
-}
-
-/// Returns whether all statements are answered, or the last answer ends the command.
-#[tactic(auto, using(crate::proofs::Counted::answered_by_count))]
-pub fn is_answered(ordered: bool, statements: &[Statement], answers: &[Done]) -> bool
-    ensures { (given : Option ClientNumber) (id : identities.RequestId) → result
-        ≡ rows.is_answered ordered (map (λ s. statement_view given id s) statements.now) (map done_view answers.now) }
-{
-    are_all(ordered, statements.len(), answers)
-}
 
 /// Returns the sum of two counts, or `Memory` where that exceeds 32 bits, which no command reaches.
 fn plus(sum: u32, more: u32) -> Result<u32, Memory>
@@ -151,15 +95,39 @@ fn time_of(dones: &[Done]) -> Option<Time>
     time
 }
 
-/// Returns the joint answer of the statements of a write of this kind, with this time where there is no entry. Returns `Memory` if memory runs out, and where
+/// Appends the outcome of the statement with an index, if it has one. Returns `Memory` if memory runs out.
+fn add_done(
+    dones: &mut DoneList,
+    index: u32,
+    answer: &Option<StatementOutcome>,
+) -> Result<(), Memory>
+    ensures { OnOk result (map done_view dones.new.items ≡ map done_view dones.old.items ++ outcomes.dones_from index (option_map told.answer_view answer.now ∷ [])) }
+{
+    if let Some(outcome) = answer {
+        let answer = copy_outcome(outcome)?;
+        dones.push(Done { index, answer })?;
+    }
+    Ok(())
+}
+
+/// Returns the outcomes that there are, with the indices of their statements. Returns `Memory` if memory runs out, and where an index exceeds 32 bits.
+fn dones_of(alloc: Global, answers: &[Option<StatementOutcome>]) -> Result<DoneList, Memory>
+    ensures { IfOk result (λ dones. map done_view dones.items ≡ outcomes.dones_from 0 (answers_view answers.now)) }
+{
+    let mut dones = Vec::new(alloc);
+    let mut index: u32 = 0;
+    for answer in answers {
+        let next = plus(index, 1)?;
+        add_done(&mut dones, index, answer)?;
+        index = next;
+    }
+    Ok(dones)
+}
+
+/// Returns the joint answer of these outcomes of a write of this kind, with this time where there is no entry. Returns `Memory` if memory runs out, and where
 /// there are more statements than a command can have, or their keys are longer than an answer can have.
 #[tactic(auto, using(crate::proofs::Times::time_told))]
-pub fn answer_of(
-    alloc: Global,
-    kind: WriteKind,
-    time: Time,
-    dones: &[Done],
-) -> Result<Answer, Memory>
+fn answer_by(alloc: Global, kind: WriteKind, time: Time, dones: &[Done]) -> Result<Answer, Memory>
     ensures { IfOk result (λ answer. answer_view answer ≡ outcomes.answer_of (kind_view kind) time.0 (map done_view dones.now)) }
 {
     let count = sum_of(dones)?;
@@ -174,4 +142,19 @@ pub fn answer_of(
         errors,
         time: time_of(dones).unwrap_or(time),
     })
+}
+
+/// Returns the joint answer of the statements of a write of this kind, with this time where there is no entry. Returns `Memory` if memory runs out, and where
+/// there are more statements than a command can have, or their keys are longer than an answer can have.
+pub fn answer_of(
+    alloc: Global,
+    kind: WriteKind,
+    time: Time,
+    answers: &[Option<StatementOutcome>],
+) -> Result<Answer, Memory>
+    ensures { IfOk result (λ answer. answer_view answer
+        ≡ outcomes.answer_of (kind_view kind) time.0 (outcomes.dones_from 0 (answers_view answers.now))) }
+{
+    let dones = dones_of(alloc, answers)?;
+    answer_by(alloc, kind, time, &dones)
 }

@@ -1,7 +1,10 @@
-//! The joint answer of the statements of a write.
+//! The outcomes of the statements of a write, and their joint answer.
 #![tactic(auto)]
 
 mod answers;
+mod copies;
+mod noted;
 mod told;
 
-pub use answers::{answer_of, is_answered, note};
+pub use answers::answer_of;
+pub use noted::{is_answered, none_yet, note};

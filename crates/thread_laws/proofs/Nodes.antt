@@ -16,10 +16,11 @@ use Rattle.router_cursors.proofs.mark.Mark.TheSendSync.{the_field_send as Mark-s
 use Rattle.router_requests.proofs.read.Telling.TheSendSync.{the_field_send as Telling-send}
 use Rattle.router_requests.proofs.work.Wait.TheSendSync.{the_field_send as Wait-send}
 use Rattle.shard_store.proofs.fault.WriteFault.TheSendSync.{the_field_send as WriteFault-send}
+use Rattle.write_runs.proofs.run.Run.TheSendSync.{the_field_send as Run-send}
 use Rattle.thread_laws.proofs.Chunks.{Catalogue-send, TableList-send}
 use Rattle.thread_laws.proofs.History.{Book-send, Collection-send}
 use Rattle.protocol_model.proofs.reads.HalfFault.TheSendSync.{the_field_send as HalfFault-send}
-use Rattle.thread_laws.proofs.Messages.{Done-send, Head-send, Message-send, Statement-send}
+use Rattle.thread_laws.proofs.Messages.{Head-send, Message-send, Statement-send, StatementOutcome-send}
 use Rattle.thread_laws.proofs.Pipelines.{Half-send, Half-sync, Merge-send, Pipeline-send, Rows-send, Shelf-send}
 use Rattle.thread_laws.proofs.Values.{Document-send, Document-sync, Key-send, OpWords-send, OpWords-sync, Reply-send}
 use Rattle.shard_store.specs.contracts.collections.Collections as Collections
@@ -33,6 +34,7 @@ use Rattle.router_cursors.specs.contracts.list.CursorList as CursorList
 use Rattle.read_parts.specs.contracts.parts.Part as Part
 use Rattle.router_requests.specs.contracts.read.Parts as Parts
 use Rattle.router_requests.specs.contracts.read.OpenRead as OpenRead
+use Rattle.router_requests.specs.contracts.write.OpenWrite as OpenWrite
 use Rattle.router_requests.specs.contracts.work.Work as Work
 use Rattle.router_requests.specs.contracts.work.OpenRequest as OpenRequest
 use Rattle.router_requests.specs.contracts.list.OpenList as OpenList
@@ -70,8 +72,11 @@ Parts-send = search (sendable, crosses, Pipeline-send, Half-send, Half-sync, Mer
 pub OpenRead-send : IsSend OpenRead.the_field.row
 OpenRead-send = search (sendable, crosses, Time-send, Parts-send, Telling-send) depth 30
 
+pub OpenWrite-send : IsSend OpenWrite.the_field.row
+OpenWrite-send = search (sendable, crosses, WriteKind-send, ClientNumber-send, Statement-send, StatementOutcome-send, Run-send) depth 30
+
 pub Work-send : IsSend Work.the_field.row
-Work-send = search (sendable, crosses, WriteKind-send, ClientNumber-send, Statement-send, Done-send, OpenRead-send, Key-send) depth 30
+Work-send = search (sendable, crosses, OpenWrite-send, OpenRead-send, Key-send) depth 30
 
 pub Part-send : IsSend Part.the_field.row
 Part-send = search (sendable, crosses, NodeId-send, Rows-send, HalfFault-send) depth 30

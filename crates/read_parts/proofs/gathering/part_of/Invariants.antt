@@ -1,5 +1,5 @@
 use Rattle.std.proofs.Common.{◌≡◌, drop, map}
-use Rattle.node_model.specs.RouterRows.{part_of}
+use Rattle.node_model.specs.RouterNext.{part_of}
 use Rattle.read_parts.specs.Parts.{part_view}
 use Rattle.read_parts.proofs.gathering.part_of.Given as goal
 

@@ -1,6 +1,6 @@
 use Rattle.std.proofs.Common.{◌≡◌, drop, map}
 use Rattle.std.specs.Prelude.{is_some}
-use Rattle.node_model.specs.RouterRows.{part_of}
+use Rattle.node_model.specs.RouterNext.{part_of}
 use Rattle.read_parts.specs.Parts.{part_view}
 use Rattle.read_parts.proofs.parts.has_part.Given as goal
 

@@ -1,5 +1,5 @@
 use Rattle.std.proofs.Common.{◌∙◌, sym, map}
-use Rattle.node_model.specs.RouterRows.{also_part}
+use Rattle.node_model.specs.RouterNext.{also_part}
 use Rattle.read_parts.proofs.Come.{not_all, passed}
 use Rattle.read_parts.specs.Parts.{part_view, target_view}
 use Rattle.read_parts.proofs.parts.have_all_come.Goals as goal

@@ -2,7 +2,7 @@ use Rattle.std.proofs.Common.{◌≡◌, drop, map}
 use Rattle.std.specs.Prelude.{Result}
 use Rattle.pipeline_model.specs.Halves.{Rows}
 use Rattle.node_model.specs.Letters.{HalfFault}
-use Rattle.node_model.specs.RouterRows.{also_part, awaited}
+use Rattle.node_model.specs.RouterNext.{also_part, awaited}
 use Rattle.read_parts.specs.Parts.{part_view, target_view}
 use Rattle.read_parts.proofs.parts.have_all_come.Given as goal
 

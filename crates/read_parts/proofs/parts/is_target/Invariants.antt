@@ -1,5 +1,5 @@
 use Rattle.std.proofs.Common.{◌≡◌, drop, map}
-use Rattle.node_model.specs.RouterRows.{is_target}
+use Rattle.node_model.specs.RouterNext.{is_target}
 use Rattle.read_parts.specs.Parts.{target_view}
 use Rattle.read_parts.proofs.parts.is_target.Given as goal
 

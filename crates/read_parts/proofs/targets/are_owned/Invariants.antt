@@ -1,7 +1,7 @@
 use Rattle.std.proofs.Common.{◌≡◌, drop, map}
 use Rattle.std.specs.List.{list_all}
 use Rattle.chunk_table.specs.Meanings.{chunk_view}
-use Rattle.node_model.specs.RouterRows.{has_owner}
+use Rattle.node_model.specs.RouterRequests.{has_owner}
 use Rattle.read_parts.proofs.targets.are_owned.Given as goal
 
 abbrev pub invariant-loop-chunk : goal.invariant-loop-chunk

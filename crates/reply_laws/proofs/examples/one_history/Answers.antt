@@ -1,5 +1,5 @@
 -- Two inserts and a find, at two routers.
-use Rattle.std.proofs.Common.{◌≡◌, ◌≤◌, ℕ, inl, inr, [], ◌∷◌, refl, sym, ap, subst, codes, arith}
+use Rattle.std.proofs.Common.{◌≡◌, ◌≤◌, ℕ, inl, inr, List, [], ◌∷◌, refl, sym, ap, subst, codes, arith}
 use Rattle.std.specs.Prelude.{true, Some, None}
 use Rattle.base_model.specs.SampleReplies.{done_reply, duplicate_reply}
 use Rattle.command_laws.specs.SampleRequests.{five, long_five, shown, with_id}
@@ -11,14 +11,16 @@ use Rattle.chunk_model.specs.Changes.{create_change}
 use Rattle.history_model.specs.History.{Legal, IsIn, insert_operation, StatementNumber, router_session}
 use Rattle.history_model.proofs.Lists.{all_at, in_first, in_later, in_none}
 use Rattle.base_model.specs.Identities.{RequestId}
-use Rattle.reply_model.specs.Exchanges.{Asked, Answered}
+use Rattle.reply_model.specs.Exchanges.{Asked, Answered, number_for}
+use Rattle.reply_model.specs.Outcomes.{Done}
 use Rattle.reply_model.specs.Accounts.{Given}
-use Rattle.reply_model.specs.OneHistory.{AreDifferent, WasMet, WasSent, WasWanted, IsRightOf, AreRight, nothing_told, then_told, IsKnown, IsPlaced, IsCaused, changes_by}
-use Rattle.reply_model.specs.Right.{IsPart, IsRight, Sends}
+use Rattle.reply_model.specs.OneHistory.{AreDifferent, Shows, WasMet, WasSent, WasWanted, IsRightOf, AreRight, nothing_told, then_told, IsKnown, IsPlaced, IsCaused, changes_by}
+use Rattle.reply_model.specs.Right.{AreTold, IsPart, IsRight, Sends}
 use Rattle.reply_model.specs.Reads.{own_time}
 use Rattle.reply_laws.specs.SampleExchanges.{find_of, all_told, all_asked, both_entries, first, first_entry, first_told, id_at, second, second_entry, second_told, tells, third, third_told, created, created_dated, account_of}
 use Rattle.reply_laws.proofs.CausedReplies.{by_find, by_write, caused_by, made_by}
-use Rattle.reply_laws.proofs.OwnWrites.{none_before, own_right, same_write}
+use Rattle.reply_laws.proofs.OwnWrites.{none_before, own_right, own_shown, same_write}
+use Rattle.reply_laws.proofs.NumberedWrites.{told_by_entries, gives_elsewhere}
 use Rattle.reply_facts.proofs.Requests.{number_same}
 use Rattle.reply_laws.proofs.KeyFinds.{key_find_right_among}
 use Rattle.reply_facts.proofs.Freshness.{told_to, told_write}
@@ -59,13 +61,43 @@ first_sends = record {
   };
 }
 
+first_part : IsPart both_entries (id_at 2 1) inserts_five
+first_part = (record { same_number = refl; name = refl; does = refl }, (λ e. refl), tt)
+
+second_part : IsPart both_entries (id_at 3 1) inserts_long_five
+second_part = (record { same_number = refl; name = refl; does = refl }, (λ e. refl), tt)
+
+another_count : id_at 2 2 ≡ id_at 2 1 → ⊥
+another_count e = let counts = ap (λ (id : RequestId). id.count) e in cc
+
+another_router : (a b : ℕ) → id_at 3 a ≡ id_at 2 b → ⊥
+another_router a b e = let routers = ap (λ (id : RequestId). id.router) e in cc
+
+first_shown : (t : Answered) → IsIn t all_told → t.id ≡ first.id → Shows (account_of both_entries all_asked all_told) first t inserts_five
+first_shown t i own =
+    all_at (λ (x : Answered). x.id ≡ first.id → Shows (account_of both_entries all_asked all_told) first x inserts_five) t all_told (
+      (λ same. own_shown both_entries all_asked first_told inserts_five refl all_told first (record { part = first_part; all = refl }) (omega arith, tt) refl),
+      ((λ same. absurd (another_router 1 1 same)), ((λ same. absurd (another_count same)), tt)),
+    ) i own
+
+second_shown : (t : Answered) → IsIn t all_told → t.id ≡ second.id → Shows (account_of both_entries all_asked all_told) second t inserts_long_five
+second_shown t i own =
+    all_at (λ (x : Answered). x.id ≡ second.id → Shows (account_of both_entries all_asked all_told) second x inserts_long_five) t all_told (
+      (λ same. absurd (another_router 1 1 (sym same))),
+      (
+        (λ same. own_shown both_entries all_asked second_told inserts_long_five refl all_told second (record { part = second_part; all = refl })
+            (omega arith, tt) refl),
+        ((λ same. absurd (another_router 1 2 (sym same))), tt),
+      ),
+    ) i own
+
 first_sent : WasSent (account_of both_entries all_asked all_told) first_entry
 first_sent = record {
   request = first;
   taken = in_first first (second ∷ third ∷ []);
   sends = first_sends;
   later = omega arith;
-  goes_on = λ t dones i own told says before. none_before inserts_five dones before;
+  goes_on = λ t i own. (first_shown t i own, λ before. none_before inserts_five (first_shown t i own).dones before);
 }
 
 abbrev IsInAll : Asked → Type 0
@@ -98,7 +130,7 @@ second_sent = record {
   taken = second_taken;
   sends = second_sends;
   later = omega arith;
-  goes_on = λ t dones i own told says before. none_before inserts_long_five dones before;
+  goes_on = λ t i own. (second_shown t i own, λ before. none_before inserts_long_five (second_shown t i own).dones before);
 }
 
 first_placed : IsPlaced created first_entry
@@ -122,12 +154,6 @@ second_placed = record {
   writes = refl;
   owner = refl;
 }
-
-first_part : IsPart both_entries (id_at 2 1) inserts_five
-first_part = (record { same_number = refl; name = refl; does = refl }, (λ e. refl), tt)
-
-second_part : IsPart both_entries (id_at 3 1) inserts_long_five
-second_part = (record { same_number = refl; name = refl; does = refl }, (λ e. refl), tt)
 
 wanted : WasWanted all_asked (create_change creation)
 wanted = record {
@@ -194,12 +220,6 @@ all_caused t same past =
       by_write created_dated 2 t inserts_five (made_by created_dated t same past),
       (by_write created_dated 4 t inserts_long_five (made_by created_dated t same past), (by_find created_dated 6 t (find_of long_five None), tt)),
     )
-
-another_count : id_at 2 2 ≡ id_at 2 1 → ⊥
-another_count e = let counts = ap (λ (id : RequestId). id.count) e in cc
-
-another_router : (a b : ℕ) → id_at 3 a ≡ id_at 2 b → ⊥
-another_router a b e = let routers = ap (λ (id : RequestId). id.router) e in cc
 
 all_different : AreDifferent (id_at 2 1 ∷ id_at 3 1 ∷ id_at 2 2 ∷ [])
 all_different = ((another_router 1 1, (another_count, tt)), (((λ e. another_router 1 2 (sym e)), tt), (tt, tt)))
@@ -286,13 +306,31 @@ returns-clause-nobody_sent c one =
 
 pub returns-clause-lost : goal.returns-clause-lost
 returns-clause-lost c one =
-    ((told_write (account_of [] all_asked all_told) one first_told inserts_five
-    (in_first first_told (second_told ∷ third_told ∷ [])) refl).whole refl).all
+    let told = told_write (account_of [] all_asked all_told) one first_told inserts_five (in_first first_told (second_told ∷ third_told ∷ [])) refl in
+    no_first told.dones told.tells
+  where
+    no_first : (dones : List Done) → AreTold (account_of [] all_asked all_told) first_told inserts_five 0 inserts_five.operations dones → ⊥
+    no_first [] told = told
+    no_first (d ∷ dones) told =
+        told_by_entries (account_of [] all_asked all_told) first_told None (number_for None first_told.id 0) (codes "d.c") (insert_operation (with_id five))
+        (λ x. ⊥) d.answer tt told.1
 
 pub returns-clause-lost_duplicate : goal.returns-clause-lost_duplicate
 returns-clause-lost_duplicate c one =
-    ((told_write (account_of (first_entry ∷ []) all_asked all_told) one second_told inserts_long_five
-    (in_later second_told first_told (second_told ∷ third_told ∷ []) (in_first second_told (third_told ∷ []))) refl).whole refl).all
+    let told = told_write (account_of (first_entry ∷ []) all_asked all_told) one second_told inserts_long_five
+    (in_later second_told first_told (second_told ∷ third_told ∷ []) (in_first second_told (third_told ∷ []))) refl in
+    no_first told.dones told.tells
+  where
+    other_session_of : router_session 2 1 1 ≡ router_session 3 1 1 → ⊥
+    other_session_of same = cc
+
+    no_first : (dones : List Done)
+        → AreTold (account_of (first_entry ∷ []) all_asked all_told) second_told inserts_long_five 0 inserts_long_five.operations dones → ⊥
+    no_first [] told = told
+    no_first (d ∷ dones) told =
+        told_by_entries (account_of (first_entry ∷ []) all_asked all_told) second_told None (number_for None second_told.id 0) (codes "d.c")
+        (insert_operation (with_id long_five)) (λ x. ⊥) d.answer
+        (gives_elsewhere all_asked second_told (number_for None second_told.id 0) (λ x. ⊥) first_entry (λ same. other_session_of same), tt) told.1
 
 pub returns-clause-not_asked : goal.returns-clause-not_asked
 returns-clause-not_asked c one =

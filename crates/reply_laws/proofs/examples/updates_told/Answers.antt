@@ -8,9 +8,11 @@ use Rattle.reply_laws.specs.SampleExchanges.{entry_at, first_entry, deleted_repl
 use Rattle.base_model.specs.Errors.{immutable_field}
 use Rattle.bson_model.specs.Tree.{Fields}
 use Rattle.reply_model.specs.Cursors.{Cursor}
-use Rattle.reply_model.specs.Right.{IsRight}
+use Rattle.reply_model.specs.Exchanges.{entries_by, number_for}
+use Rattle.reply_model.specs.Right.{AreStatements, IsRight}
 use Rattle.reply_model.specs.OneHistory.{KeepsNumbers, AreNumbered}
-use Rattle.reply_laws.proofs.OwnWrites.{own_right, own_says}
+use Rattle.reply_laws.proofs.OwnWrites.{own_right, own_says, own_untold}
+use Rattle.reply_laws.proofs.NumberedWrites.{gives_elsewhere}
 use Rattle.reply_laws.proofs.examples.updates_told.Goals as goal
 
 abbrev three_updates : WriteCommand
@@ -23,24 +25,24 @@ three_updates = record {
   number = None;
 }
 
+updates_done : AreStatements upserting.id three_updates.namespace three_updates.ordered 0 three_updates.operations (entries_by upserting.id upserting_entries)
+updates_done = (
+  record { same_number = refl; name = refl; does = refl },
+  (λ e. absurd (cc)),
+  (
+    record { same_number = refl; name = refl; does = refl },
+    (λ e. absurd (cc)),
+    (record { same_number = refl; name = refl; does = refl }, (λ e. absurd (cc)), tt),
+  ),
+)
+
 abbrev deletes_six : WriteCommand
 deletes_six = record { kind = delete_kind; namespace = codes "d.c"; operations = delete_operation (with_id six) ∷ []; ordered = true; number = None }
 
 pub returns-clause-right : goal.returns-clause-right
 returns-clause-right c =
     own_right upserting_entries [] (tells upserting 5 5 (upserting_reply 2 0 1)) three_updates refl [] upserting refl refl
-    (record {
-      part = (
-        record { same_number = refl; name = refl; does = refl },
-        (λ e. absurd (cc)),
-        (
-          record { same_number = refl; name = refl; does = refl },
-          (λ e. absurd (cc)),
-          (record { same_number = refl; name = refl; does = refl }, (λ e. absurd (cc)), tt),
-        ),
-      );
-      all = refl;
-    })
+    (record { part = updates_done; all = refl })
     (omega arith, (omega arith, (omega arith, tt))) refl (omega arith) refl
 
 pub returns-clause-unmet : goal.returns-clause-unmet
@@ -81,8 +83,8 @@ numbered = (
 says : (document : Fields) (next : List Cursor) → IsRight (account_of upserting_entries [] []) [] upserting (tells upserting 5 5 document) next
     → document ≡ upserting_reply 2 0 1
 says document next right =
-    (own_says upserting_entries [] (tells upserting 5 5 document) three_updates refl [] numbered
-    (refl, (refl, (refl, (refl, tt)))) upserting next refl refl right).1
+    own_says upserting_entries [] (tells upserting 5 5 document) three_updates refl [] numbered
+    (refl, (refl, (refl, (refl, tt)))) updates_done upserting next refl refl right
 
 pub returns-clause-more_changed : goal.returns-clause-more_changed
 returns-clause-more_changed c next right = let e = says (upserting_reply 2 2 1) next right in cc
@@ -92,3 +94,9 @@ returns-clause-more_met c next right = let e = says (upserting_reply 3 0 1) next
 
 pub returns-clause-another_index : goal.returns-clause-another_index
 returns-clause-another_index c next right = let e = says (upserting_reply 2 0 0) next right in cc
+
+pub returns-clause-unmet_without_entry : goal.returns-clause-unmet_without_entry
+returns-clause-unmet_without_entry c next right =
+    own_untold (first_entry ∷ []) [] unmet_delete 5 3 delete_kind true (delete_operation (with_id six)) [] refl
+    (λ document. (gives_elsewhere [] (tells unmet_delete 5 3 document) (number_for None unmet_delete.id 0) (λ x. ⊥) first_entry (λ same. cc), tt))
+    (deleted_reply 0 3) next right

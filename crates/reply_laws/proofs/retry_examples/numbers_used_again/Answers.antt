@@ -1,6 +1,6 @@
 -- The entry under the number gives the outcome, and no other does.
 use Rattle.std.proofs.Common.{◌≡◌, ◌≤◌, pos, List, [], ◌∷◌, ◌++◌, refl, ap, ◌∙◌, codes, arith}
-use Rattle.std.specs.Prelude.{true, Some}
+use Rattle.std.specs.Prelude.{true, Some, None}
 use Rattle.bson_model.specs.Tree.{Fields}
 use Rattle.command_laws.specs.SampleCommands.{change_one}
 use Rattle.command_laws.specs.SampleNumbers.{sevens}
@@ -9,13 +9,13 @@ use Rattle.command_laws.specs.SampleRequests.{five, six, with_id}
 use Rattle.command_model.specs.Writes.{ClientNumber, WriteCommand, delete_kind, insert_kind, update_kind}
 use Rattle.history_model.specs.History.{Entry, Operation, StatementNumber, delete_operation, done, insert_operation, update_operation}
 use Rattle.history_model.proofs.Lists.{all_at, in_first}
-use Rattle.reply_model.specs.Exchanges.{Asked}
+use Rattle.reply_model.specs.Exchanges.{Asked, number_for}
 use Rattle.reply_model.specs.Outcomes.{answer_by}
 use Rattle.reply_model.specs.Right.{HadSent, Sends, told_other}
 use Rattle.reply_laws.specs.SampleExchanges.{tells}
-use Rattle.reply_laws.specs.SampleRetries.{both_sent, delete_three, eights, entry_under, first_three, five_elsewhere, insert_elsewhere, insert_five, insert_six, inserted_five, inserts_under, number_in, sends_three, sent_again, then_three, unmodified_reply, upsert_three, upserted_five}
+use Rattle.reply_laws.specs.SampleRetries.{both_sent, delete_three, eights, entry_under, first_three, five_elsewhere, insert_elsewhere, insert_five, insert_six, inserted_five, inserts_under, number_in, sends_three, sent_again, then_three, unmodified_reply, unnumbered_six, upsert_three, upserted_five}
 use Rattle.reply_laws.proofs.NumberedWrites.{gives_another, gives_elsewhere, gives_itself, gives_nothing, told_just, untold}
-use Rattle.reply_laws.proofs.OwnWrites.{same_write}
+use Rattle.reply_laws.proofs.OwnWrites.{own_untold, same_write}
 use Rattle.reply_laws.proofs.retry_examples.numbers_used_again.Goals as goal
 
 abbrev by_three : ClientNumber
@@ -195,6 +195,16 @@ returns-clause-smaller_transaction c =
     (λ document. (
       gives_nothing both_sent (tells sent_again 5 4 document) (number_in sevens (pos 4) 0) (λ x. ⊥) smaller
           (λ same. let n : pos 3 ≡ pos 4 = ap (λ (n : StatementNumber). n.transaction) same in cc) refl,
+      tt,
+    ))
+
+pub returns-clause-unnumbered : goal.returns-clause-unnumbered
+returns-clause-unnumbered c =
+    own_untold (upserted_five ∷ []) (first_three (upsert_three five) ∷ unnumbered_six ∷ []) unnumbered_six 5 4 insert_kind true (insert_operation (with_id six))
+    [] refl
+    (λ document. (
+      gives_elsewhere (first_three (upsert_three five) ∷ unnumbered_six ∷ []) (tells unnumbered_six 5 4 document)
+          (number_for None unnumbered_six.id 0) (λ x. ⊥) upserted_five (λ same. cc),
       tt,
     ))
 

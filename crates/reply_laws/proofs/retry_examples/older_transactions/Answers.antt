@@ -1,6 +1,6 @@
 -- The entry with the greater transaction gives the outcome, and it was sent before.
 use Rattle.std.proofs.Common.{◌≡◌, ◌≤◌, ℕ, pos, negsuc, inl, inr, [], ◌∷◌, refl, sym, ap, ◌∙◌, arith, codes}
-use Rattle.std.specs.Prelude.{Bool, true, false, Option, Some}
+use Rattle.std.specs.Prelude.{Bool, true, false, Option, Some, None}
 use Rattle.bson_model.specs.Tree.{Fields}
 use Rattle.command_laws.specs.SampleNumbers.{sevens}
 use Rattle.command_laws.specs.SampleRequests.{five, long_five, six, with_id}
@@ -16,9 +16,9 @@ use Rattle.reply_model.specs.Outcomes.{is_older}
 use Rattle.reply_model.specs.OneHistory.{WasMet}
 use Rattle.reply_model.specs.Right.{HadSent, MayBeTold, Sends, told_older}
 use Rattle.reply_laws.specs.SampleExchanges.{moments, tells, created, account_of}
-use Rattle.reply_laws.specs.SampleRetries.{eights, entry_under, errors_reply, inserts_under, late_two, newer, newer_entry, number_in, older_error, six_as, two_documents, zero_sent}
+use Rattle.reply_laws.specs.SampleRetries.{eights, entry_under, errors_reply, inserts_under, late_two, newer, newer_entry, number_in, older_error, six_as, two_documents, unnumbered_six, zero_sent}
 use Rattle.reply_laws.proofs.NumberedWrites.{Gives, gives_elsewhere, gives_older, told_just, untold}
-use Rattle.reply_laws.proofs.OwnWrites.{same_write}
+use Rattle.reply_laws.proofs.OwnWrites.{own_untold, same_write}
 use Rattle.reply_laws.proofs.retry_examples.older_transactions.Goals as goal
 
 abbrev four : ClientNumber
@@ -119,6 +119,15 @@ returns-clause-below_zero c =
 
 abbrev elsewhere : Entry
 elsewhere = record newer_entry { number = number_in eights (pos 5) 0 }
+
+pub returns-clause-unnumbered : goal.returns-clause-unnumbered
+returns-clause-unnumbered c =
+    own_untold (newer_entry ∷ []) (newer ∷ unnumbered_six ∷ []) unnumbered_six 5 4 insert_kind true (insert_operation (with_id six)) [] refl
+    (λ document. (
+      gives_elsewhere (newer ∷ unnumbered_six ∷ []) (tells unnumbered_six 5 4 document) (number_for None unnumbered_six.id 0) (λ x. ⊥) newer_entry
+          (λ same. cc),
+      tt,
+    ))
 
 pub returns-clause-another_session : goal.returns-clause-another_session
 returns-clause-another_session c =

@@ -9,12 +9,12 @@ use Rattle.command_model.specs.Writes.{ClientNumber, WriteCommand, insert_kind}
 use Rattle.chunk_model.specs.SampleCollections.{creation}
 use Rattle.chunk_model.specs.Changes.{create_change}
 use Rattle.history_model.specs.History.{IsIn, insert_operation}
-use Rattle.history_model.proofs.Lists.{in_first, in_later}
+use Rattle.history_model.proofs.Lists.{all_at, in_first, in_later}
 use Rattle.base_model.specs.Identities.{RequestId}
 use Rattle.reply_model.specs.Exchanges.{Asked, Answered}
 use Rattle.reply_model.specs.Accounts.{Given}
 use Rattle.reply_model.specs.Outcomes.{answer_by}
-use Rattle.reply_model.specs.OneHistory.{AreDifferent, IsCaused, IsKnown, changes_by, IsRightOf, StandsInPart, nothing_told, then_told}
+use Rattle.reply_model.specs.OneHistory.{AreDifferent, IsCaused, IsKnown, Shows, changes_by, IsRightOf, StandsInPart, nothing_told, then_told}
 use Rattle.reply_model.specs.Right.{IsRight, Sends, right_write, told_own}
 use Rattle.reply_laws.specs.SampleExchanges.{id_at, tells, created, created_dated, account_of}
 use Rattle.reply_laws.specs.SampleRetries.{answer_again, both_answers, both_sent, first_answer, inserts_under, put_five, sent_again, sent_first}
@@ -121,6 +121,17 @@ both_caused t same past =
 different : AreDifferent (id_at 2 1 ∷ id_at 3 1 ∷ [])
 different = (((λ e. let routers = ap (λ (id : RequestId). id.router) e in cc), tt), (tt, tt))
 
+first_shown : (t : Answered) → IsIn t both_answers → t.id ≡ sent_first.id → Shows (account_of (put_five ∷ []) both_sent both_answers) sent_first t inserts
+first_shown t i own =
+    all_at (λ (x : Answered). x.id ≡ sent_first.id → Shows (account_of (put_five ∷ []) both_sent both_answers) sent_first x inserts) t both_answers (
+      (λ same. record {
+        dones = record { index = 0; answer = answer_by put_five } ∷ [];
+        told = (refl, told_own put_five (in_first put_five []) (record { same_number = refl; name = refl; does = refl }) (omega arith), refl);
+        same = refl;
+      }),
+      ((λ same. absurd (let routers = ap (λ (id : RequestId). id.router) same in cc)), tt),
+    ) i own
+
 pub returns-clause-whole : goal.returns-clause-whole
 returns-clause-whole c = record {
   legal = (record { rises = tt; told = refl; once = tt }, tt);
@@ -130,7 +141,7 @@ returns-clause-whole c = record {
       taken = first_taken;
       sends = first_sends;
       later = omega arith;
-      goes_on = λ t dones i own told says before. none_before inserts dones before;
+      goes_on = λ t i own. (first_shown t i own, λ before. none_before inserts (first_shown t i own).dones before);
     },
     tt,
   );

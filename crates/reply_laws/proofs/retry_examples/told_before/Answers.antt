@@ -1,21 +1,21 @@
 -- A time that was returned is wanted, and a request that has ended proceeds no further.
-use Rattle.std.proofs.Common.{◌≡◌, ◌<◌, ℕ, pos, inl, [], ◌∷◌, List, refl, ap, subst, ◌∙◌, arith}
-use Rattle.std.specs.Prelude.{true, Option, Some, None}
-use Rattle.command_model.specs.Answers.{answer_document}
-use Rattle.command_laws.specs.SampleRequests.{five, with_id}
+use Rattle.std.proofs.Common.{◌≡◌, ◌<◌, ℕ, pos, inl, [], ◌∷◌, List, refl, sym, ap, subst, ◌∙◌, arith}
+use Rattle.std.specs.Prelude.{true, false, Option, Some, None}
+use Rattle.command_laws.specs.SampleRequests.{five, long_five, with_id}
 use Rattle.base_model.specs.Times.{timestamp}
 use Rattle.command_model.specs.Writes.{ClientNumber, WriteCommand}
-use Rattle.history_model.specs.History.{Entry, IsIn, StatementNumber}
-use Rattle.history_model.proofs.Lists.{all_at, in_first, in_later}
+use Rattle.history_model.specs.History.{Entry, IsIn, StatementNumber, insert_operation}
+use Rattle.history_model.proofs.Lists.{all_at, in_first}
 use Rattle.base_model.specs.Identities.{RequestId}
 use Rattle.reply_model.specs.Exchanges.{Asked, Answered, number_for}
-use Rattle.reply_model.specs.Outcomes.{Done, answer_by, answer_of}
-use Rattle.reply_model.specs.OneHistory.{EndsBefore}
+use Rattle.reply_model.specs.Outcomes.{StatementOutcome, Done, answer_by, is_too_old}
+use Rattle.reply_model.specs.OneHistory.{EndsBefore, Shows}
 use Rattle.reply_model.specs.Reads.{IsAhead}
-use Rattle.reply_model.specs.Right.{AreTold, Sends, find_reads, told_own}
+use Rattle.reply_model.specs.Right.{AreTold, Sends, ends, find_reads}
 use Rattle.reply_laws.specs.SampleExchanges.{find_of, first_entry, account_of}
 use Rattle.reply_laws.specs.SampleRetries.{ended, failed, finding_two, first_answer, inserts_under, put_five, second_done, sent_first, told_ahead, two_documents, two_sent, unordered_later}
 use Rattle.reply_laws.proofs.OwnWrites.{same_write}
+use Rattle.reply_laws.proofs.NumberedWrites.{told_by_entries, gives_elsewhere, gives_itself, gives_another}
 use Rattle.reply_facts.proofs.ReadTimes.{is_ahead}
 use Rattle.reply_laws.proofs.retry_examples.told_before.Goals as goal
 
@@ -50,24 +50,32 @@ sent = two_sent 2 2 4 true ∷ unordered_later ∷ []
 abbrev two : WriteCommand
 two = inserts_under (pos 4) two_documents true
 
--- the outcomes of the first request
-abbrev one_done : List Done
-one_done = record { index = 0; answer = answer_by failed } ∷ []
-
-told_one : AreTold (account_of entries sent (ended ∷ [])) ended two 0 two.operations one_done
-told_one = (
-  refl,
-  told_own failed (in_later failed first_entry (failed ∷ early ∷ []) (in_first failed (early ∷ []))) (record { same_number = refl; name = refl; does = refl })
-      (omega arith),
-  refl,
-)
-
 -- an entry may be made for it after all its outcomes
 abbrev GoesOn : (a : Asked) → Sends a early → Type 0
 GoesOn a sends =
-    (t : Answered) (dones : List Done) → IsIn t (ended ∷ []) → t.id ≡ a.id
-    → AreTold (account_of entries sent (ended ∷ [])) t sends.write 0 sends.write.operations dones
-    → t.document ≡ answer_document (answer_of sends.write.kind t.time dones) → ¬ EndsBefore sends.index sends.write dones
+    (t : Answered) → IsIn t (ended ∷ []) → t.id ≡ a.id
+    → (shown : Shows (account_of entries sent (ended ∷ [])) a t sends.write) × (¬ EndsBefore sends.index sends.write shown.dones)
+
+-- the first outcome is that of the entry that failed
+abbrev IsFailed : StatementOutcome → Type 0
+IsFailed x = x ≡ answer_by failed
+
+ends_first : (index : ℕ) → 0 < index → (dones : List Done) → AreTold (account_of entries sent (ended ∷ [])) ended two 0 two.operations dones
+    → EndsBefore index two dones
+ends_first index later [] told = absurd told
+ends_first index later (d ∷ dones) told =
+    let at : d.index ≡ 0 = told.0 in
+    let says : d.answer ≡ answer_by failed =
+    told_by_entries (account_of entries sent (ended ∷ [])) ended two.number (number_for two.number ended.id 0) two.namespace
+    (insert_operation (with_id long_five)) IsFailed d.answer (
+      gives_elsewhere sent ended (number_for two.number ended.id 0) IsFailed first_entry (λ same. cc),
+      (
+        gives_itself sent ended (number_for two.number ended.id 0) failed refl,
+        (gives_another sent ended (number_for two.number ended.id 0) IsFailed early (λ same. cc) refl, tt),
+      ),
+    ) told.1 in
+    let same : record { index = 0; answer = answer_by failed } ≡ d = λ i. record { index = sym at i; answer = sym says i } in
+    inl (subst (λ (x : Done). (x.index < index) × (ends two.ordered x ≡ true) × (is_too_old x.answer ≡ false)) same (omega (arith, later), refl, refl))
 
 index_of : (given : Option ClientNumber) (id : RequestId) (index : ℕ) → (number_for given id index).index ≡ index
 index_of None id index = refl
@@ -78,10 +86,9 @@ not_first sends goes_on =
     let same : two ≡ sends.write = same_write two sends.write sends.asks in
     let at : 1 ≡ sends.index = ap (λ (n : StatementNumber). n.index) sends.entry.statement.same_number
     ∙ index_of sends.write.number (two_sent 2 2 4 true).id sends.index in
-    goes_on ended one_done (in_first ended []) refl
-    (subst (λ (w : WriteCommand). AreTold (account_of entries sent (ended ∷ [])) ended w 0 w.operations one_done) same told_one)
-    (subst (λ (w : WriteCommand). ended.document ≡ answer_document (answer_of w.kind ended.time one_done)) same refl)
-    (subst (λ (w : WriteCommand). EndsBefore sends.index w one_done) same (inl (omega (arith, at), refl, tt)))
+    let more = goes_on ended (in_first ended []) refl in
+    more.1 (subst (λ (w : WriteCommand). EndsBefore sends.index w more.0.dones) same (ends_first sends.index (omega (arith, at)) more.0.dones
+    (subst (λ (w : WriteCommand). AreTold (account_of entries sent (ended ∷ [])) ended w 0 w.operations more.0.dones) (sym same) more.0.told)))
 
 pub returns-clause-ended : goal.returns-clause-ended
 returns-clause-ended c was =

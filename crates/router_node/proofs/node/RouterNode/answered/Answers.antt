@@ -4,7 +4,7 @@ use mir.Val.{SFits}
 use Rattle.std.specs.Prelude.{IfOk}
 use Rattle.command_model.specs.Answers.{answer_document}
 use Rattle.command_replies.specs.AnswerMeanings.{answer_view}
-use Rattle.node_model.specs.RouterRows as rows
+use Rattle.node_model.specs.RouterRequests as requested
 use Rattle.node_traits.specs.Effects.{puts_of}
 use Rattle.node_traits.specs.Lists.{listed}
 use Rattle.node_traits.specs.declared.outputs.ToLink.{ToLink}
@@ -19,6 +19,6 @@ returns c = λ time.
     let q = open_view n.me.0 n.life c.args.request.now in
     let fits : SFits w32 c.args.request.now.number = search rules in
     subst (λ (rs : List ToLink). IfOk c.reply_to.result (λ reply. listed reply ≡ rs))
-    (ap (λ (z : ℤ). puts_of (record { id = rows.id_of r q.count; link = q.link; number = z; request = q.request; time = time; document = answer_document (answer_view c.args.answer.now) } ∷ []))
+    (ap (λ (z : ℤ). puts_of (record { id = requested.id_of r q.count; link = q.link; number = z; request = q.request; time = time; document = answer_document (answer_view c.args.answer.now) } ∷ []))
     (to_z-of_z w32 c.args.request.now.number fits))
-    (c.reply_to.ensures (rows.id_of r q.count) time)
+    (c.reply_to.ensures (requested.id_of r q.count) time)

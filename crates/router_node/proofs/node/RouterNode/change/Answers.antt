@@ -2,7 +2,7 @@ use mir.Syntax.{w64}
 use mir.Val.{SFits}
 use Rattle.std.proofs.Common.{◌≡◌, refl, ap, sym, subst, ◌∙◌, ℤ, ◌+◌, List, rules}
 use Rattle.std.proofs.lemmas.Int.{to_z-of_z}
-use Rattle.node_model.specs.RouterRows.{id_of}
+use Rattle.node_model.specs.RouterRequests.{id_of}
 use Rattle.router_cursors.specs.CursorLists.{advanced, closed_all, cursors_of}
 use Rattle.router_node.specs.RouterStates.{router_of}
 use Rattle.router_node.specs.StepPlans.{FollowsBy, changed}
@@ -40,7 +40,7 @@ returns-in-Notes-clause-state c =
     let follows = subst (λ (x : Change). FollowsBy r c.args.begun x) c.in-Notes.is c.requires.follows in
     becomes r.me r.shards c.args.time.0 r.life c.args.begun c.args.moment _ _ _ _ _ _ _ _ _ _ _ _ c.set_answers.ensures.taken refl
     (c.set_answers.ensures.opens r.me r.life follows.1 follows.2 follows.3 follows.4 follows.5 follows.6 follows.7
-    ∙ opens_notes r c.args.time.0 c.in-Notes.count follows.1 follows.6 c.in-Notes.wait c.in-Notes.answers follows.2 follows.3 follows.4 follows.5 follows.7) refl refl refl
+    ∙ opens_notes r c.args.time.0 c.in-Notes.count follows.1 follows.6 c.in-Notes.wait c.in-Notes.answers c.in-Notes.runs follows.2 follows.3 follows.4 follows.5 follows.7) refl refl refl
     ∙ ap (λ (x : Change). changed r c.args.time.0 c.args.begun c.args.moment x) (sym c.in-Notes.is)
 
 pub returns-in-Learns-clause-state : goal.returns-in-Learns-clause-state

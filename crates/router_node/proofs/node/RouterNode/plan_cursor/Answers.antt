@@ -4,6 +4,7 @@ use Rattle.std.specs.Prelude.{Option, pos}
 use Rattle.std.specs.Arc.{arc_value}
 use Rattle.command_replies.specs.AnswerMeanings.{answer_view}
 use Rattle.command_model.specs.Answers.{Answer, answer_document, first_answer}
+use Rattle.node_model.specs.RouterRequests as requested
 use Rattle.node_model.specs.RouterRows as rows
 use Rattle.node_traits.specs.Effects.{AreReadable, spellings}
 use Rattle.node_traits.specs.Lists.{listed}
@@ -30,7 +31,7 @@ returns c = λ m late left may.
     let told : answer ≡ first_answer (rows.batch_of q at (pos (rows.next_number r)) batch) =
     c.in_ok-answer.ensures q refl ∙ ap (λ (k : ℕ). first_answer (rows.batch_of q at (pos k) batch)) c.in-Some.ensures.number in
     told_cursor r m c.hears_keeping.result c.args.time.0 late q answer (listed c.in_ok-reply.reply)
-    (told_as _ (rows.id_of r q.count) (rows.heard r m) q.link q.number q.request (answer_document answer) fits (c.in_ok-reply.ensures (rows.id_of r q.count) (rows.heard r m)))
+    (told_as _ (requested.id_of r q.count) (requested.heard r m) q.link q.number q.request (answer_document answer) fits (c.in_ok-reply.ensures (requested.id_of r q.count) (requested.heard r m)))
     opened
     (c.hears_keeping.ensures (block_kept (block_given r.blocks r.gave)) (c.in_ok-records.ensures.records ∙ ap (λ (b : Option ℕ). spellings (block_kept b)) c.in-Some.ensures.block))
     left

@@ -2,7 +2,7 @@ use Rattle.std.proofs.Common.{ap, sym, subst, List, ℤ, refl, map, rules, true,
 use mir.Val.{SFits}
 use Rattle.command_model.specs.Answers.{answer_document, killed_answer}
 use Rattle.node_model.specs.Letters.{Letter, client_input}
-use Rattle.node_model.specs.RouterRows as rows
+use Rattle.node_model.specs.RouterRequests as requested
 use Rattle.node_traits.specs.Lists.{listed}
 use Rattle.protocol_model.specs.Messages.{letter_of}
 use Rattle.protocol_model.specs.Heads.{head_request}
@@ -24,7 +24,7 @@ pub returns : goal.returns
 returns c =
     let n = c.args.self.now in
     let r = router_of n in
-    let id = rows.id_of r (r.count + 1) in
+    let id = requested.id_of r (r.count + 1) in
     let request = head_request c.args.asked.head in
     let number = c.args.asked.number in
     let i = client_input c.args.asked.link number request in

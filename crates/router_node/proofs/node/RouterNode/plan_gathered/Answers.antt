@@ -2,7 +2,7 @@ use Rattle.std.proofs.Common.{◌≡◌, refl, ap, ◌∙◌, ℕ, List, [], map
 use Rattle.std.specs.Prelude.{Result}
 use Rattle.command_replies.specs.AnswerMeanings.{answer_view}
 use Rattle.node_model.specs.Letters.{HalfFault}
-use Rattle.node_model.specs.RouterRows as rows
+use Rattle.node_model.specs.RouterNext as nexts
 use Rattle.pipeline_eval.specs.Rows.{rows_of}
 use Rattle.pipeline_model.specs.Halves.{Rows}
 use Rattle.protocol_model.specs.Bodies.{rows_view}
@@ -16,7 +16,7 @@ use Rattle.router_node.proofs.node.RouterNode.plan_gathered.Goals as goal
 
 -- the rows that were gathered
 gathered_so : (targets given : List Target) (parts held : List Part) (from sender : ℕ) (told : Result Rows HalfFault) → given ≡ targets → held ≡ parts → from ≡ sender
-    → rows.rows_of (map target_view targets) (rows.also_part (map part_view parts) from told) ≡ rows.rows_of (map target_view given) (rows.also_part (map part_view held) sender told)
+    → nexts.rows_of (map target_view targets) (nexts.also_part (map part_view parts) from told) ≡ nexts.rows_of (map target_view given) (nexts.also_part (map part_view held) sender told)
 gathered_so targets given parts held from sender told same alike is = rw (same, alike, is) refl
 
 pub returns-in-Ok : goal.returns-in-Ok
@@ -25,7 +25,7 @@ returns-in-Ok c = λ m id from late part last work.
     let q = open_view n.me.0 n.life c.args.request.now in
     let read = c.args.read.now in
     let told = rows_view c.args.told in
-    let all : rows.awaited q.targets (rows.also_part q.parts m.sender told) ≡ [] = ap (λ (s : ℕ). rows.awaited q.targets (rows.also_part q.parts s told)) from ∙ last in
+    let all : nexts.awaited q.targets (nexts.also_part q.parts m.sender told) ≡ [] = ap (λ (s : ℕ). nexts.awaited q.targets (nexts.also_part q.parts s told)) from ∙ last in
     let same = gathered_so c.args.request.now.targets.items c.deref.result.now c.args.request.now.parts.items c.deref-2.result.now m.sender c.args.sender.0 told
     c.deref.ensures.value c.deref-2.ensures.value from in
     c.plan_merged.ensures m late
@@ -37,7 +37,7 @@ returns-in-Err-Overflow c = λ m id from late part last work.
     let q = open_view n.me.0 n.life c.args.request.now in
     let read = c.args.read.now in
     let told = rows_view c.args.told in
-    let all : rows.awaited q.targets (rows.also_part q.parts m.sender told) ≡ [] = ap (λ (s : ℕ). rows.awaited q.targets (rows.also_part q.parts s told)) from ∙ last in
+    let all : nexts.awaited q.targets (nexts.also_part q.parts m.sender told) ≡ [] = ap (λ (s : ℕ). nexts.awaited q.targets (nexts.also_part q.parts s told)) from ∙ last in
     let same = gathered_so c.args.request.now.targets.items c.deref.result.now c.args.request.now.parts.items c.deref-2.result.now m.sender c.args.sender.0 told
     c.deref.ensures.value c.deref-2.ensures.value from in
     let gathered = rw c.in-Err-Overflow.field-0-is at c.in-Err-Overflow.ensures in
@@ -51,7 +51,7 @@ returns-in-Err-TooMuch c = λ m id from late part last work.
     let q = open_view n.me.0 n.life c.args.request.now in
     let read = c.args.read.now in
     let told = rows_view c.args.told in
-    let all : rows.awaited q.targets (rows.also_part q.parts m.sender told) ≡ [] = ap (λ (s : ℕ). rows.awaited q.targets (rows.also_part q.parts s told)) from ∙ last in
+    let all : nexts.awaited q.targets (nexts.also_part q.parts m.sender told) ≡ [] = ap (λ (s : ℕ). nexts.awaited q.targets (nexts.also_part q.parts s told)) from ∙ last in
     let same = gathered_so c.args.request.now.targets.items c.deref.result.now c.args.request.now.parts.items c.deref-2.result.now m.sender c.args.sender.0 told
     c.deref.ensures.value c.deref-2.ensures.value from in
     let gathered = rw c.in-Err-TooMuch.field-0-is at c.in-Err-TooMuch.ensures in

@@ -5,7 +5,7 @@ use Rattle.command_replies.specs.AnswerMeanings.{answer_view}
 use Rattle.command_model.specs.Answers.{Answer, answer_document}
 use Rattle.reply_model.specs.Cursors.{ShowsNext}
 use Rattle.node_model.specs.Letters.{Letter, client_input}
-use Rattle.node_model.specs.RouterRows as rows
+use Rattle.node_model.specs.RouterRequests as requested
 use Rattle.node_traits.specs.Effects.{puts_of}
 use Rattle.node_traits.specs.Lists.{listed}
 use Rattle.protocol_model.specs.Messages.{letter_of}
@@ -27,7 +27,7 @@ pub returns-then-head : goal.returns-then-head
 returns-then-head c =
     let n = c.args.self.now in
     let r = router_of n in
-    let id = rows.id_of r (r.count + 1) in
+    let id = requested.id_of r (r.count + 1) in
     let request = head_request c.args.asked.head in
     let number = c.args.asked.number in
     let i = client_input c.args.asked.link number request in
@@ -45,7 +45,7 @@ pub returns : goal.returns
 returns c =
     let n = c.args.self.now in
     let r = router_of n in
-    let id = rows.id_of r (r.count + 1) in
+    let id = requested.id_of r (r.count + 1) in
     let request = head_request c.args.asked.head in
     let number = c.args.asked.number in
     let i = client_input c.args.asked.link number request in

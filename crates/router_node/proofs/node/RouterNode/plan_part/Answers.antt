@@ -1,6 +1,7 @@
-use Rattle.std.proofs.Common.{◌≡◌, ◌≢◌, ap, sym, subst, ◌∙◌, ℕ, List, [], map}
+use Rattle.std.proofs.Common.{◌≢◌, ap, sym, subst, ◌∙◌, ℕ, List, [], map}
 use Rattle.node_model.specs.Letters.{letter_input}
-use Rattle.node_model.specs.RouterRows as rows
+use Rattle.node_model.specs.RouterRequests as requested
+use Rattle.node_model.specs.RouterNext as nexts
 use Rattle.node_model.specs.States.{replaced}
 use Rattle.node_traits.specs.Ids.{id_view}
 use Rattle.protocol_model.specs.Bodies.{rows_view}
@@ -21,8 +22,8 @@ returns-then-have_all_come c = λ m from late part work.
     let sender = c.args.sender.0 in
     let told = rows_view c.args.told in
     c.plan_gathered.ensures m (id_view c.args.id) from late part
-    (ap (λ (l : List Target). rows.awaited (map target_view l) (rows.also_part q.parts sender told)) (sym c.deref.ensures.value)
-    ∙ ap (λ (l : List Part). rows.awaited (map target_view c.deref.result.now) (rows.also_part (map part_view l) sender told)) (sym c.deref-2.ensures.value)
+    (ap (λ (l : List Target). nexts.awaited (map target_view l) (nexts.also_part q.parts sender told)) (sym c.deref.ensures.value)
+    ∙ ap (λ (l : List Part). nexts.awaited (map target_view c.deref.result.now) (nexts.also_part (map part_view l) sender told)) (sym c.deref-2.ensures.value)
     ∙ c.have_all_come.ensures.all told c.if-have_all_come.true)
     work
 
@@ -34,12 +35,12 @@ returns-else-have_all_come c = λ m from late part work.
     let id = id_view c.args.id in
     let read = c.args.read.now in
     let told = rows_view c.args.told in
-    let some : rows.awaited q.targets (rows.also_part q.parts m.sender told) ≢ [] =
-    subst (λ (s : ℕ). rows.awaited q.targets (rows.also_part q.parts s told) ≢ []) (sym from)
-    (subst (λ (l : List Target). rows.awaited (map target_view l) (rows.also_part q.parts c.args.sender.0 told) ≢ []) c.deref.ensures.value
-    (subst (λ (l : List Part). rows.awaited (map target_view c.deref.result.now) (rows.also_part (map part_view l) c.args.sender.0 told) ≢ []) c.deref-2.ensures.value
+    let some : nexts.awaited q.targets (nexts.also_part q.parts m.sender told) ≢ [] =
+    subst (λ (s : ℕ). nexts.awaited q.targets (nexts.also_part q.parts s told) ≢ []) (sym from)
+    (subst (λ (l : List Target). nexts.awaited (map target_view l) (nexts.also_part q.parts c.args.sender.0 told) ≢ []) c.deref.ensures.value
+    (subst (λ (l : List Part). nexts.awaited (map target_view c.deref.result.now) (nexts.also_part (map part_view l) c.args.sender.0 told) ≢ []) c.deref-2.ensures.value
     (c.have_all_come.ensures.some told c.if-have_all_come.false))) in
     heard_by r m c.hears.result c.args.time.0 late _ _ _ c.hears.ensures ((λ e. e), q, found r id q part.opened)
-    (gains_so r id q part.opened (letter_input m) [] [] (rows.heard r m) c.args.sender c.args.told
-    (subst (λ (s : ℕ). TookRow r (letter_input m) [] [] (rows.knows r (rows.heard r m) r.tables (replaced (rows.with_part q s told) r.requests))) from
+    (gains_so r id q part.opened (letter_input m) [] [] (requested.heard r m) c.args.sender c.args.told
+    (subst (λ (s : ℕ). TookRow r (letter_input m) [] [] (nexts.knows r (requested.heard r m) r.tables (replaced (nexts.with_part q s told) r.requests))) from
     (rows_gained r m id q part.opened told read.named read.at.0 (stages_of read.parts) (telling_view read.telling) part.body work part.sent some)))

@@ -1,6 +1,6 @@
 use Rattle.std.proofs.Common.{ap, sym, subst, List, refl, map, rules, true, ◌+◌, w32}
 use Rattle.node_model.specs.Letters.{Letter, client_input}
-use Rattle.node_model.specs.RouterRows as rows
+use Rattle.node_model.specs.RouterRequests as requested
 use Rattle.node_traits.specs.Lists.{listed}
 use Rattle.command_replies.specs.AnswerMeanings.{answer_view}
 use Rattle.protocol_model.specs.Messages.{letter_of}
@@ -28,6 +28,6 @@ returns c =
     ok_starts r c.starts.result n.quiet i r.time r.moment Counts (map letter_of c.new-mail.result) reply tt tt (refl, c.requires.few)
     (subst (λ (ls : List Letter). TookRow (started r) i ls reply (changed r r.time true r.moment Counts)) (sym (ap (λ (ms : List Message). map letter_of ms) c.new-mail.ensures))
     (took_plain r c.args.asked.link number request (answer_view c.args.answer) reply c.requires.plan
-    (told_as reply (rows.id_of r (r.count + 1)) r.time c.args.asked.link number request (answer_document (answer_view c.args.answer)) fits
-    (c.in_ok-reply.ensures (rows.id_of r (r.count + 1)) r.time))))
+    (told_as reply (requested.id_of r (r.count + 1)) r.time c.args.asked.link number request (answer_document (answer_view c.args.answer)) fits
+    (c.in_ok-reply.ensures (requested.id_of r (r.count + 1)) r.time))))
     c.starts.ensures

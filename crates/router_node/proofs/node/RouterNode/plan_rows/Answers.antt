@@ -1,7 +1,8 @@
-use Rattle.std.proofs.Common.{◌≡◌, ◌≢◌, ap, sym, subst, ◌∙◌, ℕ, ◌⊎◌, List, map, Bool, false}
+use Rattle.std.proofs.Common.{◌≡◌, ◌≢◌, ap, sym, subst, ◌∙◌, ℕ, ◌⊎◌, List, map, false}
 use Rattle.node_model.specs.Letters.{read_rows}
 use Rattle.protocol_model.specs.Bodies.{rows_view}
-use Rattle.node_model.specs.RouterRows as rows
+use Rattle.node_model.specs.RouterRequests as requested
+use Rattle.node_model.specs.RouterNext as nexts
 use Rattle.node_traits.specs.Ids.{id_view}
 use Rattle.read_parts.specs.Parts.{target_view}
 use Rattle.read_parts.specs.declared.parts.Target.{Target}
@@ -22,16 +23,16 @@ returns-in-Writing c = λ m from is late.
     let n = c.args.self.now in
     let q = open_view n.me.0 n.life c.in-Some.request.now in
     heard_late (router_of n) m c.late-in-Writing.result c.args.time.0 late c.late-in-Writing.ensures
-    (rows_of_write (router_of n) m (id_view c.args.told.id) q (sym c.in-Some.ensures) _ _ _ _ _ _ is (ap (λ (w : Work). work_view (rows.id_of (router_of n) c.in-Some.request.now.count) w) c.in-Writing.is))
+    (rows_of_write (router_of n) m (id_view c.args.told.id) q (sym c.in-Some.ensures) _ _ _ _ _ _ is (ap (λ (w : Work). work_view (requested.id_of (router_of n) c.in-Some.request.now.count) w) c.in-Writing.is))
 
 pub returns-else-is_part : goal.returns-else-is_part
 returns-else-is_part c = λ m from is late.
     let n = c.args.self.now in
     let q = open_view n.me.0 n.life c.in-Some.request.now in
     heard_late (router_of n) m c.late-else-is_part.result c.args.time.0 late c.late-else-is_part.ensures
-    (rows_of_turn (router_of n) m (id_view c.args.told.id) q (sym c.in-Some.ensures) _ _ _ _ _ _ is (ap (λ (w : Work). work_view (rows.id_of (router_of n) c.in-Some.request.now.count) w) c.in-Reading.is)
-    (subst (λ (s : ℕ). (c.args.told.turn ≢ 1) ⊎ (rows.is_target s q.targets ≡ false)) (sym from)
-    (subst (λ (l : List Target). (c.args.told.turn ≢ 1) ⊎ (rows.is_target c.args.sender.0 (map target_view l) ≡ false)) c.deref.ensures.value
+    (rows_of_turn (router_of n) m (id_view c.args.told.id) q (sym c.in-Some.ensures) _ _ _ _ _ _ is (ap (λ (w : Work). work_view (requested.id_of (router_of n) c.in-Some.request.now.count) w) c.in-Reading.is)
+    (subst (λ (s : ℕ). (c.args.told.turn ≢ 1) ⊎ (nexts.is_target s q.targets ≡ false)) (sym from)
+    (subst (λ (l : List Target). (c.args.told.turn ≢ 1) ⊎ (nexts.is_target c.args.sender.0 (map target_view l) ≡ false)) c.deref.ensures.value
     (c.is_part.ensures.other c.if-is_part.false))))
 
 pub returns-then-is_part : goal.returns-then-is_part
@@ -42,21 +43,21 @@ returns-then-is_part c = λ m from is late.
     (record {
       body = is ∙ ap (λ (turn : ℕ). read_rows (id_view c.args.told.id) turn (rows_view c.args.told.rows)) (c.is_part.ensures.first c.if-is_part.true);
       opened = sym c.in-Some.ensures;
-      sent = ap (λ (s : ℕ). rows.is_target s q.targets) from ∙ ap (λ (l : List Target). rows.is_target c.args.sender.0 (map target_view l)) (sym c.deref.ensures.value)
+      sent = ap (λ (s : ℕ). nexts.is_target s q.targets) from ∙ ap (λ (l : List Target). nexts.is_target c.args.sender.0 (map target_view l)) (sym c.deref.ensures.value)
           ∙ c.is_part.ensures.sent c.if-is_part.true;
     })
-    (ap (λ (w : Work). work_view (rows.id_of (router_of n) c.in-Some.request.now.count) w) c.in-Reading.is)
+    (ap (λ (w : Work). work_view (requested.id_of (router_of n) c.in-Some.request.now.count) w) c.in-Reading.is)
 
 pub returns-in-Sharding : goal.returns-in-Sharding
 returns-in-Sharding c = λ m from is late.
     let n = c.args.self.now in
     let q = open_view n.me.0 n.life c.in-Some.request.now in
     heard_late (router_of n) m c.late-in-Sharding.result c.args.time.0 late c.late-in-Sharding.ensures
-    (rows_late (router_of n) m (id_view c.args.told.id) q (sym c.in-Some.ensures) _ _ _ is (ap (λ (w : Work). work_view (rows.id_of (router_of n) c.in-Some.request.now.count) w) c.in-Sharding.is) tt)
+    (rows_late (router_of n) m (id_view c.args.told.id) q (sym c.in-Some.ensures) _ _ _ is (ap (λ (w : Work). work_view (requested.id_of (router_of n) c.in-Some.request.now.count) w) c.in-Sharding.is) tt)
 
 pub returns-in-Splitting : goal.returns-in-Splitting
 returns-in-Splitting c = λ m from is late.
     let n = c.args.self.now in
     let q = open_view n.me.0 n.life c.in-Some.request.now in
     heard_late (router_of n) m c.late-in-Splitting.result c.args.time.0 late c.late-in-Splitting.ensures
-    (rows_late (router_of n) m (id_view c.args.told.id) q (sym c.in-Some.ensures) _ _ _ is (ap (λ (w : Work). work_view (rows.id_of (router_of n) c.in-Some.request.now.count) w) c.in-Splitting.is) tt)
+    (rows_late (router_of n) m (id_view c.args.told.id) q (sym c.in-Some.ensures) _ _ _ is (ap (λ (w : Work). work_view (requested.id_of (router_of n) c.in-Some.request.now.count) w) c.in-Splitting.is) tt)

@@ -1,5 +1,5 @@
 use Rattle.std.proofs.Common.{ap, sym}
-use Rattle.node_model.specs.RouterRows as rows
+use Rattle.node_model.specs.RouterRequests as requested
 use Rattle.node_traits.specs.Ids.{id_view}
 use Rattle.router_requests.specs.Works.{open_view, work_view}
 use Rattle.router_requests.specs.declared.work.Work.{Work}
@@ -18,23 +18,23 @@ returns-in-Writing c = λ m is late.
     let n = c.args.self.now in
     let q = open_view n.me.0 n.life c.in-Some.request.now in
     heard_late (router_of n) m c.late-in-Writing.result c.args.time.0 late c.late-in-Writing.ensures
-    (split_late (router_of n) m (id_view c.args.told.id) q (sym c.in-Some.ensures) _ _ is (ap (λ (w : Work). work_view (rows.id_of (router_of n) c.in-Some.request.now.count) w) c.in-Writing.is) tt)
+    (split_late (router_of n) m (id_view c.args.told.id) q (sym c.in-Some.ensures) _ _ is (ap (λ (w : Work). work_view (requested.id_of (router_of n) c.in-Some.request.now.count) w) c.in-Writing.is) tt)
 
 pub returns-in-Reading : goal.returns-in-Reading
 returns-in-Reading c = λ m is late.
     let n = c.args.self.now in
     let q = open_view n.me.0 n.life c.in-Some.request.now in
     heard_late (router_of n) m c.late-in-Reading.result c.args.time.0 late c.late-in-Reading.ensures
-    (split_late (router_of n) m (id_view c.args.told.id) q (sym c.in-Some.ensures) _ _ is (ap (λ (w : Work). work_view (rows.id_of (router_of n) c.in-Some.request.now.count) w) c.in-Reading.is) tt)
+    (split_late (router_of n) m (id_view c.args.told.id) q (sym c.in-Some.ensures) _ _ is (ap (λ (w : Work). work_view (requested.id_of (router_of n) c.in-Some.request.now.count) w) c.in-Reading.is) tt)
 
 pub returns-in-Sharding : goal.returns-in-Sharding
 returns-in-Sharding c = λ m is late.
     let n = c.args.self.now in
     let q = open_view n.me.0 n.life c.in-Some.request.now in
     heard_late (router_of n) m c.late-in-Sharding.result c.args.time.0 late c.late-in-Sharding.ensures
-    (split_late (router_of n) m (id_view c.args.told.id) q (sym c.in-Some.ensures) _ _ is (ap (λ (w : Work). work_view (rows.id_of (router_of n) c.in-Some.request.now.count) w) c.in-Sharding.is) tt)
+    (split_late (router_of n) m (id_view c.args.told.id) q (sym c.in-Some.ensures) _ _ is (ap (λ (w : Work). work_view (requested.id_of (router_of n) c.in-Some.request.now.count) w) c.in-Sharding.is) tt)
 
 pub returns-in-Splitting : goal.returns-in-Splitting
 returns-in-Splitting c = λ m is late.
     let n = c.args.self.now in
-    c.plan_found.ensures m _ is late (ap (λ (w : Work). work_view (rows.id_of (router_of n) c.in-Some.request.now.count) w) c.in-Splitting.is)
+    c.plan_found.ensures m _ is late (ap (λ (w : Work). work_view (requested.id_of (router_of n) c.in-Some.request.now.count) w) c.in-Splitting.is)

@@ -1,6 +1,6 @@
 use Rattle.std.proofs.Common.{◌∙◌, arith}
 use Rattle.node_model.specs.Letters.{time_ask}
-use Rattle.node_model.specs.RouterRows.{id_of}
+use Rattle.node_model.specs.RouterRequests.{id_of}
 use Rattle.router_requests.specs.Askers.{asker_view}
 use Rattle.router_requests.specs.Works.{numbers_of}
 use Rattle.router_requests.proofs.Told.{asked}

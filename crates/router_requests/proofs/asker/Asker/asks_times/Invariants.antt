@@ -1,7 +1,7 @@
 use Rattle.std.proofs.Common.{◌≡◌, ◌≤◌, map}
 use Rattle.std.specs.Vec.{vec_capacity, vec_len}
 use Rattle.node_model.specs.Letters.{time_ask}
-use Rattle.node_model.specs.RouterRows.{id_of, places_from, says, untold}
+use Rattle.node_model.specs.RouterRequests.{id_of, places_from, says, untold}
 use Rattle.protocol_model.specs.Messages.{letter_of}
 use Rattle.router_requests.specs.Askers.{asker_view}
 use Rattle.router_requests.specs.Works.{numbers_of}

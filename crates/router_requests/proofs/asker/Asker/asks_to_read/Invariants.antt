@@ -1,6 +1,7 @@
 use Rattle.std.proofs.Common.{◌≡◌, ◌++◌, drop, map}
 use Rattle.std.specs.Arc.{arc_value}
-use Rattle.node_model.specs.RouterRows.{asks_to_read, awaited, id_of}
+use Rattle.node_model.specs.RouterRequests.{asks_to_read, id_of}
+use Rattle.node_model.specs.RouterNext.{awaited}
 use Rattle.pipeline_lang.specs.Halves.{half_of}
 use Rattle.protocol_model.specs.Messages.{letter_of}
 use Rattle.read_parts.specs.Parts.{part_view, target_view}

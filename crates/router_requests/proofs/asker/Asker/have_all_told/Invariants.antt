@@ -1,5 +1,5 @@
 use Rattle.std.proofs.Common.{◌≡◌, []}
-use Rattle.node_model.specs.RouterRows.{places_from, untold}
+use Rattle.node_model.specs.RouterRequests.{places_from, untold}
 use Rattle.router_requests.specs.Works.{numbers_of}
 use Rattle.router_requests.proofs.asker.Asker.have_all_told.Given as goal
 

@@ -1,5 +1,5 @@
 use Rattle.std.proofs.Common.{◌≡◌, ap, ◌∙◌, ◌<◌, length, map, arith}
-use Rattle.node_model.specs.RouterRows.{with_part}
+use Rattle.node_model.specs.RouterNext.{with_part}
 use Rattle.node_model.specs.States.{Open, replaced}
 use Rattle.protocol_model.specs.Bodies.{rows_view}
 use Rattle.router_requests.specs.Works.{open_view}

@@ -1,5 +1,6 @@
 use Rattle.std.proofs.Common.{◌≡◌, ap, ◌∙◌, ◌<◌, length, map, arith}
-use Rattle.node_model.specs.RouterRows.{reached, with_work}
+use Rattle.node_model.specs.RouterRequests.{reached}
+use Rattle.node_model.specs.RouterNext.{with_work}
 use Rattle.node_model.specs.States.{Open, replaced}
 use Rattle.read_parts.specs.Parts.{target_view}
 use Rattle.router_requests.specs.Works.{open_view, wait_view}

@@ -1,9 +1,9 @@
 use Rattle.std.proofs.Common.{◌≡◌, ap, ◌∙◌, ◌<◌, length, map, [], arith}
-use Rattle.node_model.specs.RouterRows.{with_work}
+use Rattle.node_model.specs.RouterNext.{with_work}
 use Rattle.node_model.specs.States.{Open, replaced, writing}
 use Rattle.router_requests.specs.Works.{open_view, wait_view}
-use Rattle.protocol_model.specs.Statements.{done_view}
 use Rattle.router_requests.proofs.Waits.{is_put, not_there, rises_put, was_there}
+use Rattle.write_runs.specs.Runs.{course_view}
 use Rattle.router_requests.proofs.list.OpenList.set_answers.Goals as goal
 
 pub invariant_of-self : goal.invariant_of-self
@@ -20,7 +20,7 @@ returns-then-place-len-clause-opens c = λ router life q kind ordered statements
     c.args.self.now.rising c.place-place.ensures inside c.index_mut.ensures.value c.answer.ensures.count
     ∙ ap (λ (x : Open). replaced x (map (λ p. open_view router life p) c.args.self.now.requests.items))
     (c.answer.ensures.work router life kind ordered statements before (ap (λ (x : Open). x.work) was ∙ is)
-    ∙ ap (λ (x : Open). with_work x (wait_view c.args.wait) [] (writing kind ordered statements (map done_view c.args.answers.items))) was)
+    ∙ ap (λ (x : Open). with_work x (wait_view c.args.wait) [] (writing kind ordered statements (course_view c.args.answers.items c.args.runs.items))) was)
 
 pub returns-else-place-len-clause-opens : goal.returns-else-place-len-clause-opens
 returns-else-place-len-clause-opens c = λ router life q kind ordered statements before found is.

@@ -14,7 +14,13 @@ use Rattle.router_requests.proofs.list.OpenList.settle_at.Goals as goal
 pub invariant_of-self : goal.invariant_of-self
 invariant_of-self c =
     let inside : c.args.place < length c.args.self.now.requests.items = omega (arith, c.if-place-len.false, c.len.ensures, c.args.self.now.requests.ok.0) in record {
-      rising = rises_at 0 c.args.self.now.taken c.args.place c.args.self.now.requests.items c.index_mut.result.now c.wait_for_shards.new.self c.args.self.now.rising inside c.index_mut.ensures.value c.wait_for_shards.ensures.count;
+      rising = rises_at 0 c.args.self.now.taken c.args.place c.args.self.now.requests.items c.index_mut.result.now c.wait_for.new.self c.args.self.now.rising inside c.index_mut.ensures.value c.wait_for.ensures.count;
+    }
+
+pub invariant_of-self-in-Writes : goal.invariant_of-self-in-Writes
+invariant_of-self-in-Writes c =
+    let inside : c.args.place < length c.args.self.now.requests.items = omega (arith, c.if-place-len.false, c.len.ensures, c.args.self.now.requests.ok.0) in record {
+      rising = rises_at 0 c.args.self.now.taken c.args.place c.args.self.now.requests.items c.index_mut-in-Writes.result.now c.wait_for_runs.new.self c.args.self.now.rising inside c.index_mut-in-Writes.ensures.value c.wait_for_runs.ensures.count;
     }
 
 pub invariant_of-self-in-Leaves : goal.invariant_of-self-in-Leaves
@@ -36,14 +42,23 @@ returns-in-Stays-clause-opens c = λ router life fates.
     ∙ settled_stays (λ (q : OpenRequest). open_view router life q) items c.args.place fates inside
     ∙ ap (λ (f : Fate). settled (λ (q : OpenRequest). open_view router life q) c.args.place items (f ∷ fates)) (sym c.in-Stays.is)
 
-pub returns-in-GoesOn-clause-opens : goal.returns-in-GoesOn-clause-opens
-returns-in-GoesOn-clause-opens c = λ router life fates.
+pub returns-in-Reads-clause-opens : goal.returns-in-Reads-clause-opens
+returns-in-Reads-clause-opens c = λ router life fates.
     let items = c.args.self.now.requests.items in
     let inside : c.args.place < length items = omega (arith, c.if-place-len.false, c.len.ensures, c.args.self.now.requests.ok.0) in
     let plus : c.args.place + 1 ≡ suc c.args.place = omega arith in
-    ap (λ n. settled (λ (q : OpenRequest). open_view router life q) n (slice_set items c.args.place c.wait_for_shards.new.self) fates) plus
-    ∙ settled_put (λ (q : OpenRequest). open_view router life q) items c.args.place c.index_mut.result.now c.wait_for_shards.new.self c.args.fate fates inside c.index_mut.ensures.value
-    (ap (λ (f : Fate). fate_of (open_view router life c.index_mut.result.now) f) c.in-GoesOn.is ∙ ap (λ (q : Open). q ∷ []) (sym (c.wait_for_shards.ensures.waits router life)))
+    ap (λ n. settled (λ (q : OpenRequest). open_view router life q) n (slice_set items c.args.place c.wait_for.new.self) fates) plus
+    ∙ settled_put (λ (q : OpenRequest). open_view router life q) items c.args.place c.index_mut.result.now c.wait_for.new.self c.args.fate fates inside c.index_mut.ensures.value
+    (ap (λ (f : Fate). fate_of (open_view router life c.index_mut.result.now) f) c.in-Reads.is ∙ ap (λ (q : Open). q ∷ []) (sym (c.wait_for.ensures.waits router life)))
+
+pub returns-in-Writes-clause-opens : goal.returns-in-Writes-clause-opens
+returns-in-Writes-clause-opens c = λ router life fates.
+    let items = c.args.self.now.requests.items in
+    let inside : c.args.place < length items = omega (arith, c.if-place-len.false, c.len.ensures, c.args.self.now.requests.ok.0) in
+    let plus : c.args.place + 1 ≡ suc c.args.place = omega arith in
+    ap (λ n. settled (λ (q : OpenRequest). open_view router life q) n (slice_set items c.args.place c.wait_for_runs.new.self) fates) plus
+    ∙ settled_put (λ (q : OpenRequest). open_view router life q) items c.args.place c.index_mut-in-Writes.result.now c.wait_for_runs.new.self c.args.fate fates inside c.index_mut-in-Writes.ensures.value
+    (ap (λ (f : Fate). fate_of (open_view router life c.index_mut-in-Writes.result.now) f) c.in-Writes.is ∙ ap (λ (q : Open). q ∷ []) (sym (c.wait_for_runs.ensures.waits router life)))
 
 pub returns-in-Leaves-clause-opens : goal.returns-in-Leaves-clause-opens
 returns-in-Leaves-clause-opens c = λ router life fates.

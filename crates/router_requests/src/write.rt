@@ -1,0 +1,47 @@
+//! Writes that are not answered yet.
+
+use command_replies::{ClientNumber, WriteKind};
+use protocol_model::{StatementList, StatementOutcome};
+use write_runs::Run;
+
+/// A write that is not answered yet.
+#[derive(Drop)]
+pub struct OpenWrite {
+    pub kind: WriteKind,
+    /// The number that the client gave its statements, if it gave one.
+    pub number: Option<ClientNumber>,
+    pub ordered: bool,
+    pub statements: StatementList,
+    /// The outcomes of the statements, by their indices.
+    pub answers: Vec<Option<StatementOutcome>>,
+    /// What was sent to shards, and is not answered.
+    pub runs: Vec<Run>,
+}
+
+impl OpenWrite {
+    ghost use Rattle.std.specs.Prelude.{◌≡◌};
+    ghost use Rattle.base_model.specs.Identities as identities;
+    ghost use Rattle.router_requests.specs.Works.{work_of, write_view};
+
+    /// Returns the write, of which these runs are under way.
+    pub(crate) fn with_runs(self, runs: Vec<Run>) -> OpenWrite
+        ensures { (id : identities.RequestId) → write_view id result ≡ work_of id self self.answers.items runs.items }
+    {
+        let OpenWrite {
+            kind,
+            number,
+            ordered,
+            statements,
+            answers,
+            runs: _,
+        } = self;
+        OpenWrite {
+            kind,
+            number,
+            ordered,
+            statements,
+            answers,
+            runs,
+        }
+    }
+}

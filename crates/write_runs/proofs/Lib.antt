@@ -1,0 +1,10 @@
+mod Keys
+mod Lefts
+mod Marking
+mod News
+mod Nexts
+mod Outcomes
+mod Placing
+mod Sends
+mod Steps
+mod Views

@@ -1,0 +1,13 @@
+use Rattle.std.proofs.Common.{◌≡◌, Option, drop, map}
+use Rattle.std.specs.List.{list_any}
+use Rattle.base_model.specs.Identities.{RequestId}
+use Rattle.command_model.specs.Writes.{ClientNumber}
+use Rattle.protocol_model.specs.Statements.{statement_view}
+use Rattle.write_runs.specs.Marks.{is_new}
+use Rattle.write_runs.specs.Runs.{answers_view, runs_view}
+use Rattle.write_runs.proofs.unsent.are_new.Given as goal
+
+abbrev pub invariant-loop-statement : goal.invariant-loop-statement
+invariant-loop-statement l = (given : Option ClientNumber) (id : RequestId) →
+    list_any (is_new (answers_view l.answers) (runs_view l.runs)) (map (λ s. statement_view given id s) (drop l.statement-index l.statements))
+    ≡ list_any (is_new (answers_view l.answers) (runs_view l.runs)) (map (λ s. statement_view given id s) l.statements)
