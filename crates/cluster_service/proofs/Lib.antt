@@ -19,5 +19,6 @@ pub mod SeatFacts
 pub mod Served
 pub mod ServedDisks
 pub mod ServerEnds
+pub mod Standing
 pub mod Statuses
 pub mod Together

@@ -11,5 +11,6 @@ pub mod Openings
 pub mod Options
 pub mod Seats
 pub mod Servers
+pub mod Standing
 pub mod Statuses
 pub mod Stops
