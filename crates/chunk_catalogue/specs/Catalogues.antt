@@ -1,5 +1,5 @@
 -- What contracts see of a catalogue: the changes that were admitted, newest first, and for which more there is room.
-use Rattle.std.specs.Prelude.{◌≡◌, ◌<◌, ◌≤◌, List, Option, Some, None, vec_capacity, vec_len}
+use Rattle.std.specs.Prelude.{◌≡◌, ◌≤◌, List, Option, Some, None}
 use Rattle.std.specs.Arc.{arc_value}
 use Rattle.std.specs.HashSet.{spare}
 use Rattle.chunk_model.specs.Changes as changes
@@ -18,7 +18,7 @@ changes_of c = newest_first c.admitted.items
 
 -- a creation needs a place for its table, a commit one for its id
 abbrev pub HasRoomFor : Catalogue → ChangeFields → Type 0
-HasRoomFor c (Create namespace epoch at) = vec_len c.tables < vec_capacity c.tables
+HasRoomFor c (Create namespace epoch at) = 1 ≤ c.tables.room
 HasRoomFor c (Split namespace middle at) = Unit {0}
 HasRoomFor c (Commit id namespace range from to at) = 1 ≤ spare c.committed
 

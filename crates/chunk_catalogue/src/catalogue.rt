@@ -1,6 +1,6 @@
 //! The catalogue: the tables after all changes that were admitted, and which moves are committed.
 
-ghost use Rattle.std.specs.Prelude.{◌≡◌, ◌<◌, ◌∷◌, ◌||◌, ℕ, List, [], map, true, IfErr, IfOk, IfSome, OnOk, Some};
+ghost use Rattle.std.specs.Prelude.{◌≡◌, ◌<◌, ◌∷◌, ◌||◌, ℕ, List, [], true, IfErr, IfOk, IfSome, OnOk, Some};
 ghost use Rattle.std.specs.Arc.{arc_value};
 ghost use Rattle.std.specs.List.{AllByRecursion};
 ghost use Rattle.std.specs.Option.{option_map};
@@ -20,11 +20,11 @@ ghost use Rattle.chunk_catalogue.specs.Views.{change_view, id_view, words_view};
 
 use crate::change::{Change, ChangeFields, CommitWords};
 use crate::fault::CatFault;
-use crate::tables::{find, put};
 use bson_values::Memory;
 use chunk_table::{Chunk, Owned, Table};
 use cluster_base::{Namespace, NodeId, RequestId, Time};
 use ghost_list::GhostList;
+use route_cache::TableIndex;
 use std::alloc::Global;
 use std::collections::HashSet;
 use std::sync::Arc;
@@ -39,12 +39,12 @@ const FIRST_EPOCH: u64 = 1;
 #[derive(Drop)]
 pub struct Catalogue {
     alloc: Global,
-    tables: Vec<Arc<Table, Global>>,
+    tables: TableIndex,
     // The moves that are committed.
     committed: HashSet<RequestId>,
     // The changes that were admitted, oldest first, each with the table after it; for proofs only.
     admitted: GhostList<ChangeFields, Table>,
-    ghost known: { AreKnown (map arc_value tables.items) (newest_first admitted.items) } by { known-prop (map arc_value tables.items) (newest_first admitted.items) },
+    ghost known: { AreKnown tables.tables (newest_first admitted.items) } by { known-prop tables.tables (newest_first admitted.items) },
     ghost settled: { (id : RequestId) → is_among id committed.keys ≡ is_committed (id_view id) (newest_first admitted.items) },
     ghost fitting: { ∥ AreFitting (newest_first admitted.items) ∥₁ },
 }
@@ -96,7 +96,7 @@ impl Catalogue {
     {
         Catalogue {
             alloc,
-            tables: Vec::new(alloc),
+            tables: TableIndex::new(alloc),
             committed: HashSet::new(alloc),
             admitted: GhostList::new(),
         }
@@ -122,7 +122,7 @@ impl Catalogue {
         ensures owners { IfSome result (λ table. (key : Datum) (time : ℕ) → is_key key ≡ true
             → owner_at (arc_value table.now) key time ≡ owner namespace.now key time (changes_of self.now)) }
     {
-        find(&self.tables, namespace)
+        self.tables.get(namespace)
     }
 
     /// Returns the change that creates a collection at `at`, and makes room for its table. `None` where it exists.
@@ -136,10 +136,10 @@ impl Catalogue {
         ensures time { IfOk result (λ change. IfSome change (λ c. time_of (change_view c.fields) ≡ at.0)) }
         ensures changes { changes_of self.new ≡ changes_of self.old }
     {
-        if find(&self.tables, namespace).is_some() {
+        if self.tables.get(namespace).is_some() {
             return Ok(None);
         }
-        self.tables.reserve(1)?;
+        self.tables.reserve()?;
         let table = Table::first(self.alloc, namespace.copy()?, FIRST_EPOCH, at)?;
         let fields = ChangeFields::Create {
             namespace: namespace.copy()?,
@@ -170,7 +170,7 @@ impl Catalogue {
         ensures next { IfOk result (λ change. IfSome change (λ c. IsNext self.now c)) }
         ensures time { IfOk result (λ change. IfSome change (λ c. time_of (change_view c.fields) ≡ at.0)) }
     {
-        let Some(table) = find(&self.tables, namespace) else {
+        let Some(table) = self.tables.get(namespace) else {
             return Err(CatFault::NoCollection);
         };
         let Some(table) = table.split(self.alloc, middle)? else {
@@ -229,7 +229,7 @@ impl Catalogue {
         if self.committed.contains(&words.id) {
             return Err(CatFault::Settled(true));
         }
-        let Some(table) = find(&self.tables, &words.namespace) else {
+        let Some(table) = self.tables.get(&words.namespace) else {
             return Err(CatFault::NoCollection);
         };
         let Some(chunk) = table.chunk_with(&words.range) else {
@@ -252,6 +252,6 @@ impl Catalogue {
         let Change { fields, table } = change;
         self.admitted = self.admitted.with(&fields, &table);
         remember(&mut self.committed, fields);
-        put(&mut self.tables, table);
+        self.tables.put(table);
     }
 }

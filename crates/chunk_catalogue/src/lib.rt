@@ -5,7 +5,6 @@
 mod catalogue;
 mod change;
 mod fault;
-mod tables;
 
 pub use catalogue::Catalogue;
 pub use change::{Change, ChangeFields, CommitWords};

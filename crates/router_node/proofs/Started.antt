@@ -18,6 +18,7 @@ use Rattle.node_traits.specs.declared.outputs.ToLink.{ToLink}
 use Rattle.cluster_base.specs.declared.identity.NodeId.{NodeId}
 use Rattle.read_parts.specs.Parts.{part_view, target_view}
 use Rattle.read_parts.specs.declared.parts.Part.{Part as PartTold}
+use Rattle.router_requests.specs.Order.{Held}
 use Rattle.router_requests.specs.Works.{numbers_of, open_view, wait_view, work_view}
 use Rattle.router_requests.specs.declared.work.OpenRequest.{OpenRequest}
 use Rattle.protocol_model.specs.Heads.{head_request}
@@ -168,10 +169,10 @@ module _ (r : Router) (link : ℕ) (number : ℤ) (request : Request) (namespace
   took = subst (λ (n : Next). Takes n) begun.begins (router_take (started r) link number request namespace needed refl begun.plan)
 
   -- it is kept open
-  pub took_open : (o : OpenRequest) (letters : List Letter) → next ≡ stays (open_view r.me r.life o) letters
+  pub took_open : (o : Held) (letters : List Letter) → next ≡ stays (open_view r.me r.life o.value) letters
       → TookRow (started r) (client_input link number request) letters [] (changed r r.time true r.moment (Opens o))
   took_open o letters is = record {
-    effect = effect (stays (open_view r.me r.life o) letters);
+    effect = effect (stays (open_view r.me r.life o.value) letters);
     row = subst (λ (n : Next). Takes n) is took;
     written = refl;
     sent = refl;

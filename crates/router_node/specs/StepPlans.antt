@@ -65,7 +65,7 @@ tables_then (Ends numbers) tables = tables
 abbrev pub opens_then : Router → (time : ℕ) → Change → List Open
 opens_then r time Stays = r.requests
 opens_then r time Counts = r.requests
-opens_then r time (Opens q) = r.requests ++ open_view r.me r.life q ∷ []
+opens_then r time (Opens q) = r.requests ++ open_view r.me r.life q.value ∷ []
 opens_then r time (Closes count) = without count r.requests
 opens_then r time (Reaches count wait targets) = elim (open_with count r.requests) [
   | None ↦ r.requests
@@ -201,7 +201,7 @@ IsStep r i p = StepPlanned (router_state r) i (map letter_of p.mail) p.replies p
 abbrev pub FollowsBy : Router → (begun : Bool) → Change → Type 0
 FollowsBy r begun Stays = begun ≡ false → r.begun ≡ false
 FollowsBy r begun Counts = (begun ≡ true) × (r.count < 2 ^ 64 - 1)
-FollowsBy r begun (Opens q) = (begun ≡ true) × (r.count < 2 ^ 64 - 1) × (q.count ≡ r.count + 1)
+FollowsBy r begun (Opens q) = (begun ≡ true) × (r.count < 2 ^ 64 - 1) × (q.value.count ≡ r.count + 1)
 FollowsBy r begun (Closes count) = begun ≡ false → r.begun ≡ false
 FollowsBy r begun (Reaches count wait targets) = (begun ≡ false → r.begun ≡ false) × (q : Open) × (open_with count r.requests ≡ Some q)
 FollowsBy r begun (Told count told) = (begun ≡ false → r.begun ≡ false) × (q : Open) × (open_with count r.requests ≡ Some q)

@@ -74,7 +74,7 @@ impl RouterNode {
             IfOk result (λ p. IsPlanned (router_of self.now) (client_input asked.link asked.number (head_request asked.head)) p) }
     {
         let Asked { link, number, head } = asked;
-        let opened = OpenRequest {
+        let request = OpenRequest {
             count,
             link,
             number,
@@ -86,6 +86,7 @@ impl RouterNode {
             parts: Vec::new(self.alloc),
             work,
         };
+        let opened = Box::new(self.alloc, request)?;
         let mail = spare_list(self.alloc, mail)?;
         self.starts(self.time, self.moment, Change::Opens(opened), mail, None)
     }

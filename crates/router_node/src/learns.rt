@@ -197,17 +197,17 @@ impl RouterNode {
         &self,
         time: Time,
         told: &TableTold,
-        requests: &[OpenRequest],
+        requests: &[Box<OpenRequest>],
     ) -> Result<Learned, Memory>
         ensures mail { IfOk result (λ l. map (λ m. letter_of m) l.mail
             ≡ flat_map (λ q. nexts.letters_in (next_at (router_of self.now) time.0 told.now q))
-            (map (λ q. open_view self.now.me.0 self.now.life q) requests.now)) }
+            (map (λ q. open_view self.now.me.0 self.now.life q.value) requests.now)) }
         ensures replies { IfOk result (λ l. l.replies
             ≡ puts_of (flat_map (λ q. nexts.replies_in (next_at (router_of self.now) time.0 told.now q))
-            (map (λ q. open_view self.now.me.0 self.now.life q) requests.now))) }
-        ensures fates { IfOk result (λ l. fated (map (λ q. open_view self.now.me.0 self.now.life q) requests.now) l.fates.items
+            (map (λ q. open_view self.now.me.0 self.now.life q.value) requests.now))) }
+        ensures fates { IfOk result (λ l. fated (map (λ q. open_view self.now.me.0 self.now.life q.value) requests.now) l.fates.items
             ≡ flat_map (λ q. nexts.stay_in (next_at (router_of self.now) time.0 told.now q))
-            (map (λ q. open_view self.now.me.0 self.now.life q) requests.now)) }
+            (map (λ q. open_view self.now.me.0 self.now.life q.value) requests.now)) }
     {
         let known = self.known_after(told);
         let mut learned = Learned {

@@ -33,9 +33,14 @@ impl RouterNode {
     }
 
     // Returns the messages that these open requests send again for what they wait for, or `Memory` if memory runs out.
-    fn ask_each(&self, time: Time, requests: &[OpenRequest]) -> Result<MailList<Message>, Memory>
+    fn ask_each(
+        &self,
+        time: Time,
+        requests: &[Box<OpenRequest>],
+    ) -> Result<MailList<Message>, Memory>
         ensures { IfOk result (λ mail. map (λ m. letter_of m) mail
-            ≡ flat_map (λ q. nexts.asks_again (started (router_of self.now)) time.0 q) (map (λ q. open_view self.now.me.0 self.now.life q) requests.now)) }
+            ≡ flat_map (λ q. nexts.asks_again (started (router_of self.now)) time.0 q)
+            (map (λ q. open_view self.now.me.0 self.now.life q.value) requests.now)) }
     {
         let mut mail = MailList::new(self.alloc);
         for request in requests {

@@ -5,8 +5,8 @@ ghost use Rattle.router_requests.specs.Lists.{taken_of};
 
 use chunk_table::Table;
 use cluster_base::{Namespace, NodeId, RequestId, Time};
-use known_tables::TableList;
 use node_traits::StepCount;
+use route_cache::RouteCache;
 use router_cursors::CursorList;
 use router_replies::known_in;
 use router_requests::{Asker, OpenList, OpenRequest};
@@ -25,7 +25,7 @@ pub struct RouterNode {
     pub(crate) begun: bool,
     // The last moment that it got.
     pub(crate) moment: u64,
-    pub(crate) tables: TableList,
+    pub(crate) tables: RouteCache,
     pub(crate) requests: OpenList,
     pub(crate) cursors: CursorList,
     pub(crate) steps: StepCount,

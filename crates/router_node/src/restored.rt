@@ -5,8 +5,8 @@ ghost use Rattle.router_node.specs.RouterStates.{router_of};
 
 use crate::node::RouterNode;
 use cluster_base::{NodeId, Time};
-use known_tables::TableList;
 use node_traits::StepCount;
+use route_cache::RouteCache;
 use router_cursors::CursorList;
 use router_requests::OpenList;
 use std::alloc::Global;
@@ -40,7 +40,7 @@ impl RouterNode {
             life,
             begun: false,
             moment: 0,
-            tables: TableList::new(alloc),
+            tables: RouteCache::new(alloc),
             requests: OpenList::new(alloc),
             cursors: CursorList::restored(alloc, blocks),
             steps: StepCount::new(),

@@ -26,7 +26,7 @@ pub(crate) enum Change {
     /// One more request was taken, and is answered at once.
     Counts,
     /// One more request was taken, and is open.
-    Opens(OpenRequest),
+    Opens(Box<OpenRequest>),
     /// The one with this count is answered.
     Closes(u64),
     /// The read with this count reads at the time that is reached, unless it named one, and waits for this; it was sent to these shards.

@@ -10,23 +10,23 @@ ghost use Rattle.router_requests.specs.Lists.{opens_of, taken_of};
 
 use chunk_table::Table;
 use cluster_base::Namespace;
-use known_tables::TableList;
+use route_cache::RouteCache;
 use router_requests::{Fate, OpenList};
 use std::alloc::Global;
 use std::sync::Arc;
 
 /// Returns the table that is known of a collection, if one is.
-pub fn known_in<'a>(tables: &'a TableList, namespace: &Namespace) -> Option<&'a Table>
+pub fn known_in<'a>(tables: &'a RouteCache, namespace: &Namespace) -> Option<&'a Table>
     ensures { option_map (λ t. t.now) result ≡ table_of namespace.now tables.now.tables }
 {
-    match tables.find(namespace) {
+    match tables.get(namespace) {
         Some(table) => Some(table),
         None => None,
     }
 }
 
 /// Stores the table that arrived, if there is one. Takes no memory.
-fn adopt_told(tables: &mut TableList, told: Option<Arc<Table, Global>>)
+fn adopt_told(tables: &mut RouteCache, told: Option<Arc<Table, Global>>)
     requires { IfSome told (λ t. 1 ≤ tables.old.room) }
     ensures { tables.new.tables ≡ adopted (option_map (λ t. arc_value t) told) tables.old.tables }
 {
@@ -38,7 +38,7 @@ fn adopt_told(tables: &mut TableList, told: Option<Arc<Table, Global>>)
 
 /// Stores the table that arrived, if there is one, and lets this become of the open requests, in their order. Takes no memory.
 pub fn learn(
-    tables: &mut TableList,
+    tables: &mut RouteCache,
     requests: &mut OpenList,
     told: Option<Arc<Table, Global>>,
     fates: Vec<Fate>,

@@ -1,24 +1,22 @@
 -- What becomes of open requests does not depend on what else a router knows: its number, how many shards there are, and its life decide.
 use Rattle.std.proofs.Common.{◌≡◌, refl, ap, ℕ, List, [], ◌∷◌, map, Bool, if◌then◌else◌}
 use Rattle.std.specs.Prelude.{Option, Some, None}
-use Rattle.base_model.specs.Identities.{RequestId}
 use Rattle.chunk_model.specs.Tables.{Table}
 use Rattle.command_model.specs.Writes.{WriteKind}
 use Rattle.node_model.specs.Letters.{At, Letter, Statement}
 use Rattle.node_model.specs.RouterNext as nexts
 use Rattle.node_model.specs.RouterNext.{awaited, is_for_catalogue}
 use Rattle.node_model.specs.RouterRequests.{asks_catalogue, asks_times, asks_to_read, asks_to_write, id_of}
-use Rattle.node_model.specs.States.{Course, Open, Router, Run, Telling, Wait, Work, for_catalogue, for_shards, for_time, reading, sharding, splitting, writing}
+use Rattle.node_model.specs.States.{Course, Open, Router, Run, Telling, Work, for_catalogue, for_shards, for_time, reading, sharding, splitting, writing}
 use Rattle.node_traits.specs.Lists.{listed}
 use Rattle.pipeline_model.specs.Split.{split}
 use Rattle.pipeline_model.specs.Stages.{Stage}
 use Rattle.protocol_model.specs.Messages.{letter_of}
 use Rattle.protocol_model.specs.declared.message.Message.{Message}
 use Rattle.router_requests.specs.Askers.{asking, letters_of}
-use Rattle.router_requests.specs.Nexts.{begins_by, begun_next, next_view, read_arrives, read_by, read_next, write_by, write_next}
+use Rattle.router_requests.specs.Nexts.{begins_by, begun_next, next_view, read_arrives, read_by, write_by, write_next}
 use Rattle.router_requests.specs.declared.begins.Begun.{Begun}
 use Rattle.router_requests.specs.declared.begins.Begun.TheVariants as begins
-use Rattle.router_requests.specs.declared.reads.Sends.{Sends}
 use Rattle.router_requests.specs.declared.tables.Next.{Next}
 use Rattle.router_requests.specs.declared.tables.Next.TheVariants as next
 use Rattle.router_requests.specs.declared.writes.WriteNext.{WriteNext}

@@ -1,4 +1,5 @@
 mod Places
+mod Found
 mod Rooms
 mod Waits
 pub mod ByTables

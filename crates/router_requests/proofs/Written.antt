@@ -9,7 +9,7 @@ use Rattle.node_model.specs.Letters.{Letter, Statement, no_time, table_ask, writ
 use Rattle.node_model.specs.RouterNext as nexts
 use Rattle.node_model.specs.RouterNext.{is_answered, is_told, reply_to, stays, with_work}
 use Rattle.node_model.specs.RouterRequests.{asks_to_write, id_of, in_run, runs_by, says, unsent, with_runs}
-use Rattle.node_model.specs.States.{Course, Open, Router, Run, Wait, for_catalogue, for_shards, writing}
+use Rattle.node_model.specs.States.{Course, Open, Router, Run, for_catalogue, for_shards, writing}
 use Rattle.reply_model.specs.Outcomes.{answer_of, dones_from}
 use Rattle.router_requests.specs.Nexts.{write_by}
 

@@ -18,7 +18,8 @@ use write_runs::Run;
 pub struct OpenList {
     // How many requests were taken.
     pub(crate) taken: u64,
-    pub(crate) requests: Vec<OpenRequest>,
+    // In boxes, so that taking one out moves no other.
+    pub(crate) requests: Vec<Box<OpenRequest>>,
     ghost rising: { rises 0 taken requests.items ≡ true },
 }
 
@@ -58,8 +59,8 @@ impl OpenList {
     }
 
     /// Returns the open requests, in the order in which they were taken.
-    pub fn as_slice(&self) -> &[OpenRequest]
-        ensures { (router life : ℕ) → map (λ q. open_view router life q) result.now ≡ opens_of router life self.now }
+    pub fn as_slice(&self) -> &[Box<OpenRequest>]
+        ensures { (router life : ℕ) → map (λ q. open_view router life q.value) result.now ≡ opens_of router life self.now }
     {
         &self.requests
     }
@@ -68,26 +69,25 @@ impl OpenList {
     pub fn find(&self, count: u64) -> Option<&OpenRequest>
         ensures { (router life : ℕ) → option_map (λ q. open_view router life q.now) result ≡ states.open_with count (opens_of router life self.now) }
     {
-        for request in &self.requests {
-            if request.count == count {
-                return Some(request);
-            }
+        let place = self.place(count);
+        if place < self.requests.len() {
+            Some(&self.requests[place])
+        } else {
+            None
         }
-        None
     }
 
     // Returns how many requests come before that with this count; all where there is none.
     fn place(&self, count: u64) -> usize
         ensures { result ≡ place_of count self.now.requests.items }
     {
-        let mut place = 0;
-        for request in &self.requests {
-            if request.count == count {
-                return place;
-            }
-            place += 1;
+        match self
+            .requests
+            .binary_search_by_key(&count, |request| request.count)
+        {
+            Ok(place) => place,
+            Err(_) => self.requests.len(),
         }
-        place
     }
 
     /// Makes room for one request more. Returns `Memory` if memory runs out. The requests are the same either way.
@@ -112,11 +112,11 @@ impl OpenList {
 
     /// Appends the next request to the others, where there is room. Takes no memory.
     #[tactic(auto, using(crate::proofs::Places::rises_pushed))]
-    pub fn push(&mut self, request: OpenRequest)
+    pub fn push(&mut self, request: Box<OpenRequest>)
         requires room { has_room self.old ≡ true }
-        requires next { request.count ≡ taken_of self.old + 1 }
+        requires next { request.value.count ≡ taken_of self.old + 1 }
         ensures taken { taken_of self.new ≡ taken_of self.old + 1 }
-        ensures opens { (router life : ℕ) → opens_of router life self.new ≡ opens_of router life self.old ++ open_view router life request ∷ [] }
+        ensures opens { (router life : ℕ) → opens_of router life self.new ≡ opens_of router life self.old ++ open_view router life request.value ∷ [] }
     {
         self.taken = request.count;
         self.requests.push_reserved(request);
@@ -212,8 +212,8 @@ impl OpenList {
     fn settle_at(&mut self, place: usize, fate: Fate) -> usize
         ensures taken { taken_of self.new ≡ taken_of self.old }
         ensures opens { (router life : ℕ) (fates : List Fate) →
-            settled (λ q. open_view router life q) result self.new.requests.items fates
-            ≡ settled (λ q. open_view router life q) place self.old.requests.items (fate ∷ fates) }
+            settled (λ q. open_view router life q.value) result self.new.requests.items fates
+            ≡ settled (λ q. open_view router life q.value) place self.old.requests.items (fate ∷ fates) }
     {
         if place >= self.requests.len() {
             return place;

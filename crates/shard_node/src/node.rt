@@ -5,11 +5,11 @@ ghost use Rattle.node_traits.specs.States.{new_shard, shard_state};
 ghost use Rattle.shard_store.specs.Stores.{last_of, shard_of};
 
 use cluster_base::{NodeId, Time};
-use known_tables::TableList;
 use node_traits::{Node, Outputs, StepCount, StepFault, append_records};
 use opmsg_frames::Request;
 use outside::log::Log;
 use protocol_model::{Input, Message};
+use route_cache::RouteCache;
 use shard_store::ShardStore;
 use std::alloc::Global;
 use std::marker::Sync;
@@ -22,7 +22,7 @@ pub struct ShardNode {
     pub(crate) me: NodeId,
     pub(crate) steps: StepCount,
     pub(crate) time: Time,
-    pub(crate) tables: TableList,
+    pub(crate) tables: RouteCache,
     pub(crate) store: ShardStore,
     // The greatest time of its ceilings, or 0.
     pub(crate) ceiling: Time,
@@ -47,7 +47,7 @@ impl ShardNode {
             me,
             steps: StepCount::new(),
             time: Time(0),
-            tables: TableList::new(alloc),
+            tables: RouteCache::new(alloc),
             store: ShardStore::new(alloc, me),
             ceiling: Time(0),
             parked: Vec::new(alloc),

@@ -7,8 +7,8 @@ ghost use Rattle.shard_node.specs.State.{state_of};
 
 use crate::node::ShardNode;
 use cluster_base::{NodeId, Time};
-use known_tables::TableList;
 use node_traits::StepCount;
+use route_cache::RouteCache;
 use shard_store::ShardStore;
 use std::alloc::Global;
 
@@ -19,7 +19,7 @@ impl ShardNode {
         alloc: Global,
         me: NodeId,
         time: Time,
-        tables: TableList,
+        tables: RouteCache,
         store: ShardStore,
         ceiling: Time,
     ) -> ShardNode

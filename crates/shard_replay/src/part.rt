@@ -16,7 +16,7 @@ use bson_values::Memory;
 use chunk_table::Table;
 use cluster_base::{NodeId, Time};
 use journal_replay::Replays;
-use known_tables::TableList;
+use route_cache::RouteCache;
 use shard_records::Record;
 use shard_store::ShardStore;
 use std::alloc::Global;
@@ -33,7 +33,7 @@ pub struct ShardPart {
     top: Time,
     // Whether there is a table.
     learned: bool,
-    tables: TableList,
+    tables: RouteCache,
     store: ShardStore,
     ghost own: { shard_of store ≡ me.0 },
     ghost entered: { last_of store ≤ top.0 },
@@ -47,7 +47,7 @@ pub struct ShardParts {
     pub me: NodeId,
     /// The greatest time in the journal.
     pub time: Time,
-    pub tables: TableList,
+    pub tables: RouteCache,
     pub store: ShardStore,
     /// The greatest time of an entry and of a time at which the shard was read.
     pub ceiling: Time,
@@ -75,7 +75,7 @@ impl ShardPart {
             time: Time(0),
             top: Time(0),
             learned: false,
-            tables: TableList::new(alloc),
+            tables: RouteCache::new(alloc),
             store: ShardStore::new(alloc, me),
         }
     }
@@ -100,7 +100,7 @@ impl ShardPart {
     fn is_news(&self, table: &Table) -> bool
         ensures { result ≡ rows.is_news table.now (table_of table.now.namespace (part_of self.now).tables) }
     {
-        match self.tables.find(table.namespace()) {
+        match self.tables.get(table.namespace()) {
             Some(known) => table.longer_than(known),
             None => true,
         }
@@ -148,7 +148,7 @@ impl ShardPart {
             op,
             reply,
         } = entry;
-        if time <= self.top || self.tables.find(&namespace).is_none() {
+        if time <= self.top || self.tables.get(&namespace).is_none() {
             return refused((namespace, op, reply));
         }
         let words = Arc::new(self.alloc, op)?;

@@ -11,8 +11,8 @@ ghost use Rattle.shard_requests.specs.Standings.{Stands};
 use crate::asks::ask_in;
 use chunk_table::{Sent, Table, Verdict, Version, check};
 use cluster_base::{Namespace, NodeId, Time};
-use known_tables::TableList;
 use protocol_model::Body;
+use route_cache::RouteCache;
 
 /// How a message relates to the tables that a shard knows.
 pub enum Standing {
@@ -27,10 +27,10 @@ pub enum Standing {
 }
 
 // Returns what a shard finds in the versions that were sent along, for a collection.
-fn verdict_on(me: NodeId, tables: &TableList, namespace: &Namespace, sent: &Sent) -> Verdict
+fn verdict_on(me: NodeId, tables: &RouteCache, namespace: &Namespace, sent: &Sent) -> Verdict
     ensures { verdict_view result ≡ verdict_of (sent_view sent.now) me.0 (table_of namespace.now tables.now.tables) }
 {
-    match tables.find(namespace) {
+    match tables.get(namespace) {
         Some(table) => {
             let table: &Table = table;
             check(sent, me, Some(table))
@@ -40,7 +40,7 @@ fn verdict_on(me: NodeId, tables: &TableList, namespace: &Namespace, sent: &Sent
 }
 
 /// Returns how a message relates to the tables that a shard knows.
-pub fn standing_of(me: NodeId, tables: &TableList, body: &Body) -> Standing
+pub fn standing_of(me: NodeId, tables: &RouteCache, body: &Body) -> Standing
     ensures { Stands me.0 tables.now.tables result (body_view body.now) }
 {
     let Some(ask) = ask_in(body) else {
@@ -54,10 +54,10 @@ pub fn standing_of(me: NodeId, tables: &TableList, body: &Body) -> Standing
 }
 
 /// Returns whether a table is newer than the one that is known: there is none of its collection, or it has seen more changes.
-pub fn is_news(tables: &TableList, table: &Table) -> bool
+pub fn is_news(tables: &RouteCache, table: &Table) -> bool
     ensures { result ≡ is_news table.now (table_of table.now.namespace tables.now.tables) }
 {
-    match tables.find(table.namespace()) {
+    match tables.get(table.namespace()) {
         Some(own) => table.longer_than(own),
         None => true,
     }

@@ -3,6 +3,7 @@ pub mod Wire
 pub mod Queries
 pub mod Pipelines
 pub mod History
+pub mod IndexSets
 pub mod Chunks
 pub mod Messages
 pub mod Nodes

@@ -17,7 +17,7 @@ use Rattle.router_requests.proofs.read.Telling.TheSendSync.{the_field_send as Te
 use Rattle.router_requests.proofs.work.Wait.TheSendSync.{the_field_send as Wait-send}
 use Rattle.shard_store.proofs.fault.WriteFault.TheSendSync.{the_field_send as WriteFault-send}
 use Rattle.write_runs.proofs.run.Run.TheSendSync.{the_field_send as Run-send}
-use Rattle.thread_laws.proofs.Chunks.{Catalogue-send, TableList-send}
+use Rattle.thread_laws.proofs.Chunks.{Catalogue-send, RouteCache-send}
 use Rattle.thread_laws.proofs.History.{Book-send, Collection-send}
 use Rattle.protocol_model.proofs.reads.HalfFault.TheSendSync.{the_field_send as HalfFault-send}
 use Rattle.thread_laws.proofs.Messages.{Head-send, Message-send, Statement-send, StatementOutcome-send}
@@ -88,10 +88,10 @@ pub OpenList-send : IsSend OpenList.the_field.row
 OpenList-send = search (sendable, crosses, OpenRequest-send) depth 30
 
 pub ShardNode-send : IsSend ShardNode.the_field.row
-ShardNode-send = search (sendable, crosses, NodeId-send, StepCount-send, Time-send, TableList-send, ShardStore-send, Message-send) depth 30
+ShardNode-send = search (sendable, crosses, NodeId-send, StepCount-send, Time-send, RouteCache-send, ShardStore-send, Message-send) depth 30
 
 pub RouterNode-send : IsSend RouterNode.the_field.row
-RouterNode-send = search (sendable, crosses, NodeId-send, Time-send, TableList-send, OpenList-send, CursorList-send, StepCount-send) depth 30
+RouterNode-send = search (sendable, crosses, NodeId-send, Time-send, RouteCache-send, OpenList-send, CursorList-send, StepCount-send) depth 30
 
 pub AnyNode-send : IsSend AnyNode.the_field.row
 AnyNode-send = search (sendable, crosses, ConfigNode-send, ShardNode-send, RouterNode-send) depth 30

@@ -1,4 +1,4 @@
-use Rattle.std.proofs.Common.{◌≡◌, ◌∙◌, sym, ap, subst, ◌||◌, ◌∷◌, List, map}
+use Rattle.std.proofs.Common.{◌≡◌, ◌∙◌, sym, ap, subst, subst₂, ◌||◌, ◌∷◌, List}
 use Rattle.std.specs.Arc.{arc_value}
 use Rattle.std.proofs.Math.Logic.{∥∥₁_map}
 use Rattle.chunk_model.specs.Tables.{table_of}
@@ -21,7 +21,7 @@ put-requires c =
     let name = next_named x (changes_of self) t c.requires.next.table in
     record {
       room = λ none. table_room self c.args.change.fields (known_table (namespace_of x) (changes_of self)) t c.requires.next.room
-          c.requires.next.table (sym (self.known (namespace_of x)) ∙ ap (λ n. table_of n (map arc_value self.tables.items)) (sym name) ∙ none);
+          c.requires.next.table (sym (self.known (namespace_of x)) ∙ ap (λ n. table_of n self.tables.tables) (sym name) ∙ none);
     }
 
 pub invariant_of-self : goal.invariant_of-self
@@ -32,8 +32,8 @@ invariant_of-self c =
     let older = changes_of self in
     let newest : newest_first c.with-self.result.items ≡ x ∷ older = ap newest_first c.with-self.ensures ∙ newest_after self.admitted.items fields _ in
     record {
-      known = subst (AreKnown (map arc_value c.put.new.tables.items)) (sym newest)
-          (known_next x older (map arc_value self.tables.items) _ (arc_value c.args.change.table) self.known c.requires.next.table c.put.ensures);
+      known = subst₂ AreKnown (sym c.put.ensures) (sym newest)
+          (known_next x older self.tables.tables (arc_value c.args.change.table) self.known c.requires.next.table);
       settled = λ id.
           c.remember.ensures id
           ∙ ap (λ b. commits_id fields id || b) (self.settled id)

@@ -9,5 +9,5 @@ use Rattle.router_node.proofs.node.RouterNode.ask_each.Given as goal
 
 abbrev pub invariant-loop-request : goal.invariant-loop-request
 invariant-loop-request l =
-    map (λ m. letter_of m) l.mail ++ flat_map (λ q. nexts.asks_again (started (router_of l.self)) l.time.0 q) (map (λ q. open_view l.self.me.0 l.self.life q) (drop l.request-index l.requests))
-    ≡ flat_map (λ q. nexts.asks_again (started (router_of l.self)) l.time.0 q) (map (λ q. open_view l.self.me.0 l.self.life q) l.requests)
+    map (λ m. letter_of m) l.mail ++ flat_map (λ q. nexts.asks_again (started (router_of l.self)) l.time.0 q) (map (λ q. open_view l.self.me.0 l.self.life q.value) (drop l.request-index l.requests))
+    ≡ flat_map (λ q. nexts.asks_again (started (router_of l.self)) l.time.0 q) (map (λ q. open_view l.self.me.0 l.self.life q.value) l.requests)

@@ -7,4 +7,4 @@ use Rattle.router_node.proofs.node.RouterNode.learned.Given as goal
 
 abbrev pub invariant-loop-request : goal.invariant-loop-request
 invariant-loop-request l =
-    AreLearned (λ q. next_at (router_of l.self) l.time.0 l.told q) (map (λ q. open_view l.self.me.0 l.self.life q) (take l.request-index l.requests)) l.learned
+    AreLearned (λ q. next_at (router_of l.self) l.time.0 l.told q) (map (λ q. open_view l.self.me.0 l.self.life q.value) (take l.request-index l.requests)) l.learned

@@ -1,4 +1,4 @@
-use Rattle.std.proofs.Common.{ap, sym, subst, refl, map, rules, true, w32, ℤ, List, []}
+use Rattle.std.proofs.Common.{◌≡◌, ◌∙◌, ap, sym, subst, refl, map, rules, true, w32, ℤ, List, []}
 use Rattle.std.proofs.lemmas.Int.{to_z-of_z}
 use mir.Val.{SFits, of_z, to_z}
 use Rattle.std.specs.Prelude.{IfOk}
@@ -11,7 +11,8 @@ use Rattle.protocol_model.specs.Heads.{head_request}
 use Rattle.protocol_model.specs.Messages.{letter_of}
 use Rattle.protocol_model.specs.declared.message.Message.{Message}
 use Rattle.read_parts.specs.Parts.{target_view}
-use Rattle.router_requests.specs.Works.{wait_view, work_view}
+use Rattle.router_requests.specs.Order.{Held}
+use Rattle.router_requests.specs.Works.{open_view, wait_view, work_view}
 use Rattle.router_requests.specs.declared.work.OpenRequest.{OpenRequest}
 use Rattle.router_node.specs.Begins.{Begins}
 use Rattle.router_node.specs.RouterStates.{router_of}
@@ -42,16 +43,19 @@ returns c = λ needed begun.
       parts = c.new-2.result;
       work = c.args.work;
     } in
+    let b : Held = c.in_ok-opened.opened in
+    let is : b.value ≡ o = c.in_ok-opened.ensures.ok in
     let letters = map letter_of c.args.mail.items in
     let becomes = λ (z : ℤ). nexts.stays (nexts.with_work (opened_request (started r) link z request namespace needed) (wait_view c.args.wait) (map target_view c.args.targets.items)
     (work_view (requested.id_of r c.args.count) c.args.work)) letters in
     let same = to_z-of_z w32 c.args.asked.number fits in
     subst (λ (z : ℤ). IfOk c.starts.result (λ p. IsPlanned r (client_input link z request) p)) same
-    (ok_starts r c.starts.result n.quiet (client_input link number request) r.time r.moment (Opens o) (map letter_of c.in_ok-mail.mail) [] tt tt
-    (refl, c.requires.few, c.requires.next)
-    (subst (λ (ls : List Letter). TookRow (started r) (client_input link number request) ls [] (changed r r.time true r.moment (Opens o)))
+    (ok_starts r c.starts.result n.quiet (client_input link number request) r.time r.moment (Opens b) (map letter_of c.in_ok-mail.mail) [] tt tt
+    (refl, c.requires.few, ap (λ (x : OpenRequest). x.count) is ∙ c.requires.next)
+    (subst (λ (ls : List Letter). TookRow (started r) (client_input link number request) ls [] (changed r r.time true r.moment (Opens b)))
     (sym (ap (λ (ms : List Message). map letter_of ms) c.in_ok-mail.ensures))
     (took_open r link number request namespace needed (becomes number)
-    (subst (λ (z : ℤ). Begins r link z request namespace needed (becomes z)) (sym same) begun) o letters
-    (ap (λ (q : states.Open). nexts.stays q letters) (opens_so r o needed c.requires.next c.new.ensures.items c.new-2.ensures.items))))
+    (subst (λ (z : ℤ). Begins r link z request namespace needed (becomes z)) (sym same) begun) b letters
+    (ap (λ (q : states.Open). nexts.stays q letters) (opens_so r o needed c.requires.next c.new.ensures.items c.new-2.ensures.items)
+    ∙ ap (λ (x : OpenRequest). nexts.stays (open_view r.me r.life x) letters) (sym is))))
     c.starts.ensures)

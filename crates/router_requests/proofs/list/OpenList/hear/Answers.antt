@@ -7,16 +7,16 @@ use Rattle.router_requests.proofs.list.OpenList.hear.Goals as goal
 pub invariant_of-self : goal.invariant_of-self
 invariant_of-self c =
     let inside : c.place-place.result < length c.args.self.now.requests.items = omega (arith, c.if-place-len.true, c.len.ensures, c.args.self.now.requests.ok.0) in record {
-      rising = rises_put c.args.count c.args.self.now.taken c.place-place.result c.args.self.now.requests.items c.index_mut.result.now c.hear.new.self c.args.self.now.rising c.place-place.ensures inside c.index_mut.ensures.value c.hear.ensures.count;
+      rising = rises_put c.args.count c.args.self.now.taken c.place-place.result c.args.self.now.requests.items c.index_mut.result.now c.deref_mut.result.now c.hear.new.self c.args.self.now.rising c.place-place.ensures inside c.index_mut.ensures.value c.deref_mut.ensures.value c.hear.ensures.count;
     }
 
 pub returns-then-place-len-clause-opens : goal.returns-then-place-len-clause-opens
 returns-then-place-len-clause-opens c = λ router life q found.
     let inside : c.place-place.result < length c.args.self.now.requests.items = omega (arith, c.if-place-len.true, c.len.ensures, c.args.self.now.requests.ok.0) in
-    let was : open_view router life c.index_mut.result.now ≡ q = was_there router life c.args.count c.place-place.result c.args.self.now.requests.items c.index_mut.result.now q c.place-place.ensures inside c.index_mut.ensures.value found in
-    is_put router life c.args.count c.args.self.now.taken c.place-place.result c.args.self.now.requests.items c.index_mut.result.now c.hear.new.self
-    c.args.self.now.rising c.place-place.ensures inside c.index_mut.ensures.value c.hear.ensures.count
-    ∙ ap (λ (x : Open). replaced x (map (λ p. open_view router life p) c.args.self.now.requests.items))
+    let was : open_view router life c.deref_mut.result.now ≡ q = was_there router life c.args.count c.place-place.result c.args.self.now.requests.items c.index_mut.result.now c.deref_mut.result.now q c.place-place.ensures inside c.index_mut.ensures.value c.deref_mut.ensures.value found in
+    is_put router life c.args.count c.args.self.now.taken c.place-place.result c.args.self.now.requests.items c.index_mut.result.now c.deref_mut.result.now c.hear.new.self
+    c.args.self.now.rising c.place-place.ensures inside c.index_mut.ensures.value c.deref_mut.ensures.value c.hear.ensures.count
+    ∙ ap (λ (x : Open). replaced x (map (λ p. open_view router life p.value) c.args.self.now.requests.items))
     (c.hear.ensures.told router life ∙ ap (λ (x : Open). told_by x (numbers_of c.args.told.items)) was)
 
 pub returns-else-place-len-clause-opens : goal.returns-else-place-len-clause-opens

@@ -9,16 +9,16 @@ use Rattle.router_requests.proofs.list.OpenList.set_answers.Goals as goal
 pub invariant_of-self : goal.invariant_of-self
 invariant_of-self c =
     let inside : c.place-place.result < length c.args.self.now.requests.items = omega (arith, c.if-place-len.true, c.len.ensures, c.args.self.now.requests.ok.0) in record {
-      rising = rises_put c.args.count c.args.self.now.taken c.place-place.result c.args.self.now.requests.items c.index_mut.result.now c.answer.new.self c.args.self.now.rising c.place-place.ensures inside c.index_mut.ensures.value c.answer.ensures.count;
+      rising = rises_put c.args.count c.args.self.now.taken c.place-place.result c.args.self.now.requests.items c.index_mut.result.now c.deref_mut.result.now c.answer.new.self c.args.self.now.rising c.place-place.ensures inside c.index_mut.ensures.value c.deref_mut.ensures.value c.answer.ensures.count;
     }
 
 pub returns-then-place-len-clause-opens : goal.returns-then-place-len-clause-opens
 returns-then-place-len-clause-opens c = λ router life q kind ordered statements before found is.
     let inside : c.place-place.result < length c.args.self.now.requests.items = omega (arith, c.if-place-len.true, c.len.ensures, c.args.self.now.requests.ok.0) in
-    let was : open_view router life c.index_mut.result.now ≡ q = was_there router life c.args.count c.place-place.result c.args.self.now.requests.items c.index_mut.result.now q c.place-place.ensures inside c.index_mut.ensures.value found in
-    is_put router life c.args.count c.args.self.now.taken c.place-place.result c.args.self.now.requests.items c.index_mut.result.now c.answer.new.self
-    c.args.self.now.rising c.place-place.ensures inside c.index_mut.ensures.value c.answer.ensures.count
-    ∙ ap (λ (x : Open). replaced x (map (λ p. open_view router life p) c.args.self.now.requests.items))
+    let was : open_view router life c.deref_mut.result.now ≡ q = was_there router life c.args.count c.place-place.result c.args.self.now.requests.items c.index_mut.result.now c.deref_mut.result.now q c.place-place.ensures inside c.index_mut.ensures.value c.deref_mut.ensures.value found in
+    is_put router life c.args.count c.args.self.now.taken c.place-place.result c.args.self.now.requests.items c.index_mut.result.now c.deref_mut.result.now c.answer.new.self
+    c.args.self.now.rising c.place-place.ensures inside c.index_mut.ensures.value c.deref_mut.ensures.value c.answer.ensures.count
+    ∙ ap (λ (x : Open). replaced x (map (λ p. open_view router life p.value) c.args.self.now.requests.items))
     (c.answer.ensures.work router life kind ordered statements before (ap (λ (x : Open). x.work) was ∙ is)
     ∙ ap (λ (x : Open). with_work x (wait_view c.args.wait) [] (writing kind ordered statements (course_view c.args.answers.items c.args.runs.items))) was)
 

@@ -10,5 +10,5 @@ abbrev pub invariant-loop-fate : goal.invariant-loop-fate
 invariant-loop-fate l = record {
   taken : taken_of l.self ≡ taken_of l.fn.self;
   left : into_iter_len l.fate-iterator ≡ length (into_iter_items l.fate-iterator);
-  opens : (router life : ℕ) → settled (λ q. open_view router life q) l.place l.self.requests.items (into_iter_items l.fate-iterator) ≡ fated (opens_of router life l.fn.self) l.fn.fates.items;
+  opens : (router life : ℕ) → settled (λ q. open_view router life q.value) l.place l.self.requests.items (into_iter_items l.fate-iterator) ≡ fated (opens_of router life l.fn.self) l.fn.fates.items;
 }

@@ -1,4 +1,4 @@
--- The tables that a node knows, and for how many more there is room.
+-- Tables that are known, and for how many more there is room.
 use Rattle.std.specs.Prelude.{ℕ, List}
 use Rattle.chunk_model.specs.Tables.{Table}
 

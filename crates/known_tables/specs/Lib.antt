@@ -1,3 +1,0 @@
-pub mod KnownTables
-pub mod Code
-pub mod Places

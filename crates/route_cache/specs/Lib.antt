@@ -1,0 +1,4 @@
+pub mod Known
+pub mod Code
+pub mod Puts
+pub mod Names
