@@ -4,6 +4,7 @@ pub mod Composed
 pub mod Counts
 pub mod Crashes
 pub mod Firsts
+pub mod Lasting
 pub mod Lefts
 pub mod NotBegun
 pub mod NotServed
@@ -19,6 +20,5 @@ pub mod SeatFacts
 pub mod Served
 pub mod ServedDisks
 pub mod ServerEnds
-pub mod Standing
 pub mod Statuses
 pub mod Together

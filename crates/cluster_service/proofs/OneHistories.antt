@@ -7,7 +7,7 @@ use Rattle.restart_laws.proofs.ReachedCalls.{calls_proceed, reached_calls_keep_c
 use Rattle.node_progress.specs.Firsts.{IsFirst}
 use Rattle.sim_driver.proofs.Plays.{first_reached}
 use Rattle.cluster_service.specs.Headline.{MakesOneHistory}
-use Rattle.cluster_service.proofs.Standing.{reached_journals_stand}
+use Rattle.cluster_service.proofs.Lasting.{reached_journals_stay_true}
 
 pub one_history : (first : World) → IsFirst first → (events : List EventOrStop) (w : World) → RunWithStops first events w → MakesOneHistory w
 one_history first begins events w run =
@@ -17,5 +17,5 @@ one_history first begins events w run =
       changes = reached_calls_keep_changes r.0 r.1 w reached;
       one = reached_calls_make_one_history r.0 r.1 w reached;
       own = reached_calls_own_journals r.0 r.1 w reached;
-      stand = reached_journals_stand r.0 r.1 w reached;
+      lasting = reached_journals_stay_true r.0 r.1 w reached;
     }

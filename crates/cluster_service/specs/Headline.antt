@@ -13,17 +13,17 @@ use Rattle.pipe_driver.specs.declared.status.Status.{Status}
 use Rattle.pipe_driver.specs.declared.status.Status.TheVariants as statuses
 use Rattle.sim_driver.specs.Simulations.{AreAnsweredAfterRestarts, EndInSettle, HaveNoRestart, IsSimulated}
 use Rattle.journal_starts.specs.Journals.{AreJournals}
-use Rattle.cluster_service.specs.Standing.{JournalsStand}
+use Rattle.cluster_service.specs.Lasting.{JournalsStayTrue}
 use Rattle.cluster_service.specs.declared.arguments.Command.{Command}
 use Rattle.cluster_service.specs.declared.arguments.Command.TheVariants.{Pipe, Sim, Serve}
 
 -- what the nodes of a world store, and the requests and replies, are one history, where the changes have the steps in which they were made, and each journal
--- the entries of its own shard, in the order of their times; and what the journals say stands for good
+-- the entries of its own shard, in the order of their times; and what the journals say stays true
 pub record MakesOneHistory (end : World) : Type 0 where
   pub changes : changes_in end.changed ≡ changes_kept (journal_at end.nodes 0)
   pub one : OneHistory (account_of end)
   pub own : HaveOwnEntries end.nodes
-  pub stand : JournalsStand end
+  pub lasting : JournalsStayTrue end
 
 -- The bytes taken are requests and a rest, and the bytes put are the replies of a run of the nodes from the first world on, by the schedule, whose journals
 -- the disks store; the requests come to the router of this number. For all inputs, what the nodes store then is one legal history of an unsharded collection

@@ -5,12 +5,12 @@ pub mod Crashes
 pub mod Drivers
 pub mod Ends
 pub mod Headline
+pub mod Lasting
 pub mod Numbers
 pub mod OpenJournals
 pub mod Openings
 pub mod Options
 pub mod Seats
 pub mod Servers
-pub mod Standing
 pub mod Statuses
 pub mod Stops

@@ -49,7 +49,12 @@ first_whole _ (first_again others routers u first reached begins) =
     let one = reached_calls_are_one_run others routers first (begins_reached others routers u first reached begins) in
     let whole : StaysWhole (with_mail one.mail first) = runs_with_stops_stay_true (start others routers) (with_mail one.mail first) one.events
     (start_whole others routers) one.run in
-    record { facts = begins_true others routers u first reached begins; replays = replays_without one.mail first whole.replays; tables = whole.tables }
+    record {
+      facts = begins_true others routers u first reached begins;
+      replays = replays_without one.mail first whole.replays;
+      tables = whole.tables;
+      in_time = whole.in_time;
+    }
 
 -- A RUN IN WHICH NODES STOP
 

@@ -17,7 +17,7 @@ use Rattle.node_laws.proofs.Owes.{asked_after, answered_after, StaysHeard, OwesI
 use Rattle.node_laws.proofs.Places.{each_get}
 use Rattle.node_laws.proofs.TimeFacts.{HeardFits}
 use Rattle.node_laws.proofs.Others.{Decided, other_fits}
-use Rattle.node_laws.proofs.LongerJournals.{change_stays}
+use Rattle.node_laws.proofs.LongerJournals.{more_changes}
 use Rattle.node_laws.proofs.StepsKeep.{fits_here}
 use Rattle.node_replay.specs.Durable.{DurableState, durable_catalogue, durable_shard, durable_router, durable_of, empty_of}
 use Rattle.node_replay.specs.Holds.{HoldsOwn, Replays}
@@ -26,7 +26,7 @@ use Rattle.node_replay.specs.Replays.{replayed, records_of}
 use Rattle.node_replay.specs.Restarts.{cut_off}
 use Rattle.node_replay.proofs.Restarts.{became}
 use Rattle.restart_laws.proofs.Openings.{in_cursors, Stood, opened_fits}
-use Rattle.restart_laws.proofs.StoredTables.{TablesStand, StoresOwn, timed_of, tables_after}
+use Rattle.restart_laws.proofs.StoredTables.{StorePastTables, StoresOwn, past_of, tables_after}
 
 -- KINDS
 
@@ -131,7 +131,7 @@ pub record Halts (changes : List Change) (old : Held) (f : Effect) (reached : No
   pub replays : Replays (record { state = reached; kept = old.kept ++ f.written })
   pub holds : HoldsOwn
       (record { state = became (record { state = reached; kept = old.kept ++ f.written }); kept = old.kept ++ f.written })
-  pub tables : TablesStand changes old.kept old.state
+  pub tables : StorePastTables changes old.kept old.state
   pub own : StoresOwn f.written reached
   pub same : empty_of reached ≡ empty_of old.state
 
@@ -145,15 +145,16 @@ module _ (w : World) (book : Book) (at : ℕ) (old : Held) (f : Effect) (reached
       → OwesIn (in_cursors owes.cursors v) w book at old f reached
       → OwesIn (in_cursors book.cursors v) w book at old (cut_off f) (halted old f reached)
   cut_owed v later apart journal owed =
+      let news = more_changes (view_of w.nodes book) v later in
       let stood : Stood (in_cursors owes.cursors v) book.cursors (asked_after w f) w.answered (answered_by w.now f.replies) w.given at old.state f.written
       (record { state = reached; kept = old.kept ++ f.written }) =
       record {
         fits = owed.node;
         replays = halts.replays;
         holds = halts.holds;
-        tables = tables_after (changes_kept (journal_at w.nodes 0)) (changes_in (in_cursors owes.cursors v)) old.kept f.written old.state reached owes.kind
-            (λ y i. change_stays (view_of w.nodes book) v y later i) halts.tables halts.own
-            (timed_of (in_cursors owes.cursors v) (asked_after w f) (answered_after w f) at (old.kept ++ f.written) reached owed.node.state);
+        tables = tables_after (changes_kept (journal_at w.nodes 0)) (changes_in (in_cursors owes.cursors v)) news.more old.kept f.written old.state reached
+            owes.kind news.same halts.tables halts.own
+            (past_of (in_cursors owes.cursors v) (asked_after w f) (answered_after w f) at (old.kept ++ f.written) reached owed.node.state);
         kind = owes.kind;
         early = halts.early;
         late = halts.late;

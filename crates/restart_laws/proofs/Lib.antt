@@ -1,6 +1,7 @@
 pub mod Replays
 pub mod TableTimes
 pub mod StoredTables
+pub mod TablesInTime
 pub mod Openings
 pub mod CutSteps
 pub mod StopSteps
@@ -10,3 +11,7 @@ pub mod Mail
 pub mod ReachedCalls
 pub mod Parts
 pub mod Pinned
+pub mod SentTables
+pub mod CatalogueTells
+pub mod TablesAtTimes
+pub mod PastTables

@@ -26,7 +26,7 @@ use Rattle.node_replay.specs.Replays.{replayed, records_of, time_in, latest_in_t
 use Rattle.node_replay.proofs.Restarts.{became, same_top}
 use Rattle.restart_laws.proofs.Replays.{router_along, router_stores_none, IsNoTable, catalogue_stores_no_table, shard_tables_within}
 use Rattle.restart_laws.proofs.TableTimes.{known_latest}
-use Rattle.restart_laws.proofs.StoredTables.{IsTabled, TablesStand}
+use Rattle.restart_laws.proofs.StoredTables.{StoresPastTable, StorePastTables}
 
 -- THE TIME OF A START
 
@@ -38,7 +38,7 @@ met_below v given low high le (inr (inr (inl (x, i, e)))) = inr (inr (inl (x, i,
 met_below v given low high le (inr (inr (inr (d, i, e)))) = inr (inr (inr (d, i, omega (arith, le, e))))
 
 module _ (v : View) (given : List Given) (time : ℕ) (met : IsMet v given time) where
-  record_met : (k : Kept) → time_kept k ≤ time → IsTabled (changes_in v) k → IsMet v given (time_in (record_kept k))
+  record_met : (k : Kept) → time_kept k ≤ time → StoresPastTable (changes_in v) k → IsMet v given (time_in (record_kept k))
   record_met (kept_table t) le is = inr (inr (inl (create_change is.creation, is.begun, is.latest)))
   record_met (kept_entry e) le is = met_below v given e.time time le met
   record_met (kept_ceiling n) le is = met_below v given n time le met
@@ -50,17 +50,17 @@ module _ (v : View) (given : List Given) (time : ℕ) (met : IsMet v given time)
   record_met (kept_change (commit_change c)) le is = inl refl
 
   -- the greatest time in records was met, where that of the node was that stored them
-  latest_met : (kept : List Kept) → greatest_kept kept ≤ time → AllByRecursion (IsTabled (changes_in v)) kept → IsMet v given (latest_time (records_of kept))
+  latest_met : (kept : List Kept) → greatest_kept kept ≤ time → AllByRecursion (StoresPastTable (changes_in v)) kept → IsMet v given (latest_time (records_of kept))
   latest_met [] le all = inl refl
   latest_met (k ∷ kept) le all = met_max v given (time_in (record_kept k)) (latest_time (records_of kept))
       (record_met k (omega (arith, le)) all.0) (latest_met kept (omega (arith, le)) all.1)
 
 -- the catalogue stores no table
-tabled_none : (v : View) (kept : List Kept) → AllByRecursion IsNoTable (records_of kept) → AllByRecursion (IsTabled (changes_in v)) kept
+tabled_none : (v : View) (kept : List Kept) → AllByRecursion IsNoTable (records_of kept) → AllByRecursion (StoresPastTable (changes_in v)) kept
 tabled_none v [] all = tt
 tabled_none v (k ∷ kept) all = (by_kind k all.0, tabled_none v kept all.1)
   where
-    by_kind : (k : Kept) → IsNoTable (record_kept k) → IsTabled (changes_in v) k
+    by_kind : (k : Kept) → IsNoTable (record_kept k) → StoresPastTable (changes_in v) k
     by_kind (kept_table t) none = absurd none
     by_kind (kept_entry e) none = tt
     by_kind (kept_ceiling n) none = tt
@@ -217,7 +217,7 @@ pub record Stood (v : View) (cursors : List Cursor) (asked : List Asked) (answer
   pub fits : HeldFits v asked (answered ++ news) given at h
   pub replays : Replays h
   pub holds : HoldsOwn (record { state = became h; kept = h.kept })
-  pub tables : TablesStand (changes_in v) h.kept h.state
+  pub tables : StorePastTables (changes_in v) h.kept h.state
   -- and, before its last step, of its cursors
   pub kind : SameKind first h.state
   pub early : ℕ

@@ -3,8 +3,7 @@ use Rattle.std.proofs.Common.{◌≡◌, ℕ, ◌+◌, ◌<◌, List, [], ◌∷
 use Rattle.std.specs.Prelude.{Some}
 use Rattle.std.specs.List.{AllByRecursion, slice_get, slice_set}
 use Rattle.std.specs.Option.{option_map}
-use Rattle.history_model.proofs.Lists.{all_weaken, in_back}
-use Rattle.history_model.specs.History.{IsIn}
+use Rattle.history_model.proofs.Lists.{all_weaken}
 use Rattle.chunk_model.specs.Changes.{Change}
 use Rattle.reply_model.specs.Accounts.{changes_in as changes_of}
 use Rattle.reply_model.specs.OneHistory.{WasSent, OneHistory}
@@ -36,29 +35,30 @@ use Rattle.node_replay.proofs.Runs.{NodeReplays, WorldReplays, move_shows, step_
 use Rattle.restart_laws.proofs.CutSteps.{kind_self, kind_step, kind_opened, Halts, halted}
 use Rattle.restart_laws.proofs.Givens.{stopped, moment_anew, taken_moments, moments_stop, based_stop}
 use Rattle.restart_laws.proofs.StopSteps.{restart_good, stop_good}
-use Rattle.restart_laws.proofs.StoredTables.{TablesStand, StoresOwn, none_owned, step_owns, opened_owns, timed_of, tables_later, tables_after}
+use Rattle.restart_laws.proofs.TablesInTime.{StoresInTime, tables_in_time, step_in_time, start_in_time}
+use Rattle.restart_laws.proofs.StoredTables.{StorePastTables, StoresOwn, none_owned, step_owns, opened_owns, past_of, tables_later, tables_after}
 
 -- WHAT IS TRUE AT EVERY MOMENT
 
 -- the tables that a shard's journal stores are of collections that were created
 abbrev pub HasTables : World → Held → Type 0
-HasTables w h = TablesStand (changes_kept (journal_at w.nodes 0)) h.kept h.state
+HasTables w h = StorePastTables (changes_kept (journal_at w.nodes 0)) h.kept h.state
 
--- the facts; that journals replay; and what the journals of shards store of tables
+-- the facts; that journals replay; and what the journals of shards store of tables, with times that are not later than the shards
 pub record StaysWhole (w : World) : Type 0 where
   pub facts : StaysTrue w
   pub replays : WorldReplays w
   pub tables : AllByRecursion (HasTables w) w.nodes
+  pub in_time : AllByRecursion StoresInTime w.nodes
 
 -- TABLES
 
 -- changes stay
-changes_stay : (w v : World) (e : EventOrStop) → Occurs w e v → (x : Change) → IsIn x (changes_kept (journal_at w.nodes 0))
-    → IsIn x (changes_kept (journal_at v.nodes 0))
-changes_stay w v e h x i =
+changes_stay : (w v : World) (e : EventOrStop) → Occurs w e v
+    → (more : List Change) × (changes_kept (journal_at v.nodes 0) ≡ more ++ changes_kept (journal_at w.nodes 0))
+changes_stay w v e h =
     let more = run_with_stops_grows w v (e ∷ []) (proceeds w v v e [] h (stays v)) 0 in
-    subst (λ l. IsIn x l) (sym (ap (λ k. changes_kept k) more.1 ∙ changes_longer (journal_at w.nodes 0) more.0))
-    (in_back x (changes_kept more.0) (changes_kept (journal_at w.nodes 0)) i)
+    (changes_kept more.0, ap (λ k. changes_kept k) more.1 ∙ changes_longer (journal_at w.nodes 0) more.0)
 
 -- where the node at a place stores more
 stored_tables : (w v : World) (e : EventOrStop) (book : Book) (at : ℕ) (old : Held) (written : List Kept) (new : NodeState) → Occurs w e v → Good v book
@@ -70,27 +70,37 @@ stored_tables w v e book at old written new h good tables here nodes kind own =
     let there : slice_get v.nodes at ≡ Some (record { state = new; kept = old.kept ++ written }) =
     ap (λ l. slice_get l at) nodes ∙ get_set w.nodes at old now here in
     let fits = fits_here v book at now good there in
+    let news = changes_stay w v e h in
     subst (λ l. AllByRecursion (HasTables v) l) (sym nodes)
     (all_set (HasTables v) w.nodes at now
     (all_weaken (HasTables w) (HasTables v) w.nodes
-    (λ o t. tables_later (changes_kept (journal_at w.nodes 0)) (changes_kept (journal_at v.nodes 0)) o.kept o.state (changes_stay w v e h) t) tables)
-    (tables_after (changes_kept (journal_at w.nodes 0)) (changes_kept (journal_at v.nodes 0)) old.kept written old.state new kind (changes_stay w v e h)
+    (λ o t. tables_later (changes_kept (journal_at w.nodes 0)) (changes_kept (journal_at v.nodes 0)) news.0 o.kept o.state news.1 t) tables)
+    (tables_after (changes_kept (journal_at w.nodes 0)) (changes_kept (journal_at v.nodes 0)) news.0 old.kept written old.state new kind news.1
     (all_got (HasTables w) w.nodes at old tables here) own
-    (timed_of (view_of v.nodes book) v.asked v.answered at (old.kept ++ written) new fits.state)))
+    (past_of (view_of v.nodes book) v.asked v.answered at (old.kept ++ written) new fits.state)))
 
 module _ (w v : World) (e : EventOrStop) (h : Occurs w e v) (whole : StaysWhole w) (facts : StaysTrue v) where
   -- a step, or a stop, of the node at a place
   node_tables : (at : ℕ) (old : Held) (written : List Kept) (new : NodeState) → slice_get w.nodes at ≡ Some old
-      → v.nodes ≡ slice_set w.nodes at (record { state = new; kept = old.kept ++ written }) → SameKind old.state new → StoresOwn written new → StaysWhole v
-  node_tables at old written new here nodes kind own = record {
+      → v.nodes ≡ slice_set w.nodes at (record { state = new; kept = old.kept ++ written }) → SameKind old.state new → StoresOwn written new
+      → StoresInTime (record { state = new; kept = old.kept ++ written }) → StaysWhole v
+  node_tables at old written new here nodes kind own in_time = record {
     facts = facts;
     replays = occurs_replays w v e whole.replays h;
     tables = stored_tables w v e facts.0.book at old written new h facts.0.good whole.tables here nodes kind own;
+    in_time = subst (λ l. AllByRecursion StoresInTime l) (sym nodes)
+        (all_set StoresInTime w.nodes at (record { state = new; kept = old.kept ++ written }) whole.in_time in_time);
   }
 
   step_whole : (at : ℕ) (i : Input) → Moves w at i v → StaysWhole v
-  step_whole at i m = node_tables at m.old m.f.written m.new m.here (ap (λ (x : World). x.nodes) m.then) (kind_step m.old.state m.new i m.f m.step)
-      (step_owns m.old.state m.new i m.f m.step)
+  step_whole at i m =
+      let now : Held = record { state = m.new; kept = m.old.kept ++ m.f.written } in
+      let nodes : v.nodes ≡ slice_set w.nodes at (record { state = m.new; kept = m.old.kept ++ m.f.written }) = ap (λ (x : World). x.nodes) m.then in
+      let own = step_owns m.old.state m.new i m.f m.step in
+      let fits = fits_here v facts.0.book at now facts.0.good (ap (λ l. slice_get l at) nodes ∙ get_set w.nodes at m.old now m.here) in
+      node_tables at m.old m.f.written m.new m.here nodes (kind_step m.old.state m.new i m.f m.step) own
+      (step_in_time m.old.kept m.old.state m.new i m.f m.step (all_got StoresInTime w.nodes at m.old whole.in_time m.here) own
+      (tables_in_time (view_of v.nodes facts.0.book) v.asked v.answered at (m.old.kept ++ m.f.written) m.new fits.state))
 
 -- A STOP
 
@@ -218,6 +228,8 @@ occurs_keeps _ _ _ whole (restarts w v at m) =
     node_tables w v (restart_event at) (restarts w v at m) whole (restart_facts w v at whole m) at m.old [] m.new m.here (ap (λ (x : World). x.nodes) m.then)
     (subst (λ s. SameKind m.old.state s) same (kind_opened m.old.state m.old.state _ _ (kind_self m.old.state)))
     (none_owned m.new)
+    (subst (λ s. StoresInTime (record { state = s; kept = m.old.kept ++ [] })) same
+    (subst (λ k. StoresInTime (record { state = became m.old; kept = k })) (sym (append-nil m.old.kept)) (start_in_time m.old)))
 occurs_keeps _ _ _ whole (stops w v at e i gives m) =
     let kept : List Kept = m.old.kept ++ m.f.written in
     let input = given_in_time w e at i whole.replays gives in
@@ -226,6 +238,7 @@ occurs_keeps _ _ _ whole (stops w v at e i gives m) =
     m.new m.here (ap (λ (x : World). x.nodes) m.then)
     (subst (λ s. SameKind m.old.state s) same (kind_opened m.old.state m.reached _ _ (kind_step m.old.state m.reached i m.f m.step)))
     (subst (λ s. StoresOwn m.f.written s) same (opened_owns _ _ m.f.written m.reached (step_owns m.old.state m.reached i m.f m.step)))
+    (subst (λ s. StoresInTime (record { state = s; kept = kept })) same (start_in_time (record { state = m.reached; kept = kept })))
 
 pub runs_with_stops_stay_true : (u w : World) (events : List EventOrStop) → StaysWhole u → RunWithStops u events w → StaysWhole w
 runs_with_stops_stay_true _ _ _ whole (stays w) = whole
@@ -238,6 +251,7 @@ start_whole others routers = record {
   facts = start_true others routers;
   replays = start_replays others routers;
   tables = all_starts (HasTables (start others routers)) others routers tt (λ at. tt) (λ at. tt);
+  in_time = all_starts StoresInTime others routers tt (λ at. tt) (λ at. tt);
 }
 
 -- LAWS

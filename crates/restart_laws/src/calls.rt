@@ -15,6 +15,7 @@ ghost use Rattle.node_replay.specs.Openings.{opened_on};
 ghost use Rattle.node_replay.specs.Restarts.{EventOrStop, Gives, Restarts, RunWithStops};
 ghost use Rattle.restart_laws.specs.Calls.{BeginsOn, Calls, HaveOwnEntries, IsOfRun, Reached, wholes};
 ghost use Rattle.restart_laws.specs.Pinned.{IsPinned};
+ghost use Rattle.restart_laws.specs.Tables.{CatalogueRuns, HasTablesOf, SaysTableOf, SaysTableOfItsTime, StoresTablesOf, changes_stored, sent_since};
 
 /// Calls, one after another, lead to a world of one run of nodes that stop and are started again: in that run the messages of earlier calls were sent too, before
 /// those of the last.
@@ -84,6 +85,27 @@ pub fn reached_calls_may_go_on()
 #[tactic(auto, using(crate::proofs::Pinned::what_was_read_stays))]
 pub fn what_was_read_stays()
     ensures { (others routers : ℕ) (u : World) (w : World) → Reached others routers u → Calls u w → AllByRecursion (IsPinned w) u.sent }
+{}
+
+/// Each table that a node has, each that its journal stores, also where a longer one replaced it, and each that a message said is one that the catalogue had,
+/// as its journal says; and no time in it is later than the node or the message.
+#[tactic(auto, using(crate::proofs::PastTables::reached_tables_are_the_catalogues))]
+pub fn reached_tables_are_the_catalogues()
+    ensures { (others routers : ℕ) (w : World) → Reached others routers w →
+        AllByRecursion (HasTablesOf (changes_stored w)) w.nodes × AllByRecursion (StoresTablesOf (changes_stored w)) w.nodes ×
+        AllByRecursion (SaysTableOf (changes_stored w)) w.sent }
+{}
+
+/// While the catalogue is not started again, the table of each message is the one of the message's time: each change that it does not have is later.
+#[tactic(auto, using(crate::proofs::TablesAtTimes::tables_of_their_times))]
+pub fn tables_of_their_times()
+    ensures { (u : World) (w : World) → CatalogueRuns u w → AllByRecursion (SaysTableOfItsTime (changes_stored w)) (sent_since u w) }
+{}
+
+/// So it is from each world of a call on, where no node stops: in a whole call of `pipe`, and of `serve`.
+#[tactic(auto, using(crate::proofs::TablesAtTimes::catalogue_runs))]
+pub fn catalogue_runs()
+    ensures { (others routers : ℕ) (u : World) (w : World) (events : List Event) → Reached others routers u → Run u events w → CatalogueRuns u w }
 {}
 
 /// A run is one in which no node stops.
