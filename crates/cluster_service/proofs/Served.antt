@@ -10,17 +10,22 @@ use Rattle.journal_frames.specs.Files.{Stands}
 use Rattle.journal_frames.specs.Views.{JournalView, journal_facts}
 use Rattle.node_model.specs.Letters.{Letter, Input}
 use Rattle.node_model.specs.States.{NodeState}
-use Rattle.node_model.specs.World.{Held, World, Event, Happens, IsRouter}
+use Rattle.node_model.specs.World.{Held, World, IsRouter, stands}
 use Rattle.driver_steps.specs.declared.seat.Seat.{Seat}
 use Rattle.driver_steps.specs.Crashes.{Since}
 use Rattle.driver_steps.specs.Seats.{AreHeld, Keeps, seat_since, seat_view, since_then}
 use Rattle.driver_steps.proofs.Crashes.{held_since, start_leaves}
 use Rattle.driver_steps.proofs.Seats.{held_len}
+use Rattle.group_steps.specs.Groups.{moves_none}
+use Rattle.node_cell.specs.declared.view.Halt.{Halt}
+use Rattle.node_cell.specs.declared.view.Halt.TheVariants.{Disk, Memory}
 use Rattle.node_cell.specs.declared.view.Placed.{Placed}
 use Rattle.node_cell.specs.Courses.{NodeFacts, OpenedAs, RoutersFrom, node_facts, view_by}
-use Rattle.node_cell.specs.Standing.{AreFrom, Ends, StaysAt, StoppedAt}
-use Rattle.conn_server.specs.Conversations.{has_failed, some_failed}
+use Rattle.node_cell.specs.Standing.{AreFrom, Ends, EndsHalted, KeepsAt, StaysAt}
+use Rattle.conn_server.specs.Conversations.{has_failed, is_by_disk, some_failed}
 use Rattle.sim_driver.specs.Moves.{MayPlay}
+use Rattle.restart_laws.specs.Calls.{wholes}
+use Rattle.restart_laws.proofs.ReachedCalls.{run_whole}
 use Rattle.cluster_service.specs.Crashes.{IsOfTheWay, LeaveSuch}
 use Rattle.cluster_service.specs.Openings.{InPairs}
 use Rattle.cluster_service.specs.Servers.{IsUpTo}
@@ -56,16 +61,20 @@ pub record IsAfter {N L : Type 0} (facts : LogFacts L) (first : L) (p : Placed N
   pub rose : IsTrue (has_failed p) → Rose (facts.fault_count first) (facts.fault_count p.seat.log)
   pub later : facts.fault_count first ≤ facts.fault_count p.seat.log
 
--- a step whose records are stored or are not
-stored_or_not : (w end last : World) (e : Event) → (end ≡ w) ⊎ (end ≡ last) → Happens w e last → IsUpTo w end
-stored_or_not w end last e (inl same) happens = inl same
-stored_or_not w end last e (inr same) happens = inr (e, subst (λ (v : World). Happens w e v) (sym same) happens)
+-- no steps more
+pub no_more : (at : ℕ) (w : World) → IsUpTo at w w
+no_more at w = record { parts = []; moves = moves_none w; events = []; run = stands w }
+
+-- steps whose records are stored or are not
+stored_or_not : (at : ℕ) (w end last : World) → (end ≡ w) ⊎ (end ≡ last) → IsUpTo at w last → IsUpTo at w end
+stored_or_not at w end last (inl same) more = subst (λ (v : World). IsUpTo at w v) (sym same) (no_more at w)
+stored_or_not at w end last (inr same) more = subst (λ (v : World). IsUpTo at w v) (sym same) more
 
 module _ {N L M I : Type 0} (f : NodeFacts N L M I) (since : Since L) (w : World) where
-  -- what the log keeps, in this world or after one event more
-  pub record KeepsAt (at : ℕ) (s : Seat N L) : Type 0 where
+  -- what the log keeps, in this world or after more steps
+  pub record KeepsUpTo (at : ℕ) (s : Seat N L) : Type 0 where
     pub end : World
-    pub up_to : IsUpTo w end
+    pub up_to : IsUpTo at w end
     pub held : Held
     pub here : slice_get end.nodes at ≡ Some held
     pub keeps : Keeps (view_by f since s) held.kept
@@ -73,54 +82,74 @@ module _ {N L M I : Type 0} (f : NodeFacts N L M I) (since : Since L) (w : World
   -- what a crash left of it
   pub record LeavesAt (at : ℕ) (s : Seat N L) : Type 0 where
     pub last : World
-    pub up_to : IsUpTo w last
+    pub up_to : IsUpTo at w last
     pub leaves : (view_by f since s).leaves at last
 
-  -- a node that ended was there before, and it stays if its disk did not fail
+  -- a node that ended was there before, and its log keeps what its journal stores if its disk did not fail
   pub record WasAt (at : ℕ) (p : Placed N L) : Type 0 where
     pub first : L
     pub here : slice_get since.logs at ≡ Some first
     pub is : IsAfter f.facts first p
-    pub stays : ¬ IsTrue (has_failed p) → StaysAt f since w at p.seat
-    pub kept : KeepsAt at p.seat
+    pub stays : ¬ IsTrue (has_failed p) → KeepsAt f since w at p.seat
+    pub kept : KeepsUpTo at p.seat
     pub crash : LeavesAt at p.seat
 
+  keeps_there : (at : ℕ) (s : Seat N L) → StaysAt f since w at s → KeepsAt f since w at s
+  keeps_there at s there = record {
+    held = there.stands.held;
+    here = there.stands.here;
+    keeps = there.stands.is.keeps;
+    leaves = there.stands.leaves;
+    calm = there.calm;
+    is_open = there.is_open;
+  }
+
+  -- its disk did not fail
+  was_calm : (p : Placed N L) → has_failed p ≡ false → KeepsAt f since w p.at p.seat → WasAt p.at p
+  was_calm p is k = record {
+    first = k.calm.first;
+    here = k.calm.here;
+    is = record {
+      place = k.calm.calm.place;
+      calm = λ never. k.calm.calm.faults;
+      rose = λ fails. let clash : false ≡ true = sym is ∙ fails in absurd (cc clash);
+      later = omega (arith, k.calm.calm.faults);
+    };
+    stays = λ never. k;
+    kept = record { end = w; up_to = no_more p.at w; held = k.held; here = k.here; keeps = k.keeps };
+    crash = record { last = w; up_to = no_more p.at w; leaves = k.leaves };
+  }
+
   was_there : (p : Placed N L) → Ends f since w p → WasAt p.at p
-  was_there p ends = by_failed p.failed refl ends
+  was_there p ends = by_halt p.halt refl ends
     where
-      by_failed : (failed : Option ℕ) → p.failed ≡ failed
-          → MatchOption failed (StaysAt f since w p.at p.seat) (λ faults. StoppedAt f since w p.at faults p.seat) → WasAt p.at p
-      by_failed None is s = record {
-        first = s.calm.first;
-        here = s.calm.here;
-        is = record {
-          place = s.calm.calm.place;
-          calm = λ never. s.calm.calm.faults;
-          rose = λ fails. let clash : false ≡ true = sym (ap (λ (o : Option ℕ). elim o [ None ↦ false | Some faults ↦ true ]) is) ∙ fails in absurd (cc clash);
-          later = omega (arith, s.calm.calm.faults);
-        };
-        stays = λ never. s;
-        kept = record { end = w; up_to = inl refl; held = s.stands.held; here = s.stands.here; keeps = s.stands.is.keeps };
-        crash = record { last = w; up_to = inl refl; leaves = s.stands.leaves };
-      }
-      by_failed (Some faults) is s = record {
+      by_halt : (halt : Option Halt) → p.halt ≡ halt
+          → MatchOption halt (StaysAt f since w p.at p.seat) (λ h. EndsHalted f since w p.at h p.seat) → WasAt p.at p
+      by_halt None is s = was_calm p (ap is_by_disk is) (keeps_there p.at p.seat s)
+      by_halt (Some Memory) is k = was_calm p (ap is_by_disk is) k
+      by_halt (Some (Disk faults)) is s = record {
         first = s.first;
         here = s.here;
         is = record {
           place = s.failed.place;
-          calm = λ never. absurd (never (ap (λ (o : Option ℕ). elim o [ None ↦ false | Some faults ↦ true ]) is));
+          calm = λ never. absurd (never (ap is_by_disk is));
           rose = λ fails. s.failed.rose.rose;
           later = s.failed.rose.no_fall;
         };
-        stays = λ never. absurd (never (ap (λ (o : Option ℕ). elim o [ None ↦ false | Some faults ↦ true ]) is));
+        stays = λ never. absurd (never (ap is_by_disk is));
         kept = record {
           end = s.breaks.end;
-          up_to = stored_or_not w s.breaks.end s.breaks.last s.event s.breaks.which (s.is s.breaks.last s.breaks.moves);
+          up_to = stored_or_not p.at w s.breaks.end s.breaks.last s.breaks.which
+              (record { parts = s.parts; moves = s.breaks.moves; events = s.events; run = s.run });
           held = s.breaks.held;
           here = s.breaks.here;
           keeps = s.breaks.keeps;
         };
-        crash = record { last = s.breaks.last; up_to = inr (s.event, s.is s.breaks.last s.breaks.moves); leaves = s.breaks.crashes s.event s.is };
+        crash = record {
+          last = s.breaks.last;
+          up_to = record { parts = s.parts; moves = s.breaks.moves; events = s.events; run = s.run };
+          leaves = s.breaks.crashes (wholes s.events, run_whole w s.breaks.last s.events s.run);
+        };
       }
 
   pub all_were : (k : ℕ) (placed : List (Placed N L)) → AreFrom k placed → AllByRecursion (λ p. Ends f since w p) placed

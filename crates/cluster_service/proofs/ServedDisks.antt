@@ -1,6 +1,6 @@
 -- The disks that a server hands back.
-use Rattle.std.specs.Prelude.{◌≡◌, ◌⊎◌, ◌↔◌, ℕ, zero, suc, ◌+◌, Bool, IsTrue, List, [], ◌∷◌, length, map, Some}
-use Rattle.std.proofs.Common.{refl, sym, ap, subst, ◌∙◌, inl, inr, arith}
+use Rattle.std.specs.Prelude.{◌≡◌, ◌↔◌, ℕ, zero, suc, ◌+◌, Bool, IsTrue, List, [], ◌∷◌, length, map, Some}
+use Rattle.std.proofs.Common.{refl, sym, ap, subst, ◌∙◌, arith}
 use Rattle.std.specs.List.{AllByRecursion, slice_get}
 use Rattle.std.proofs.lemmas.List.{length-map}
 use Rattle.outside.specs.declared.exchange.Spoken.{Spoken}
@@ -15,7 +15,7 @@ use Rattle.node_model.proofs.Journals.{journal_got}
 use Rattle.node_progress.specs.Firsts.{IsFirst}
 use Rattle.driver_steps.specs.declared.seat.Seat.{Seat}
 use Rattle.driver_steps.specs.Crashes.{LeavesKept}
-use Rattle.driver_steps.specs.Seats.{AreHeld, IsHeld, seat_since, seat_view, since_then}
+use Rattle.driver_steps.specs.Seats.{AreHeld, Keeps, seat_since, seat_view, since_then}
 use Rattle.driver_steps.proofs.Crashes.{leads_nowhere}
 use Rattle.driver_steps.proofs.Seats.{held_kept, held_len}
 use Rattle.node_cell.specs.declared.view.Placed.{Placed}
@@ -36,7 +36,7 @@ use Rattle.node_replay.specs.Restarts.{stays}
 use Rattle.restart_laws.specs.Calls.{wholes}
 use Rattle.restart_laws.proofs.ReachedCalls.{run_whole}
 use Rattle.cluster_service.proofs.OneHistories.{one_history}
-use Rattle.cluster_service.proofs.Served.{IsAfter, after_calm, after_later, after_places, after_rose, all_by_place, each_was, in_pairs, none_failed_at, opened_as}
+use Rattle.cluster_service.proofs.Served.{IsAfter, after_calm, after_later, after_places, after_rose, all_by_place, each_was, in_pairs, no_more, none_failed_at, opened_as}
 
 pub mapped_twice : {A B C : Type 0} (g : B → C) (h : A → B) (xs : List A) → map g (map h xs) ≡ map (λ x. g (h x)) xs
 mapped_twice g h [] = refl
@@ -62,12 +62,12 @@ journal_there (x ∷ files) (h ∷ nodes) are zero file got =
     subst (λ (y : List ℕ). IsJournal y h.kept) same are.0
 journal_there (x ∷ files) (h ∷ nodes) are (suc at) file got = journal_there files nodes are.1 at file got
 
--- no event more
+-- no steps more
 up_to_end : {D : Type 0} (first : World) (tells : Bool) (moment : D → ℕ) (left_at : D → ℕ → Outcomes) (befores afters : List D) (w : World)
     → LeaveTheWay first tells moment left_at befores afters w → LeaveUpTo first tells moment left_at befores afters w
 up_to_end first tells moment left_at befores afters w left told =
-    all_weaker moment left_at (λ at file. IsOfTheWay first w at file) (λ at file. (v : World) × IsUpTo w v × IsOfTheWay first v at file) befores afters
-    (λ at file is. (w, inl refl, is)) (left told)
+    all_weaker moment left_at (λ at file. IsOfTheWay first w at file) (λ at file. (v : World) × IsUpTo at w v × IsOfTheWay first v at file) befores afters
+    (λ at file is. (w, no_more at w, is)) (left told)
 
 -- nothing was served
 pub none_served : {I S D : Type 0} (meaning : I → Input) (bytes : LinkFacts S) (first : World) (tells : Bool) (failed : Type 0) (files : List (List ℕ))
@@ -80,7 +80,7 @@ none_served meaning bytes first tells failed files moment left_at befores afters
   end = first;
   run = stands first;
   journals = λ never. are;
-  journals_up_to = λ told at file got. (first, inl refl, journal_there files first.nodes (are told) at file got);
+  journals_up_to = λ told at file got. (first, no_more at first, journal_there files first.nodes (are told) at file got);
   crashes = λ never. left;
   crashes_up_to = up_to_end first tells moment left_at befores afters first left;
   history = one_history first begins [] first (stays first);
@@ -104,14 +104,14 @@ headline_as meaning bytes first tells failed other files leaves leaves_up_to lin
   served = h.served;
 }
 
--- after one event more, or none
+-- after more steps, or none
 module _ {N D : Type 0} (state : N → NodeState) (tells : Bool) (content : D → List ℕ) (moment : D → ℕ) (left_at : D → ℕ → Outcomes)
     (fault_count : D → ℕ) (place : D → List ℕ) (first : World) (w : World) (told : IsTrue tells) where
   up_to_places : (node : ℕ → ℕ) (disks : List D) (olds : List (Seat N (JournalView D))) (all : List (Placed N (JournalView D)))
       → LeaveSuch moment left_at (λ at. IsOfWorld first (node at)) disks (map (λ s. s.log.disk) olds) → length olds ≡ length all
       → ((at : ℕ) (p : Placed N (JournalView D)) → slice_get all at ≡ Some p → (old : JournalView D) → slice_get (map (λ s. s.log) olds) at ≡ Some old
-      → (v : World) × IsUpTo w v × LeavesKept (journal_facts tells content moment left_at fault_count place) first old p.seat.log (node at) v)
-      → LeaveSuch moment left_at (λ at file. (v : World) × IsUpTo w v × IsOfTheWay first v (node at) file) disks (map (λ p. p.seat.log.disk) all)
+      → (v : World) × IsUpTo (node at) w v × LeavesKept (journal_facts tells content moment left_at fault_count place) first old p.seat.log (node at) v)
+      → LeaveSuch moment left_at (λ at file. (v : World) × IsUpTo (node at) w v × IsOfTheWay first v (node at) file) disks (map (λ p. p.seat.log.disk) all)
   up_to_places node [] [] [] early len kept = tt
   up_to_places node [] [] (p ∷ all) early len kept = absurd (omega (arith, len))
   up_to_places node [] (o ∷ olds) all early len kept = absurd early
@@ -120,7 +120,7 @@ module _ {N D : Type 0} (state : N → NodeState) (tells : Bool) (content : D �
   up_to_places node (disk ∷ disks) (o ∷ olds) (p ∷ all) early len kept = (
     (let k = kept zero p refl o.log refl in
         leaves_then moment left_at disk disk p.seat.log.disk (λ file. ⊥) (λ file. IsOfTheWay first k.0 (node zero) file)
-        (λ file. (v : World) × IsUpTo w v × IsOfTheWay first v (node zero) file) (left_alone moment left_at disk (λ file. ⊥))
+        (λ file. (v : World) × IsUpTo (node zero) w v × IsOfTheWay first v (node zero) file) (left_alone moment left_at disk (λ file. ⊥))
         (at_place state tells content moment left_at fault_count place first k.0 told (node zero) disk o.log p.seat.log early.0 k.2)
         (λ file never. absurd never) (λ file is. (k.0, k.1, is))),
     up_to_places (λ at. node (suc at)) disks olds all early.1 (omega (arith, len)) (λ at. kept (suc at)),
@@ -199,7 +199,7 @@ module _ {N D : Type 0} (state : N → NodeState) (tells : Bool) (content : D �
           → (IsTrue tells → LeaveSuch moment left_at (IsOfWorld first) befores (map (λ s. s.log.disk) seats))
           → LeaveUpTo first tells moment left_at befores disks w
       served_leave_up_to befores early told =
-          subst (λ (ds : List D). LeaveSuch moment left_at (λ at file. (v : World) × IsUpTo w v × IsOfTheWay first v at file) befores ds) (sym are)
+          subst (λ (ds : List D). LeaveSuch moment left_at (λ at file. (v : World) × IsUpTo at w v × IsOfTheWay first v at file) befores ds) (sym are)
           (up_to_places state tells content moment left_at fault_count place first w told (λ at. at) befores seats placed (early told) (sym count)
           (λ at p got old began.
           let l = (each_was (node_facts state steps letter meaning (journal_facts tells content moment left_at fault_count place))
@@ -217,7 +217,7 @@ module _ {N D : Type 0} (state : N → NodeState) (tells : Bool) (content : D �
 
         files_of : (nodes : List Held) (all : List (Placed N (JournalView D)))
             → ((at : ℕ) (p : Placed N (JournalView D)) → slice_get all at ≡ Some p → (h : Held) × ((slice_get nodes at ≡ Some h)
-            × IsHeld (seat_since state (journal_facts tells content moment left_at fault_count place) (since_then seats first) p.seat) h))
+            × Keeps (seat_since state (journal_facts tells content moment left_at fault_count place) (since_then seats first) p.seat) h.kept))
             → length nodes ≡ length all → IsTrue tells → AreJournals (map content (map (λ p. p.seat.log.disk) all)) nodes
         files_of [] [] each long told = tt
         files_of [] (p ∷ all) each long told = absurd (omega (arith, long))
@@ -225,8 +225,8 @@ module _ {N D : Type 0} (state : N → NodeState) (tells : Bool) (content : D �
         files_of (h ∷ nodes) (p ∷ all) each long told =
             let there = each zero p refl in
             let same : there.0 ≡ h = sym (cc there.1.0) in
-            let is = subst (λ (x : Held). IsHeld (seat_since state (journal_facts tells content moment left_at fault_count place) (since_then seats first) p.seat) x) same there.1.1 in
-            (record { stands = is.keeps.found told told; readable = is.keeps.readable }, files_of nodes all (λ at. each (suc at)) (omega (arith, long)) told)
+            let is = subst (λ (x : Held). Keeps (seat_since state (journal_facts tells content moment left_at fault_count place) (since_then seats first) p.seat) x.kept) same there.1.1 in
+            (record { stands = is.found told told; readable = is.readable }, files_of nodes all (λ at. each (suc at)) (omega (arith, long)) told)
 
         served_files : IsTrue tells → AreJournals (map content disks) w.nodes
         served_files told =
@@ -236,7 +236,7 @@ module _ {N D : Type 0} (state : N → NodeState) (tells : Bool) (content : D �
             let s = (each_was (node_facts state steps letter meaning (journal_facts tells content moment left_at fault_count place))
             (since_then seats first) w placed from ends at p got).stays
             (none_failed_at (journal_facts tells content moment left_at fault_count place) placed never at p got) in
-            (s.stands.held, (s.stands.here, s.stands.is)))
+            (s.held, (s.here, s.keeps)))
             (run_count first events w run
             ∙ (sym (held_len (seat_view state (journal_facts tells content moment left_at fault_count place)) seats first.nodes held) ∙ sym count))
             told)
@@ -260,7 +260,7 @@ module _ {N D : Type 0} (state : N → NodeState) (tells : Bool) (content : D �
             there.1.1
             ((each_was (node_facts state steps letter meaning (journal_facts tells content moment left_at fault_count place))
             (since_then seats first) w placed from ends at there.0 there.1.0).stays
-            (none_failed_at (journal_facts tells content moment left_at fault_count place) placed never at there.0 there.1.0)).stands.leaves))
+            (none_failed_at (journal_facts tells content moment left_at fault_count place) placed never at there.0 there.1.0)).leaves))
 
   -- the server ended
   pub some_served : {M I S : Type 0} (steps : N → ℕ) (letter : M → Letter) (meaning : I → Input) (bytes : LinkFacts S)

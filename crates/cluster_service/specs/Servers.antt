@@ -1,11 +1,12 @@
 -- What one call says of the connections that it served on threads, and of the disks that it hands back (own).
-use Rattle.std.specs.Prelude.{◌≡◌, ◌⊎◌, ℕ, Bool, IsTrue, List, Some, map}
+use Rattle.std.specs.Prelude.{◌≡◌, ℕ, Bool, IsTrue, List, Some, map}
 use Rattle.std.specs.List.{slice_get}
 use Rattle.outside.specs.Disks.{Outcomes}
 use Rattle.outside.specs.declared.exchange.Spoken.{Spoken}
 use Rattle.node_model.specs.Letters.{Input}
 use Rattle.node_model.specs.States.{NodeState}
-use Rattle.node_model.specs.World.{Held, World, Event, Happens, Run, journal_at}
+use Rattle.node_model.specs.World.{Held, World, Event, Run, journal_at}
+use Rattle.group_steps.specs.Groups.{Part, MovesAll}
 use Rattle.node_cell.specs.Courses.{RoutersFrom}
 use Rattle.conn_server.specs.Conversations.{LinkFacts, WereServed}
 use Rattle.driver_steps.specs.Seats.{AreHeld, SeatView}
@@ -17,23 +18,27 @@ use Rattle.cluster_service.specs.OpenJournals.{AreOpenWith}
 use Rattle.cluster_service.specs.declared.status.Status.{Status}
 use Rattle.cluster_service.specs.declared.status.Status.TheVariants.{InputEnded, DiskFailed, OutOfMemory, AcceptFailed}
 
--- the world at the end, or one in which one event more happened
-abbrev pub IsUpTo : (end v : World) → Type 0
-IsUpTo end v = (v ≡ end) ⊎ ((e : Event) × Happens end e v)
+-- the world at the end, or one after more steps of the node at a place, which alone are a run from there on
+pub record IsUpTo (at : ℕ) (end v : World) : Type 0 where
+  pub parts : List Part
+  pub moves : MovesAll at end parts v
+  pub events : List Event
+  pub run : Run end events v
 
--- each file is the journal of its node in such a world
+-- each file is the journal of its node in such a world of its own
 abbrev pub AreJournalsUpTo : List (List ℕ) → World → Type 0
-AreJournalsUpTo files end = (at : ℕ) (file : List ℕ) → slice_get files at ≡ Some file → (v : World) × IsUpTo end v × IsJournal file (journal_at v.nodes at)
+AreJournalsUpTo files end = (at : ℕ) (file : List ℕ) → slice_get files at ≡ Some file → (v : World) × IsUpTo at end v × IsJournal file (journal_at v.nodes at)
 
 -- a crash at any moment of the call left of each disk what it might have left before, or what its node stored on the way to such a world
 abbrev pub LeaveUpTo : {D : Type 0} → (first : World) → Bool → (D → ℕ) → (D → ℕ → Outcomes) → List D → List D → World → Type 0
 LeaveUpTo first tells moment left_at befores afters end =
-    IsTrue tells → LeaveSuch moment left_at (λ at file. (v : World) × IsUpTo end v × IsOfTheWay first v at file) befores afters
+    IsTrue tells → LeaveSuch moment left_at (λ at file. (v : World) × IsUpTo at end v × IsOfTheWay first v at file) befores afters
 
 -- From the first world on there is a run of the nodes, which makes one legal history with all calls before. On each link, each request was taken in a step of
 -- the run, and its reply returned by one, in the steps that are named; and these replies were written. The disks store the journals; but where a disk failed
--- each may be one event further. `tells` is whether the files of the disks are observable, `failed` whether a disk failed, and `leaves` gives the files after a
--- crash at any moment of the call, of the world up to which the run may proceed, and `leaves_up_to` those of worlds that are one event further.
+-- each may be several steps of its node further: those of one append. `tells` is whether the files of the disks are observable, `failed` whether a disk
+-- failed, and `leaves` gives the files after a crash at any moment of the call, of the world up to which the run may proceed, and `leaves_up_to` those of worlds
+-- that are so much further.
 pub record ServerHeadline {I S : Type 0} (meaning : I → Input) (bytes : LinkFacts S) (first : World) (tells : Bool) (failed : Type 0) (files : List (List ℕ))
     (leaves leaves_up_to : World → Type 0) (links : List (Spoken S)) : Type 0 where
   pub events : List Event

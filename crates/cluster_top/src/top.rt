@@ -149,7 +149,7 @@ where
 
     // A server takes and puts nothing. In the world that the call begins in there is a run of its nodes from there on, which makes one legal history with all
     // calls before; on its links each request was taken in a step of that run, and its reply returned by one. Its journals are what the disks store, and of a
-    // crash it says what the headline says; where a disk failed each disk may be one event further.
+    // crash it says what the headline says; where a disk failed each disk may be several events further.
     ensures server { IfSome (command_of words.now) (λ command. IsServer command →
         SourceIsUntouched (source_call S.tells S.left S.fault_count input.old input.new)
         × SinkIsUntouched (sink_call K.tells K.held K.fault_count out.old out.new) × (result.rest ≡ 0)) }

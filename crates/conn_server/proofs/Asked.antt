@@ -4,7 +4,8 @@ use Rattle.opmsg_model.specs.Requests as wire
 use Rattle.node_model.specs.Letters.{Input, client_input}
 use Rattle.node_traits.specs.declared.outputs.ToLink.{ToLink}
 use Rattle.node_cell.specs.declared.view.Taken.{Taken}
-use Rattle.node_cell.specs.Standing.{Among, step_of}
+use Rattle.group_steps.specs.Parts.{Among}
+use Rattle.node_cell.specs.Standing.{step_of}
 use Rattle.node_cell.proofs.Lists.{among_behind}
 use Rattle.conn_server.specs.Talks.{IsAsked, reply_on}
 

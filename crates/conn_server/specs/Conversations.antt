@@ -1,5 +1,5 @@
 -- What was said on several links, and that one run took it (own).
-use Rattle.std.specs.Prelude.{◌≡◌, ℕ, ◌+◌, ◌≤◌, List, [], ◌∷◌, Bool, IsTrue, true, false, ◌||◌, Some, None}
+use Rattle.std.specs.Prelude.{◌≡◌, ℕ, ◌+◌, ◌≤◌, List, [], ◌∷◌, Bool, IsTrue, true, false, ◌||◌, Option, Some, None}
 use Rattle.std.specs.List.{AllByRecursion}
 use Rattle.outside.specs.Streams.{Took}
 use Rattle.outside.specs.declared.exchange.Exchange.{Exchange}
@@ -10,6 +10,8 @@ use Rattle.node_model.specs.Letters.{Input}
 use Rattle.node_model.specs.World.{World, Event, Run}
 use Rattle.driver_steps.specs.declared.seat.Seat.{Seat}
 use Rattle.driver_steps.specs.Crashes.{Since}
+use Rattle.node_cell.specs.declared.view.Halt.{Halt}
+use Rattle.node_cell.specs.declared.view.Halt.TheVariants.{Disk, Memory}
 use Rattle.node_cell.specs.declared.view.Placed.{Placed}
 use Rattle.node_cell.specs.declared.view.View.{View}
 use Rattle.node_cell.specs.Courses.{NodeFacts, OpenedAs}
@@ -89,9 +91,15 @@ abbrev pub AreServed : {N L M I S : Type 0} → NodeFacts N L M I → LinkFacts 
 AreServed {N} {L} f bytes routers seats ended links =
     (since : Since L) (first : World) → OpenedAs f since routers seats first → Served f bytes since first ended links
 
+-- a disk failed, if a node takes no more steps by this
+abbrev pub is_by_disk : Option Halt → Bool
+is_by_disk None = false
+is_by_disk (Some Memory) = false
+is_by_disk (Some (Disk faults)) = true
+
 -- the disk of one of these nodes failed
 abbrev pub has_failed : {N L : Type 0} → Placed N L → Bool
-has_failed p = elim p.failed [ None ↦ false | Some faults ↦ true ]
+has_failed p = is_by_disk p.halt
 
 abbrev pub some_failed : {N L : Type 0} → List (Placed N L) → Bool
 some_failed [] = false

@@ -17,7 +17,8 @@ use Rattle.node_traits.specs.declared.outputs.ToLink.{ToLink}
 use Rattle.node_cell.specs.declared.view.Taken.{Taken}
 use Rattle.node_cell.specs.declared.view.View.{View}
 use Rattle.node_cell.specs.Courses.{WasTaken, WasTold}
-use Rattle.node_cell.specs.Standing.{Among, step_of}
+use Rattle.group_steps.specs.Parts.{Among}
+use Rattle.node_cell.specs.Standing.{step_of}
 
 -- WHAT A NOTE HAS SEEN
 

@@ -108,6 +108,7 @@ impl<'s, N: Node, L: Log, K: Numbering> Job for BoxJob<'s, N, L, K> {
 /// Gives moments in rounds until the last link has ended.
 #[derive(Drop)]
 pub(crate) struct MomentsJob<'s, N: Node, L: Log, K: Numbering, C> {
+    pub(crate) alloc: Global,
     pub(crate) shared: &'s Shared<N, L, K>,
     pub(crate) clock: &'s C,
     pub(crate) parker: &'s Parker,
@@ -121,7 +122,7 @@ impl<'s, N: Node, L: Log, K: Numbering, C: Clock> Job for MomentsJob<'s, N, L, K
             if self.ended.load(Ordering::SeqCst) {
                 return;
             }
-            self.shared.give_moment(rt, self.clock.now());
+            self.shared.give_moment(rt, self.alloc, self.clock.now());
         }
     }
 }
@@ -155,6 +156,7 @@ impl<'s, N: Node, L: Log, K: Numbering, C: Clock> Crew for NodeCrew<'s, N, L, K,
 
     fn moments_job(&self) -> MomentsJob<'s, N, L, K, C> {
         MomentsJob {
+            alloc: self.alloc,
             shared: self.shared,
             clock: self.clock,
             parker: self.parker,

@@ -5,7 +5,7 @@ ghost use Rattle.opmsg_model.specs.Outline.{outline, partial_outline};
 ghost use Rattle.opmsg_frames.specs.Framers.{IsNext};
 ghost use Rattle.outside.specs.Streams.{Took};
 ghost use Rattle.outside.specs.declared.exchange.LinkEnd.TheVariants as end_kinds;
-ghost use Rattle.node_cell.specs.Standing.{Among};
+ghost use Rattle.group_steps.specs.Parts.{Among};
 ghost use Rattle.conn_server.specs.Conversations.{WasTalked, link_facts};
 ghost use Rattle.conn_server.specs.Talks.{IsAsked, IsRead, PutWhole, Spoke, SpokeSome, SpokeToEnd, reply_on};
 
@@ -73,6 +73,7 @@ fn number_after(number: i32) -> i32 {
 /// Asks the link's router, and returns the number of the step that took the request; `None` if none took it.
 fn ask<N: Node, L: Log, K: Numbering, Q: WireRequests<N>, R: Wait>(
     rt: &R,
+    alloc: Global,
     shared: &Shared<N, L, K>,
     talk: &mut Talk<N, L, K>,
     request: Request,
@@ -90,7 +91,7 @@ fn ask<N: Node, L: Log, K: Numbering, Q: WireRequests<N>, R: Wait>(
     let Some(cell) = shared.cells.get(at) else {
         return None;
     };
-    match cell.ask(rt, &shared.book, link, number, Q::request(request)) {
+    match cell.ask(rt, alloc, &shared.book, link, number, Q::request(request)) {
         Ok(Some(mut stepped)) => {
             let came = stepped.number();
             shared.send_out(rt, at, &mut stepped, Origin::Link);
@@ -161,7 +162,7 @@ fn exchange<N: Node, L: Log, K: Numbering, Q: WireRequests<N>, S: Link, R: Wait>
     let Ok(()) = talk.reserve() else {
         return Err(LinkEnd::Lost);
     };
-    let Some(came) = ask::<N, L, K, Q, R>(rt, shared, talk, request, next) else {
+    let Some(came) = ask::<N, L, K, Q, R>(rt, alloc, shared, talk, request, next) else {
         return Err(LinkEnd::Lost);
     };
     // The steps of a link's requests come one after another, since each is asked once the one before it was.

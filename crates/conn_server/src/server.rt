@@ -16,7 +16,7 @@ use crate::shared::Shared;
 use crate::workers::{Accepted, Ended, serve_all};
 use driver_steps::Seat;
 use mail_routes::Routes;
-use node_cell::{Note, Numbering, Numbers, Pass, Placed, cells, close_cells};
+use node_cell::{Halt, Note, Numbering, Numbers, Pass, Placed, cells, close_cells};
 use node_traits::Node;
 use outside::clock::Clock;
 use outside::exchange::Spoken;
@@ -61,7 +61,7 @@ fn is_some_failed<N, L>(nodes: &[Placed<N, L>]) -> bool
     ensures { result ≡ some_failed nodes.now }
 {
     'nodes: for node in nodes {
-        if node.failed.is_some() {
+        if let Some(Halt::Disk { .. }) = node.halt {
             return true;
         }
     }
@@ -202,8 +202,8 @@ where
         pass,
         ended,
     } = ready;
-    shared.report_openings(rt);
-    shared.give_moment(rt, clock.now());
+    shared.report_openings(rt, alloc);
+    shared.give_moment(rt, alloc, clock.now());
     let Ended { accepted, links } = serve_all::<N, L, K, Q, A, C, R>(
         rt, alloc, &shared, acceptor, clock, sessions,
     );

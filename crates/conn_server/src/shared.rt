@@ -3,13 +3,24 @@
 ghost use Rattle.std.specs.Prelude.{◌≡◌};
 
 use crate::desk::Desk;
-use mail_routes::Routes;
-use node_cell::{Book, Cell, Letter, Note, Numbering, Stepped};
+use mail_routes::{Routes, Waiting};
+use node_cell::{Book, Cell, CellFault, Delivered, Letter, Note, Numbering, Stepped};
 use node_traits::{Node, StepFault};
 use outside::log::Log;
 use std::alloc::Global;
+use std::collections::VecDeque;
 use std::sync::{Mutex, Wait};
 use std::thread::Threads;
+
+/// The most letters that are delivered together.
+const MOST_LETTERS: usize = 1024;
+
+/// Letters that are delivered together, and whether the end mark came after them.
+#[derive(Drop)]
+struct Batch<N: Node, L: Log, K: Numbering> {
+    letters: VecDeque<Letter<N, L, K>>,
+    at_end: bool,
+}
 
 /// On which thread a step was taken.
 #[derive(Clone, Copy, Debug, PartialEq, Eq)]
@@ -88,12 +99,12 @@ impl<N: Node, L: Log, K: Numbering> Shared<N, L, K> {
         }
     }
 
-    /// Sends out what a step gave; a fault of a disk, or a last step, stops the server. A step for which memory ran out is lost.
+    /// Sends out what a step gave, or notes why it was not taken.
     pub(crate) fn take_in<R: Wait>(
         &self,
         rt: &R,
         at: usize,
-        stepped: Result<Stepped<N, L, K>, StepFault>,
+        stepped: Result<Stepped<N, L, K>, CellFault>,
     ) {
         match stepped {
             Ok(mut stepped) => self.send_out(rt, at, &mut stepped, Origin::Node),
@@ -101,29 +112,80 @@ impl<N: Node, L: Log, K: Numbering> Shared<N, L, K> {
         }
     }
 
-    /// Notes the fault of a step.
-    pub(crate) fn met<R: Wait>(&self, rt: &R, fault: StepFault) {
+    /// Notes why a step was not taken. A node that takes no more steps stops the server; a step for which memory ran out is lost.
+    pub(crate) fn met<R: Wait>(&self, rt: &R, fault: CellFault) {
         match fault {
-            StepFault::Disk { .. } | StepFault::Steps => self.desk.lock(rt).stop(),
-            StepFault::Memory => {}
+            CellFault::NotTaken(StepFault::Memory) => {}
+            CellFault::NotTaken(StepFault::Disk { .. } | StepFault::Steps) | CellFault::Halted(_) =>
+                self.desk.lock(rt).stop(),
         }
     }
 
     /// Reports to each node, in order, that it was opened.
-    pub(crate) fn report_openings<R: Wait>(&self, rt: &R) {
+    pub(crate) fn report_openings<R: Wait>(&self, rt: &R, alloc: Global) {
         for (at, cell) in self.cells.iter().enumerate() {
-            self.take_in(rt, at, cell.report_opening(rt, &self.book));
+            self.take_in(rt, at, cell.report_opening(rt, alloc, &self.book));
         }
     }
 
     /// Gives each node, in order, a moment, in milliseconds since 1970.
-    pub(crate) fn give_moment<R: Wait>(&self, rt: &R, moment: u64) {
+    pub(crate) fn give_moment<R: Wait>(&self, rt: &R, alloc: Global, moment: u64) {
         for (at, cell) in self.cells.iter().enumerate() {
-            self.take_in(rt, at, cell.give_moment(rt, &self.book, moment));
+            self.take_in(rt, at, cell.give_moment(rt, alloc, &self.book, moment));
         }
     }
 
-    /// Delivers the letters in a box to a node until its end mark comes.
+    /// Takes the letters that wait in a box, after one that was taken, and does not wait for more. Where memory runs out for a letter it is left in the box; the
+    /// one that was taken is lost then.
+    fn take_waiting<R: Wait>(
+        &self,
+        rt: &R,
+        alloc: Global,
+        mailbox: usize,
+        first: Letter<N, L, K>,
+    ) -> Batch<N, L, K> {
+        let mut letters = VecDeque::new(alloc);
+        let mut at_end = false;
+        if letters.push_back(first).is_err() {
+            return Batch { letters, at_end };
+        }
+        for _ in 1..MOST_LETTERS {
+            if letters.reserve(1).is_err() {
+                break;
+            }
+            match self.routes.try_take(rt, mailbox) {
+                Waiting::Letter(letter) => letters.push_back_reserved(letter),
+                Waiting::End => {
+                    at_end = true;
+                    break;
+                }
+                Waiting::Nothing => break,
+            }
+        }
+        Batch { letters, at_end }
+    }
+
+    /// Delivers letters to a node together, and sends out what each step gave.
+    fn deliver<R: Threads + Wait + Sync>(
+        &self,
+        rt: &R,
+        alloc: Global,
+        at: usize,
+        letters: VecDeque<Letter<N, L, K>>,
+    ) {
+        let Some(cell) = self.cells.get(at) else {
+            return;
+        };
+        let Delivered { steps, fault } = cell.deliver(rt, alloc, &self.book, letters);
+        for mut stepped in steps {
+            self.send_out(rt, at, &mut stepped, Origin::Node);
+        }
+        if let Some(fault) = fault {
+            self.met(rt, fault);
+        }
+    }
+
+    /// Delivers the letters in a box to a node until its end mark comes. Those that wait are delivered together, so that their records are appended at once.
     pub(crate) fn serve_box<R: Threads + Wait + Sync>(
         &self,
         rt: &R,
@@ -136,17 +198,14 @@ impl<N: Node, L: Log, K: Numbering> Shared<N, L, K> {
         } else {
             mailbox - count
         };
-        let Some(cell) = self.cells.get(at) else {
-            return;
-        };
         for _ in rt.forever() {
-            let Some(letter) = self.routes.take(rt, mailbox) else {
+            let Some(first) = self.routes.take(rt, mailbox) else {
                 return;
             };
-            match cell.deliver(rt, alloc, &self.book, letter) {
-                Ok(Some(mut stepped)) => self.send_out(rt, at, &mut stepped, Origin::Node),
-                Ok(None) => {}
-                Err(e) => self.met(rt, e),
+            let Batch { letters, at_end } = self.take_waiting(rt, alloc, mailbox, first);
+            self.deliver(rt, alloc, at, letters);
+            if at_end {
+                return;
             }
         }
     }

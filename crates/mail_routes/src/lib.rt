@@ -3,4 +3,4 @@
 
 mod routes;
 
-pub use routes::{Posted, Routes};
+pub use routes::{Posted, Routes, Waiting};

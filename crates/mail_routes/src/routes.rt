@@ -3,7 +3,7 @@
 ghost use Rattle.std.specs.Prelude.{◌≡◌, IfOk, vec_len};
 
 use bson_values::Memory;
-use crossbeam_channel::{Receiver, Sender, bounded};
+use crossbeam_channel::{Receiver, Sender, TryRecvError, bounded};
 use std::alloc::Global;
 use std::sync::Wait;
 use std::sync::atomic::{AtomicU64, Ordering};
@@ -18,6 +18,17 @@ pub enum Posted {
     Kept,
     /// The box was full, there is none with this number, or memory ran out for it: the letter is lost.
     Dropped,
+}
+
+/// What waits in a box.
+#[derive(Drop)]
+pub enum Waiting<T> {
+    /// A letter, which was taken out.
+    Letter(T),
+    /// The end mark, which was taken out; or there is no such box.
+    End,
+    /// Nothing.
+    Nothing,
 }
 
 /// A box of letters. `None` is the mark at its end.
@@ -76,6 +87,18 @@ impl<T: Drop> Routes<T> {
         match mailbox.from.recv(rt) {
             Ok(letter) => letter,
             Err(_) => None,
+        }
+    }
+
+    /// Takes the next letter out of a box, if one waits there. It does not wait for one.
+    pub fn try_take<R: Wait>(&self, rt: &R, me: usize) -> Waiting<T> {
+        let Some(mailbox) = self.boxes.get(me) else {
+            return Waiting::End;
+        };
+        match mailbox.from.try_recv(rt) {
+            Ok(Some(letter)) => Waiting::Letter(letter),
+            Ok(None) | Err(TryRecvError::Disconnected) => Waiting::End,
+            Err(TryRecvError::Empty) => Waiting::Nothing,
         }
     }
 

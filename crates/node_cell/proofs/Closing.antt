@@ -7,21 +7,26 @@ use Rattle.std.proofs.lemmas.Bool.Decides.{nat_tests}
 use Rattle.atomic_table.specs.Table.{Final, Seen}
 use Rattle.node_model.specs.Letters.{Letter, Input, client_input, letter_input, moment_input, opened_input}
 use Rattle.node_model.specs.World.{World, IsRouter}
+use Rattle.node_traits.specs.Effects.{spellings}
 use Rattle.driver_steps.specs.declared.seat.Seat.{Seat}
-use Rattle.driver_steps.specs.Crashes.{Since}
+use Rattle.driver_steps.specs.Crashes.{Since, leaves_kept}
 use Rattle.outside.specs.Logs.{LogFacts}
 use Rattle.driver_steps.specs.OneSeat.{NamesFault, StandsAt}
 use Rattle.driver_steps.proofs.Seats.{held_len}
 use Rattle.driver_steps.proofs.Stepping.{same_stands}
 use Rattle.history_model.proofs.Lists.{all_weaken}
+use Rattle.group_steps.specs.Groups.{Part}
+use Rattle.group_steps.specs.Parts.{Among}
+use Rattle.node_cell.specs.declared.view.Halt.{Halt}
+use Rattle.node_cell.specs.declared.view.Halt.TheVariants.{Disk, Memory}
 use Rattle.node_cell.specs.declared.view.Placed.{Placed}
 use Rattle.node_cell.specs.declared.view.View.{View}
 use Rattle.node_cell.specs.Courses.{IsCalm, IsCalmAt, NodeFacts, Goes, Holds, Saw, WasSent, WasTaken, WasTold, view_by}
-use Rattle.node_cell.specs.Standing.{AllSit, Among, AreAmong, AreFrom, AreRun, Ends, HasFailed, IsAsKnown, IsHalted, IsKept, IsKnown, IsPart, Sits, StaysAt, StoppedAt}
+use Rattle.node_cell.specs.Standing.{AllSit, AreAmong, AreFrom, AreRun, Ends, EndsHalted, HasFailed, IsAsKnown, IsHalted, IsKept, IsKnown, IsPart, Sits, StaysAt}
 use Rattle.node_cell.specs.Views.{both_views, holder}
 use Rattle.node_cell.proofs.Lists.{all_at, all_map, all_of_part, are_among_front, are_among_map, are_among_self, sits}
 use Rattle.node_cell.proofs.Routers.{run_stays}
-use Rattle.node_cell.proofs.Steps.{event_of}
+use Rattle.node_cell.proofs.Steps.{moves_run}
 
 -- WHAT WAS SEEN
 
@@ -62,7 +67,7 @@ pub joined_all : {N L M I : Type 0} (all left : List (View N L M I)) (v : View N
 joined_all {N} {L} {M} {I} all left v j none =
     subst (λ (l : List (View N L M I)). AllByRecursion (λ n. IsPart n v) l) (sym (j.which ∙ ap (λ (l : List (View N L M I)). l ++ j.joined) none)) j.parts
 
-known_on : (routers : ℕ) (seen more : List Letter) (at : ℕ) (i : Input) → AreAmong seen more → IsKnown routers seen at i → IsKnown routers more at i
+pub known_on : (routers : ℕ) (seen more : List Letter) (at : ℕ) (i : Input) → AreAmong seen more → IsKnown routers seen at i → IsKnown routers more at i
 known_on routers seen more at (client_input link number request) part known = known
 known_on routers seen more at (letter_input m) part known =
     (known.0, all_at (λ x. Among x more) seen known.1.0 m known.1.1 part)
@@ -78,12 +83,19 @@ still_failed facts faults first old log calm h = record {
 
 module _ {N L M I : Type 0} (f : NodeFacts N L M I) (routers : ℕ) where
   pub kept_on : (seen more : List Letter) (old : Seat N L) (p : Placed N L) → AreAmong seen more → IsKept f routers seen old p → IsKept f routers more old p
-  kept_on seen more old p part is = by_failed p.failed is
+  kept_on seen more old p part is = by_halt p.halt is
     where
-      by_failed : (failed : Option ℕ) → MatchOption failed (IsAsKnown f old p.seat) (λ faults. IsHalted f routers p.at seen faults old p.seat)
-          → MatchOption failed (IsAsKnown f old p.seat) (λ faults. IsHalted f routers p.at more faults old p.seat)
-      by_failed None is = is
-      by_failed (Some faults) h = record { input = h.input; known = known_on routers seen more p.at h.input part h.known; failed = h.failed; breaks = h.breaks }
+      by_halt : (halt : Option Halt) → MatchOption halt (IsAsKnown f old p.seat) (λ h. IsHalted f routers p.at seen h old p.seat)
+          → MatchOption halt (IsAsKnown f old p.seat) (λ h. IsHalted f routers p.at more h old p.seat)
+      by_halt None is = is
+      by_halt (Some (Disk faults)) h = record {
+        parts = h.parts;
+        known = all_weaken (λ (x : Part). IsKnown routers seen p.at x.input) (λ (x : Part). IsKnown routers more p.at x.input) h.parts
+            (λ x known. known_on routers seen more p.at x.input part known) h.known;
+        failed = h.failed;
+        breaks = h.breaks;
+      }
+      by_halt (Some Memory) h = h
 
   pub sit_on : (seen more : List Letter) (k : ℕ) (held : List (ℕ × Seat N L)) (ended : List (Placed N L)) → AreAmong seen more
       → AllSit f routers seen k held ended → AllSit f routers more k held ended
@@ -127,26 +139,38 @@ module _ {N L M I : Type 0} (f : NodeFacts N L M I) (routers : ℕ) where
   node_ends : (since : Since L) (w : World) (seen : List Letter) → AllByRecursion (λ m. WasSent w m) seen → (old : Seat N L) (p : Placed N L)
       → (routers ≤ p.at → IsRouter w.nodes p.at) → IsKept f routers seen old p → StandsAt (view_by f since old) w p.at
       → IsCalmAt f.facts since.logs p.at old.log → Ends f since w p
-  node_ends since w seen sent old p router is here calm = by_failed p.failed is
+  node_ends since w seen sent old p router is here calm = by_halt p.halt is
     where
-      by_failed : (failed : Option ℕ) → MatchOption failed (IsAsKnown f old p.seat) (λ faults. IsHalted f routers p.at seen faults old p.seat)
-          → MatchOption failed (StaysAt f since w p.at p.seat) (λ faults. StoppedAt f since w p.at faults p.seat)
-      by_failed None known = record {
+      by_halt : (halt : Option Halt) → MatchOption halt (IsAsKnown f old p.seat) (λ h. IsHalted f routers p.at seen h old p.seat)
+          → MatchOption halt (StaysAt f since w p.at p.seat) (λ h. EndsHalted f since w p.at h p.seat)
+      by_halt None known = record {
         stands = same_stands f.state f.facts since w p.at old p.seat (sym known.state, sym known.log) here;
         calm = subst (λ (l : L). IsCalmAt f.facts since.logs p.at l) known.log calm;
         is_open = known.is_open;
       }
-      by_failed (Some faults) h =
-          let e = event_of routers w p.at seen sent router h.input h.known in
+      by_halt (Some (Disk faults)) h =
+          let breaks = h.breaks since w here in
+          let more = moves_run routers p.at w h.parts breaks.last seen breaks.moves sent router h.known in
           record {
             first = calm.first;
             here = calm.here;
             failed = still_failed f.facts faults calm.first old.log p.seat.log calm.calm h.failed;
-            input = h.input;
-            event = e.event;
-            is = e.is;
-            breaks = h.breaks since w here;
+            parts = h.parts;
+            breaks = breaks;
+            events = more.0;
+            run = more.1;
           }
+      by_halt (Some Memory) h = record {
+        held = here.held;
+        here = here.here;
+        keeps = record {
+          readable = here.is.keeps.readable;
+          found = λ tells. subst (λ (l : L). f.facts.holds l (spellings here.held.kept)) (sym h.0) (here.is.keeps.found tells);
+        };
+        leaves = subst (λ (l : L). leaves_kept f.facts since l p.at w) (sym h.0) here.leaves;
+        calm = subst (λ (l : L). IsCalmAt f.facts since.logs p.at l) (sym h.0) calm;
+        is_open = h.1;
+      }
 
   all_end : (since : Since L) (w : World) (seen : List Letter) → AllByRecursion (λ m. WasSent w m) seen → (k : ℕ) (held : List (ℕ × Seat N L))
       (ended : List (Placed N L)) → ((at : ℕ) (s : Seat N L) → k ≤ at → holder at held ≡ Some s → StandsAt (view_by f since s) w at × IsCalmAt f.facts since.logs at s.log)

@@ -8,9 +8,10 @@ use Rattle.std.proofs.lemmas.Option.{none-some, same_Some}
 use mathlib.Core.Option.{some, some-injective, some-ne-none}
 use lib.ListN.{get_elem?}
 use Rattle.atomic_table.proofs.Lists.{at_set}
-use Rattle.history_model.proofs.Lists.{all_weaken}
+use Rattle.history_model.proofs.Lists.{all_push, all_weaken}
 use Rattle.node_cell.specs.Courses.{total}
-use Rattle.node_cell.specs.Standing.{Among, AreAmong}
+use Rattle.group_steps.specs.Parts.{Among}
+use Rattle.node_cell.specs.Standing.{AreAmong}
 use Rattle.node_cell.specs.Views.{first_alone, first_off, holder, numbered, without}
 
 module _ {A : Type 0} where
@@ -53,6 +54,17 @@ module _ {A : Type 0} where
   all_set P (y ∷ ys) zero x p a = (p, a.1)
   all_set P (y ∷ ys) (suc j) x p a = (a.0, all_set P ys j x p a.1)
 
+  pub all_split : (P : A → Type 0) (xs ys : List A) → AllByRecursion P (xs ++ ys) → AllByRecursion P xs × AllByRecursion P ys
+  all_split P [] ys a = (tt, a)
+  all_split P (x ∷ xs) ys a = let rest = all_split P xs ys a.1 in ((a.0, rest.0), rest.1)
+
+  pub all_none : (P : A → Type 0) (xs : List A) → xs ≡ [] → AllByRecursion P xs
+  all_none P xs none = subst (λ (l : List A). AllByRecursion P l) (sym none) tt
+
+  -- one more
+  pub all_grown : (P : A → Type 0) (old new : List A) (x : A) → new ≡ old ++ x ∷ [] → AllByRecursion P old → P x → AllByRecursion P new
+  all_grown P old new x is all one = subst (λ (l : List A). AllByRecursion P l) (sym is) (all_push P old x all one)
+
   pub among_front : (x : A) (xs ys : List A) → Among x xs → Among x (xs ++ ys)
   among_front x xs ys a = (a.0, get_front xs ys a.0 x a.1)
 
@@ -65,6 +77,16 @@ module _ {A : Type 0} where
 
   pub are_among_self : (xs : List A) → AreAmong xs xs
   are_among_self xs = sits [] xs
+
+  pub are_among_same : (xs ys : List A) → xs ≡ ys → AreAmong xs ys
+  are_among_same xs ys same = subst (λ (l : List A). AreAmong l ys) (sym same) (are_among_self ys)
+
+  -- the first of them, and the others
+  pub among_next : (x : A) (all rest whole : List A) → all ≡ x ∷ rest → AreAmong all whole → Among x whole × AreAmong rest whole
+  among_next x all rest whole first among = subst (λ (l : List A). AreAmong l whole) first among
+
+  pub are_among_of : (x y : A) (all : List A) → y ≡ x → Among x all → Among y all
+  are_among_of x y all same there = subst (λ (z : A). Among z all) (sym same) there
 
   pub are_among_on : (xs ys zs : List A) → AreAmong xs ys → AreAmong ys zs → AreAmong xs zs
   are_among_on xs ys zs a b = all_weaken (λ x. Among x ys) (λ x. Among x zs) xs (λ x there. all_at (λ y. Among y zs) ys there.0 x there.1 b) a
@@ -102,10 +124,10 @@ are_among_map f part whole a = all_map f (λ y. Among y (map f whole)) part (all
 
 -- SUMS
 
-pub sum_more : (xs : List ℕ) (j c d : ℕ) → slice_get xs j ≡ Some c → c + 1 ≤ d → total xs + 1 ≤ total (set xs j d)
-sum_more [] j c d e le = absurd (none-some c e)
-sum_more (x ∷ xs) zero c d e le = let same : x ≡ c = same_Some x c e in omega arith
-sum_more (x ∷ xs) (suc j) c d e le = let more = sum_more xs j c d e le in omega arith
+pub sum_more : (xs : List ℕ) (j c d k : ℕ) → slice_get xs j ≡ Some c → c + k ≤ d → total xs + k ≤ total (set xs j d)
+sum_more [] j c d k e le = absurd (none-some c e)
+sum_more (x ∷ xs) zero c d k e le = let same : x ≡ c = same_Some x c e in omega arith
+sum_more (x ∷ xs) (suc j) c d k e le = let more = sum_more xs j c d k e le in omega arith
 
 pub sum_small : (xs : List ℕ) → AllByRecursion (λ c. c < 2 ^ 56) xs → total xs ≤ length xs * 2 ^ 56
 sum_small [] a = omega arith

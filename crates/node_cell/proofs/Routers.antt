@@ -33,7 +33,7 @@ move_stays w v place at i m is =
     (set_stays w.nodes place at m.old (record { state = m.new; kept = m.old.kept ++ m.f.written }) m.here
     (λ r state. state_stays m.old.state i m.f m.new m.step r state) is)
 
-happens_stays : (w v : World) (e : Event) (at : ℕ) → Happens w e v → IsRouter w.nodes at → IsRouter v.nodes at
+pub happens_stays : (w v : World) (e : Event) (at : ℕ) → Happens w e v → IsRouter w.nodes at → IsRouter v.nodes at
 happens_stays _ _ _ p (comes w v at link number request router m) is = move_stays w v at p _ m is
 happens_stays _ _ _ p (delivers w v at which letter got to m) is = move_stays w v at p _ m is
 happens_stays _ _ _ p (passes w v at moment m) is = move_stays w v at p _ m is

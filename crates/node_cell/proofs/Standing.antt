@@ -1,108 +1,106 @@
 -- A node behind its lock, while it takes steps.
 use Rattle.std.proofs.Common.{◌≡◌, ℕ, ℤ, ◌+◌, ◌<◌, ◌≤◌, ◌^◌, List, [], ◌∷◌, ◌++◌, map, length, Bool, IsTrue, refl, sym, ap, ◌∙◌, subst, arith, append-nil}
-use Rattle.std.specs.Prelude.{⊤, Option, None, MatchOption}
-use Rattle.std.specs.List.{slice_get, AllByRecursion}
+use Rattle.std.specs.Prelude.{⊤, Option, None, Some, MatchOption}
+use Rattle.std.specs.List.{AllByRecursion}
 use Rattle.std.proofs.lemmas.List.{map-append}
 use Rattle.atomic_table.specs.Table.{Me}
 use Rattle.node_model.specs.Letters.{Letter, Input, client_input, letter_input, moment_input, opened_input}
 use Rattle.node_model.specs.Requests.{Request}
 use Rattle.node_model.specs.World.{World}
-use Rattle.node_traits.specs.Effects.{ByStepFault, steps_after}
-use Rattle.node_traits.specs.declared.outputs.StepFault.{StepFault}
-use Rattle.node_traits.specs.declared.outputs.StepFault.TheVariants.{Disk, Steps, Memory}
 use Rattle.node_traits.specs.declared.outputs.ToLink.{ToLink}
 use Rattle.driver_steps.specs.declared.seat.Seat.{Seat}
 use Rattle.driver_steps.specs.Crashes.{Since}
-use Rattle.driver_steps.specs.OneSeat.{BreaksAt, NamesFault, StandsAt, StepsAt}
+use Rattle.driver_steps.specs.OneSeat.{NamesFault, StandsAt}
 use Rattle.driver_steps.specs.Seats.{AreOpen}
 use Rattle.driver_steps.proofs.Stepping.{same_stands}
+use Rattle.group_steps.specs.declared.fault.GroupFault.{GroupFault}
+use Rattle.group_steps.specs.declared.fault.GroupFault.TheVariants.{Disk as disk_failed, Memory as no_memory}
+use Rattle.group_steps.specs.declared.group.Part.{Part}
+use Rattle.group_steps.specs.Groups.{Part as PartOf, TakesAll}
+use Rattle.group_steps.specs.Parts.{Among, AreBroken, AreOn, ByGroupFault, parts_of}
+use Rattle.history_model.proofs.Lists.{all_weaken}
+use Rattle.node_cell.specs.declared.view.Halt.{Halt}
 use Rattle.node_cell.specs.declared.view.Placed.{Placed}
-use Rattle.node_cell.specs.declared.view.Taken.{Taken}
 use Rattle.node_cell.specs.declared.view.View.{View}
 use Rattle.node_cell.specs.Courses.{IsCalm, NodeFacts, view_by}
-use Rattle.node_cell.specs.Standing.{AllSit, Among, AreSeen, AreTold, HasFailed, IsAsKnown, IsHalted, IsKept, IsKnown, IsPart, MayTake, Sits, faults_in, step_of}
-use Rattle.node_cell.specs.Views.{Given, after_step, both_views, first_alone, first_off, given_by, nothing_seen, numbered, renewed, view_of}
-use Rattle.node_cell.proofs.Lists.{all_unmap, among_behind, are_among_map, first_numbered, get_seam, rest_numbered, sits}
+use Rattle.node_cell.specs.Deliveries.{AreKnown}
+use Rattle.node_cell.specs.Standing.{AllSit, AreSeen, AreTold, HasFailed, IsAsKnown, IsHalted, IsKept, IsKnown, IsPart, MayTake, Sits, halt_by}
+use Rattle.node_cell.specs.Views.{Given, after_steps, both_views, first_alone, first_off, given_by, nothing_seen, numbered, renewed, view_of}
+use Rattle.node_cell.proofs.Lists.{all_at, all_map, among_behind, are_among_map, first_numbered, rest_numbered}
 use Rattle.node_cell.proofs.Closing.{kept_on, part_front, part_self, sit_joined, sit_on}
 
 module _ {N L M I : Type 0} (f : NodeFacts N L M I) (routers : ℕ) where
-  -- a node whose disk did not fail
-  as_known : (seen : List Letter) (old : Seat N L) (p : Placed N L) → p.failed ≡ None → IsKept f routers seen old p → IsAsKnown f old p.seat
+  -- a node that takes steps
+  as_known : (seen : List Letter) (old : Seat N L) (p : Placed N L) → p.halt ≡ None → IsKept f routers seen old p → IsAsKnown f old p.seat
   as_known seen old p none is =
-      subst (λ (o : Option ℕ). MatchOption o (IsAsKnown f old p.seat) (λ faults. IsHalted f routers p.at seen faults old p.seat)) none is
+      subst (λ (o : Option Halt). MatchOption o (IsAsKnown f old p.seat) (λ h. IsHalted f routers p.at seen h old p.seat)) none is
 
-  is_kept : (seen : List Letter) (old t : Seat N L) (p : Placed N L) → p.failed ≡ None → IsAsKnown f old t
-      → IsKept f routers seen old (record { at = p.at; failed = p.failed; seat = t })
+  is_kept : (seen : List Letter) (old t : Seat N L) (p : Placed N L) → p.halt ≡ None → IsAsKnown f old t
+      → IsKept f routers seen old (record { at = p.at; halt = p.halt; seat = t })
   is_kept seen old t p none known =
-      subst (λ (o : Option ℕ). MatchOption o (IsAsKnown f old t) (λ faults. IsHalted f routers p.at seen faults old t)) (sym none) known
+      subst (λ (o : Option Halt). MatchOption o (IsAsKnown f old t) (λ h. IsHalted f routers p.at seen h old t)) (sym none) known
 
-  -- its pass may take the step that it took
-  pub seat_may : (p : Placed N L) (t : Seat N L) (v : View N L M I) (input taken : I) (mail : List M) (replies : List ToLink) → taken ≡ input
-      → p.failed ≡ None → Sits f routers p v
+  -- its pass may take the steps that it took
+  pub group_may : (p : Placed N L) (t : Seat N L) (v : View N L M I) (parts : List (Part M I)) (inputs : List I) → p.halt ≡ None → Sits f routers p v
       → ((since : Since L) (w : World) (k : ℕ) → StandsAt (view_by f since p.seat) w k
-      → StepsAt (view_by f since t) w k (f.meaning input) (map f.letter mail) replies)
-      → f.steps t.node ≡ f.steps p.seat.node + 1 → f.steps t.node < 2 ^ 56 → IsCalm f.facts p.seat.log t.log
-      → IsKnown routers (map f.letter v.seen) p.at (f.meaning input) → MayTake f routers v (given_by p.at taken t mail replies)
-  seat_may p t v input taken mail replies same none here step counted below calm known =
+      → TakesAll (view_by f since t) w k (parts_of f.letter f.meaning parts))
+      → f.steps p.seat.node + length parts ≤ f.steps t.node → (f.steps p.seat.node < 2 ^ 56 → f.steps t.node < 2 ^ 56) → IsCalm f.facts p.seat.log t.log
+      → AreOn inputs parts → AreKnown f.meaning routers (map f.letter v.seen) p.at inputs → MayTake f routers v (given_by p.at parts t)
+  group_may p t v parts inputs none here steps counted below calm on known =
       let is : IsAsKnown f here.old p.seat = as_known (map f.letter v.seen) here.old p none here.is in
-      subst (λ (i : I). MayTake f routers v (given_by p.at i t mail replies)) (sym same)
-      (record {
+      record {
         old = here.old;
         held = here.held;
-        steps = λ since w stands. step since w p.at (same_stands f.state f.facts since w p.at here.old p.seat (sym is.state, sym is.log) stands);
+        steps = λ since w stands. steps since w p.at (same_stands f.state f.facts since w p.at here.old p.seat (sym is.state, sym is.log) stands);
         more = omega (arith, is.steps, counted);
-        below = below;
+        below = λ small. below (omega (arith, is.steps, small));
         calm = subst (λ (l : L). IsCalm f.facts l t.log) (sym is.log) calm;
-        known = known;
-      })
+        known = all_weaken (λ (x : Part M I). Among x.input.value inputs) (λ (x : Part M I). IsKnown routers (map f.letter v.seen) p.at (f.meaning x.input.value))
+            parts (λ x there. all_at (λ i. IsKnown routers (map f.letter v.seen) p.at (f.meaning i)) inputs there.0 x.input.value there.1 known) on;
+      }
 
-  -- after it the pass has the node as it is
-  pub sits_after : (p : Placed N L) (t : Seat N L) (v w : View N L M I) (g : Given N L M I) (number : ℕ) → p.failed ≡ None → Sits f routers p v → g.new ≡ t
-      → IsTrue (f.facts.is_open t.log) → w ≡ after_step g number v → Sits f routers (record { at = p.at; failed = p.failed; seat = t }) w
+  -- after them the pass has the node as it is
+  pub sits_after : (p : Placed N L) (t : Seat N L) (v w : View N L M I) (g : Given N L M I) (number : ℕ) → p.halt ≡ None → Sits f routers p v → g.new ≡ t
+      → IsTrue (f.facts.is_open t.log) → w ≡ after_steps g number v → Sits f routers (record { at = p.at; halt = p.halt; seat = t }) w
   sits_after p t v w g number none here new is_open is =
-      subst (λ (u : View N L M I). Sits f routers (record { at = p.at; failed = p.failed; seat = t }) u) (sym is)
+      subst (λ (u : View N L M I). Sits f routers (record { at = p.at; halt = p.halt; seat = t }) u) (sym is)
       (record {
         old = t;
         held = ap (λ (l : List (ℕ × Seat N L)). renewed l g.new) here.held ∙ ap (λ (x : Seat N L). (p.at, x) ∷ []) new;
-        is = is_kept (map f.letter (after_step g number v).seen) t t p none (record { state = refl; log = refl; steps = omega arith; is_open = is_open });
+        is = is_kept (map f.letter (after_steps g number v).seen) t t p none (record { state = refl; log = refl; steps = refl; is_open = is_open });
       })
 
   -- and after a fault
-  pub sits_failed : (p : Placed N L) (t : Seat N L) (v : View N L M I) (i : Input) (fault : StepFault) → p.failed ≡ None → Sits f routers p v
-      → IsKnown routers (map f.letter v.seen) p.at i
-      → ((since : Since L) (w : World) (k : ℕ) → StandsAt (view_by f since p.seat) w k
-      → ByStepFault fault (λ faults. BreaksAt (view_by f since t) w k i) (StandsAt (view_by f since t) w k))
-      → ByStepFault fault (λ faults. Unit {0}) ((f.state t.node ≡ f.state p.seat.node) × (t.log ≡ p.seat.log))
-      → f.steps t.node ≡ steps_after fault (f.steps p.seat.node) → ByStepFault fault (λ faults. Unit {0}) (IsTrue (f.facts.is_open t.log))
-      → ByStepFault fault (λ faults. NamesFault faults (f.facts.fault_count p.seat.log) (f.facts.fault_count t.log))
-      (f.facts.fault_count t.log ≡ f.facts.fault_count p.seat.log) → f.facts.place t.log ≡ f.facts.place p.seat.log
-      → Sits f routers (record { at = p.at; failed = faults_in fault; seat = t }) v
-  sits_failed p t v i (Disk faults) none here known failed same count is_open rose place =
+  pub sits_halted : (p : Placed N L) (t : Seat N L) (v : View N L M I) (inputs : List I) (fault : GroupFault) → p.halt ≡ None → Sits f routers p v
+      → AreKnown f.meaning routers (map f.letter v.seen) p.at inputs → AreBroken f.state f.facts f.meaning inputs p.seat t
+      → ByGroupFault fault (λ faults. NamesFault faults (f.facts.fault_count p.seat.log) (f.facts.fault_count t.log)) (t.log ≡ p.seat.log)
+      → f.facts.place t.log ≡ f.facts.place p.seat.log → Sits f routers (record { at = p.at; halt = Some (halt_by fault); seat = t }) v
+  sits_halted p t v inputs (disk_failed faults) none here known broken rose place =
       let is : IsAsKnown f here.old p.seat = as_known (map f.letter v.seen) here.old p none here.is in
+      let all = all_map f.meaning (λ i. IsKnown routers (map f.letter v.seen) p.at i) inputs known in
       record {
         old = here.old;
         held = here.held;
         is = record {
-          input = i;
-          known = known;
+          parts = broken.parts;
+          known = all_weaken (λ (x : PartOf). Among x.input (map f.meaning inputs)) (λ (x : PartOf). IsKnown routers (map f.letter v.seen) p.at x.input)
+              broken.parts (λ x there. all_at (λ i. IsKnown routers (map f.letter v.seen) p.at i) (map f.meaning inputs) there.0 x.input there.1 all) broken.on;
           failed = subst (λ (l : L). HasFailed f.facts faults l t.log) (sym is.log) (record { place = place; rose = rose });
-          breaks = λ since w stands. failed since w p.at (same_stands f.state f.facts since w p.at here.old p.seat (sym is.state, sym is.log) stands);
+          breaks = λ since w stands.
+              broken.breaks since w p.at (same_stands f.state f.facts since w p.at here.old p.seat (sym is.state, sym is.log) stands);
         };
       }
-  sits_failed p t v i Steps none here known failed same count is_open faults_are place =
+  sits_halted p t v inputs no_memory none here known broken same place =
       let is : IsAsKnown f here.old p.seat = as_known (map f.letter v.seen) here.old p none here.is in
-      record {
-        old = here.old;
-        held = here.held;
-        is = record { state = is.state ∙ sym same.0; log = is.log ∙ sym same.1; steps = omega (arith, is.steps, count); is_open = is_open };
-      }
-  sits_failed p t v i Memory none here known failed same count is_open faults_are place =
-      let is : IsAsKnown f here.old p.seat = as_known (map f.letter v.seen) here.old p none here.is in
-      record {
-        old = here.old;
-        held = here.held;
-        is = record { state = is.state ∙ sym same.0; log = is.log ∙ sym same.1; steps = omega (arith, is.steps, count); is_open = is_open };
-      }
+      record { old = here.old; held = here.held; is = (same ∙ sym is.log, subst (λ (l : L). IsTrue (f.facts.is_open l)) (sym same) is.is_open) }
+
+  -- its pass has seen more
+  pub sits_learnt : (p : Placed N L) (v w : View N L M I) → Sits f routers p v → w.held ≡ v.held → IsPart v w → Sits f routers p w
+  sits_learnt p v w here same part = record {
+    old = here.old;
+    held = same ∙ here.held;
+    is = kept_on f routers (map f.letter v.seen) (map f.letter w.seen) here.old p (are_among_map f.letter v.seen w.seen part.seen) here.is;
+  }
 
   -- its pass takes in a note
   pub sits_noted : (p : Placed N L) (v note : View N L M I) → Sits f routers p v → note.held ≡ [] → Sits f routers p (both_views v note)
@@ -114,23 +112,6 @@ module _ {N L M I : Type 0} (f : NodeFacts N L M I) (routers : ℕ) where
   }
 
 -- WHAT A NOTE HAS SEEN
-
-pub seen_now : {M : Type 0} (letter : M → Letter) (before mail seen : List M) → seen ≡ before ++ mail → AreSeen letter seen mail
-seen_now {M} letter before mail seen is =
-    subst (λ (l : List Letter). AllByRecursion (λ (m : M). Among (letter m) l) mail) (sym (ap (λ (l : List M). map letter l) is ∙ map-append letter before mail))
-    (all_unmap letter (λ (x : Letter). Among x (map letter before ++ map letter mail)) mail (sits (map letter before) (map letter mail)))
-
-pub told_now : (number : ℕ) (before : List (ℕ × ToLink)) (replies : List ToLink) (told : List (ℕ × ToLink)) → told ≡ before ++ map (λ x. (number, x)) replies
-    → AreTold told number replies
-told_now number before replies told is =
-    subst (λ (l : List (ℕ × ToLink)). AllByRecursion (λ (r : ToLink). Among (number, r) l) replies) (sym is)
-    (all_unmap (λ x. (number, x)) (λ (x : ℕ × ToLink). Among x (before ++ map (λ x. (number, x)) replies)) replies (sits before (map (λ x. (number, x)) replies)))
-
-pub taken_now : {I : Type 0} (number at : ℕ) (kept input : I) (before taken : List (Taken I)) → kept ≡ input
-    → taken ≡ before ++ step_of number at input ∷ [] → Among (step_of number at kept) taken
-taken_now {I} number at kept input before taken same is =
-    subst (λ (i : I). Among (step_of number at i) taken) (sym same)
-    (length before, ap (λ (l : List (Taken I)). slice_get l (length before)) is ∙ get_seam before (step_of number at input) [])
 
 -- the first of what was seen, and the others
 pub all_first : {A : Type 0} (P : A → Type 0) (all rest : List A) (x : A) → AllByRecursion P all → all ≡ x ∷ rest → P x × AllByRecursion P rest

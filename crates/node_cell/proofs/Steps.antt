@@ -1,190 +1,50 @@
--- A step keeps the rule.
+-- Steps keep the rule.
 use Rattle.std.proofs.Common.{◌≡◌, ◌≢◌, ℕ, ◌+◌, ◌%◌, ◌<◌, ◌≤◌, ◌^◌, List, [], ◌∷◌, ◌++◌, map, length, set}
-use Rattle.std.proofs.Common.{Bool, true, false, refl, sym, ap, ◌∙◌, subst, arith, append_assoc, length-append, length-set}
-use Rattle.std.specs.Prelude.{⊤, Option, Some, slice_index, if◌then◌else◌}
+use Rattle.std.proofs.Common.{refl, sym, ap, ◌∙◌, subst, arith, length-append, length-set}
+use Rattle.std.specs.Prelude.{⊤, Option, Some, slice_index}
 use Rattle.std.specs.List.{slice_get, slice_set, AllByRecursion}
 use Rattle.std.proofs.Math.Nat.{mod-eq_of_lt}
-use Rattle.std.proofs.lemmas.Bool.Decides.{nat_tests}
 use Rattle.std.proofs.lemmas.Option.{slice_get_within}
 use mathlib.Core.Option.{some}
 use lib.ListN.{get_elem?}
 use Rattle.atomic_table.specs.Table.{State, Me, Step as TableStep, Allows, keeps}
-use Rattle.node_model.specs.Exchanges.{Answered}
-use Rattle.node_model.specs.Letters.{Letter, Input, client_input, letter_input, moment_input, opened_input, Reply}
-use Rattle.node_model.specs.World.{World, IsRouter, Moves, Event, client_event, deliver_event, moment_event, opened_event, Happens, comes, delivers, passes}
-use Rattle.node_model.specs.World.{begins as was_opened, stands, goes, answered_by}
+use Rattle.node_model.specs.Letters.{Letter, Input}
+use Rattle.node_model.specs.World.{World, IsRouter, Moves, Event, Happens, Run}
+use Rattle.node_model.specs.World.{stands, goes, answered_by}
 use Rattle.node_model.proofs.Schedules.{run_then}
-use Rattle.node_traits.specs.Effects.{puts_of, put_by}
-use Rattle.node_traits.specs.declared.outputs.ToLink.{ToLink}
+use Rattle.node_traits.specs.Effects.{puts_of}
 use Rattle.driver_steps.specs.declared.seat.Seat.{Seat}
-use Rattle.driver_steps.specs.Crashes.{Since}
-use Rattle.driver_steps.specs.Moves.{IsEvent}
-use Rattle.driver_steps.specs.OneSeat.{StepsAt}
-use Rattle.driver_steps.specs.Worlds.{puts_given}
-use Rattle.driver_steps.proofs.Crashes.{leads_by, leaves_on}
+use Rattle.driver_steps.specs.Crashes.{LeadsTo, Since}
+use Rattle.driver_steps.proofs.Crashes.{leads_by, leads_nowhere, leads_on, leaves_on}
 use Rattle.driver_steps.proofs.Seats.{held_len}
-use Rattle.history_model.proofs.Lists.{all_append, all_weaken}
-use Rattle.node_cell.specs.declared.view.Taken.{Taken}
+use Rattle.group_steps.specs.Groups.{MovesAll, moves_none, moves_on, Part as PartOf, TakesAll}
+use Rattle.group_steps.specs.Parts.{parts_of}
+use Rattle.group_steps.specs.declared.group.Part.{Part}
+use Rattle.history_model.proofs.Lists.{all_weaken}
 use Rattle.node_cell.specs.declared.view.View.{View}
 use Rattle.outside.specs.Logs.{LogFacts}
-use Rattle.node_cell.specs.Courses.{NodeFacts, Course, Fits, Goes, Has, Holds, IsCalm, IsCalmAt, IsStepOn, Saw, WasSent, WasTaken, WasTold, view_by}
-use Rattle.node_cell.specs.Standing.{AreAmong, IsKnown, MayTake}
-use Rattle.node_cell.specs.Views.{Given, after_step, holder, renewed, takes}
-use Rattle.node_cell.proofs.Lists.{all_at, all_map, all_set, all_unmap, each_set, get_front, get_seam, get_set_other, get_set_same, holder_one}
-use Rattle.node_cell.proofs.Lists.{sits, sum_more, sum_small}
-use Rattle.node_cell.proofs.Routers.{run_stays}
+use Rattle.node_cell.specs.Courses.{NodeFacts, Course, Fits, Goes, Has, Holds, IsCalm, IsCalmAt, IsStepOn, Saw, WasSent, view_by}
+use Rattle.node_cell.specs.Standing.{IsKnown, MayTake}
+use Rattle.node_cell.specs.Views.{Given, after_steps, holder, mail_of, next_number, renewed, taken_from, takes, told_from, view_of}
+use Rattle.node_cell.proofs.Lists.{all_at, all_map, all_set, each_set, get_set_other, get_set_same, holder_one}
+use Rattle.node_cell.proofs.Lists.{sum_more, sum_small}
+use Rattle.node_cell.proofs.Routers.{happens_stays, run_stays}
+use Rattle.node_cell.proofs.Events.{event_of, holder_alone, sent_on, part_seen, saw_more, still_saw, now_saw}
 
--- WHAT WAS SEEN
-
--- a reply is what is put for one of these answers
-record IsPutIn (answered : List Answered) (now : ℕ) (r : ToLink) : Type 0 where
-  which : ℕ
-  answer : Answered
-  here : slice_get answered which ≡ Some answer
-  step : answer.step ≡ now
-  put : puts_given (answer ∷ []) ≡ r ∷ []
-
-abbrev answer_by : (now : ℕ) → Reply → Answered
-answer_by now r = record { id = r.id; link = r.link; number = r.number; request = r.request; step = now; time = r.time; document = r.document }
-
-abbrev link_by : Reply → ToLink
-link_by r = record { link = r.link; bytes = put_by r }
-
-put_more : (now : ℕ) (before : List Answered) (r : Reply) (more : List Answered) (puts : List ToLink)
-    → AllByRecursion (λ x. IsPutIn (before ++ answer_by now r ∷ more) now x) puts → (silent : Bool) → r.request.more ≡ silent
-    → AllByRecursion (λ x. IsPutIn (before ++ answer_by now r ∷ more) now x) (if silent then puts else link_by r ∷ puts)
-put_more now before r more puts rest true is = rest
-put_more now before r more puts rest false is = (
-  record {
-    which = length before;
-    answer = answer_by now r;
-    here = get_seam before (answer_by now r) more;
-    step = refl;
-    put = ap (λ (c : Bool). if c then [] else link_by r ∷ []) is;
-  },
-  rest,
-)
-
-puts_in : (now : ℕ) (before : List Answered) (replies : List Reply)
-    → AllByRecursion (λ x. IsPutIn (before ++ answered_by now replies) now x) (puts_of replies)
-puts_in now before [] = tt
-puts_in now before (r ∷ replies) =
-    let all : (before ++ answer_by now r ∷ []) ++ answered_by now replies ≡ before ++ answer_by now r ∷ answered_by now replies =
-    append_assoc before (answer_by now r ∷ []) (answered_by now replies) in
-    put_more now before r (answered_by now replies) (puts_of replies)
-    (subst (λ (l : List Answered). AllByRecursion (λ x. IsPutIn l now x) (puts_of replies)) all (puts_in now (before ++ answer_by now r ∷ []) replies))
-    r.request.more refl
-
--- an event stays a step on its input while more messages are sent
-still_on : (w v : World) (mail : List Letter) → v.sent ≡ w.sent ++ mail → (e : Event) (at : ℕ) (i : Input) → IsStepOn w e at i → IsStepOn v e at i
-still_on w v mail more (client_event to link number request) at i on = on
-still_on w v mail more (deliver_event to which) at i (there, (m, got, is)) =
-    (there, (m, ap (λ (l : List Letter). slice_get l which) more ∙ get_front w.sent mail which m got, is))
-still_on w v mail more (moment_event to moment) at i on = on
-still_on w v mail more (opened_event to) at i on = on
-
--- an event that a step on an input is
-pub record KnownEvent (w : World) (at : ℕ) (i : Input) : Type 0 where
-  pub event : Event
-  pub is : IsEvent w at i event
-  pub on : IsStepOn w event at i
-
-pub event_of : (routers : ℕ) (w : World) (at : ℕ) (seen : List Letter) → AllByRecursion (λ m. WasSent w m) seen → (routers ≤ at → IsRouter w.nodes at)
-    → (i : Input) → IsKnown routers seen at i → KnownEvent w at i
-event_of routers w at seen all router (client_input link number request) known = record {
-  event = client_event at link number request;
-  is = λ v moves. comes w v at link number request (router known) moves;
-  on = (refl, refl);
-}
-event_of routers w at seen all router (letter_input m) known =
-    let sent : WasSent w m = all_at (λ m. WasSent w m) seen known.1.0 m known.1.1 all in
-    record {
-      event = deliver_event at sent.0;
-      is = λ v moves. delivers w v at sent.0 m sent.1 known.0 moves;
-      on = (refl, (m, sent.1, refl));
-    }
-event_of routers w at seen all router (moment_input moment) known = record {
-  event = moment_event at moment;
-  is = λ v moves. passes w v at moment moves;
-  on = (refl, refl);
-}
-event_of routers w at seen all router opened_input known = record {
-  event = opened_event at;
-  is = λ v moves. was_opened w v at moves;
-  on = (refl, refl);
-}
-
-pub holder_alone : {S : Type 0} (k : ℕ) (s : S) (held : List (ℕ × S)) → held ≡ (k, s) ∷ [] → holder k held ≡ Some s
-holder_alone {S} k s held is =
-    let here : holder k ((k, s) ∷ []) ≡ Some s = grind (arith, nat_tests) in
-    ap (λ (l : List (ℕ × S)). holder k l) is ∙ here
-
-module _ {N L M I : Type 0} (f : NodeFacts N L M I) (first : ℕ) (events : List Event) (e : Event) (w v : World) (mail : List Letter) (more : List Answered)
-    (sent : v.sent ≡ w.sent ++ mail) (answered : v.answered ≡ w.answered ++ more) where
-  still_sent : (m : Letter) → WasSent w m → WasSent v m
-  still_sent m s = (s.0, ap (λ (l : List Letter). slice_get l s.0) sent ∙ get_front w.sent mail s.0 m s.1)
-
-  still_told : (r : ℕ × ToLink) → WasTold first w r → WasTold first v r
-  still_told r t = record {
-    which = t.which;
-    answer = t.answer;
-    here = ap (λ (l : List Answered). slice_get l t.which) answered ∙ get_front w.answered more t.which t.answer t.here;
-    step = t.step;
-    put = t.put;
-  }
-
-  still_taken : (t : Taken I) → WasTaken f.meaning events w t → WasTaken f.meaning (events ++ e ∷ []) v t
-  still_taken t was = record {
-    event = was.event;
-    here = get_front events (e ∷ []) t.number was.event was.here;
-    is = still_on w v mail sent was.event t.at (f.meaning t.input) was.is;
-  }
-
-  pub still_saw : (u : View N L M I) → Saw f first events w u → Saw f first (events ++ e ∷ []) v u
-  still_saw u s = record {
-    seen = all_weaken (λ m. WasSent w (f.letter m)) (λ m. WasSent v (f.letter m)) u.seen (λ m x. still_sent (f.letter m) x) s.seen;
-    told = all_weaken (λ r. WasTold first w r) (λ r. WasTold first v r) u.told still_told s.told;
-    taken = all_weaken (λ t. WasTaken f.meaning events w t) (λ t. WasTaken f.meaning (events ++ e ∷ []) v t) u.taken still_taken s.taken;
-  }
-
-  -- what the step itself gave out
-  pub now_saw : (u : View N L M I) (g : Given N L M I) (replies : List Reply) → Saw f first events w u → mail ≡ map f.letter g.mail
-      → g.replies ≡ puts_of replies → more ≡ answered_by w.now replies → w.now ≡ first + length events → IsStepOn w e g.at (f.meaning g.input)
-      → Saw f first (events ++ e ∷ []) v (after_step g (length events) u)
-  now_saw u g replies s out told by now on =
-      let were = still_saw u s in
-      let all_sent : v.sent ≡ w.sent ++ map f.letter g.mail = sent ∙ ap (λ (l : List Letter). w.sent ++ l) out in
-      let all_answered : v.answered ≡ w.answered ++ answered_by w.now replies = answered ∙ ap (λ (l : List Answered). w.answered ++ l) by in
-      let puts : AllByRecursion (λ r. IsPutIn (w.answered ++ answered_by w.now replies) w.now r) g.replies =
-      subst (λ (l : List ToLink). AllByRecursion (λ r. IsPutIn (w.answered ++ answered_by w.now replies) w.now r) l) (sym told) (puts_in w.now w.answered replies) in
-      record {
-        seen = all_append (λ m. WasSent v (f.letter m)) u.seen g.mail were.seen
-            (all_unmap f.letter (λ m. WasSent v m) g.mail
-            (subst (λ (l : List Letter). AreAmong (map f.letter g.mail) l) (sym all_sent) (sits w.sent (map f.letter g.mail))));
-        told = all_append (λ r. WasTold first v r) u.told (map (λ r. (length events, r)) g.replies) were.told
-            (all_map (λ r. (length events, r)) (λ r. WasTold first v r) g.replies
-            (all_weaken (λ r. IsPutIn (w.answered ++ answered_by w.now replies) w.now r) (λ r. WasTold first v (length events, r))
-            g.replies (λ r p. record {
-              which = p.which;
-              answer = p.answer;
-              here = ap (λ (l : List Answered). slice_get l p.which) all_answered ∙ p.here;
-              step = p.step ∙ now;
-              put = p.put;
-            }) puts));
-        taken = all_append (λ t. WasTaken f.meaning (events ++ e ∷ []) v t) u.taken (record { number = length events; at = g.at; input = g.input } ∷ []) were.taken
-            (record { event = e; here = get_seam events e []; is = still_on w v mail sent e g.at (f.meaning g.input) on }, tt);
-      }
-
--- THE STEP
+-- ONE STEP
 
 module _ {N L M I : Type 0} (f : NodeFacts N L M I) (since : Since L) (first : World) (c : Course) (e : Event) (v : World) (at : ℕ) (i : Input)
     (moves : Moves c.world at i v) (happens : Happens c.world e v) where
-  abbrev next_course : ℕ → Course
-  next_course count = record { events = c.events ++ e ∷ []; world = v; owner = c.owner; counts = set c.counts at count }
+  -- what it saw
+  saw_on : (u : View N L M I) → Saw f first.now c.events c.world u → Saw f first.now (c.events ++ e ∷ []) v u
+  saw_on u saw =
+      still_saw f first.now c.events e c.world v moves.f.mail (answered_by c.world.now moves.f.replies) (ap (λ (x : World). x.sent) moves.then)
+      (ap (λ (x : World). x.answered) moves.then) u saw
 
   -- of another pass
-  still_fits : (count id j : ℕ) (u : View N L M I) → c.owner at ≡ id → j ≢ id → Fits f since first.now c j u → Fits f since first.now (next_course count) j u
-  still_fits count id j u mine apart fit = record {
+  still_fits : (id j : ℕ) (u : View N L M I) → c.owner at ≡ id → j ≢ id → Fits f since first.now c j u
+      → Fits f since first.now (record { events = c.events ++ e ∷ []; world = v; owner = c.owner; counts = c.counts }) j u
+  still_fits id j u mine apart fit = record {
     held = λ k s got.
         let has = fit.held k s got in
         let other : k ≢ at = λ (same : k ≡ at). apart (sym has.mine ∙ (ap c.owner same ∙ mine)) in
@@ -198,85 +58,205 @@ module _ {N L M I : Type 0} (f : NodeFacts N L M I) (since : Since L) (first : W
             leaves = leaves_on f.facts since s.log k c.world v has.stands.leaves (leads_by e c.world v happens);
           };
           calm = has.calm;
-          count = get_set_other c.counts at k count other ∙ has.count;
+          count = has.count;
         };
-    saw = still_saw f first.now c.events e c.world v moves.f.mail (answered_by c.world.now moves.f.replies) (ap (λ (x : World). x.sent) moves.then)
-        (ap (λ (x : World). x.answered) moves.then) u fit.saw;
+    saw = saw_on u fit.saw;
   }
+
+-- MANY STEPS
+
+-- the events lead from the first world to the last, and there are so many of them
+record IsUpTo (first : World) (many : ℕ) (events : List Event) (w : World) : Type 0 where
+  run : Run first events w
+  now : w.now ≡ first.now + length events
+  nodes : length w.nodes ≡ many
+
+-- these steps of the node at a place were taken, which a pass with this number has: one event each
+record Gone {N L M I : Type 0} (f : NodeFacts N L M I) (since : Since L) (first : World) (many at id : ℕ) (c : Course) (parts : List (Part M I)) (w : World) : Type 0 where
+  events : List Event
+  way : LeadsTo c.world w
+  long : length events ≡ length c.events + length parts
+  is : IsUpTo first many events w
+  still : (u : View N L M I) → Saw f first.now c.events c.world u → Saw f first.now events w u
+  others : (j : ℕ) (u : View N L M I) → j ≢ id → Fits f since first.now c j u
+      → Fits f since first.now (record { events = events; world = w; owner = c.owner; counts = c.counts }) j u
+  saw : Saw f first.now events w (view_of [] (mail_of parts) (told_from (length c.events) parts) (taken_from (length c.events) at parts))
+
+module _ {N L M I : Type 0} (f : NodeFacts N L M I) (routers many : ℕ) (since : Since L) (first : World) (at id : ℕ) (owner : ℕ → ℕ) (counts : List ℕ)
+    (mine : owner at ≡ id) (seen : List Letter) where
+  abbrev course : List Event → World → Course
+  course events w = record { events = events; world = w; owner = owner; counts = counts }
+
+  none_gone : (events : List Event) (u : World) → IsUpTo first many events u → Gone f since first many at id (course events u) [] u
+  none_gone events u is = record {
+    events = events;
+    way = leads_nowhere u;
+    long = omega arith;
+    is = is;
+    still = λ x saw. saw;
+    others = λ j x apart fit. fit;
+    saw = record { seen = tt; told = tt; taken = tt };
+  }
+
+  -- after the first of them
+  abbrev then_on : List Event → Event → World → Course
+  then_on events e v = course (events ++ e ∷ []) v
+
+  one_up : (events : List Event) (u v : World) (i : Input) (e : Event) → IsUpTo first many events u → Moves u at i v → Happens u e v
+      → IsUpTo first many (events ++ e ∷ []) v
+  one_up events u v i e is m happens =
+      let long : length (events ++ e ∷ []) ≡ length events + 1 = length-append events (e ∷ []) in
+      let tick : v.now ≡ u.now + 1 = ap (λ (x : World). x.now) m.then in
+      record {
+        run = run_then first events u (e ∷ []) v is.run (goes u v v e [] happens (stands v));
+        now = omega (arith, tick, long, is.now);
+        nodes = ap (λ (x : World). length x.nodes) m.then
+            ∙ (length-set u.nodes at (record { state = m.new; kept = m.old.kept ++ m.f.written }) ∙ is.nodes);
+      }
+
+  more_gone : (events : List Event) (u v w : World) (p : Part M I) (parts : List (Part M I)) (m : Moves u at (f.meaning p.input.value) v) (e : Event)
+      → Happens u e v → IsStepOn u e at (f.meaning p.input.value) → m.f.mail ≡ map f.letter p.outputs.mail → p.outputs.replies ≡ puts_of m.f.replies
+      → IsUpTo first many events u → length events + 1 < 2 ^ 64 → Gone f since first many at id (then_on events e v) parts w
+      → Gone f since first many at id (course events u) (p ∷ parts) w
+  more_gone events u v w p parts m e happens on sent told is short rest =
+      let long : length (events ++ e ∷ []) ≡ length events + 1 = length-append events (e ∷ []) in
+      let next : length (events ++ e ∷ []) ≡ next_number (length events) = long ∙ sym (mod-eq_of_lt short) in
+      let c = course events u in
+      let now = now_saw f first.now events e u v m.f.mail (answered_by u.now m.f.replies) (ap (λ (x : World). x.sent) m.then)
+      (ap (λ (x : World). x.answered) m.then) at p m.f.replies sent told refl is.now on in
+      record {
+        events = rest.events;
+        way = leads_on u v w (leads_by e u v happens) rest.way;
+        long = omega (arith, long, rest.long);
+        is = rest.is;
+        still = λ x saw. rest.still x (saw_on f since first c e v at (f.meaning p.input.value) m happens x saw);
+        others = λ j x apart fit. rest.others j x apart (still_fits f since first c e v at (f.meaning p.input.value) m happens id j x mine apart fit);
+        saw = saw_more f first.now rest.events w [] (part_seen (length events) at p)
+            (view_of [] (mail_of parts) (told_from (next_number (length events)) parts) (taken_from (next_number (length events)) at parts))
+            (rest.still (part_seen (length events) at p) now)
+            (subst (λ (k : ℕ). Saw f first.now rest.events w (view_of [] (mail_of parts) (told_from k parts) (taken_from k at parts))) next rest.saw);
+      }
+
+  -- all that were given are known, and so each is an event
+  all_gone : (parts : List (Part M I)) (events : List Event) (u w : World) → IsUpTo first many events u → length events + length parts < 2 ^ 64
+      → (routers ≤ at → IsRouter u.nodes at)
+      → AllByRecursion (λ m. WasSent u m) seen → AllByRecursion (λ (p : Part M I). IsKnown routers seen at (f.meaning p.input.value)) parts
+      → MovesAll at u (parts_of f.letter f.meaning parts) w → Gone f since first many at id (course events u) parts w
+  all_gone [] events u _ is short router sent known (moves_none _) = none_gone events u is
+  all_gone (p ∷ parts) events u w is short router sent known (moves_on _ v _ _ _ m mail replies rest) =
+      let k = event_of routers u at seen sent router (f.meaning p.input.value) known.0 in
+      let happens : Happens u k.event v = k.is v m in
+      let long : length (events ++ k.event ∷ []) ≡ length events + 1 = length-append events (k.event ∷ []) in
+      more_gone events u v w p parts m k.event happens k.on mail replies is (omega (arith, short))
+      (all_gone parts (events ++ k.event ∷ []) v w (one_up events u v (f.meaning p.input.value) k.event is m happens) (omega (arith, short, long))
+      (λ far. happens_stays u v k.event at happens (router far))
+      (all_weaken (λ x. WasSent u x) (λ x. WasSent v x) seen (λ x was. sent_on u v m.f.mail (ap (λ (y : World). y.sent) m.then) x was) sent) known.1 rest)
+
+-- the same of steps by the definitions, of which only the run is said
+pub moves_run : (routers at : ℕ) (u : World) (parts : List PartOf) (w : World) (seen : List Letter) → MovesAll at u parts w
+    → AllByRecursion (λ m. WasSent u m) seen → (routers ≤ at → IsRouter u.nodes at)
+    → AllByRecursion (λ (p : PartOf). IsKnown routers seen at p.input) parts → (events : List Event) × Run u events w
+moves_run routers at _ _ _ seen (moves_none w) sent router known = ([], stands w)
+moves_run routers at _ _ _ seen (moves_on u v w p parts m mail replies more) sent router known =
+    let k = event_of routers u at seen sent router p.input known.0 in
+    let happens : Happens u k.event v = k.is v m in
+    let rest = moves_run routers at v parts w seen more
+    (all_weaken (λ x. WasSent u x) (λ x. WasSent v x) seen (λ x was. sent_on u v m.f.mail (ap (λ (y : World). y.sent) m.then) x was) sent)
+    (λ far. happens_stays u v k.event at happens (router far)) known.1 in
+    (k.event ∷ rest.0, goes u v w k.event rest.0 happens rest.1)
 
 still_calm : {L : Type 0} (facts : LogFacts L) (firsts : List L) (at : ℕ) (old new : L) → IsCalmAt facts firsts at old → IsCalm facts old new
     → IsCalmAt facts firsts at new
 still_calm facts firsts at old new was is =
     record { first = was.first; here = was.here; calm = record { place = is.place ∙ was.calm.place; faults = is.faults ∙ was.calm.faults } }
 
+-- another pass, while the count of a node that it has not changes
+recounted : {N L M I : Type 0} (f : NodeFacts N L M I) (since : Since L) (first : ℕ) (c : Course) (at id count j : ℕ) (u : View N L M I) → c.owner at ≡ id
+    → j ≢ id → Fits f since first c j u
+    → Fits f since first (record { events = c.events; world = c.world; owner = c.owner; counts = set c.counts at count }) j u
+recounted f since first c at id count j u mine apart fit = record {
+  held = λ k s got.
+      let has = fit.held k s got in
+      let other : k ≢ at = λ (same : k ≡ at). apart (sym has.mine ∙ (ap c.owner same ∙ mine)) in
+      record { mine = has.mine; stands = has.stands; calm = has.calm; count = get_set_other c.counts at k count other ∙ has.count };
+  saw = fit.saw;
+}
+
 module _ {N L M I : Type 0} (f : NodeFacts N L M I) (routers nodes : ℕ) (since : Since L) (first : World)
     (there : (at : ℕ) → routers ≤ at → at < nodes → IsRouter first.nodes at) where
   pub goes_on : (s : State ⊤ (View N L M I)) (id : ℕ) (v : View N L M I) (g : Given N L M I) → MayTake f routers v g → Goes f since first nodes s
       → get_elem? s.views id ≡ some v
       → Goes f since first nodes
-      (record { words = slice_set s.words 0 ((slice_index s.words 0 + 1) % 2 ^ 64); homes = s.homes; views = slice_set s.views id (after_step g (slice_index s.words 0) v) })
+      (record { words = slice_set s.words 0 ((slice_index s.words 0 + length g.parts) % 2 ^ 64); homes = s.homes; views = slice_set s.views id (after_steps g (slice_index s.words 0) v) })
   goes_on s id v g may h here =
       let c = h.course in
       let mine = h.fits id v here in
       let has : Has f since c id g.at may.old = mine.held g.at may.old (holder_alone g.at may.old v.held may.held) in
-      let step : StepsAt (view_by f since g.new) c.world g.at (f.meaning g.input) (map f.letter g.mail) g.replies = may.steps since c.world has.stands in
+      let step : TakesAll (view_by f since g.new) c.world g.at (parts_of f.letter f.meaning g.parts) = may.steps since c.world has.stands in
       let inside : g.at < length c.world.nodes = slice_get_within c.world.nodes g.at has.stands.held has.stands.here in
-      let known = event_of routers c.world g.at (map f.letter v.seen) (all_map f.letter (λ m. WasSent c.world m) v.seen mine.saw.seen)
-      (λ far. run_stays first c.events c.world g.at h.is.run (there g.at far (omega (arith, inside, h.is.nodes)))) (f.meaning g.input) may.known in
-      let e = known.event in
       let w = step.end in
-      let happens : Happens c.world e w = known.is w step.moves in
       let count = f.steps g.new.node in
-      let course = next_course f since first c e w g.at (f.meaning g.input) step.moves happens count in
       let found : slice_index s.words 0 ≡ length c.events = ap (λ (ws : List ℕ). slice_index ws 0) h.is.word in
-      let small = sum_small c.counts h.is.small in
-      let some_more = sum_more c.counts g.at (f.steps may.old.node) count has.count may.more in
-      let long : length (c.events ++ e ∷ []) ≡ length c.events + 1 = length-append c.events (e ∷ []) in
-      let short : length c.events + 1 < 2 ^ 64 = omega (arith, h.is.counted, h.is.few, small) in
-      let number : (slice_index s.words 0 + 1) % 2 ^ 64 ≡ length (c.events ++ e ∷ []) = ap (λ (k : ℕ). (k + 1) % 2 ^ 64) found ∙ (mod-eq_of_lt short ∙ sym long) in
-      let tick : w.now ≡ c.world.now + 1 = ap (λ (x : World). x.now) step.moves.then in
+      let below = may.below (all_at (λ n. n < 2 ^ 56) c.counts g.at (f.steps may.old.node) has.count h.is.small) in
+      let all_small = all_set (λ n. n < 2 ^ 56) c.counts g.at count below h.is.small in
+      let small = sum_small (set c.counts g.at count) all_small in
+      let same_long = length-set c.counts g.at count in
+      let some_more = sum_more c.counts g.at (f.steps may.old.node) count (length g.parts) has.count may.more in
+      let short : length c.events + length g.parts < 2 ^ 64 = omega (arith, h.is.counted, h.is.few, small, some_more, same_long) in
+      let gone = all_gone f routers nodes since first g.at id c.owner c.counts has.mine (map f.letter v.seen) g.parts c.events c.world step.end
+      (record { run = h.is.run; now = h.is.now; nodes = h.is.nodes }) short
+      (λ far. run_stays first c.events c.world g.at h.is.run (there g.at far (omega (arith, inside, h.is.nodes))))
+      (all_map f.letter (λ m. WasSent c.world m) v.seen mine.saw.seen) may.known step.moves in
+      let course : Course = record { events = gone.events; world = w; owner = c.owner; counts = set c.counts g.at count } in
+      let number : (slice_index s.words 0 + length g.parts) % 2 ^ 64 ≡ length gone.events =
+      ap (λ (k : ℕ). (k + length g.parts) % 2 ^ 64) found ∙ (mod-eq_of_lt short ∙ sym gone.long) in
       record {
         course = course;
         is = record {
-          run = run_then first c.events c.world (e ∷ []) w h.is.run (goes c.world w w e [] happens (stands w));
-          now = omega (arith, tick, long, h.is.now);
-          word = ap (λ (ws : List ℕ). set ws 0 ((slice_index s.words 0 + 1) % 2 ^ 64)) h.is.word ∙ ap (λ (k : ℕ). k ∷ []) number;
-          nodes = ap (λ (x : World). length x.nodes) step.moves.then
-              ∙ (length-set c.world.nodes g.at (record { state = step.moves.new; kept = step.moves.old.kept ++ step.moves.f.written }) ∙ h.is.nodes);
-          few = omega (arith, h.is.few, length-set c.counts g.at count);
-          small = all_set (λ n. n < 2 ^ 56) c.counts g.at count may.below h.is.small;
-          counted = omega (arith, h.is.counted, some_more, long);
+          run = gone.is.run;
+          now = gone.is.now;
+          word = ap (λ (ws : List ℕ). set ws 0 ((slice_index s.words 0 + length g.parts) % 2 ^ 64)) h.is.word ∙ ap (λ (k : ℕ). k ∷ []) number;
+          nodes = gone.is.nodes;
+          few = omega (arith, h.is.few, same_long);
+          small = all_small;
+          counted = omega (arith, h.is.counted, some_more, gone.long);
         };
-        fits = each_set (Fits f since first.now course) s.views id (after_step g (slice_index s.words 0) v)
-            (λ j u apart got. still_fits f since first c e w g.at (f.meaning g.input) step.moves happens count id j u has.mine apart (h.fits j u got))
-            (subst (λ (k : ℕ). Fits f since first.now course id (after_step g k v)) (sym found)
+        fits = each_set (Fits f since first.now course) s.views id (after_steps g (slice_index s.words 0) v)
+            (λ j u apart got. recounted f since first.now (record { events = gone.events; world = w; owner = c.owner; counts = c.counts }) g.at id count j u
+            has.mine apart (gone.others j u apart (h.fits j u got)))
+            (subst (λ (k : ℕ). Fits f since first.now course id (after_steps g k v)) (sym found)
             (record {
               held = λ k t got.
                   let one = holder_one g.at k g.new t (sym (ap (λ (l : List (ℕ × Seat N L)). holder k (renewed l g.new)) may.held) ∙ got) in
                   subst (λ (x : ℕ × Seat N L). Has f since course id x.0 x.1) (λ i. (one.0 i, one.1 i))
                   (record {
                     mine = has.mine;
-                    stands = record { held = step.held; here = step.here; is = step.is; leaves = step.crashes e known.is };
+                    stands = record { held = step.held; here = step.here; is = step.is; leaves = step.crashes gone.way };
                     calm = still_calm f.facts since.logs g.at may.old.log g.new.log has.calm may.calm;
                     count = get_set_same c.counts g.at count (f.steps may.old.node) has.count;
                   });
-              saw = now_saw f first.now c.events e c.world w step.moves.f.mail (answered_by c.world.now step.moves.f.replies)
-                  (ap (λ (x : World). x.sent) step.moves.then) (ap (λ (x : World). x.answered) step.moves.then) v g step.moves.f.replies mine.saw step.sent
-                  step.told refl h.is.now known.on;
+              saw = saw_more f first.now gone.events w (renewed v.held g.new) v
+                  (view_of [] (mail_of g.parts) (told_from (length c.events) g.parts) (taken_from (length c.events) g.at g.parts)) (gone.still v mine.saw) gone.saw;
             }));
       }
 
 module _ {N L M I : Type 0} (f : NodeFacts N L M I) (routers : ℕ) (start : List (Seat N L)) where
-  -- a step that is given keeps the rule, with the number that word 0 is found to be
-  pub may_take : (slots id : ℕ) (me : Me ⊤ (View N L M I)) (told_step : Option (Given N L M I)) (g : Given N L M I) (shown : TableStep ⊤)
-      → told_step ≡ Some g → MayTake f routers me.0 g
-      → Allows {S = ⊤} (Holds f routers start) slots id me 0 (λ k. (k + 1) % 2 ^ 64) (takes told_step shown me)
-  may_take slots id me told_step g shown is may s holds sized here fits64 = (
-    after_step g (slice_index s.words 0) me.0,
+  -- steps that are given keep the rule, with the number that word 0 is found to be, and those after it
+  pub may_take : (slots id : ℕ) (me : Me ⊤ (View N L M I)) (told_step : Option (Given N L M I)) (g : Given N L M I) (many : ℕ) (shown : TableStep ⊤)
+      → told_step ≡ Some g → many ≡ length g.parts → MayTake f routers me.0 g
+      → Allows {S = ⊤} (Holds f routers start) slots id me 0 (λ k. (k + many) % 2 ^ 64) (takes told_step shown me)
+  may_take slots id me told_step g many shown is long may s holds sized here fits64 = (
+    after_steps g (slice_index s.words 0) me.0,
     keeps,
     tt,
-    λ since first opened. goes_on f routers (length start) since first
+    λ since first opened.
+        subst (λ (n : ℕ). Goes f since first (length start) (record {
+          words = slice_set s.words 0 ((slice_index s.words 0 + n) % 2 ^ 64);
+          homes = s.homes;
+          views = slice_set s.views id (after_steps g (slice_index s.words 0) me.0);
+        })) (sym long)
+        (goes_on f routers (length start) since first
         (λ at far inside. opened.are_routers at far (omega (arith, inside, held_len (view_by f since) start first.nodes opened.nodes)))
-        s id me.0 g may (holds since first opened) here,
-    subst (λ (o : Option (Given N L M I)). takes o shown me (slice_index s.words 0) (after_step g (slice_index s.words 0) me.0, me.1)) (sym is) refl,
+        s id me.0 g may (holds since first opened) here),
+    subst (λ (o : Option (Given N L M I)). takes o shown me (slice_index s.words 0) (after_steps g (slice_index s.words 0) me.0, me.1)) (sym is) refl,
   )

@@ -1,5 +1,6 @@
 pub mod Views
 pub mod Courses
 pub mod Standing
+pub mod Deliveries
 pub use Rattle.driver_steps.specs.OneSeat
 pub use Rattle.driver_steps.specs.Seats

@@ -1,25 +1,26 @@
 -- A node under its lock, with the pass that knows it; and what is known of all once their locks are gone (own).
-use Rattle.std.specs.Prelude.{◌≡◌, ℕ, ◌+◌, ◌<◌, ◌≤◌, ◌^◌, IsTrue, List, [], ◌∷◌, map, MatchOption, Option, Some, None}
+use Rattle.std.specs.Prelude.{◌≡◌, ℕ, ◌+◌, ◌<◌, ◌≤◌, ◌^◌, IsTrue, List, [], ◌∷◌, length, map, MatchOption, Some}
 use Rattle.std.specs.List.{slice_get, AllByRecursion}
 use Rattle.atomic_table.specs.Seated.{TableId}
 use Rattle.node_model.specs.Letters.{Letter, Input, client_input, letter_input, moment_input, opened_input}
-use Rattle.node_model.specs.World.{World, Event, Run}
-use Rattle.node_traits.specs.declared.outputs.StepFault.{StepFault}
-use Rattle.node_traits.specs.declared.outputs.StepFault.TheVariants.{Disk, Steps, Memory}
+use Rattle.node_model.specs.World.{Held, World, Event, Run}
 use Rattle.node_traits.specs.declared.outputs.ToLink.{ToLink}
 use Rattle.driver_steps.specs.declared.seat.Seat.{Seat}
 use Rattle.driver_steps.specs.Crashes.{Since}
-use Rattle.driver_steps.specs.Moves.{IsEvent}
+use Rattle.driver_steps.specs.Seats.{Keeps}
 use Rattle.outside.specs.Logs.{LogFacts}
-use Rattle.driver_steps.specs.OneSeat.{BreaksAt, NamesFault, StandsAt, StepsAt}
+use Rattle.driver_steps.specs.OneSeat.{NamesFault, StandsAt}
+use Rattle.group_steps.specs.Groups.{Part, BreaksAll, TakesAll}
+use Rattle.group_steps.specs.Parts.{Among, parts_of}
+use Rattle.group_steps.specs.declared.fault.GroupFault.{GroupFault}
+use Rattle.group_steps.specs.declared.fault.GroupFault.TheVariants.{Disk as disk_failed, Memory as no_memory}
+use Rattle.node_cell.specs.declared.view.Halt.{Halt}
+use Rattle.node_cell.specs.declared.view.Halt.TheVariants.{Disk, Memory}
 use Rattle.node_cell.specs.declared.view.Placed.{Placed}
 use Rattle.node_cell.specs.declared.view.Taken.{Taken}
 use Rattle.node_cell.specs.declared.view.View.{View}
 use Rattle.node_cell.specs.Views.{Given}
 use Rattle.node_cell.specs.Courses.{IsCalm, IsCalmAt, NodeFacts, OpenedAs, Saw, view_by}
-
-abbrev pub Among : {A : Type 0} → A → List A → Type 0
-Among x all = (which : ℕ) × (slice_get all which ≡ Some x)
 
 -- a request comes to a router, and a message to its receiver, after it was seen sent
 abbrev pub IsKnown : (routers : ℕ) → (seen : List Letter) → (at : ℕ) → Input → Type 0
@@ -28,22 +29,22 @@ IsKnown routers seen at (letter_input m) = (m.receiver ≡ at) × Among m seen
 IsKnown routers seen at (moment_input moment) = Unit {0}
 IsKnown routers seen at opened_input = Unit {0}
 
--- a pass with this view may take the step that is given
+-- a pass with this view may take the steps that are given
 pub record MayTake {N L M I : Type 0} (f : NodeFacts N L M I) (routers : ℕ) (v : View N L M I) (g : Given N L M I) : Type 0 where
   pub old : Seat N L
   pub held : v.held ≡ (g.at, old) ∷ []
   pub steps : (since : Since L) (w : World) → StandsAt (view_by f since old) w g.at
-      → StepsAt (view_by f since g.new) w g.at (f.meaning g.input) (map f.letter g.mail) g.replies
-  pub more : f.steps old.node + 1 ≤ f.steps g.new.node
-  pub below : f.steps g.new.node < 2 ^ 56
+      → TakesAll (view_by f since g.new) w g.at (parts_of f.letter f.meaning g.parts)
+  pub more : f.steps old.node + length g.parts ≤ f.steps g.new.node
+  pub below : f.steps old.node < 2 ^ 56 → f.steps g.new.node < 2 ^ 56
   pub calm : IsCalm f.facts old.log g.new.log
-  pub known : IsKnown routers (map f.letter v.seen) g.at (f.meaning g.input)
+  pub known : AllByRecursion (λ p. IsKnown routers (map f.letter v.seen) g.at (f.meaning p.input.value)) g.parts
 
--- the node is in this state, and has this log, to which records can be appended; a step that met a fault may have been counted
+-- the node is in this state and took so many steps, and has this log, to which records can be appended
 pub record IsAsKnown {N L M I : Type 0} (f : NodeFacts N L M I) (old seat : Seat N L) : Type 0 where
   pub state : f.state old.node ≡ f.state seat.node
   pub log : old.log ≡ seat.log
-  pub steps : f.steps old.node ≤ f.steps seat.node
+  pub steps : f.steps old.node ≡ f.steps seat.node
   pub is_open : IsTrue (f.facts.is_open seat.log)
 
 -- the count of faults of a log's disk rose to this number since then
@@ -51,16 +52,21 @@ pub record HasFailed {L : Type 0} (facts : LogFacts L) (faults : ℕ) (first log
   pub place : facts.place log ≡ facts.place first
   pub rose : NamesFault faults (facts.fault_count first) (facts.fault_count log)
 
--- The disk failed in a step of the node at a place, which has no number.
-pub record IsHalted {N L M I : Type 0} (f : NodeFacts N L M I) (routers at : ℕ) (seen : List Letter) (faults : ℕ) (old seat : Seat N L) : Type 0 where
-  pub input : Input
-  pub known : IsKnown routers seen at input
+-- The disk failed as the records of steps of the node at a place were appended; these steps have no numbers.
+pub record IsBroken {N L M I : Type 0} (f : NodeFacts N L M I) (routers at : ℕ) (seen : List Letter) (faults : ℕ) (old seat : Seat N L) : Type 0 where
+  pub parts : List Part
+  pub known : AllByRecursion (λ (p : Part). IsKnown routers seen at p.input) parts
   pub failed : HasFailed f.facts faults old.log seat.log
-  pub breaks : (since : Since L) (w : World) → StandsAt (view_by f since old) w at → BreaksAt (view_by f since seat) w at input
+  pub breaks : (since : Since L) (w : World) → StandsAt (view_by f since old) w at → BreaksAll (view_by f since seat) w at parts
 
--- the node is as it was known, or its disk failed since
+-- The node takes no more steps: its disk failed, or memory ran out as records were to be appended. Then its log is as it was known.
+abbrev pub IsHalted : {N L M I : Type 0} → NodeFacts N L M I → (routers at : ℕ) → (seen : List Letter) → Halt → (old seat : Seat N L) → Type 0
+IsHalted f routers at seen (Disk faults) old seat = IsBroken f routers at seen faults old seat
+IsHalted f routers at seen Memory old seat = (seat.log ≡ old.log) × IsTrue (f.facts.is_open seat.log)
+
+-- the node is as it was known, or takes no more steps since
 abbrev pub IsKept : {N L M I : Type 0} → NodeFacts N L M I → (routers : ℕ) → (seen : List Letter) → Seat N L → Placed N L → Type 0
-IsKept f routers seen old p = MatchOption p.failed (IsAsKnown f old p.seat) (λ faults. IsHalted f routers p.at seen faults old p.seat)
+IsKept f routers seen old p = MatchOption p.halt (IsAsKnown f old p.seat) (λ halt. IsHalted f routers p.at seen halt old p.seat)
 
 -- the pass has this node alone
 pub record Sits {N L M I : Type 0} (f : NodeFacts N L M I) (routers : ℕ) (p : Placed N L) (v : View N L M I) : Type 0 where
@@ -68,11 +74,10 @@ pub record Sits {N L M I : Type 0} (f : NodeFacts N L M I) (routers : ℕ) (p : 
   pub held : v.held ≡ (p.at, old) ∷ []
   pub is : IsKept f routers (map f.letter v.seen) old p
 
--- the count of faults of a disk, where the fault is that of a disk
-abbrev pub faults_in : StepFault → Option ℕ
-faults_in (Disk faults) = Some faults
-faults_in Steps = None
-faults_in Memory = None
+-- why a node takes no more steps after the records of a group were not appended
+abbrev pub halt_by : GroupFault → Halt
+halt_by (disk_failed faults) = Disk faults
+halt_by no_memory = Memory
 
 -- these messages are among those that were seen
 abbrev pub AreSeen : {M : Type 0} → (M → Letter) → (seen mail : List M) → Type 0
@@ -88,19 +93,33 @@ pub record StaysAt {N L M I : Type 0} (f : NodeFacts N L M I) (since : Since L) 
   pub calm : IsCalmAt f.facts since.logs at seat.log
   pub is_open : IsTrue (f.facts.is_open seat.log)
 
--- A disk failed in a step of the node at a place that is one more event of the run; its records are stored or they are not.
+-- The log of the node at a place keeps what its journal stores, and its disk met no fault; of the node nothing is said.
+pub record KeepsAt {N L M I : Type 0} (f : NodeFacts N L M I) (since : Since L) (w : World) (at : ℕ) (seat : Seat N L) : Type 0 where
+  pub held : Held
+  pub here : slice_get w.nodes at ≡ Some held
+  pub keeps : Keeps (view_by f since seat) held.kept
+  pub leaves : (view_by f since seat).leaves at w
+  pub calm : IsCalmAt f.facts since.logs at seat.log
+  pub is_open : IsTrue (f.facts.is_open seat.log)
+
+-- A disk failed as the records of steps of the node at a place were appended, which are more events of the run; the records are stored or they are not.
 pub record StoppedAt {N L M I : Type 0} (f : NodeFacts N L M I) (since : Since L) (w : World) (at faults : ℕ) (seat : Seat N L) : Type 0 where
   pub first : L
   pub here : slice_get since.logs at ≡ Some first
   pub failed : HasFailed f.facts faults first seat.log
-  pub input : Input
-  pub event : Event
-  pub is : IsEvent w at input event
-  pub breaks : BreaksAt (view_by f since seat) w at input
+  pub parts : List Part
+  pub breaks : BreaksAll (view_by f since seat) w at parts
+  pub events : List Event
+  pub run : Run w events breaks.last
 
--- the node is at its place with its log, or its disk failed in one step more
+-- a node that takes no more steps
+abbrev pub EndsHalted : {N L M I : Type 0} → NodeFacts N L M I → Since L → World → (at : ℕ) → Halt → Seat N L → Type 0
+EndsHalted f since w at (Disk faults) seat = StoppedAt f since w at faults seat
+EndsHalted f since w at Memory seat = KeepsAt f since w at seat
+
+-- the node is at its place with its log, or takes no more steps
 abbrev pub Ends : {N L M I : Type 0} → NodeFacts N L M I → Since L → World → Placed N L → Type 0
-Ends f since w p = MatchOption p.failed (StaysAt f since w p.at p.seat) (λ faults. StoppedAt f since w p.at faults p.seat)
+Ends f since w p = MatchOption p.halt (StaysAt f since w p.at p.seat) (λ halt. EndsHalted f since w p.at halt p.seat)
 
 -- these are at the places from one on
 abbrev pub AreFrom : {N L : Type 0} → ℕ → List (Placed N L) → Type 0

@@ -1,15 +1,19 @@
 //! A node under its lock.
 
-ghost use Rattle.std.specs.Prelude.{◌≡◌, IfOk, IfSome};
-ghost use Rattle.node_model.specs.Letters.{client_input, letter_input, moment_input, opened_input};
+ghost use Rattle.std.specs.Prelude.{◌≡◌, map, IfOk, IfSome};
+ghost use Rattle.node_model.specs.Letters.{client_input, moment_input, opened_input};
+ghost use Rattle.node_cell.specs.Deliveries.{AreDeliveries};
 
+use crate::deliveries::{Delivered, prepare_all};
+use crate::fault::CellFault;
 use crate::guarded::Guarded;
 use crate::letter::{Letter, Stepped};
 use crate::numbers::Book;
 use crate::view::Numbering;
-use node_traits::{Mail, Node, StepFault};
+use node_traits::Node;
 use outside::log::Log;
 use std::alloc::Global;
+use std::collections::VecDeque;
 use std::marker::Sync;
 use std::sync::{Mutex, Wait};
 use std::thread::Threads;
@@ -30,18 +34,21 @@ impl<N: Node, L: Log, K: Numbering> Cell<N, L, K> {
     /// Passes a request of a link to the node; the number is that of its reply. `None` if the node is no router.
     ///
     /// # Errors
-    /// The fault of the step, or after `StepFault::Disk` that fault again: the node takes no more steps.
+    /// Why the step was not taken. After `CellFault::Halted` the node takes no more steps.
     pub fn ask<R: Wait>(
         &self,
         rt: &R,
+        alloc: Global,
         book: &Book<N, L, K>,
         link: u32,
         number: i32,
         request: N::Request,
-    ) -> Result<Option<Stepped<N, L, K>>, StepFault>
+    ) -> Result<Option<Stepped<N, L, K>>, CellFault>
         ensures { IfOk result (λ o. IfSome o (λ s. N.meaning s.taken.input ≡ client_input link number (N.asks request))) }
     {
-        self.guarded.lock(rt).ask(book, link, number, request)
+        self.guarded
+            .lock(rt)
+            .ask(alloc, book, link, number, request)
     }
 
     /// Advances the clock of the node to the moment, in milliseconds since 1970.
@@ -51,12 +58,13 @@ impl<N: Node, L: Log, K: Numbering> Cell<N, L, K> {
     pub fn give_moment<R: Wait>(
         &self,
         rt: &R,
+        alloc: Global,
         book: &Book<N, L, K>,
         moment: u64,
-    ) -> Result<Stepped<N, L, K>, StepFault>
+    ) -> Result<Stepped<N, L, K>, CellFault>
         ensures { IfOk result (λ s. N.meaning s.taken.input ≡ moment_input moment) }
     {
-        self.guarded.lock(rt).take(book, N::moment(moment))
+        self.guarded.lock(rt).take(alloc, book, N::moment(moment))
     }
 
     /// Reports to the node that it was opened.
@@ -66,30 +74,29 @@ impl<N: Node, L: Log, K: Numbering> Cell<N, L, K> {
     pub fn report_opening<R: Wait>(
         &self,
         rt: &R,
+        alloc: Global,
         book: &Book<N, L, K>,
-    ) -> Result<Stepped<N, L, K>, StepFault>
+    ) -> Result<Stepped<N, L, K>, CellFault>
         ensures { IfOk result (λ s. N.meaning s.taken.input ≡ opened_input) }
     {
-        self.guarded.lock(rt).take(book, N::opened())
+        self.guarded.lock(rt).take(alloc, book, N::opened())
     }
 
-    /// Delivers a message; what depends on it alone is computed before the lock is taken. `None` if the message goes to another node.
-    ///
-    /// # Errors
-    /// As `ask` has them.
+    /// Delivers those messages that go to the node, in order, until it can take no more steps. What depends on the messages alone is computed before the lock
+    /// is taken.
     pub fn deliver<R: Threads + Wait + Sync>(
         &self,
         rt: &R,
         alloc: Global,
         book: &Book<N, L, K>,
-        letter: Letter<N, L, K>,
-    ) -> Result<Option<Stepped<N, L, K>>, StepFault>
-        ensures { IfOk result (λ o. IfSome o (λ s. N.meaning s.taken.input ≡ letter_input (N.Mail.letter letter))) }
+        letters: VecDeque<Letter<N, L, K>>,
+    ) -> Delivered<N, L, K>
+        ensures { AreDeliveries N.meaning (map (λ m. N.Mail.letter m) letters.items) result.steps.items }
     {
-        let Letter { message, note } = letter;
-        let to = message.to().0 as u64;
-        let input = N::prepare(rt, alloc, message);
-        self.guarded.lock(rt).deliver(book, to, input, note)
+        match prepare_all(rt, alloc, letters) {
+            Ok(prepared) => self.guarded.lock(rt).deliver(alloc, book, prepared),
+            Err(_) => Delivered::nothing(alloc),
+        }
     }
 
     /// Returns the node at a place, once no thread has the lock. With a node at another place it waits forever, which never comes about.

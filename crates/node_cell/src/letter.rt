@@ -1,7 +1,9 @@
 //! Messages and replies, with notes of their steps.
 
 ghost use Rattle.std.specs.Prelude.{◌≡◌, ◌++◌, [], IfNone, IfSome, option_to_list, option_map};
-ghost use Rattle.node_cell.specs.Standing.{Among, AreSeen, AreTold, handed, step_of};
+ghost use Rattle.node_model.specs.Letters.{letter_input};
+ghost use Rattle.group_steps.specs.Parts.{Among};
+ghost use Rattle.node_cell.specs.Standing.{AreSeen, AreTold, handed, step_of};
 ghost use Rattle.node_cell.specs.Views.{noted};
 
 use crate::numbers::Book;
@@ -10,8 +12,10 @@ use crate::view::{Numbering, Pass};
 use cluster_base::NodeId;
 use node_traits::{Mail, Node, Outputs, ToLink};
 use outside::log::Log;
-use std::marker::{Model, PhantomData};
+use std::alloc::Global;
+use std::marker::{Model, PhantomData, Sync};
 use std::snapshot::Snapshot;
+use std::thread::Threads;
 
 /// A note of what was seen of a run.
 #[derive(Drop)]
@@ -77,7 +81,7 @@ pub struct Letter<N: Node, L: Log, K: Numbering> {
 
 impl<N: Node, L: Log, K: Numbering> Model for Letter<N, L, K> {
     ghost use Rattle.std.specs.Prelude.{map};
-    ghost use Rattle.node_cell.specs.Standing.{Among};
+    ghost use Rattle.group_steps.specs.Parts.{Among};
 
     ghost Value = { N.Mail };
 
@@ -93,6 +97,36 @@ impl<N: Node, L: Log, K: Numbering> Letter<N, L, K> {
     {
         self.message.to()
     }
+
+    /// Returns the input that delivers it. What depends on the message alone is computed here.
+    pub(crate) fn prepare<R: Threads + Sync>(self, rt: &R, alloc: Global) -> Prepared<N, L, K>
+        ensures { N.meaning result ≡ letter_input (N.Mail.letter self) }
+    {
+        let Letter { message, note } = self;
+        let to = message.to().0 as u64;
+        let input = N::prepare(rt, alloc, message);
+        Prepared { to, input, note }
+    }
+}
+
+/// The input that delivers a message to a node, with a note that has seen the message sent.
+#[derive(Drop)]
+pub(crate) struct Prepared<N: Node, L: Log, K: Numbering> {
+    pub(crate) to: u64,
+    pub(crate) input: N::Input,
+    pub(crate) note: Note<N, L, K>,
+}
+
+impl<N: Node, L: Log, K: Numbering> Model for Prepared<N, L, K> {
+    ghost use Rattle.std.specs.Prelude.{◌≡◌, map};
+    ghost use Rattle.node_model.specs.Letters.{Letter as Message, letter_input};
+    ghost use Rattle.group_steps.specs.Parts.{Among};
+
+    ghost Value = { N.Input };
+
+    ghost view = { λ p. p.input };
+
+    ghost invariant = { λ p. (m : Message) × (N.meaning p.input ≡ letter_input m) × (m.receiver ≡ p.to) × Among m (map (λ m. N.Mail.letter m) p.note.seen) };
 }
 
 /// A reply with the number of the step that returned it, and a note that has seen this.
@@ -106,7 +140,7 @@ pub struct Reply<N: Node, L: Log, K: Numbering> {
 impl<N: Node, L: Log, K: Numbering> Model for Reply<N, L, K> {
     ghost use Rattle.std.specs.Prelude.{ℕ};
     ghost use Rattle.node_traits.specs.declared.outputs.ToLink.{ToLink};
-    ghost use Rattle.node_cell.specs.Standing.{Among};
+    ghost use Rattle.group_steps.specs.Parts.{Among};
 
     ghost Value = { ℕ × ToLink };
 
@@ -150,7 +184,8 @@ pub struct Stepped<N: Node, L: Log, K: Numbering> {
 }
 
 impl<N: Node, L: Log, K: Numbering> Model for Stepped<N, L, K> {
-    ghost use Rattle.node_cell.specs.Standing.{Among, AreSeen, AreTold, Handed, handed, step_of};
+    ghost use Rattle.group_steps.specs.Parts.{Among};
+    ghost use Rattle.node_cell.specs.Standing.{AreSeen, AreTold, Handed, handed, step_of};
 
     ghost Value = { Handed N.Mail N.Input };
 

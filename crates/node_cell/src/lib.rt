@@ -3,6 +3,9 @@
 
 mod cell;
 mod close;
+mod deliveries;
+mod fault;
+mod groups;
 mod guarded;
 mod letter;
 mod numbers;
@@ -11,6 +14,8 @@ mod view;
 
 pub use cell::Cell;
 pub use close::{cells, close_cells};
+pub use deliveries::Delivered;
+pub use fault::CellFault;
 pub use letter::{Letter, Note, Reply, Stepped};
 pub use numbers::{Book, Numbers};
-pub use view::{Law, Numbering, Opening, Pass, Placed, Taken, View};
+pub use view::{Halt, Law, Numbering, Opening, Pass, Placed, Taken, View};

@@ -24,11 +24,20 @@ pub struct View<N, L, M, I> {
     pub taken: LinkedList<Taken<I>>,
 }
 
-/// A node with its log, its place among the nodes, and the count of faults of its disk where that failed: then it takes no more steps.
+/// Why a node takes no more steps.
+#[derive(Clone, Copy, Debug, PartialEq, Eq)]
+pub enum Halt {
+    /// Its disk failed; the count of faults is shown.
+    Disk { faults: u64 },
+    /// Memory ran out as the records of its steps were to be appended: it is ahead of its log.
+    Memory,
+}
+
+/// A node with its log, its place among the nodes, and why it takes no more steps, if it doesn't.
 #[derive(Drop)]
 pub struct Placed<N, L> {
     pub at: u64,
-    pub failed: Option<u64>,
+    pub halt: Option<Halt>,
     pub seat: Seat<N, L>,
 }
 
@@ -72,7 +81,7 @@ impl Numbering for Brand {
     ghost routers = { 0 };
 }
 
-/// The result of a step, for proofs alone: a call at `Brand` picks it.
+/// The results of steps, for proofs alone: a call at `Brand` picks them.
 pub(crate) trait Said<N, L, M, I> {
     ghost use Rattle.std.specs.Prelude.{Option};
     ghost use Rattle.node_cell.specs.Views.{Given};
@@ -86,7 +95,7 @@ impl<N, L, M, I> Said<N, L, M, I> for Brand {
     ghost step = { None };
 }
 
-/// A step of a node.
+/// Steps of a node.
 pub(crate) struct Takes<W> {
     of: PhantomData<W>,
 }
