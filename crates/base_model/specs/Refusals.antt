@@ -1,7 +1,17 @@
 -- Why a request is not done, with the evidence that is shown.
-use Rattle.std.specs.Prelude.{ℕ, ℤ, codes, ◌^◌, ◌-◌, nat_lt, if◌then◌else◌, Option, Some, None, pos}
-use Rattle.bson_model.specs.Tree.{Datum, Fields, no_fields, field, int32_value, int64_value, timestamp_value}
+use Rattle.std.specs.Prelude.{ℕ, ℤ, List, [], ◌∷◌, codes, ◌^◌, ◌-◌, nat_lt, if◌then◌else◌, Option, Some, None, pos}
+use Rattle.bson_model.specs.Tree.{Datum, Fields, no_fields, field, Items, no_items, item, array_value, document_value, int32_value, int64_value, timestamp_value}
 use Rattle.base_model.specs.Errors.{ErrorCode, invalid_bson, invalid_options}
+
+-- the version of a table, as it is shown: which collection of its name, and how many moves
+pub record ShownVersion : Type 0 where
+  pub epoch : ℕ
+  pub major : ℕ
+
+-- a try with an older table than the shard's: the version that was sent, and that of the shard
+pub record ShownTry : Type 0 where
+  pub sent : ShownVersion
+  pub met : ShownVersion
 
 -- what an error is shown with
 pub data Evidence : Type 0 where
@@ -25,6 +35,8 @@ pub data Evidence : Type 0 where
   oldest_evidence : ℕ → Evidence
   -- how many bytes were wanted
   bytes_evidence : ℕ → Evidence
+  -- the tries that met a later table, in order
+  tries_evidence : List ShownTry → Evidence
 
 -- a count or a moment in 64 bits, at most the greatest of them
 abbrev pub count_shown : ℕ → Datum
@@ -33,6 +45,14 @@ count_shown n = int64_value (pos (if nat_lt n (2 ^ 63) then n else 2 ^ 63 - 1))
 -- a node, in 32 bits, at most the greatest of them
 abbrev pub node_shown : ℕ → Datum
 node_shown n = int32_value (pos (if nat_lt n (2 ^ 31) then n else 2 ^ 31 - 1))
+
+abbrev pub version_document : ShownVersion → Datum
+version_document v = document_value (field (codes "epoch") (count_shown v.epoch) (field (codes "major") (count_shown v.major) no_fields))
+
+abbrev pub try_items : List ShownTry → Items
+try_items [] = no_items
+try_items (t ∷ tries) =
+    item (document_value (field (codes "sent") (version_document t.sent) (field (codes "met") (version_document t.met) no_fields))) (try_items tries)
 
 -- the document that is shown as evidence, if any
 abbrev pub evidence_document : Evidence → Option Fields
@@ -47,6 +67,7 @@ evidence_document (node_evidence node) = Some (field (codes "node") (node_shown 
 evidence_document (number_evidence number) = Some (field (codes "txnNumber") (int64_value number) no_fields)
 evidence_document (oldest_evidence time) = Some (field (codes "oldest") (timestamp_value time) no_fields)
 evidence_document (bytes_evidence bytes) = Some (field (codes "bytes") (count_shown bytes) no_fields)
+evidence_document (tries_evidence tries) = Some (field (codes "tries") (array_value (try_items tries)) no_fields)
 
 -- why a request is not done
 pub record Refusal : Type 0 where

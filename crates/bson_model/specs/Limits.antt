@@ -20,7 +20,7 @@ abbrev pub most_depth_written : ℕ
 most_depth_written = 104
 
 abbrev pub most_bytes_written : ℕ
-most_bytes_written = 300000000
+most_bytes_written = 400000000
 
 abbrev pub IsWritable : Fields → Type 0
 IsWritable ms = (document_depth ms ≤ most_depth_written) × (length (written ms) ≤ most_bytes_written)

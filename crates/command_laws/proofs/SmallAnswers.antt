@@ -7,7 +7,7 @@ use Rattle.std.proofs.lemmas.Fmt.{length-decimal-le}
 use Rattle.bson_model.specs.Tree.{string_value, document_value, array_value, int32_value, int64_value, timestamp_value, Items, no_items, Fields, no_fields, field, value_depth, array_depth, document_depth}
 use Rattle.bson_model.specs.Spelling.{written, written_value, written_items, written_fields}
 use Rattle.opmsg_model.specs.MessageSizes.{IsWithin}
-use Rattle.base_model.specs.Refusals.{Evidence, Refusal, evidence_document, no_evidence, place_evidence, greatest_evidence, cursor_evidence, moments_evidence, disk_evidence, steps_evidence, node_evidence, number_evidence, oldest_evidence, bytes_evidence}
+use Rattle.base_model.specs.Refusals.{Evidence, Refusal, evidence_document, no_evidence, place_evidence, greatest_evidence, cursor_evidence, moments_evidence, disk_evidence, steps_evidence, node_evidence, number_evidence, oldest_evidence, bytes_evidence, tries_evidence, ShownVersion, ShownTry, version_document, try_items}
 use Rattle.base_model.specs.ReplyParts.{evidence_shown, refusal_reply, shown_if, write_error}
 use Rattle.command_model.specs.AnswerParts.{count, document_items, number, ok, operation_time_at}
 use Rattle.command_model.specs.Writes.{WriteKind, insert_kind, update_kind, delete_kind, WriteError, Upserted, WriteSummary, write_error_items, write_errors_shown, upserted_items, upserted_shown, changes_shown}
@@ -17,7 +17,7 @@ use Rattle.command_model.specs.Count.{count_document}
 use Rattle.command_model.specs.AdminCommands.{changed_document}
 use Rattle.command_model.specs.ShardCollection.{sharded_document}
 use Rattle.command_model.specs.Answers.{Answer, hello_answer, legacy_answer, done_answer, write_answer, first_answer, next_answer, count_answer, killed_answer, sharded_answer, changed_answer, refusal_answer, answer_document}
-use Rattle.command_model.specs.CommandSizes.{IsSmallAnswer, IsSmallBatch, IsSmallError, IsSmallRefusal, IsSmallSummary, keys_length}
+use Rattle.command_model.specs.CommandSizes.{IsSmallAnswer, IsSmallBatch, IsSmallError, IsSmallEvidence, IsSmallRefusal, IsSmallSummary, keys_length}
 use Rattle.history_model.proofs.Lists.{all_weaken}
 use Rattle.bson_model.proofs.Lengths.{length-framed, length-item, length-field, length-string}
 use Rattle.bson_model.specs.Limits.{most_bytes_kept, most_bytes_written, most_depth_written}
@@ -35,52 +35,102 @@ legacy_small moment false = (omega arith, omega arith)
 done_small : IsWithin most_depth_written most_bytes_written (answer_document done_answer)
 done_small = (omega arith, omega arith)
 
+-- the versions of a table, as they are shown
+version_small : (v : ShownVersion) → (value_depth (version_document v) ≡ 1) × (length (written_value (version_document v)) ≤ 35)
+version_small v = (refl, omega arith)
+
+abbrev try_shown : ShownTry → Fields
+try_shown t = field (codes "sent") (version_document t.sent) (field (codes "met") (version_document t.met) no_fields)
+
+try_small : (t : ShownTry) → (document_depth (try_shown t) ≤ 2) × (length (written (try_shown t)) ≤ 86)
+try_small t =
+    let sent = version_small t.sent in
+    let met = version_small t.met in
+    let behind : Fields = field (codes "met") (version_document t.met) no_fields in (
+      omega (arith, sent.0, met.0),
+      omega (
+        arith,
+        sent.1,
+        met.1,
+        length-field (codes "met") (version_document t.met) no_fields,
+        length-field (codes "sent") (version_document t.sent) behind,
+        length-framed (written_fields (try_shown t)),
+      ),
+    )
+
+-- tries, from an index on that has one digit
+tries_small : (i : ℕ) (tries : List ShownTry) → i + length tries ≤ 10 → (array_depth (try_items tries) ≤ 3) × (length (written_items i (try_items tries)) ≤ 89 * length tries)
+tries_small i [] few = (omega arith, omega arith)
+tries_small i (t ∷ tries) few =
+    let first = try_small t in
+    let others = tries_small (i + 1) tries (omega arith) in (
+      omega (arith, first.0, others.0),
+      omega (arith, first.1, others.1, length-decimal-le 1 i (omega arith) (omega arith) (omega arith), length-item i (document_value (try_shown t)) (try_items tries)),
+    )
+
+tries_document_small : (tries : List ShownTry) → length tries ≤ 10 →
+    (document_depth (field (codes "tries") (array_value (try_items tries)) no_fields) ≤ 4) × (length (written (field (codes "tries") (array_value (try_items tries)) no_fields)) ≤ 1000)
+tries_document_small tries few =
+    let shown : Items = try_items tries in
+    let items = tries_small 0 tries (omega (arith, few)) in (
+      omega (arith, items.0),
+      omega (
+        arith,
+        few,
+        items.1,
+        length-framed (written_items 0 shown),
+        length-field (codes "tries") (array_value shown) no_fields,
+        length-framed (written_fields (field (codes "tries") (array_value shown) no_fields)),
+      ),
+    )
+
 -- evidence is small
-within_shown : (o : Option Fields) → ((document : Fields) → o ≡ Some document → (document_depth document ≤ 1) × (length (written document) ≤ 100)) → (document_depth (shown_if o) ≤ 2) × (length (written_fields (shown_if o)) ≤ 200)
+within_shown : (o : Option Fields) → ((document : Fields) → o ≡ Some document → (document_depth document ≤ 4) × (length (written document) ≤ 1000)) → (document_depth (shown_if o) ≤ 5) × (length (written_fields (shown_if o)) ≤ 1020)
 within_shown None small = (omega arith, omega arith)
 within_shown (Some document) small = let known = small document refl in (omega (arith, known.0), omega (arith, known.1, length-field (codes "evidence") (document_value document) no_fields))
 
 abbrev IsFew : Option Fields → Type 0
 IsFew None = Unit {0}
-IsFew (Some shown) = (document_depth shown ≤ 1) × (length (written shown) ≤ 100)
+IsFew (Some shown) = (document_depth shown ≤ 4) × (length (written shown) ≤ 1000)
 
-by_same : (o : Option Fields) (document : Fields) → o ≡ Some document → IsFew o → (document_depth document ≤ 1) × (length (written document) ≤ 100)
+by_same : (o : Option Fields) (document : Fields) → o ≡ Some document → IsFew o → (document_depth document ≤ 4) × (length (written document) ≤ 1000)
 by_same None document is few = absurd cc
 by_same (Some shown) document is few =
     let same : shown ≡ document = cc in
-    subst (λ (ms : Fields). (document_depth ms ≤ 1) × (length (written ms) ≤ 100)) same few
+    subst (λ (ms : Fields). (document_depth ms ≤ 4) × (length (written ms) ≤ 1000)) same few
 
-few_bytes : (evidence : Evidence) (document : Fields) → evidence_document evidence ≡ Some document → (document_depth document ≤ 1) × (length (written document) ≤ 100)
-few_bytes no_evidence document is = absurd cc
-few_bytes (place_evidence place) document is = by_same (evidence_document (place_evidence place)) document is (omega arith, omega arith)
-few_bytes (greatest_evidence time) document is = by_same (evidence_document (greatest_evidence time)) document is (omega arith, omega arith)
-few_bytes (cursor_evidence cursor) document is = by_same (evidence_document (cursor_evidence cursor)) document is (omega arith, omega arith)
-few_bytes (moments_evidence arrived now) document is = by_same (evidence_document (moments_evidence arrived now)) document is (omega arith, omega arith)
-few_bytes (disk_evidence node faults) document is = by_same (evidence_document (disk_evidence node faults)) document is (omega arith, omega arith)
-few_bytes (steps_evidence node steps) document is = by_same (evidence_document (steps_evidence node steps)) document is (omega arith, omega arith)
-few_bytes (node_evidence node) document is = by_same (evidence_document (node_evidence node)) document is (omega arith, omega arith)
-few_bytes (number_evidence number) document is = by_same (evidence_document (number_evidence number)) document is (omega arith, omega arith)
-few_bytes (oldest_evidence time) document is = by_same (evidence_document (oldest_evidence time)) document is (omega arith, omega arith)
-few_bytes (bytes_evidence bytes) document is = by_same (evidence_document (bytes_evidence bytes)) document is (omega arith, omega arith)
+few_bytes : (evidence : Evidence) → IsSmallEvidence evidence → (document : Fields) → evidence_document evidence ≡ Some document → (document_depth document ≤ 4) × (length (written document) ≤ 1000)
+few_bytes no_evidence small document is = absurd cc
+few_bytes (place_evidence place) small document is = by_same (evidence_document (place_evidence place)) document is (omega arith, omega arith)
+few_bytes (greatest_evidence time) small document is = by_same (evidence_document (greatest_evidence time)) document is (omega arith, omega arith)
+few_bytes (cursor_evidence cursor) small document is = by_same (evidence_document (cursor_evidence cursor)) document is (omega arith, omega arith)
+few_bytes (moments_evidence arrived now) small document is = by_same (evidence_document (moments_evidence arrived now)) document is (omega arith, omega arith)
+few_bytes (disk_evidence node faults) small document is = by_same (evidence_document (disk_evidence node faults)) document is (omega arith, omega arith)
+few_bytes (steps_evidence node steps) small document is = by_same (evidence_document (steps_evidence node steps)) document is (omega arith, omega arith)
+few_bytes (node_evidence node) small document is = by_same (evidence_document (node_evidence node)) document is (omega arith, omega arith)
+few_bytes (number_evidence number) small document is = by_same (evidence_document (number_evidence number)) document is (omega arith, omega arith)
+few_bytes (oldest_evidence time) small document is = by_same (evidence_document (oldest_evidence time)) document is (omega arith, omega arith)
+few_bytes (bytes_evidence bytes) small document is = by_same (evidence_document (bytes_evidence bytes)) document is (omega arith, omega arith)
+few_bytes (tries_evidence tries) small document is = by_same (evidence_document (tries_evidence tries)) document is (tries_document_small tries small)
 
-pub evidence_within : (evidence : Evidence) (document : Fields) → evidence_document evidence ≡ Some document → IsWithin 10 1000 document
-evidence_within evidence document is = let few = few_bytes evidence document is in (omega (arith, few.0), omega (arith, few.1))
+pub evidence_within : (evidence : Evidence) (document : Fields) → IsSmallEvidence evidence → evidence_document evidence ≡ Some document → IsWithin 10 1000 document
+evidence_within evidence document small is = let few = few_bytes evidence small document is in (omega (arith, few.0), omega (arith, few.1))
 
-evidence_small : (evidence : Evidence) → (document_depth (evidence_shown evidence) ≤ 2) × (length (written_fields (evidence_shown evidence)) ≤ 200)
-evidence_small evidence = within_shown (evidence_document evidence) (few_bytes evidence)
+evidence_small : (evidence : Evidence) → IsSmallEvidence evidence → (document_depth (evidence_shown evidence) ≤ 5) × (length (written_fields (evidence_shown evidence)) ≤ 1020)
+evidence_small evidence small = within_shown (evidence_document evidence) (few_bytes evidence small)
 
 -- a write error with a short name
-error_small : (e : WriteError) → IsSmallRefusal e.refusal → (document_depth (write_error e.index e.refusal) ≤ 2) × (length (written (write_error e.index e.refusal)) ≤ 400)
-error_small e short =
+error_small : (e : WriteError) → IsSmallRefusal e.refusal → (document_depth (write_error e.index e.refusal) ≤ 6) × (length (written (write_error e.index e.refusal)) ≤ 1200)
+error_small e small =
     let name : List ℕ = e.refusal.error.name in
     let shown : Fields = evidence_shown e.refusal.evidence in
-    let evidence = evidence_small e.refusal.evidence in
+    let evidence = evidence_small e.refusal.evidence small.1 in
     let told : Fields = field (codes "errmsg") (string_value name) shown in
     let coded : Fields = field (codes "code") (int32_value (pos e.refusal.error.number)) told in (
       omega (arith, evidence.0),
       omega (
         arith,
-        short,
+        small.0,
         evidence.1,
         length-string name,
         length-framed (written_fields (write_error e.index e.refusal)),
@@ -91,7 +141,7 @@ error_small e short =
     )
 
 -- write errors with short names, from an index on that has at most five digits
-errors_small : (i : ℕ) (errors : List WriteError) → i + length errors ≤ most_statements → AllByRecursion IsSmallError errors → (array_depth (write_error_items errors) ≤ 3) × (length (written_items i (write_error_items errors)) ≤ 410 * length errors)
+errors_small : (i : ℕ) (errors : List WriteError) → i + length errors ≤ most_statements → AllByRecursion IsSmallError errors → (array_depth (write_error_items errors) ≤ 7) × (length (written_items i (write_error_items errors)) ≤ 1210 * length errors)
 errors_small i [] few all = (omega arith, omega arith)
 errors_small i (e ∷ errors) few all =
     let first = error_small e all.0.1 in
@@ -102,7 +152,7 @@ errors_small i (e ∷ errors) few all =
 
 -- the errors, and the last fields of every answer
 errors_behind_small : (errors : List WriteError) (time : ℕ) → length errors ≤ most_statements → AllByRecursion IsSmallError errors →
-    (document_depth (write_errors_shown errors (ok (operation_time_at time))) ≤ 103) × (length (written_fields (write_errors_shown errors (ok (operation_time_at time)))) ≤ 41001000)
+    (document_depth (write_errors_shown errors (ok (operation_time_at time))) ≤ 103) × (length (written_fields (write_errors_shown errors (ok (operation_time_at time)))) ≤ 121001000)
 errors_behind_small [] time few all = (omega arith, omega arith)
 errors_behind_small (e ∷ errors) time few all =
     let shown : Items = write_error_items (e ∷ errors) in
@@ -134,8 +184,8 @@ keys_small i (u ∷ upserted) few all =
 
 -- the keys, before small fields
 keys_behind_small : (upserted : List Upserted) (more : Fields) → length upserted ≤ most_statements → AllByRecursion (λ (u : Upserted). (u.index < most_statements) × (value_depth u.key ≡ 0)) upserted →
-    keys_length upserted ≤ most_bytes_upserted → document_depth more ≤ 103 → length (written_fields more) ≤ 41001000 →
-    (document_depth (upserted_shown upserted more) ≤ 103) × (length (written_fields (upserted_shown upserted more)) ≤ 295002000)
+    keys_length upserted ≤ most_bytes_upserted → document_depth more ≤ 103 → length (written_fields more) ≤ 121001000 →
+    (document_depth (upserted_shown upserted more) ≤ 103) × (length (written_fields (upserted_shown upserted more)) ≤ 375002000)
 keys_behind_small [] more few all short low rest = (omega (arith, low), omega (arith, rest))
 keys_behind_small (u ∷ upserted) more few all short low rest =
     let shown : Items = upserted_items (u ∷ upserted) in
@@ -155,7 +205,7 @@ count_small n = by_test (nat_lt n (2 ^ 31))
 -- what follows the count
 changes_small : (kind : WriteKind) (told : WriteSummary) → IsSmallSummary told →
     (document_depth (changes_shown kind told (write_errors_shown told.errors (ok (operation_time_at told.time)))) ≤ 103)
-    × (length (written_fields (changes_shown kind told (write_errors_shown told.errors (ok (operation_time_at told.time))))) ≤ 295003000)
+    × (length (written_fields (changes_shown kind told (write_errors_shown told.errors (ok (operation_time_at told.time))))) ≤ 375003000)
 changes_small insert_kind told small = let errors = errors_behind_small told.errors told.time small.few small.short in (errors.0, omega (arith, errors.1))
 changes_small update_kind told small =
     let more : Fields = write_errors_shown told.errors (ok (operation_time_at told.time)) in
@@ -297,14 +347,14 @@ refusal_small : (refusal : Refusal) → IsSmallRefusal refusal → IsWithin most
 refusal_small refusal small =
     let name : List ℕ = refusal.error.name in
     let shown : Fields = evidence_shown refusal.evidence in
-    let evidence = evidence_small refusal.evidence in
+    let evidence = evidence_small refusal.evidence small.1 in
     let named : Fields = field (codes "codeName") (string_value name) shown in
     let coded : Fields = field (codes "code") (int32_value (pos refusal.error.number)) named in
     let told : Fields = field (codes "errmsg") (string_value name) coded in (
       omega (arith, evidence.0),
       omega (
         arith,
-        small,
+        small.0,
         evidence.1,
         length-string name,
         length-field (codes "codeName") (string_value name) shown,

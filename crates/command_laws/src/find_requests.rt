@@ -1,14 +1,14 @@
 //! Worked requests of `find`, `aggregate` and `count`.
 
 ghost use Rattle.std.specs.Prelude.{◌≡◌, ◌∷◌, [], codes, true, false, pos, negsuc, replicate, None, Some, Ok, Err};
-ghost use Rattle.bson_model.specs.Tree.{array_value, boolean_value, document_value, int32_value, item, field, joined, no_items, no_fields, string_value, timestamp_value};
+ghost use Rattle.bson_model.specs.Tree.{array_value, boolean_value, document_value, int32_value, int64_value, item, field, joined, no_items, no_fields, string_value, timestamp_value};
 ghost use Rattle.base_model.specs.Refusals.{without_evidence};
 ghost use Rattle.base_model.specs.Errors.{bad_value, failed_to_parse, type_mismatch};
 ghost use Rattle.pipeline_model.specs.Projections.{include_it};
 ghost use Rattle.pipeline_model.specs.SortKeys.{descending};
 ghost use Rattle.pipeline_model.specs.Stages.{count_stage, limit_stage, match_stage, project_stage, skip_stage, sort_stage};
 ghost use Rattle.query_model.specs.Queries.{no_clauses};
-ghost use Rattle.command_model.specs.Command.{command_of, count_command};
+ghost use Rattle.command_model.specs.Command.{command_of, count_command, time_limit};
 ghost use Rattle.command_laws.specs.SampleCommands.{database_d, id_is_one, id_only, number_one, with_sequence, without_id};
 ghost use Rattle.command_laws.specs.SampleReads.{aggregate_with, at_seven, concern, count_with, find_with, five_with, found, four_with, only, plain_pipeline, read_of, told_each};
 
@@ -58,10 +58,21 @@ pub fn refused_fields()
     ensures sort_type { command_of (find_with (only (codes "sort") (int32_value (pos 5)))) ≡ Err (without_evidence type_mismatch) }
     ensures projection_words { command_of (find_with (only (codes "projection") (document_value (field (codes "a") number_one (only (codes "b") (int32_value (pos 0))))))) ≡ Err (without_evidence bad_value) }
     ensures filter_type { command_of (find_with (only (codes "filter") (int32_value (pos 5)))) ≡ Err (without_evidence type_mismatch) }
-    ensures no_time_limit { told_each (five_with (codes "maxTimeMS") number_one) ≡ replicate 5 (Err (without_evidence failed_to_parse)) }
     ensures no_hint { told_each (five_with (codes "hint") (document_value without_id)) ≡ replicate 5 (Err (without_evidence failed_to_parse)) }
     ensures no_let { told_each (five_with (codes "let") (document_value without_id)) ≡ replicate 5 (Err (without_evidence failed_to_parse)) }
     ensures no_collation { told_each (five_with (codes "collation") (document_value without_id)) ≡ replicate 5 (Err (without_evidence failed_to_parse)) }
+{}
+
+/// A time limit is accepted from 0 to 2^31 - 1 milliseconds; 0 is like no limit.
+pub fn time_limits()
+    ensures taken { told_each (five_with (codes "maxTimeMS") number_one) ≡ told_each (five_with (codes "comment") number_one) }
+    ensures one { time_limit (find_with (only (codes "maxTimeMS") number_one)) ≡ 1 }
+    ensures greatest { time_limit (find_with (only (codes "maxTimeMS") (int64_value (pos 2147483647)))) ≡ 2147483647 }
+    ensures zero { time_limit (find_with (only (codes "maxTimeMS") (int32_value (pos 0)))) ≡ 0 }
+    ensures none { time_limit (find_with no_fields) ≡ 0 }
+    ensures below { told_each (five_with (codes "maxTimeMS") (int32_value (negsuc 0))) ≡ replicate 5 (Err (without_evidence bad_value)) }
+    ensures above { told_each (five_with (codes "maxTimeMS") (int64_value (pos 2147483648))) ≡ replicate 5 (Err (without_evidence bad_value)) }
+    ensures kind { told_each (five_with (codes "maxTimeMS") (string_value (codes "x"))) ≡ replicate 5 (Err (without_evidence type_mismatch)) }
 {}
 
 /// Options that are accepted where they are false, like no option; their other values are refused, and other commands have none of them.

@@ -11,7 +11,7 @@ ghost use Rattle.command_model.specs.Answers.{Answer, answer_document};
 ghost use Rattle.command_model.specs.Command.{command_of, count_command, find_command};
 ghost use Rattle.command_model.specs.Find.{Find};
 ghost use Rattle.command_model.specs.Reading.{Reading};
-ghost use Rattle.command_model.specs.CommandSizes.{IsSmallAnswer, IsTaken};
+ghost use Rattle.command_model.specs.CommandSizes.{IsSmallAnswer, IsSmallEvidence, IsTaken};
 ghost use Rattle.bson_model.specs.Limits.{most_bytes_written, most_depth_written};
 
 /// The command of a request is as small as the request: at most 100,000 documents, each with a key and no larger than a document that is read; or it is a
@@ -21,10 +21,9 @@ pub fn commands_are_small()
     ensures { (request : Request) → IsSmallBody request.body → IsTaken (command_of request) }
 {}
 
-/// Evidence is small.
-#[tactic(auto, using(crate::proofs::SmallAnswers::evidence_within))]
+/// Evidence of at most ten tries is small, and all other evidence.
 pub fn evidence_is_small()
-    ensures { (evidence : Evidence) (document : Fields) → evidence_document evidence ≡ Some document → IsWithin 10 1000 document }
+    ensures { (evidence : Evidence) (document : Fields) → IsSmallEvidence evidence → evidence_document evidence ≡ Some document → IsWithin 10 1000 document }
 {}
 
 /// The documents of small answers are within the limits of what is written.

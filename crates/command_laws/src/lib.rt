@@ -24,7 +24,9 @@ pub use admin_requests::{
     admin_answers, admin_commands, refused_full_names, refused_middles, refused_shard_keys,
 };
 pub use cursor_requests::{cursor_answers, named_cursors};
-pub use find_requests::{readings, refused_aggregates, refused_concerns, refused_fields};
+pub use find_requests::{
+    readings, refused_aggregates, refused_concerns, refused_fields, time_limits,
+};
 pub use laws::{answers_are_small, commands_are_small, evidence_is_small, numbers_are_small};
 pub use write_requests::{
     client_numbers, numbered_answers, numbers_without_sessions, refused_numbers, refused_sessions,

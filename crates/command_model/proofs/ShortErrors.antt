@@ -16,7 +16,7 @@ use Rattle.value_model.specs.Keys.{is_key}
 use Rattle.opmsg_model.specs.Requests.{Form, msg_form, query_form}
 use Rattle.base_model.specs.Errors.{ErrorCode, bad_value, failed_to_parse, invalid_namespace, type_mismatch}
 use Rattle.command_model.specs.Checks.{Verdict, first_of, is_one_of, unless_passes}
-use Rattle.command_model.specs.Fields.{Rule, any_value, boolean_needed, by_rule, check_inner_fields, check_fields, check_required, check_session, common_rules, document_needed, false_needed, find_rule, names_of, rules_by, session_id, session_rules, string_needed, timestamp_needed}
+use Rattle.command_model.specs.Fields.{Rule, any_value, boolean_needed, by_rule, check_inner_fields, check_fields, check_required, check_session, common_rules, document_needed, false_needed, find_rule, names_of, rules_by, session_id, session_rules, is_time_limit, time_limit_needed, string_needed, timestamp_needed}
 use Rattle.command_model.specs.Forms.{CommandForm, SequenceRule, Sequences, check_collection, check_command, check_database, check_sequence, check_sequences, database_of}
 use Rattle.command_model.specs.Handshake.{handshake_rules}
 use Rattle.command_model.specs.Statements.{StatementForm, check_key, check_statement, check_statements, check_words, key_asked_by}
@@ -113,8 +113,16 @@ session_short ms =
     first_short (check_inner_fields session_rules ms) (check_required (codes "id") ms ∷ []) (inner_fields_short session_rules ms (session_id_short, tt))
     (first_short (check_required (codes "id") ms) [] (required_short (codes "id") ms) tt)
 
+time_limit_short : (value : Datum) → IsShort (time_limit_needed value)
+time_limit_short value = by_number (whole_number value)
+  where
+    by_number : (o : Option ℤ) → IsShort (elim o [ None ↦ Some type_mismatch | Some n ↦ unless_passes (is_time_limit n) bad_value ])
+    by_number None = omega arith
+    by_number (Some n) = unless_short _ bad_value (omega arith)
+
 common_short : AreShort common_rules
-common_short = (text_short, (document_short check_session session_short, (any_short, (any_short, (any_short, (text_short, (boolean_short, (boolean_short, tt))))))))
+common_short =
+    (text_short, (document_short check_session session_short, (any_short, (any_short, (any_short, (time_limit_short, (text_short, (boolean_short, (boolean_short, tt)))))))))
 
 count_short : (documents : List Fields) → IsShort (check_count documents)
 count_short documents = unless_short _ bad_value (omega arith)

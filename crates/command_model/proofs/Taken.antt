@@ -48,23 +48,23 @@ sound_of name form found = found_row IsSound name rows form all_sound found
 
 by_verdict_taken : (v : Verdict) (command : Command) → IsShort v → (v ≡ None → IsSmallCommand command) → IsTaken (or_refusal (by_verdict v command))
 by_verdict_taken None command short taken = taken refl
-by_verdict_taken (Some error) command short taken = short
+by_verdict_taken (Some error) command short taken = (short, tt)
 
 by_form_taken : (form : Option (CommandForm Command)) (sent : Form) (own : List ℕ) (value : Datum) (others : Fields) (sequences : Sequences) → form_of own ≡ form → IsSmall (field own value others) → AreSmall sequences →
     IsTaken (or_refusal (by_form form sent own value others sequences))
-by_form_taken None sent own value others sequences found small all = omega arith
+by_form_taken None sent own value others sequences found small all = (omega arith, tt)
 by_form_taken (Some form) sent own value others sequences found small all =
     let sound = sound_of own form found in
     by_verdict_taken (check_command form sent own value others sequences) (command_by form sent own value others sequences) (command_short form sent own value others sequences sound.short)
     (λ passed. sound.small sent value others sequences small all passed)
 
 asked_taken : (sent : Form) (document : Fields) (sequences : Sequences) → IsSmall document → AreSmall sequences → IsTaken (or_refusal (command_asked sent document sequences))
-asked_taken sent no_fields sequences small all = omega arith
+asked_taken sent no_fields sequences small all = (omega arith, tt)
 asked_taken sent (field own value others) sequences small all = by_form_taken (form_of own) sent own value others sequences refl small all
 
 body_taken : (sent : Form) (body : Body) → IsSmallBody body → IsTaken (command_in sent body)
 body_taken sent (read_body document sequences) small = asked_taken sent document sequences small.0 small.1
-body_taken sent (faulty_body fault place) small = omega arith
+body_taken sent (faulty_body fault place) small = (omega arith, tt)
 
 pub command_taken : (request : Request) → IsSmallBody request.body → IsTaken (command_of request)
 command_taken request small = body_taken request.form request.body small

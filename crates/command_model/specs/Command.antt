@@ -1,6 +1,7 @@
 -- The command of a request, or its first refusal with its evidence (MongoDB manual, "Database Commands"; the order of refusals and the evidence are own).
 -- Each command is an entry of the list: its name and its form.
 use Rattle.std.specs.Prelude.{ℕ, List, [], ◌∷◌, Option, Some, None, Result, Ok, Err, if◌then◌else◌, codes}
+use Rattle.std.specs.Option.{unwrap_or}
 use Rattle.std.specs.Str.{bytes_eq}
 use Rattle.bson_model.specs.Tree.{Datum, Fields, no_fields, field}
 use Rattle.opmsg_model.specs.Requests.{Form, Body, read_body, faulty_body, Request}
@@ -13,7 +14,7 @@ use Rattle.command_model.specs.IsMaster.{Legacy, legacy_form}
 use Rattle.command_model.specs.Ping.{ping_form}
 use Rattle.command_model.specs.EndSessions.{end_sessions_form}
 use Rattle.command_model.specs.Writes.{WriteCommand, insert_kind, update_kind, delete_kind, write_form}
-use Rattle.command_model.specs.Reading.{Reading}
+use Rattle.command_model.specs.Reading.{Reading, number_given}
 use Rattle.command_model.specs.Find.{Find, find_form}
 use Rattle.command_model.specs.Aggregate.{aggregate_form}
 use Rattle.command_model.specs.Count.{count_form}
@@ -92,3 +93,10 @@ command_in sent (faulty_body fault place) = Err (no_document_at place)
 -- the command of a request, or its first refusal
 abbrev pub command_of : Request → Result Command Refusal
 command_of request = command_in request.form request.body
+
+-- how many milliseconds a request may take, 0 where there is no limit (MongoDB manual, "maxTimeMS")
+abbrev pub time_limit : Request → ℕ
+time_limit request = elim request.body [
+  | read_body document sequences ↦ unwrap_or (number_given (codes "maxTimeMS") document) 0
+  | faulty_body fault place ↦ 0
+]

@@ -4,7 +4,7 @@ use Rattle.std.specs.Prelude.{◌≡◌, ◌<◌, ◌≤◌, ◌+◌, ◌^◌, �
 use Rattle.std.specs.List.{AllByRecursion}
 use Rattle.bson_model.specs.Tree.{Datum, no_fields, field, value_depth}
 use Rattle.opmsg_model.specs.MessageSizes.{IsSmall, IsWithin}
-use Rattle.base_model.specs.Refusals.{Refusal}
+use Rattle.base_model.specs.Refusals.{Evidence, tries_evidence, Refusal}
 use Rattle.bson_model.specs.Spelling.{written_value}
 use Rattle.query_model.specs.Writes.{Write}
 use Rattle.query_model.specs.Effects.{write_key}
@@ -48,9 +48,14 @@ IsSmallCommand (kill_command kill) = Unit {0}
 IsSmallCommand (shard_collection_command namespace) = Unit {0}
 IsSmallCommand (split_command split) = IsSmall (field (codes "_id") split.middle no_fields)
 
--- the error's name is short; evidence always is
+-- at most ten tries are shown; other evidence is always short
+abbrev pub IsSmallEvidence : Evidence → Type 0
+IsSmallEvidence (tries_evidence tries) = length tries ≤ 10
+IsSmallEvidence _ = Unit {0}
+
+-- the error's name is short, and the evidence
 abbrev pub IsSmallRefusal : Refusal → Type 0
-IsSmallRefusal refusal = length refusal.error.name ≤ 100
+IsSmallRefusal refusal = (length refusal.error.name ≤ 100) × IsSmallEvidence refusal.evidence
 
 -- an error that a statement can have
 abbrev pub IsSmallError : WriteError → Type 0

@@ -1,8 +1,9 @@
 -- The fields of a command, and of the documents nested in it (MongoDB manual, "Database Commands"; the order of refusals is own). A rule is a name with a
 -- check of its value. A field is refused where its name occurred before, and else where its value fails the check.
-use Rattle.std.specs.Prelude.{ℕ, List, [], ◌∷◌, length, Bool, false, ◌&&◌, Option, Some, None, ◌==◌, if◌then◌else◌, codes}
+use Rattle.std.specs.Prelude.{ℕ, ℤ, pos, negsuc, ◌^◌, nat_lt, List, [], ◌∷◌, length, Bool, false, ◌&&◌, Option, Some, None, ◌==◌, if◌then◌else◌, codes}
 use Rattle.std.specs.Str.{bytes_eq}
 use Rattle.bson_model.specs.Tree.{Datum, string_value, document_value, binary_value, boolean_value, timestamp_value, Fields, no_fields, field, get}
+use Rattle.pipeline_model.specs.Operands.{whole_number}
 use Rattle.base_model.specs.Errors.{bad_value, failed_to_parse, type_mismatch}
 use Rattle.command_model.specs.Checks.{Verdict, first_of, is_one_of, unless_passes}
 
@@ -82,6 +83,14 @@ session_rules = record { name = codes "id"; check = session_id } ∷ []
 abbrev pub check_session : Fields → Verdict
 check_session ms = first_of (check_inner_fields session_rules ms ∷ check_required (codes "id") ms ∷ [])
 
+-- a number of milliseconds, from 0 to 2^31 - 1 (MongoDB manual, "maxTimeMS")
+abbrev pub is_time_limit : ℤ → Bool
+is_time_limit (pos n) = nat_lt n (2 ^ 31)
+is_time_limit (negsuc n) = false
+
+abbrev pub time_limit_needed : Datum → Verdict
+time_limit_needed value = elim (whole_number value) [ None ↦ Some type_mismatch | Some n ↦ unless_passes (is_time_limit n) bad_value ]
+
 -- the fields that every command may have
 abbrev pub common_rules : List Rule
 common_rules =
@@ -90,6 +99,7 @@ common_rules =
     ∷ record { name = codes "$clusterTime"; check = any_value }
     ∷ record { name = codes "$readPreference"; check = any_value }
     ∷ record { name = codes "comment"; check = any_value }
+    ∷ record { name = codes "maxTimeMS"; check = time_limit_needed }
     ∷ record { name = codes "apiVersion"; check = string_needed }
     ∷ record { name = codes "apiStrict"; check = boolean_needed }
     ∷ record { name = codes "apiDeprecationErrors"; check = boolean_needed }

@@ -1,6 +1,7 @@
 -- Each node of the world that a call begins in is what its journal opens, and the files are the journals.
 use Rattle.std.proofs.Common.{◌≡◌, ℕ, ◌+◌, List, [], ◌∷◌, refl, sym, ap, subst}
 use Rattle.std.specs.Prelude.{Option, Some}
+use Rattle.std.specs.List.{AllByRecursion}
 use Rattle.std.specs.Option.{option_map}
 use Rattle.node_model.specs.Journal.{Kept}
 use Rattle.node_model.specs.States.{NodeState}
@@ -8,7 +9,7 @@ use Rattle.node_model.specs.World.{Held, World, start}
 use Rattle.node_laws.proofs.Places.{EachAt}
 use Rattle.node_replay.specs.Openings.{opened}
 use Rattle.node_replay.specs.Replays.{latest_time, records_of, replayed}
-use Rattle.node_replay.proofs.Starts.{places_each}
+use Rattle.node_replay.proofs.Starts.{all_starts, places_each}
 use Rattle.journal_starts.specs.Journals.{IsJournal, AreJournals}
 use Rattle.journal_starts.specs.Records.{part_at}
 use Rattle.journal_starts.specs.Starts.{BeginsOnFiles, begins_new, begins_again}
@@ -63,3 +64,10 @@ pub begins_begun : (others routers : ℕ) (files : List (List ℕ)) (first : Wor
 begins_begun others routers files _ (begins_new stored) = start_begun others routers
 begins_begun others routers files _ (begins_again u first reached stored b) =
     nodes_begun others 0 u.nodes first.nodes (begins_started u first b) (reached_of_places others routers u reached)
+
+-- no node has taken a step of the call
+pub begins_uncounted : (others routers : ℕ) (files : List (List ℕ)) (first : World) → BeginsOnFiles others routers files first
+    → AllByRecursion (λ (h : Held). h.steps ≡ 0) first.nodes
+begins_uncounted others routers files _ (begins_new stored) = all_starts (λ (h : Held). h.steps ≡ 0) others routers refl (λ j. refl) (λ j. refl)
+begins_uncounted others routers files _ (begins_again u first reached stored b) =
+    subst (λ (x : World). AllByRecursion (λ (h : Held). h.steps ≡ 0) x.nodes) (sym b.then) b.counts

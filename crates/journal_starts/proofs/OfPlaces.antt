@@ -1,5 +1,5 @@
 -- Each node of a run is of the kind and the number of its place, also where nodes stop and are started again.
-use Rattle.std.proofs.Common.{◌≡◌, ℕ, zero, suc, ◌+◌, List, [], ◌++◌, refl, sym, ap, subst, ◌∙◌, arith}
+use Rattle.std.proofs.Common.{◌≡◌, inl, inr, ℕ, zero, suc, ◌+◌, List, [], ◌++◌, refl, sym, ap, subst, ◌∙◌, arith}
 use Rattle.std.specs.Prelude.{◌<◌, ◌≤◌, Bool, true, false, Some, nat_lt, if◌then◌else◌}
 use Rattle.std.proofs.lemmas.Bool.{ltb-true, ltb-false}
 use Rattle.std.specs.List.{slice_get, slice_set}
@@ -8,7 +8,7 @@ use Rattle.chunk_model.specs.Tables.{first_shard}
 use Rattle.node_model.specs.Journal.{Kept, greatest_kept}
 use Rattle.node_model.specs.Letters.{Input, client_input, letter_input, moment_input, opened_input}
 use Rattle.node_model.specs.States.{NodeState}
-use Rattle.node_model.specs.World.{Held, World, Moves, Event, Happens, comes, delivers, passes, begins, start}
+use Rattle.node_model.specs.World.{Held, World, Moves, steps_after, Misses, Meets, Event, Happens, comes, delivers, passes, begins, start}
 use Rattle.node_laws.proofs.Places.{EachAt, each_get, each_set}
 use Rattle.node_replay.specs.Durable.{durable_shard, durable_router, empty_of, empty_shard, empty_router}
 use Rattle.node_replay.specs.Holds.{Replays}
@@ -74,19 +74,30 @@ move_of_places others w v at i all places m =
     let follows : StepFollows (greatest_kept m.old.kept) m.old.state i m.f m.new =
     step_follows (greatest_kept m.old.kept) m.old.state m.new i m.f old.1 m.step in
     subst (λ (x : World). AreOfPlaces others x) (sym m.then)
-    (of_places_set others w.nodes at m.old (record { state = m.new; kept = m.old.kept ++ m.f.written }) places m.here follows.own)
+    (of_places_set others w.nodes at m.old (record { state = m.new; kept = m.old.kept ++ m.f.written; steps = m.old.steps + 1 }) places m.here follows.own)
+
+-- a node that takes no step stays as it is
+miss_of_places : (others : ℕ) (w v : World) (at : ℕ) (i : Input) → AreOfPlaces others w → Misses w at i v → AreOfPlaces others v
+miss_of_places others w v at i places m =
+    subst (λ (x : World). AreOfPlaces others x) (sym m.then)
+    (of_places_set others w.nodes at m.old (record { state = m.old.state; kept = m.old.kept; steps = steps_after m.lack m.old.steps }) places m.here refl)
+
+meets_of_places : (others : ℕ) (w v : World) (at : ℕ) (i : Input) → WorldReplays w → AreOfPlaces others w → Meets w at i v → AreOfPlaces others v
+meets_of_places others w v at i all places (inl m) = move_of_places others w v at i all places m
+meets_of_places others w v at i all places (inr m) = miss_of_places others w v at i places m
 
 event_of_places : (others : ℕ) (w v : World) (e : Event) → WorldReplays w → AreOfPlaces others w → Happens w e v → AreOfPlaces others v
-event_of_places others _ _ _ all places (comes w v at link number request is m) = move_of_places others w v at (client_input link number request) all places m
-event_of_places others _ _ _ all places (delivers w v at which l got to m) = move_of_places others w v at (letter_input l) all places m
-event_of_places others _ _ _ all places (passes w v at moment m) = move_of_places others w v at (moment_input moment) all places m
-event_of_places others _ _ _ all places (begins w v at m) = move_of_places others w v at opened_input all places m
+event_of_places others _ _ _ all places (comes w v at link number request is m) = meets_of_places others w v at (client_input link number request) all places m
+event_of_places others _ _ _ all places (delivers w v at which l got to m) = meets_of_places others w v at (letter_input l) all places m
+event_of_places others _ _ _ all places (passes w v at moment m) = meets_of_places others w v at (moment_input moment) all places m
+event_of_places others _ _ _ all places (begins w v at m) = meets_of_places others w v at opened_input all places m
 
 restart_of_places : (others : ℕ) (w v : World) (at : ℕ) → WorldReplays w → AreOfPlaces others w → Restarts w at v → AreOfPlaces others v
 restart_of_places others w v at all places m =
     let old : NodeReplays m.old = all_got NodeReplays w.nodes at m.old all.nodes m.here in
     subst (λ (x : World). AreOfPlaces others x) (sym m.then)
-    (of_places_set others w.nodes at m.old (record { state = m.new; kept = m.old.kept ++ [] }) places m.here (started_own m.old m.new old.0 m.opens))
+    (of_places_set others w.nodes at m.old (record { state = m.new; kept = m.old.kept ++ []; steps = m.steps }) places m.here
+    (started_own m.old m.new old.0 m.opens))
 
 stop_of_places : (others : ℕ) (w v : World) (at : ℕ) (i : Input) → WorldReplays w → AreOfPlaces others w → ComesInTime i → Stops w at i v → AreOfPlaces others v
 stop_of_places others w v at i all places input m =
@@ -96,9 +107,10 @@ stop_of_places others w v at i all places input m =
     let kept : List Kept = m.old.kept ++ m.f.written in
     let opens : opened_on m.reached kept ≡ Some m.new =
     ap (λ e. option_map (opened (latest_time (records_of kept))) (replayed (Some e) (records_of kept))) follows.own ∙ m.opens in
-    let now : NodeReplays (record { state = m.reached; kept = kept }) = step_replays m.old m.reached i m.f old input follows in
-    subst (λ (x : World). AreOfPlaces others x) (sym m.then) (of_places_set others w.nodes at m.old (record { state = m.new; kept = kept }) places m.here
-    (started_own (record { state = m.reached; kept = kept }) m.new now.0 opens ∙ follows.own))
+    let now : NodeReplays (record { state = m.reached; kept = kept; steps = 0 }) = step_replays m.old m.reached i m.f 0 old input follows in
+    subst (λ (x : World). AreOfPlaces others x) (sym m.then)
+    (of_places_set others w.nodes at m.old (record { state = m.new; kept = kept; steps = m.old.steps + 1 }) places m.here
+    (started_own (record { state = m.reached; kept = kept; steps = 0 }) m.new now.0 opens ∙ follows.own))
 
 occurs_of_places : (others : ℕ) (w v : World) (e : EventOrStop) → WorldReplays w → AreOfPlaces others w → Occurs w e v → AreOfPlaces others v
 occurs_of_places others _ _ _ all places (occurs w v e h) = event_of_places others w v e all places h

@@ -52,13 +52,14 @@ module _ (u v : World) (before olds : List Held) (h : Held) (at : ℕ) (place : 
   old_is = same_Some _ _ (sym m.here ∙ ap (λ (l : List Held). slice_get l at) nodes ∙ got_behind before olds h at place)
 
   abbrev now : Held
-  now = record { state = m.new; kept = h.kept }
+  now = record { state = m.new; kept = h.kept; steps = m.steps }
 
   nodes_then : v.nodes ≡ (before ++ now ∷ []) ++ olds
   nodes_then =
       ap (λ (x : World). x.nodes) m.then
-      ∙ ap (λ (l : List Held). slice_set l at (record { state = m.new; kept = m.old.kept ++ [] })) nodes
-      ∙ ap (λ k. slice_set (before ++ h ∷ olds) at (record { state = m.new; kept = k })) (append-nil m.old.kept ∙ ap (λ (x : Held). x.kept) old_is)
+      ∙ ap (λ (l : List Held). slice_set l at (record { state = m.new; kept = m.old.kept ++ []; steps = m.steps })) nodes
+      ∙ ap (λ k. slice_set (before ++ h ∷ olds) at (record { state = m.new; kept = k; steps = m.steps }))
+      (append-nil m.old.kept ∙ ap (λ (x : Held). x.kept) old_is)
       ∙ set_behind before olds h now at place
 
   one_started : IsStarted h now

@@ -1,6 +1,7 @@
 //! The laws between the definitions.
 
 ghost use Rattle.std.specs.Prelude.{◌≡◌, ℕ, List, map};
+ghost use Rattle.std.specs.List.{AllByRecursion};
 ghost use Rattle.node_model.specs.Journal.{changes_kept};
 ghost use Rattle.node_model.specs.States.{NodeState};
 ghost use Rattle.node_model.specs.World.{Held, World, journal_at, history_of};
@@ -25,6 +26,13 @@ pub fn starts_are_stored()
 pub fn starts_are_opened()
     ensures { (others routers : ℕ) (files : List (List ℕ)) (first : World) (found : List (List (List ℕ))) (states : List NodeState) → BeginsOnFiles others routers files first
         → HaveRecords files found → AreOpened others 0 found states → states ≡ map (λ h. h.state) first.nodes }
+{}
+
+/// In that world no node has taken a step of the call.
+#[tactic(auto, using(crate::proofs::Begun::begins_uncounted))]
+pub fn starts_are_uncounted()
+    ensures { (others routers : ℕ) (files : List (List ℕ)) (first : World) → BeginsOnFiles others routers files first →
+        AllByRecursion (λ h. h.steps ≡ 0) first.nodes }
 {}
 
 /// No opening on such files is refused.

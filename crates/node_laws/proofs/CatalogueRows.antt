@@ -1,7 +1,7 @@
 -- What the rows of the catalogue owe.
 use Rattle.std.proofs.Common.{◌≡◌, inl, inr, ℕ, ◌+◌, ◌<◌, ◌≤◌, List, [], ◌∷◌, ◌++◌, refl, sym, ap, subst, ◌∙◌, arith, append-nil, Bool}
 use Rattle.std.specs.Prelude.{Option, Some, None, true, false, max}
-use Rattle.std.specs.List.{AllByRecursion, slice_get}
+use Rattle.std.specs.List.{AllByRecursion}
 use Rattle.history_model.proofs.Lists.{all_at, all_weaken, in_first}
 use Rattle.bson_model.specs.Tree.{Datum}
 use Rattle.base_model.specs.Identities.{RequestId}
@@ -17,7 +17,7 @@ use Rattle.reply_model.specs.Exchanges.{Asked, Answered}
 use Rattle.reply_model.specs.OneHistory.{WasWanted, ids_asked, ids_told, AreDifferent}
 use Rattle.reply_model.specs.Cursors.{Cursor}
 use Rattle.node_model.specs.Journal.{Kept, kept_change, kept_none, changes_kept, time_kept, greatest_kept}
-use Rattle.node_model.specs.Letters.{At, no_time, at_time, table_ask, split_ask, Letter, Input, letter_input, Effect, sends, writes}
+use Rattle.node_model.specs.Letters.{nothing, At, no_time, at_time, table_ask, split_ask, Letter, Input, letter_input, Effect, sends, writes}
 use Rattle.node_model.specs.States.{Catalogue, catalogue_state}
 use Rattle.node_model.specs.CatalogueRows.{told, split_told, none_at, at_later, with_change, CatalogueRow, catalogue_create, catalogue_tell, catalogue_split, catalogue_bound, catalogue_none, catalogue_skip, catalogue_moment, catalogue_opened, catalogue_client}
 use Rattle.node_model.specs.World.{World}
@@ -28,7 +28,7 @@ use Rattle.node_laws.proofs.CatalogueAnswers.{created_is, splits, has_bound, no_
 use Rattle.node_laws.proofs.SplitTables.{split_bound, begins_already}
 use Rattle.node_laws.proofs.ReadFacts.{BeginsAfter}
 use Rattle.node_laws.proofs.SplitFacts.{IsSplitOf}
-use Rattle.node_laws.proofs.Facts.{IsKnownTable, IsWanted, TableFits, AtFits, BodyFits, CatalogueFits, HeldFits, IsMet, AnswersFit, no_answer, Good}
+use Rattle.node_laws.proofs.Facts.{IsKnownTable, IsWanted, TableFits, AtFits, BodyFits, CatalogueFits, NodeFits, IsMet, AnswersFit, no_answer, Good}
 use Rattle.node_laws.proofs.Owes.{InputFits, IsSaid, Owes}
 use Rattle.node_laws.proofs.LongerJournals.{changes_longer}
 use Rattle.node_laws.proofs.Growth.{met_later, met_max}
@@ -150,7 +150,7 @@ stored v asked at time kept c f le own = record {
 
 -- a step of the catalogue that writes nothing: its later state, and its messages in a view after it
 quiet : (w : World) (book : Book) (at : ℕ) (kept : List Kept) (c d : Catalogue) (mail : List Letter) → Good w book
-    → HeldFits (view_of w.nodes book) w.asked w.answered w.given at (record { state = catalogue_state c; kept = kept }) → c.time ≤ d.time
+    → NodeFits (view_of w.nodes book) w.asked w.answered w.given at (record { state = catalogue_state c; kept = kept }) → c.time ≤ d.time
     → CatalogueFits w.asked at kept d → IsMet (view_of w.nodes book) w.given d.time
     → ((v : View) → Later (view_of w.nodes book) v → v.journal at ≡ kept → AllByRecursion (IsSaid v w.asked w.given) mail)
     → Owes w book at (record { state = catalogue_state c; kept = kept }) (sends mail) (catalogue_state d)
@@ -166,8 +166,9 @@ quiet w book at kept c d mail good fits le new met letters = record {
   news = [];
   chose = tt;
   cursors = book.cursors;
+  raised = tt;
   elsewhere = λ router other. refl;
-  owed = λ v later others own time chosen cursors. record {
+  owed = λ v later others own time chosen cursors notes. record {
     node = rw (append-nil w.asked, append-nil w.answered, append-nil kept)
         (record { state = new; met = met_later (view_of w.nodes book) v w.given d.time later met; cursors = tt; within = (let n = fits.within in omega (arith, n, le)) });
     letters = rw (append-nil w.asked) (letters v later (own ∙ append-nil kept));
@@ -205,7 +206,7 @@ grown asked at now kept c x le f n =
 
 -- a step in which it makes one
 makes : (w : World) (book : Book) (at : ℕ) (kept : List Kept) (c : Catalogue) (now : ℕ) (x : Change) (mail : List Letter) → Good w book
-    → HeldFits (view_of w.nodes book) w.asked w.answered w.given at (record { state = catalogue_state c; kept = kept })
+    → NodeFits (view_of w.nodes book) w.asked w.answered w.given at (record { state = catalogue_state c; kept = kept })
     → c.time < now → IsNext w.asked c now x
     → ((v : View) → Later (view_of w.nodes book) v → AreStored v now (x ∷ c.changes) → now ≤ v.bound 0 → IsMet v w.given now
     → AllByRecursion (IsSaid v w.asked w.given) mail)
@@ -227,8 +228,9 @@ makes w book at kept c now x mail good fits less n letters =
       news = [];
       chose = tt;
       cursors = book.cursors;
+      raised = tt;
       elsewhere = λ router other. refl;
-      owed = λ v later others journal time chosen cursors.
+      owed = λ v later others journal time chosen cursors notes.
           let s : AreStored v now (x ∷ c.changes) = stored v w.asked at now (kept ++ kept_change x ∷ []) (with_change c now x) next (omega arith) journal in
           let stores = greatest_both kept (kept_change x ∷ []) in
           let bound_is : v.bound 0 ≡ greatest_kept (kept ++ kept_change x ∷ []) = ap (λ p. v.bound p) (sym fits.state.place) ∙ time in
@@ -245,7 +247,7 @@ makes w book at kept c now x mail good fits less n letters =
 
 -- its answer to a message, at the time of that or its own
 answers : (w : World) (book : Book) (at : ℕ) (kept : List Kept) (c : Catalogue) (m l : Letter) → Good w book
-    → HeldFits (view_of w.nodes book) w.asked w.answered w.given at (record { state = catalogue_state c; kept = kept }) → InputFits w book (letter_input m)
+    → NodeFits (view_of w.nodes book) w.asked w.answered w.given at (record { state = catalogue_state c; kept = kept }) → InputFits w book at (letter_input m)
     → ((v : View) → Later (view_of w.nodes book) v → AreStored v (max c.time m.time) c.changes
     → IsMet v w.given (max c.time m.time)
     → IsSaid v w.asked w.given l)
@@ -295,7 +297,7 @@ same_changes asked at kept more c same f = record {
 
 tells_table : (w : World) (book : Book) (at : ℕ) (kept : List Kept) (c : Catalogue) (m : Letter) (namespace : List ℕ) (create : Bool) (asked_at : At)
     → Good w book
-    → HeldFits (view_of w.nodes book) w.asked w.answered w.given at (record { state = catalogue_state c; kept = kept }) → InputFits w book (letter_input m)
+    → NodeFits (view_of w.nodes book) w.asked w.answered w.given at (record { state = catalogue_state c; kept = kept }) → InputFits w book at (letter_input m)
     → AtFits asked_at m.time
     → Owes w book at (record { state = catalogue_state c; kept = kept })
     (writes (none_at asked_at (known_table namespace c.changes))
@@ -321,8 +323,9 @@ tells_table w book at kept c m namespace create asked_at good fits comes early =
       news = [];
       chose = tt;
       cursors = book.cursors;
+      raised = tt;
       elsewhere = λ router other. refl;
-      owed = λ v later others journal time chosen cursors.
+      owed = λ v later others journal time chosen cursors notes.
           let s : AreStored v now c.changes = stored v w.asked at now (kept ++ written) (at_later c now) next (omega arith) journal in
           let bound : v.bound 0 ≡ greatest_kept (kept ++ written) = ap (λ p. v.bound p) (sym fits.state.place) ∙ time in
           let told_met : IsMet v w.given now = met_later (view_of w.nodes book) v w.given now later met in
@@ -341,11 +344,25 @@ tells_table w book at kept c m namespace create asked_at good fits comes early =
           };
     }
 
+-- where nothing happens
+pub catalogue_rests : (w : World) (book : Book) (at : ℕ) (kept : List Kept) (c : Catalogue) → Good w book
+    → NodeFits (view_of w.nodes book) w.asked w.answered w.given at (record { state = catalogue_state c; kept = kept })
+    → Owes w book at (record { state = catalogue_state c; kept = kept }) nothing (catalogue_state c)
+catalogue_rests w book at kept c good fits = quiet w book at kept c c [] good fits (omega arith) fits.state fits.met (λ v later own. tt)
+
+-- where only messages are sent
+pub catalogue_mails : (w : World) (book : Book) (at : ℕ) (kept : List Kept) (c : Catalogue) (mail : List Letter) → Good w book
+    → NodeFits (view_of w.nodes book) w.asked w.answered w.given at (record { state = catalogue_state c; kept = kept })
+    → ((v : View) → Later (view_of w.nodes book) v → AllByRecursion (IsSaid v w.asked w.given) mail)
+    → Owes w book at (record { state = catalogue_state c; kept = kept }) (sends mail) (catalogue_state c)
+catalogue_mails w book at kept c mail good fits letters =
+    quiet w book at kept c c mail good fits (omega arith) fits.state fits.met (λ v later own. letters v later)
+
 -- ALL ROWS
 
 module _ (w : World) (book : Book) (at : ℕ) (kept : List Kept) (c : Catalogue) (good : Good w book)
-    (fits : HeldFits (view_of w.nodes book) w.asked w.answered w.given at (record { state = catalogue_state c; kept = kept })) (m : Letter)
-    (comes : InputFits w book (letter_input m)) where
+    (fits : NodeFits (view_of w.nodes book) w.asked w.answered w.given at (record { state = catalogue_state c; kept = kept })) (m : Letter)
+    (comes : InputFits w book at (letter_input m)) where
   earlier : AllByRecursion (λ y. time_of y < max c.time m.time + 1) c.changes
   earlier =
       subst (λ l. AllByRecursion (λ y. time_of y < max c.time m.time + 1) l) (sym fits.state.changes)
@@ -472,30 +489,29 @@ module _ (w : World) (book : Book) (at : ℕ) (kept : List Kept) (c : Catalogue)
       ))
 
 pub catalogue_owes : (w : World) (book : Book) (at : ℕ) (kept : List Kept) (c d : Catalogue) (i : Input) (f : Effect) → Good w book
-    → slice_get w.nodes at ≡ Some (record { state = catalogue_state c; kept = kept })
-    → HeldFits (view_of w.nodes book) w.asked w.answered w.given at (record { state = catalogue_state c; kept = kept }) → InputFits w book i
+    → NodeFits (view_of w.nodes book) w.asked w.answered w.given at (record { state = catalogue_state c; kept = kept }) → InputFits w book at i
     → CatalogueRow c i f d
     → Owes w book at (record { state = catalogue_state c; kept = kept }) f (catalogue_state d)
-catalogue_owes w book at kept _ _ _ _ good here fits comes (catalogue_skip c m skips) = quiet w book at kept c c [] good fits (omega arith) fits.state
+catalogue_owes w book at kept _ _ _ _ good fits comes (catalogue_skip c m skips) = quiet w book at kept c c [] good fits (omega arith) fits.state
     fits.met (λ v later own. tt)
-catalogue_owes w book at kept _ _ _ _ good here fits comes (catalogue_opened c) = quiet w book at kept c c [] good fits (omega arith) fits.state fits.met
+catalogue_owes w book at kept _ _ _ _ good fits comes (catalogue_opened c) = quiet w book at kept c c [] good fits (omega arith) fits.state fits.met
     (λ v later own. tt)
-catalogue_owes w book at kept _ _ _ _ good here fits comes (catalogue_client c link number request) = quiet w book at kept c c [] good fits (omega arith)
+catalogue_owes w book at kept _ _ _ _ good fits comes (catalogue_client c link number request) = quiet w book at kept c c [] good fits (omega arith)
     fits.state fits.met (λ v later own. tt)
-catalogue_owes w book at kept _ _ _ _ good here fits comes (catalogue_moment c moment) =
+catalogue_owes w book at kept _ _ _ _ good fits comes (catalogue_moment c moment) =
     quiet w book at kept c (at_later c (max c.time (time_of_moment moment))) [] good fits (omega arith)
     (later_catalogue w.asked at (max c.time (time_of_moment moment)) kept c (omega arith) fits.state)
-    (met_max (view_of w.nodes book) w.given c.time (time_of_moment moment) fits.met comes) (λ v later own. tt)
-catalogue_owes w book at kept _ _ _ _ good here fits comes (catalogue_tell c m namespace create asked_at says may) =
+    (met_max (view_of w.nodes book) w.given c.time (time_of_moment moment) fits.met comes.0) (λ v later own. tt)
+catalogue_owes w book at kept _ _ _ _ good fits comes (catalogue_tell c m namespace create asked_at says may) =
     let asks : BodyFits (view_of w.nodes book) w.asked m.sender m.receiver m.time (table_ask namespace create asked_at) = subst
     (λ b. BodyFits (view_of w.nodes book) w.asked m.sender m.receiver m.time b) says comes.0 in
     let early = at_fits (view_of w.nodes book) w.asked m.sender m.receiver m.time namespace create asked_at asks in
     tells_table w book at kept c m namespace create asked_at good fits comes early
-catalogue_owes w book at kept _ _ _ _ good here fits comes (catalogue_create c m namespace asked_at x says new) =
+catalogue_owes w book at kept _ _ _ _ good fits comes (catalogue_create c m namespace asked_at x says new) =
     creates w book at kept c good fits m comes namespace asked_at x says new
-catalogue_owes w book at kept _ _ _ _ good here fits comes (catalogue_split c m id namespace middle x says new) =
+catalogue_owes w book at kept _ _ _ _ good fits comes (catalogue_split c m id namespace middle x says new) =
     divides w book at kept c good fits m comes id namespace middle x says new
-catalogue_owes w book at kept _ _ _ _ good here fits comes (catalogue_bound c m id namespace middle says there) =
+catalogue_owes w book at kept _ _ _ _ good fits comes (catalogue_bound c m id namespace middle says there) =
     bounds w book at kept c good fits m comes id namespace middle says there
-catalogue_owes w book at kept _ _ _ _ good here fits comes (catalogue_none c m id namespace middle says none) =
+catalogue_owes w book at kept _ _ _ _ good fits comes (catalogue_none c m id namespace middle says none) =
     misses w book at kept c good fits m comes id namespace middle says none

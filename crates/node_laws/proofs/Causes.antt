@@ -1,12 +1,13 @@
 -- Where the reply to a request to split is that no such collection exists, there was none as the request came.
 use Rattle.std.proofs.Common.{◌≡◌, ℕ, ◌+◌, ◌*◌, ◌<◌, ◌≤◌, List, [], ◌∷◌, ◌++◌, refl, sym, ap, subst, ◌∙◌, arith, Bool}
-use Rattle.std.specs.Prelude.{is_some, Result, Ok, true, false, not, ◌&&◌, map, nat_lt, if◌then◌else◌}
+use Rattle.std.specs.Prelude.{is_some, Some, max, Result, Ok, true, false, not, ◌&&◌, map, nat_lt, if◌then◌else◌}
 use Rattle.std.specs.List.{AllByRecursion, flat_map}
 use Rattle.std.specs.Str.{bytes_eq}
 use Rattle.history_model.proofs.Lists.{all_weaken, all_append, all_at}
 use Rattle.history_model.specs.History.{Entry}
 use Rattle.base_model.specs.Identities.{RequestId}
 use Rattle.base_model.specs.Refusals.{Refusal}
+use Rattle.base_model.specs.Errors.{namespace_not_sharded, exceeded_memory_limit, max_time_expired, shutdown_in_progress}
 use Rattle.bson_model.specs.Tree.{Datum, Fields}
 use Rattle.command_model.specs.Split.{SplitCommand}
 use Rattle.command_model.specs.Command.{Command, write_command, find_command, count_command, shard_collection_command, split_command, command_of}
@@ -14,26 +15,28 @@ use Rattle.command_model.specs.Reading.{Reading}
 use Rattle.command_model.specs.GetMore.{GetMore}
 use Rattle.command_model.specs.KillCursors.{KillCursors}
 use Rattle.pipeline_model.specs.Runs.{Outcome}
-use Rattle.command_model.specs.Answers.{Answer, sharded_answer}
+use Rattle.command_model.specs.Answers.{Answer, sharded_answer, refusal_answer, answer_document}
 use Rattle.chunk_model.specs.Tables.{Table, table_of}
-use Rattle.command_model.specs.Writes.{WriteKind}
+use Rattle.command_model.specs.Writes.{WriteKind, WriteCommand}
 use Rattle.pipeline_model.specs.Stages.{Stage}
 use Rattle.chunk_model.specs.Changes.{known_table}
 use Rattle.opmsg_model.specs.Requests.{Request}
 use Rattle.reply_model.specs.Exchanges.{Asked, Answered}
-use Rattle.reply_model.specs.Accounts.{Dated, Account}
-use Rattle.reply_model.specs.OneHistory.{changes_before, WasAbsent, IsReplyTo, IsCaused, ids_asked, AreDifferent}
+use Rattle.reply_model.specs.Accounts.{Dated, Lack, no_memory, no_steps, Account}
+use Rattle.reply_model.specs.Outcomes.{lack_refusal, expired_refusal}
+use Rattle.base_model.specs.Times.{time_of_moment}
+use Rattle.reply_model.specs.OneHistory.{changes_before, WasAbsent, IsReplyTo, IsCausedWrite, IsCaused, ids_asked, AreDifferent}
 use Rattle.reply_model.specs.Right.{not_sharded}
 use Rattle.reply_model.specs.Cursors.{Cursor}
 use Rattle.reply_facts.proofs.Requests.{one_asked}
 use Rattle.node_model.specs.Journal.{Kept, kept_entry, kept_block}
-use Rattle.node_model.specs.Letters.{At, Statement, split_done, Input, client_input, letter_input, moment_input, opened_input, Reply, Effect}
+use Rattle.node_model.specs.Letters.{At, Cause, Statement, split_done, Input, client_input, letter_input, moment_input, opened_input, Reply, Effect}
 use Rattle.node_model.specs.States.{Course, Telling, Work, writing, reading, sharding, splitting, Open, Router, Catalogue, Shard}
 use Rattle.node_model.specs.CatalogueRows.{CatalogueRow, catalogue_create, catalogue_tell, catalogue_split, catalogue_bound, catalogue_none, catalogue_skip, catalogue_moment, catalogue_opened, catalogue_client}
-use Rattle.node_model.specs.ShardRows.{ShardRow, shard_write, shard_repeat, shard_empty, shard_park, shard_waits, shard_stale, shard_read, shard_read_above, shard_rows, shard_excess, shard_overflow, shard_time, shard_learn, shard_known, shard_skip, shard_moment, shard_opened, shard_client}
-use Rattle.node_model.specs.RouterRequests.{id_of, heard, reached, table_to_read, RequestPlan, at_once, needs, needs_batch, needs_end, plan_of}
-use Rattle.node_model.specs.RouterNext.{noted, served_in_part, settled, is_for, is_for_catalogue, reply_to, empty_answer, Next, replies_in, stays, is_told, write_on, read_on, begins_work, next_of}
-use Rattle.node_model.specs.RouterRows.{opened_request, block_size, Opened, gives_number, Tells, tells_overflow, tells_excess, tells_number, tells_batch, tells_cursor, RouterRow, router_begin, router_opened, router_plain, router_more, router_no_cursor, router_kill, router_take, router_learn, router_split, router_not_sharded, router_reach, router_hear, router_ahead, router_note, router_part, router_read, router_excess, router_overflow, router_late, router_skip, router_moment}
+use Rattle.node_model.specs.ShardRows.{ShardRow, shard_write, shard_repeat, shard_empty, shard_park, shard_waits, shard_stale, shard_read, shard_read_above, shard_rows, shard_excess, shard_overflow, shard_time, shard_learn, shard_known, shard_no_table, shard_skip, shard_moment, shard_opened, shard_client}
+use Rattle.node_model.specs.RouterRequests.{id_of, indices_of, unanswered, unsent, heard, reached, table_to_read, RequestPlan, at_once, needs, needs_batch, needs_end, plan_of}
+use Rattle.node_model.specs.RouterNext.{noted, served_in_part, settled, is_for, is_for_catalogue, reply_to, empty_answer, Next, replies_in, stays, is_told, write_on, read_on, begins_work, next_of, given_up, gives_up, also_tried, read_again, after_stale, is_below, refused_next, table_refused, at_moment}
+use Rattle.node_model.specs.RouterRows.{opened_request, block_size, Opened, gives_number, Tells, tells_overflow, tells_excess, tells_number, tells_batch, tells_cursor, RouterRow, router_begin, router_opened, router_plain, router_more, router_no_cursor, router_kill, router_take, router_learn, router_split, router_not_sharded, router_reach, router_hear, router_ahead, router_note, router_part, router_read, router_excess, router_overflow, router_refused, router_no_table, router_late, router_skip, router_moment}
 use Rattle.node_model.specs.World.{World, answered_by, dated_onto}
 use Rattle.node_laws.proofs.Views.{Book, View, view_of}
 use Rattle.node_laws.proofs.ReadFacts.{IsTelling, tells_find, tells_count}
@@ -43,7 +46,8 @@ use Rattle.node_laws.proofs.Owes.{InputFits}
 use Rattle.node_laws.proofs.Dates.{IsNoChange, missing_grows}
 use Rattle.node_laws.proofs.ReplySteps.{changed_differs, IsBased}
 use Rattle.node_laws.proofs.OpenRequests.{open_of_found}
-use Rattle.node_laws.proofs.NextKeeps.{Continues, write_keeps, read_keeps, begins_keeps}
+use Rattle.node_laws.proofs.NextKeeps.{Continues, write_keeps, read_keeps, begins_keeps, again_keeps}
+use Rattle.node_laws.proofs.NextCases.{by_refused, by_no_table, by_moment}
 use Rattle.node_laws.proofs.RouterAnswers.{as_answered}
 use Rattle.node_laws.proofs.RouterLater.{of_answers}
 
@@ -74,6 +78,7 @@ shard_aside _ _ _ _ (shard_overflow s m id turn namespace at half documents says
 shard_aside _ _ _ _ (shard_time s m id says) = record { stores = tt; replies = refl }
 shard_aside _ _ _ _ (shard_learn s m namespace create at t says news) = record { stores = (tt, tt); replies = refl }
 shard_aside _ _ _ _ (shard_known s m namespace create at table says none) = record { stores = tt; replies = refl }
+shard_aside _ _ _ _ (shard_no_table s m namespace node lack says) = record { stores = tt; replies = refl }
 shard_aside _ _ _ _ (shard_skip s m none) = record { stores = tt; replies = refl }
 shard_aside _ _ _ _ (shard_moment s moment) = record { stores = tt; replies = refl }
 shard_aside _ _ _ _ (shard_opened s) = record { stores = tt; replies = refl }
@@ -135,6 +140,8 @@ router_aside _ _ _ _ (router_read r m id rows q named at stages telling all out 
     tells_stored r q at telling out answer f tells
 router_aside _ _ _ _ (router_excess r m id rows n q named at stages telling says o w target whole got) = tt
 router_aside _ _ _ _ (router_overflow r m id rows q named at stages telling says o w target whole got) = tt
+router_aside _ _ _ _ (router_refused r m id turn first cause q next says o is) = tt
+router_aside _ _ _ _ (router_no_table r m namespace create at node lack says) = tt
 router_aside _ _ _ _ (router_late r m l) = tt
 router_aside _ _ _ _ (router_skip r m s) = tt
 router_aside _ _ _ _ (router_moment r moment b) = tt
@@ -189,6 +196,14 @@ other_work a namespace (splitting middle) split w other e = absurd other
 none_split : (q : Open) (split : SplitCommand) → HasWork q → IsNoSplitting q.work → command_of q.request ≡ Ok (split_command split) → ⊥
 none_split q split h other e = other_work h.request q.namespace q.work split h.work other (ap (λ r. command_of r) h.same ∙ e)
 
+-- that work was given up is not said by that reply
+lack_differs : (node : ℕ) (lack : Lack) → answer_document (refusal_answer (lack_refusal node lack)) ≡ not_sharded → ⊥
+lack_differs node no_memory e = let same : exceeded_memory_limit.number ≡ namespace_not_sharded.number = cc in absurd (let n : 146 ≡ 118 = same in omega (arith, n))
+lack_differs node (no_steps steps) e = let same : shutdown_in_progress.number ≡ namespace_not_sharded.number = cc in absurd (let n : 91 ≡ 118 = same in omega (arith, n))
+
+late_differs : (arrived moment : ℕ) → answer_document (refusal_answer (expired_refusal arrived moment)) ≡ not_sharded → ⊥
+late_differs arrived moment e = let same : max_time_expired.number ≡ namespace_not_sharded.number = cc in absurd (let n : 50 ≡ 118 = same in omega (arith, n))
+
 module _ (dated : List Dated) (asked : List Asked) (r : Router) where
   abbrev True : Reply → Type 0
   True x = IsTrueReply dated asked x
@@ -218,7 +233,7 @@ module _ (dated : List Dated) (asked : List Asked) (r : Router) where
       by_work : (work : Work) → q.work ≡ work → AllByRecursion True (replies_in (elim work as (λ (x : Work). Next) [
         | writing kind ordered statements c ↦ write_on r time tables false [] q kind ordered statements c
         | reading named at stages telling ↦
-            if is_for told at && not (is_some (table_to_read (table_of q.namespace tables) at)) then is_told (reply_to r time q (empty_answer q at telling))
+            if is_for told at && not (is_some (table_to_read (table_of q.namespace tables) at [])) then is_told (reply_to r time q (empty_answer q at telling))
             else read_on r time tables false q named at stages telling
         | sharding ↦ if made then is_told (reply_to r time q (sharded_answer q.namespace time)) else stays q []
         | splitting middle ↦ stays q []
@@ -227,7 +242,7 @@ module _ (dated : List Dated) (asked : List Asked) (r : Router) where
           of_next time q (write_on r time tables false [] q kind ordered statements c) h (subst (λ x. IsNoSplitting x) (sym is) tt)
           (write_keeps r time tables false [] q kind ordered statements c)
       by_work (reading named at stages telling) is =
-          by_read named at stages telling (is_for told at && not (is_some (table_to_read (table_of q.namespace tables) at)))
+          by_read named at stages telling (is_for told at && not (is_some (table_to_read (table_of q.namespace tables) at [])))
           (subst (λ x. IsNoSplitting x) (sym is) tt)
       by_work sharding is = by_told (sharded_answer q.namespace time) made (subst (λ x. IsNoSplitting x) (sym is) tt)
       by_work (splitting middle) is = tt
@@ -235,7 +250,7 @@ module _ (dated : List Dated) (asked : List Asked) (r : Router) where
       by_test : (b : Bool) → AllByRecursion True (replies_in (if not b then stays q [] else elim q.work as (λ (x : Work). Next) [
         | writing kind ordered statements c ↦ write_on r time tables false [] q kind ordered statements c
         | reading named at stages telling ↦
-            if is_for told at && not (is_some (table_to_read (table_of q.namespace tables) at)) then is_told (reply_to r time q (empty_answer q at telling))
+            if is_for told at && not (is_some (table_to_read (table_of q.namespace tables) at [])) then is_told (reply_to r time q (empty_answer q at telling))
             else read_on r time tables false q named at stages telling
         | sharding ↦ if made then is_told (reply_to r time q (sharded_answer q.namespace time)) else stays q []
         | splitting middle ↦ stays q []
@@ -250,6 +265,50 @@ module _ (dated : List Dated) (asked : List Asked) (r : Router) where
       all_append True (replies_in (next_of r time tables namespace made told q))
       (flat_map (λ q. replies_in (next_of r time tables namespace made told q)) requests)
       (next_true time tables namespace made told q all.0) (all_true time tables namespace made told requests all.1)
+
+  -- of what is refused, and of moments
+  refuses : (time : ℕ) (q : Open) (refusal : Refusal) → (answer_document (refusal_answer refusal) ≡ not_sharded → ⊥)
+      → AllByRecursion True (replies_in (is_told (reply_to r time q (refusal_answer refusal))))
+  refuses time q refusal other = ((λ split asks none. absurd (other none)), tt)
+
+  gives : (time : ℕ) (q : Open) (kind : WriteKind) (ordered : Bool) (statements : List Statement) (c : Course) (refusal : Refusal) (indices : List ℕ)
+      → HasWork q → q.work ≡ writing kind ordered statements c → AllByRecursion True (replies_in (gives_up r time q kind ordered statements c refusal indices))
+  gives time q kind ordered statements c refusal indices h work =
+      of_next time q (gives_up r time q kind ordered statements c refusal indices) h (subst (λ x. IsNoSplitting x) (sym work) tt)
+      (write_keeps r time r.tables false [] q kind ordered statements (settled c (given_up ordered refusal indices c.answers)))
+
+  refused_true : (time : ℕ) (q : Open) (sender turn first : ℕ) (cause : Cause) (next : Next) → HasWork q
+      → refused_next r time q sender turn first cause ≡ Some next → AllByRecursion True (replies_in next)
+  refused_true time q sender turn first cause next h is = by_refused (λ n. AllByRecursion True (replies_in n)) r time q sender turn first cause next (record {
+    stale_write = λ kind ordered statements c run met work same.
+        of_next time q (write_on r time r.tables (is_below (table_of q.namespace r.tables) met) [] q kind ordered statements (after_stale ordered c run met)) h
+        (subst (λ x. IsNoSplitting x) (sym work) tt)
+        (write_keeps r time r.tables (is_below (table_of q.namespace r.tables) met) [] q kind ordered statements (after_stale ordered c run met));
+    lack_write = λ kind ordered statements c run node lack work same has free. gives time q kind ordered statements c (lack_refusal node lack) run.indices h work;
+    stale_read = λ named at stages telling met work same.
+        of_next time q (read_again r time (also_tried q met) named at stages telling) h (subst (λ x. IsNoSplitting x) (sym work) tt)
+        (again_keeps r time q met named at stages telling);
+    lack_task = λ node lack same task. refuses time q (lack_refusal node lack) (λ e. lack_differs node lack e);
+  }) is
+
+  no_table_true : (time : ℕ) (namespace : List ℕ) (create : Bool) (at : At) (node : ℕ) (lack : Lack) (q : Open) → HasWork q
+      → AllByRecursion True (replies_in (table_refused r time namespace create at (lack_refusal node lack) q))
+  no_table_true time namespace create at node lack q h =
+      by_no_table (λ n. AllByRecursion True (replies_in n)) r time namespace create at (lack_refusal node lack) q tt
+      (λ kind ordered statements c work waits. gives time q kind ordered statements c (lack_refusal node lack) (indices_of (unsent ordered statements c)) h work)
+      (λ task. refuses time q (lack_refusal node lack) (λ e. lack_differs node lack e))
+
+  moment_true : (time moment : ℕ) (q : Open) → HasWork q → AllByRecursion True (replies_in (at_moment r time moment q))
+  moment_true time moment q h = by_moment (λ n. AllByRecursion True (replies_in n)) r time moment q tt
+      (λ late kind ordered statements c work free.
+      gives time q kind ordered statements c (expired_refusal q.arrived moment) (indices_of (unanswered statements c.answers)) h work)
+      (λ late task. refuses time q (expired_refusal q.arrived moment) (λ e. late_differs q.arrived moment e))
+
+  each_true : (next : Open → Next) → ((q : Open) → HasWork q → AllByRecursion True (replies_in (next q))) → (requests : List Open)
+      → AllByRecursion HasWork requests → AllByRecursion True (flat_map (λ q. replies_in (next q)) requests)
+  each_true next own [] all = tt
+  each_true next own (q ∷ requests) all =
+      all_append True (replies_in (next q)) (flat_map (λ q. replies_in (next q)) requests) (own q all.0) (each_true next own requests all.1)
 
 -- a request that is planned otherwise does not split
 planned_otherwise : (r : Router) (id : RequestId) (silent : Bool) (command : Result Command Refusal) (split : SplitCommand) (plan : RequestPlan)
@@ -347,9 +406,16 @@ row_true dated asked _ _ _ _ works truly (router_overflow r m id rows q named at
       (subst (λ x. IsNoSplitting x) (sym work) tt) asks)),
   tt,
 )
+row_true dated asked _ _ _ _ works truly (router_refused r m id turn first cause q next says o is) =
+    refused_true dated asked r (heard r m) q m.sender turn first cause next (all_at HasWork q r.requests works (open_of_found r id q o).stands) is
+row_true dated asked _ _ _ _ works truly (router_no_table r m namespace create at node lack says) =
+    each_true dated asked r (λ q. table_refused r (heard r m) namespace create at (lack_refusal node lack) q)
+    (λ q h. no_table_true dated asked r (heard r m) namespace create at node lack q h) r.requests works
 row_true dated asked _ _ _ _ works truly (router_late r m l) = tt
 row_true dated asked _ _ _ _ works truly (router_skip r m s) = tt
-row_true dated asked _ _ _ _ works truly (router_moment r moment b) = tt
+row_true dated asked _ _ _ _ works truly (router_moment r moment b) =
+    each_true dated asked r (λ q. at_moment r (max r.time (time_of_moment moment)) moment q)
+    (λ q h. moment_true dated asked r (max r.time (time_of_moment moment)) moment q h) r.requests works
 
 -- A STEP
 
@@ -360,12 +426,12 @@ works_of v asked answered r all =
     all_weaken (IsOpenOf v asked answered r) HasWork r.requests (λ q o. record { request = o.request; same = o.asks; work = o.work }) all
 
 -- an input says so truly
-pub input_truly : (w : World) (book : Book) (i : Input) → InputFits w book i → TellsTruly w.changed w.asked i
-input_truly w book (letter_input m) fits = λ id says.
+pub input_truly : (w : World) (book : Book) (at : ℕ) (i : Input) → InputFits w book at i → TellsTruly w.changed w.asked i
+input_truly w book at (letter_input m) fits = λ id says.
     subst (λ b. TimeFits (view_of w.nodes book) w.changed w.asked w.answered m.sender m.time b) says fits.2
-input_truly w book (client_input link number request) fits = tt
-input_truly w book (moment_input moment) fits = tt
-input_truly w book opened_input fits = tt
+input_truly w book at (client_input link number request) fits = tt
+input_truly w book at (moment_input moment) fits = tt
+input_truly w book at opened_input fits = tt
 
 -- what was true stays so
 pub true_grows : (now : ℕ) (dated : List Dated) (written : List Kept) (asked more : List Asked)
@@ -393,18 +459,21 @@ same_split a b command e f = cc
 
 -- so what it says was so by the reply, or else there was none in a step from the request to the reply
 pub is_caused : (account : Account) (v : View) (now : ℕ) (answered : List Answered) (cursors last : List Cursor) (told : List Answered)
-    → AreDifferent (ids_asked account.asked) → AnswersFit v account.asked answered cursors told last
+    → AreDifferent (ids_asked account.asked)
+    → AllByRecursion (λ (t : Answered). (a : Asked) (write : WriteCommand) → IsReplyTo account.asked a (write_command write) t
+    → IsCausedWrite account a t write) told
+    → AnswersFit v account.asked answered cursors told last
     → AllByRecursion (IsTrueAnswer account.dated account.asked) told → AllByRecursion (IsBased now account.dated) told
     → AllByRecursion (IsCaused account) told
-is_caused account v now answered _ _ _ different (no_answer cursors) all based = tt
-is_caused account v now answered _ _ _ different (one_answer cursors next last t rest f others) all based = (
+is_caused account v now answered _ _ _ different written (no_answer cursors) all based = tt
+is_caused account v now answered _ _ _ different written (one_answer cursors next last t rest f others) all based = (
   record {
-    written = λ a write to. based.0.rests.written write (its a (write_command write) to);
-    created = λ a namespace to says. based.0.rests.created namespace (its a (shard_collection_command namespace) to);
+    written = λ a write to. written.0 a write to;
+    created = λ a namespace to says. based.0.rests.created namespace (its a (shard_collection_command namespace) to) says;
     begins = λ a split to says. based.0.rests.begins split (its a (split_command split) to) says;
     absent = absent;
   },
-  is_caused account v now answered next last rest different others all.1 based.1,
+  is_caused account v now answered next last rest different written.1 others all.1 based.1,
 )
   where
     its : (a : Asked) (command : Command) → IsReplyTo account.asked a command t → command_of t.request ≡ Ok command

@@ -61,25 +61,25 @@ none_onto older (kept_ceiling n ∷ kept) all = none_onto older kept all.1
 none_onto older (kept_none n ∷ kept) all = none_onto older kept all.1
 
 -- a step of the node at this place stores no change of the catalogue, or is one of the catalogue
-pub dated_same : (now : ℕ) (nodes : List Held) (at : ℕ) (old : Held) (written : List Kept) (new : NodeState) (dated : List Dated)
+pub dated_same : (now : ℕ) (nodes : List Held) (at : ℕ) (old : Held) (written : List Kept) (new : NodeState) (steps : ℕ) (dated : List Dated)
     → slice_get nodes at ≡ Some old → changes_of dated ≡ changes_kept (journal_at nodes 0) → (at ≡ 0) ⊎ AllByRecursion IsNoChange written
-    → changes_of (dated_onto now dated written) ≡ changes_kept (journal_at (slice_set nodes at (with_more old written new)) 0)
-dated_same now nodes at old written new dated here same (inl zero_at) =
+    → changes_of (dated_onto now dated written) ≡ changes_kept (journal_at (slice_set nodes at (with_more old written new steps)) 0)
+dated_same now nodes at old written new steps dated here same (inl zero_at) =
     let own : journal_at nodes 0 ≡ old.kept = ap (λ p. journal_at nodes p) (sym zero_at) ∙ journal_got nodes at old here in
     changes_dated now dated written
     ∙ ap (λ l. changes_onto l written) (same ∙ ap (λ k. changes_kept k) own)
     ∙ sym (changes_after [] old.kept written)
-    ∙ ap (λ k. changes_kept k) (sym (ap (λ p. journal_at (slice_set nodes at (with_more old written new)) p) (sym zero_at)
-    ∙ journal_here nodes at old (with_more old written new) here))
-dated_same now nodes zero old written new dated here same (inr none) =
+    ∙ ap (λ k. changes_kept k) (sym (ap (λ p. journal_at (slice_set nodes at (with_more old written new steps)) p) (sym zero_at)
+    ∙ journal_here nodes at old (with_more old written new steps) here))
+dated_same now nodes zero old written new steps dated here same (inr none) =
     ap (λ l. changes_of l) (none_dated now dated written none) ∙ same
     ∙ ap (λ k. changes_kept k) (journal_got nodes 0 old here)
     ∙ sym (none_onto (changes_kept old.kept) written none)
     ∙ sym (changes_after [] old.kept written)
-    ∙ ap (λ k. changes_kept k) (sym (journal_here nodes 0 old (with_more old written new) here))
-dated_same now nodes (suc at) old written new dated here same (inr none) =
+    ∙ ap (λ k. changes_kept k) (sym (journal_here nodes 0 old (with_more old written new steps) here))
+dated_same now nodes (suc at) old written new steps dated here same (inr none) =
     ap (λ l. changes_of l) (none_dated now dated written none) ∙ same
-    ∙ ap (λ k. changes_kept k) (sym (journal_else nodes (suc at) (with_more old written new) 0 (λ e. omega arith)))
+    ∙ ap (λ k. changes_kept k) (sym (journal_else nodes (suc at) (with_more old written new steps) 0 (λ e. omega arith)))
 
 -- BEFORE A STEP
 

@@ -1,5 +1,5 @@
 -- Where the reply to a read is that nothing is there, its collection was not created at its time, nor will it have been.
-use Rattle.std.proofs.Common.{◌≡◌, ℕ, ◌<◌, ◌≤◌, List, refl, sym, ap, subst, ◌∙◌, arith, Bool}
+use Rattle.std.proofs.Common.{◌≡◌, ℕ, ◌<◌, ◌≤◌, List, [], refl, sym, ap, subst, ◌∙◌, arith, Bool}
 use Rattle.std.specs.Prelude.{Option, Some, None, is_some, true, false, if◌then◌else◌}
 use Rattle.std.specs.List.{AllByRecursion}
 use Rattle.std.proofs.lemmas.Bool.{eqb-true}
@@ -55,12 +55,12 @@ unowned v known namespace at t begun k name lacks =
 pub told_nothing : (v : View) (asked : List Asked) (told_at known : ℕ) (namespace : List ℕ) (told : At) (table : Option Table)
     (tables : List Table) (at : ℕ)
     → NeighboursFit v asked → TableFits v told_at namespace told table → AllByRecursion (IsKnownTable v known) (adopted table tables)
-    → is_for told at ≡ true → table_to_read (table_of namespace (adopted table tables)) at ≡ None → NoneBegan v namespace at
+    → is_for told at ≡ true → table_to_read (table_of namespace (adopted table tables)) at [] ≡ None → NoneBegan v namespace at
 told_nothing v asked told_at known namespace no_time None tables at n fits all own none = absurd (cc)
 told_nothing v asked told_at known namespace (at_time time) None tables at n fits all own none =
     subst (λ x. NoneBegan v namespace x) (eqb-true time at own) fits
 told_nothing v asked told_at known namespace told (Some t) tables at n fits all own none =
-    by_owned (is_owned_at there.0 at) refl (ap (λ x. table_to_read x at) (sym there.1) ∙ none)
+    by_owned (is_owned_at there.0 at) refl (ap (λ x. table_to_read x at []) (sym there.1) ∙ none)
   where
     there : (u : Table) × (table_of namespace (with_table t tables) ≡ Some u)
     there = table_there namespace t tables fits.1

@@ -1,8 +1,10 @@
 -- What is true at every moment of a run: of each node, of each message that was ever sent, of each request and of each answer.
 use Rattle.std.proofs.Common.{◌≡◌, ◌≢◌, ◌⊎◌, ℕ, ◌+◌, ◌<◌, ◌≤◌, List, [], ◌∷◌, ◌++◌, Bool, false}
-use Rattle.std.specs.Prelude.{pos, Option, Some, None, Ok, true, map, filter, length, drop, ◌*◌, ◌==◌, ◌&&◌}
+use Rattle.std.specs.Prelude.{pos, Option, Some, None, Ok, true, map, filter, length, drop, ◌*◌, ◌-◌, ◌==◌, ◌&&◌, if◌then◌else◌}
 use Rattle.std.specs.List.{AllByRecursion}
+use Rattle.base_model.specs.Refusals.{Refusal}
 use Rattle.base_model.specs.ReplyParts.{operation_time}
+use Rattle.command_model.specs.Answers.{refusal_answer, answer_document}
 use Rattle.command_model.specs.Writes.{WriteCommand}
 use Rattle.command_model.specs.Command.{write_command, shard_collection_command, split_command, command_of}
 use Rattle.command_model.specs.Reading.{Reading}
@@ -13,25 +15,25 @@ use Rattle.chunk_model.specs.Tables.{Table, first_shard}
 use Rattle.history_model.specs.History.{Operation, Entry, Legal, IsIn}
 use Rattle.base_model.specs.Identities.{RequestId}
 use Rattle.reply_model.specs.Exchanges.{Asked, Answered, number_for}
-use Rattle.reply_model.specs.Accounts.{Given, Dated, Account, changes_in as changes_of}
-use Rattle.reply_model.specs.Outcomes.{StatementOutcome, Done}
-use Rattle.reply_model.specs.Right.{ends, IsReadRefused, refused_overflow, refused_excess, refused_ahead, WasCreated, IsRight, right_write, right_find, right_count, right_refused_read, right_more, right_no_cursor, right_kill, right_shard, right_split, right_not_sharded, right_hello, right_legacy, right_ping, right_end_sessions, right_refusal}
+use Rattle.reply_model.specs.Accounts.{Given, Lack, Missed, TurnedAway, Dated, Account, changes_in as changes_of}
+use Rattle.reply_model.specs.Outcomes.{lack_refusal, StatementOutcome, WasRefused, Done, AnyDone, dones_from, is_too_old}
+use Rattle.reply_model.specs.Right.{ends, IsReadRefused, refused_overflow, refused_excess, refused_ahead, WasCreated, IsRight, right_write, right_find, right_count, right_refused_read, right_stale, right_given_up, right_more, right_no_cursor, right_kill, right_shard, right_split, right_not_sharded, right_hello, right_legacy, right_ping, right_end_sessions, right_refusal}
 use Rattle.reply_model.specs.OneHistory.{IsWriteIn, WasWanted, StandsInPart, IsPlaced, AreNumbered, IsFresh, IsInOrder, WasMet, ids_asked, ids_told, AreDifferent}
 use Rattle.node_model.specs.Journal.{Kept, entries_kept, changes_kept, greatest_kept}
 use Rattle.node_model.specs.ShardRows.{top}
-use Rattle.node_model.specs.Letters.{At, no_time, at_time, Statement, Body, table_ask, table_told, split_ask, split_done, write_ask, write_done, read_ask, half_ask, read_rows, stale, time_ask, time_told, Letter}
+use Rattle.node_model.specs.Letters.{At, no_time, at_time, Statement, Body, table_ask, table_told, split_ask, split_done, write_ask, write_done, read_ask, half_ask, read_rows, refused, time_ask, time_told, Cause, is_stale, is_lack, Refused, of_request, of_table, Letter}
 use Rattle.node_model.specs.States.{Catalogue, Shard, Router, Run, Course, Work, writing, reading, sharding, splitting, Wait, for_time, Open, NodeState, catalogue_state, shard_state, router_state, time_of_node}
-use Rattle.node_model.specs.RouterRequests.{id_of, statements_from, owner_of_statement}
+use Rattle.node_model.specs.RouterRequests.{id_of, statements_from, owner_of_statement, unsent}
 use Rattle.node_model.specs.RouterNext.{is_answered}
 use Rattle.node_model.specs.RouterRows.{block_size}
 use Rattle.node_model.specs.World.{Held, World, journal_at, entries_at}
-use Rattle.node_laws.proofs.Views.{Choice, Book, View, view_of, entries_in, changes_in, IsShardAt, history_in, HavePassed, IsWithin, MovesNothing, account_in}
+use Rattle.node_laws.proofs.Views.{Choice, Reach, reach_of, Book, View, view_of, More, entries_in, changes_in, IsShardAt, history_in, HavePassed, IsWithin, MovesNothing, account_in}
 use Rattle.node_laws.proofs.Places.{EachAt}
 use Rattle.node_laws.proofs.SplitFacts.{IsSplitOf, IsSplitDone, WasMissing, IsMissing}
 use Rattle.node_laws.proofs.WriteFacts.{IsDoneAt, AreAnswers, OnlyLast, WasMade}
 use Rattle.node_laws.proofs.TimeFacts.{IsPast, HeardFits}
 pub use Rattle.node_laws.proofs.TableFacts.{IsKnownTable}
-use Rattle.node_laws.proofs.TableFacts.{IsSentTo}
+use Rattle.node_laws.proofs.TableFacts.{IsVersionOf, IsSentTo}
 use Rattle.node_laws.proofs.Outcomes.{AreOutcomes, IsFront}
 use Rattle.node_laws.proofs.SentRuns.{InRun, IsNextRun}
 use Rattle.node_laws.proofs.ReadFacts.{is_ahead, NoneBegan, WaitsFor, IsDecided, IsReading, IsReadOf, IsShown, RowsFit}
@@ -63,7 +65,7 @@ pub record AreNext (v : View) (time : ℕ) (write : WriteCommand) (id : RequestI
   pub next : drop (length front) (statements_from write.number id 0 write.operations) ≡ statements ++ back
 
 -- The statements of a message are some of a request, if it is ordered the next ones; the shard that receives it owns their keys, and the message is not older
--- than what the router knew.
+-- than what the router knew; and it is noted that statements of an ordered one were sent up to them.
 pub record IsWriteOf (v : View) (asked : List Asked) (receiver time : ℕ) (id : RequestId) (ordered : Bool) (namespace : List ℕ)
     (statements : List Statement) : Type 0 where
   pub request : Asked
@@ -77,18 +79,46 @@ pub record IsWriteOf (v : View) (asked : List Asked) (receiver time : ℕ) (id :
   pub next : ordered ≡ true → AreNext v time write id statements
   pub owned : AllByRecursion (IsOwned v time namespace receiver) statements
   pub fresh : request.time ≤ time
+  pub below : ordered ≡ true → AllByRecursion (λ (s : Statement). s.number.index < reach_of id v.reached) statements
 
--- what was sent of an open write: the shard owns the keys of the run's statements, and those of an ordered one are the next ones
+-- what was sent of an open write: the shard owns the keys of the run's statements, those of an ordered one are the next ones, and the versions are of a table that
+-- the catalogue had
 pub record RunFits (v : View) (time : ℕ) (namespace : List ℕ) (ordered : Bool) (statements : List Statement) (answers : List (Option StatementOutcome))
     (run : Run) : Type 0 where
   pub owned : InRun run (IsOwned v time namespace run.shard) statements
   pub next : ordered ≡ true → IsNextRun statements answers run
+  pub version : IsVersionOf v time namespace run.shard run.sent
+  pub within : AllByRecursion (λ i. i < length statements) run.indices
 
 -- The outcomes of an open write belong to its statements, by index; of an ordered one the first have theirs; and it is not answered.
 pub record CourseFits (ordered : Bool) (statements : List Statement) (c : Course) : Type 0 where
   pub long : length c.answers ≡ length statements
   pub front : ordered ≡ true → IsFront c.answers
   pub open_yet : is_answered ordered c.answers ≡ false
+  pub one : ordered ≡ true → length c.runs ≤ 1
+
+-- so many statements of a write were sent, if it is ordered: all but those that are neither answered nor in a run
+abbrev pub reach_in : Work → ℕ
+reach_in (writing kind ordered statements c) = if ordered then length statements - length (unsent false statements c) else 0
+reach_in (reading named at stages telling) = 0
+reach_in sharding = 0
+reach_in (splitting middle) = 0
+
+-- LACKS
+
+-- a node could not take a step, for this lack
+pub record HasLack (v : View) (node : ℕ) (lack : Lack) : Type 0 where
+  pub missed : Missed
+  pub had : IsIn missed v.missed
+  pub own : missed.node ≡ node
+  pub same : missed.lack ≡ lack
+
+-- so a statement is given up
+pub record WasLacking (v : View) (refusal : Refusal) : Type 0 where
+  pub node : ℕ
+  pub lack : Lack
+  pub had : HasLack v node lack
+  pub is : refusal ≡ lack_refusal node lack
 
 -- a collection of this name was created by a time
 abbrev pub HasBegun : View → (time : ℕ) → (namespace : List ℕ) → Type 0
@@ -130,6 +160,12 @@ TableFits v time namespace at (Some t) = IsKnownTable v time t × (t.namespace �
 TableFits v time namespace no_time None = Unit {0}
 TableFits v time namespace (at_time at) None = NoneBegan v namespace at
 
+-- nothing that was sent for a request met a later table, since nothing moves
+abbrev pub CauseFits : View → Refused → Cause → Type 0
+CauseFits v (of_request id turn first) (is_stale met) = ⊥
+CauseFits v (of_table namespace create at) (is_stale met) = Unit {0}
+CauseFits v what (is_lack node lack) = HasLack v node lack
+
 abbrev pub BodyFits : View → List Asked → (sender receiver time : ℕ) → Body → Type 0
 BodyFits v asked sender receiver time (table_ask namespace true at) = AtFits at time × IsWanted asked namespace time
 BodyFits v asked sender receiver time (table_ask namespace false at) = AtFits at time
@@ -137,13 +173,15 @@ BodyFits v asked sender receiver time (table_told namespace create at table) = T
 BodyFits v asked sender receiver time (split_ask id namespace middle) = IsSplitOf asked id namespace middle time
 BodyFits v asked sender receiver time (split_done id true) = IsSplitDone v asked id time
 BodyFits v asked sender receiver time (split_done id false) = Unit {0}
-BodyFits v asked sender receiver time (write_ask id turn ordered namespace statements sent) = IsWriteOf v asked receiver time id ordered namespace statements
+BodyFits v asked sender receiver time (write_ask id turn ordered namespace statements sent) =
+    IsWriteOf v asked receiver time id ordered namespace statements × IsVersionOf v time namespace receiver sent
 BodyFits v asked sender receiver time (write_done id dones) = IsShardAt sender × IsDoneOf v asked sender time id dones
-BodyFits v asked sender receiver time (read_ask id turn namespace at half sent) = IsReadOf v asked id namespace at half × (at ≤ time) × IsShardAt receiver
+BodyFits v asked sender receiver time (read_ask id turn namespace at half sent) =
+    IsReadOf v asked id namespace at half × (at ≤ time) × IsShardAt receiver × IsVersionOf v time namespace receiver sent
 BodyFits v asked sender receiver time (half_ask id turn namespace at half documents) =
     IsShown v asked sender time id namespace at half documents × IsShardAt receiver
 BodyFits v asked sender receiver time (read_rows id turn rows) = RowsFit v asked sender time id rows
-BodyFits v asked sender receiver time (stale id turn met) = Unit {0}
+BodyFits v asked sender receiver time (refused what cause) = CauseFits v what cause
 BodyFits v asked sender receiver time (time_ask id) = IsOfRequest asked id
 BodyFits v asked sender receiver time (time_told id) = IsOfRequest asked id
 
@@ -171,7 +209,7 @@ pub record ShardFits (v : View) (asked : List Asked) (at : ℕ) (kept : List Kep
   pub tops : top s ≡ greatest_kept kept
   pub past : AllByRecursion (λ (e : Entry). e.time ≤ s.time) s.entries
   pub legal : Legal s.entries
-  pub sent : AllByRecursion (WasMade (history_in v) asked) s.entries
+  pub sent : AllByRecursion (WasMade (history_in v) asked v.reached) s.entries
   pub numbers : AreNumbered s.entries
   pub placed : AllByRecursion (IsPlaced (changes_in v)) s.entries
   pub parts : AllByRecursion (StandsInPart s.entries) asked
@@ -191,8 +229,9 @@ WorkFits a namespace (splitting middle) = command_of a.request ≡ Ok (split_com
 -- the outcomes of a write that arrived, of entries that are not above a time, and what was sent for it, by tables that the catalogue had by then
 abbrev pub AreSeen : View → ℕ → Asked → Work → Type 0
 AreSeen v time a (writing kind ordered statements c) =
-    (write : WriteCommand) → command_of a.request ≡ Ok (write_command write) → AreOutcomes (history_in v) time write a.id 0 c.answers
+    (write : WriteCommand) → command_of a.request ≡ Ok (write_command write) → AreOutcomes (WasLacking v) (history_in v) time write a.id 0 c.answers
     × AllByRecursion (RunFits v time write.namespace ordered statements c.answers) c.runs
+    × (AnyDone (dones_from 0 c.answers) → HasBegun v time write.namespace)
 AreSeen v time a (reading named at stages telling) = Unit {0}
 AreSeen v time a sharding = Unit {0}
 AreSeen v time a (splitting middle) = Unit {0}
@@ -209,6 +248,7 @@ pub record IsOpenOf (v : View) (asked : List Asked) (answered : List Answered) (
   pub link : request.link ≡ q.link
   pub number : request.number ≡ q.number
   pub asks : request.request ≡ q.request
+  pub arrived : request.moment ≡ q.arrived
   pub past : request.time ≤ r.time
   pub reached : HasTime v request (id_of r q.count) r.time q.wait q.work
   pub silent : AllByRecursion (λ (t : Answered). t.id ≢ id_of r q.count) answered
@@ -283,12 +323,23 @@ OwnCursors cursors at (catalogue_state c) = Unit {0}
 OwnCursors cursors at (shard_state s) = Unit {0}
 OwnCursors cursors at (router_state r) = CursorsFit cursors at r
 
-pub record HeldFits (v : View) (asked : List Asked) (answered : List Answered) (given : List Given) (at : ℕ) (h : Held) : Type 0 where
+-- a node with what its journal stores
+pub record Node : Type 0 where
+  pub state : NodeState
+  pub kept : List Kept
+
+abbrev pub node_of : Held → Node
+node_of h = record { state = h.state; kept = h.kept }
+
+pub record NodeFits (v : View) (asked : List Asked) (answered : List Answered) (given : List Given) (at : ℕ) (h : Node) : Type 0 where
   pub state : StateFits v asked answered at h.kept h.state
   pub met : IsMet v given (time_of_node h.state)
   pub cursors : OwnCursors v.cursors at h.state
   -- nothing that is stored is later than the node
   pub within : greatest_kept h.kept ≤ time_of_node h.state
+
+abbrev pub HeldFits : View → List Asked → List Answered → List Given → (at : ℕ) → Held → Type 0
+HeldFits v asked answered given at h = NodeFits v asked answered given at (node_of h)
 
 -- ANSWERS
 
@@ -301,14 +352,20 @@ IsRefusalFixed v account a t read (refused_overflow time of may told) = IsFixed 
 IsRefusalFixed v account a t read (refused_excess time n of excess told) = IsFixed v read time
 IsRefusalFixed v account a t read (refused_ahead ahead told) = Unit {0}
 
+-- no statement after one that was given up was sent
+abbrev pub AreCut : List Reach → RequestId → List Done → Type 0
+AreCut notes id dones = AllByRecursion (λ (d : Done). WasRefused d.answer → is_too_old d.answer ≡ false → reach_of id notes ≤ d.index + 1) dones
+
 abbrev pub IsSettled : View → (account : Account) (cursors : List Cursor) (a : Asked) (t : Answered) (next : List Cursor)
     → IsRight account cursors a t next → Type 0
-IsSettled v account cursors a t _ (right_write write dones c asks may whole begun name before told) = dones ≢ []
+IsSettled v account cursors a t _ (right_write write dones asks may whole created told) = (dones ≢ []) × (write.ordered ≡ true → AreCut v.reached a.id dones)
 IsSettled v account cursors a t _ (right_find find time documents batch next asks of may small name when shows told) = IsFixed v
     find.reading time
 IsSettled v account cursors a t _ (right_count read time n asks of may told) = IsFixed v read time
-IsSettled v account cursors a t _ (right_refused_read read reads refused) = IsRefusalFixed v account a t read
-    refused
+IsSettled v account cursors a t _ (right_refused_read read reads unread) = IsRefusalFixed v account a t read
+    unread
+IsSettled v account cursors a t _ (right_stale read tries reads were told) = Unit {0}
+IsSettled v account cursors a t _ (right_given_up refusal task why told) = Unit {0}
 IsSettled v account cursors a t _ (right_more more c batch next asks found shows told) = Unit {0}
 IsSettled v account cursors a t _ (right_no_cursor more asks none told) = Unit {0}
 IsSettled v account cursors a t _ (right_kill kill killed missing next asks closed told) = Unit {0}
@@ -365,7 +422,7 @@ pub record NeighboursFit (v : View) (asked : List Asked) : Type 0 where
   pub begun : AreMade (v.bound 0) (changes_in v)
   pub one : AreDifferent (ids_asked asked)
   pub past : AllByRecursion (IsWithin v.bound) (history_in v)
-  pub sent : AllByRecursion (WasMade (history_in v) asked) (history_in v)
+  pub sent : AllByRecursion (WasMade (history_in v) asked v.reached) (history_in v)
   pub numbers : AreNumbered (history_in v)
   pub parts : AllByRecursion (StandsInPart (history_in v)) asked
   pub placed : AllByRecursion (IsPlaced (changes_in v)) (history_in v)
@@ -390,6 +447,36 @@ InOrder nodes = (c : Held) × (s : Held) × (others : List Held) × (nodes ≡ c
 abbrev pub IsFirstAlone : List Held → Type 0
 IsFirstAlone nodes = (at : ℕ) → at ≢ first_shard → entries_at nodes at ≡ []
 
+-- a request that was not taken was refused for a lack of its router in that step
+pub record IsAwayOf (missed : List Missed) (x : TurnedAway) : Type 0 where
+  pub lack : Missed
+  pub had : IsIn lack missed
+  pub own : lack.node ≡ x.router
+  pub during : lack.step ≡ x.step
+  pub same : x.document ≡ answer_document (refusal_answer (lack_refusal x.router lack.lack))
+
+-- how far the statements of open requests were sent: not beyond what is noted
+abbrev pub IsReached : List Reach → Router → Open → Type 0
+IsReached notes r q = reach_of (id_of r q.count) notes ≤ reach_in q.work
+
+abbrev pub ReachFits : List Reach → NodeState → Type 0
+ReachFits notes (catalogue_state c) = Unit {0}
+ReachFits notes (shard_state s) = Unit {0}
+ReachFits notes (router_state r) = AllByRecursion (IsReached notes r) r.requests
+
+-- what is noted of them after a step of their router
+abbrev pub raise_of : Router → Open → Reach
+raise_of r q = record { id = id_of r q.count; index = reach_in q.work }
+
+abbrev pub raises_of : NodeState → List Reach
+raises_of (catalogue_state c) = []
+raises_of (shard_state s) = []
+raises_of (router_state r) = map (raise_of r) r.requests
+
+-- it is noted that the statements of a request were sent so far
+abbrev pub IsNoted : List Reach → Router → Open → Type 0
+IsNoted notes r q = reach_in q.work ≤ reach_of (id_of r q.count) notes
+
 -- what is true of a message that was ever sent
 abbrev pub SentFits : View → List Dated → List Asked → List Answered → List Given → Letter → Type 0
 SentFits v dated asked answered given m = LetterFits v asked m × IsMet v given m.time × TimeFits v dated asked answered m.sender m.time m.body
@@ -410,6 +497,14 @@ pub record Good (w : World) (book : Book) : Type 0 where
   pub in_order : AllByRecursion (IsInOrder w.asked) w.asked
   pub known : AllByRecursion (λ (a : Asked). IsMet (view_of w.nodes book) w.given a.time) w.asked
   pub met : AllByRecursion (λ (t : Answered). IsMet (view_of w.nodes book) w.given t.time) w.answered
+  -- what is noted of moments and lacks is theirs
+  pub given : More book.given w.given
+  pub missed : w.missed ≡ book.missed
+  pub lacks : AllByRecursion (λ (x : Missed). x.step < w.now + 1) w.missed
+  pub away : AllByRecursion (IsAwayOf w.missed) w.away
+  -- and of an open request no statement was sent but those that are answered or in a run
+  pub reach : EachAt (λ at h. ReachFits book.reached h.state) 0 w.nodes
+  pub noted : AllByRecursion (λ (x : Reach). IsIn x.id (ids_asked w.asked)) book.reached
 
 -- WHAT A STEP OWES
 

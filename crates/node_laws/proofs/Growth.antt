@@ -5,29 +5,32 @@ use Rattle.std.specs.List.{AllByRecursion}
 use Rattle.std.proofs.lemmas.Bool.{leb-true, leb-false}
 use Rattle.history_model.proofs.Lists.{all_weaken, all_append, all_at, in_prefix}
 use Rattle.bson_model.specs.Tree.{Datum, Fields}
+use Rattle.base_model.specs.Refusals.{Refusal}
 use Rattle.chunk_model.specs.Changes.{Change, create_change, split_change, commit_change, time_of}
 use Rattle.chunk_model.specs.Tables.{Table}
+use Rattle.chunk_model.specs.Verdicts.{Sent}
 use Rattle.history_model.specs.Documents.{documents_at}
 use Rattle.pipeline_model.specs.Halves.{Half, Rows, kept_at_head, may_stand_in}
 use Rattle.command_model.specs.Writes.{WriteCommand}
 use Rattle.history_model.specs.History.{StatementNumber, Entry, IsIn}
-use Rattle.base_model.specs.Identities.{RequestId}
+use Rattle.base_model.specs.Identities.{RequestId, same_request}
 use Rattle.reply_model.specs.Exchanges.{Asked, number_for, is_session_of, entries_by}
-use Rattle.reply_model.specs.Accounts.{Given}
+use Rattle.reply_model.specs.Accounts.{Given, Lack}
 use Rattle.reply_model.specs.Outcomes.{StatementOutcome, Done}
 use Rattle.reply_model.specs.OneHistory.{WasWanted, IsPlaced}
-use Rattle.node_model.specs.Letters.{At, no_time, at_time, Statement, HalfFault, half_overflow, half_excess, Body, table_ask, table_told, split_ask, split_done, write_ask, write_done, read_ask, half_ask, read_rows, stale, time_ask, time_told, Letter}
+use Rattle.node_model.specs.Letters.{At, no_time, at_time, Statement, HalfFault, half_overflow, half_excess, Body, table_ask, table_told, split_ask, split_done, write_ask, write_done, read_ask, half_ask, read_rows, refused, time_ask, time_told, Cause, is_stale, is_lack, Refused, of_request, of_table, Letter}
 use Rattle.node_model.specs.RouterRequests.{has_index}
 use Rattle.node_model.specs.States.{Run, Work, writing, reading, sharding, splitting}
 use Rattle.reply_model.specs.Right.{WasSplit}
-use Rattle.node_laws.proofs.Views.{View, entries_in, changes_in, history_in, HavePassed, IsBeyond, MovesNothing, Later}
+use Rattle.node_laws.proofs.Views.{Reach, reach_of, View, entries_in, changes_in, history_in, HavePassed, IsBeyond, MovesNothing, Later}
 use Rattle.node_laws.proofs.LongerJournals.{IsNewAt, IsNewChange, more_entries, more_changes, entry_stays, change_stays, still_grows}
 use Rattle.node_laws.proofs.CatalogueTables.{unmoved, owned_from}
 use Rattle.node_laws.proofs.ReadFacts.{BeginsAfter, NoneBegan, IsReadOf, IsShown, IsMade, RowsFit}
 use Rattle.node_laws.proofs.WriteFacts.{IsAnswerOf, by_entry, by_older, IsDoneAt, AreAnswers, WasMade}
-use Rattle.node_laws.proofs.Outcomes.{AreOutcomes}
+use Rattle.node_laws.proofs.Outcomes.{IsOutcomeAt, AreOutcomes}
+use Rattle.node_laws.proofs.TableFacts.{IsVersionOf}
 use Rattle.node_laws.proofs.SplitFacts.{IsSplitOf, IsSplitDone}
-use Rattle.node_laws.proofs.Facts.{IsKnownTable, IsOwned, AreNext, IsWriteOf, RunFits, HasBegun, IsDoneOf, TableFits, IsWanted, IsOfRequest, BodyFits, LetterFits, AreSeen, IsMet}
+use Rattle.node_laws.proofs.Facts.{HasLack, WasLacking, CauseFits, IsKnownTable, IsOwned, AreNext, IsWriteOf, RunFits, HasBegun, IsDoneOf, TableFits, IsWanted, IsOfRequest, BodyFits, LetterFits, AreSeen, IsMet}
 use Rattle.node_laws.proofs.Choices.{decided_stays}
 use Rattle.node_laws.proofs.KeptDocuments.{Counts, documents_unchanged}
 use Rattle.node_laws.proofs.Histories.{history_extends, passed_of, documents_extended, history_stays}
@@ -199,14 +202,55 @@ answers_later v w early late write id index (d ∷ dones) later le all = (
   answers_later v w early late write id (index + 1) dones later le all.2,
 )
 
+pub lack_grows : (v w : View) (node : ℕ) (lack : Lack) → Later v w → HasLack v node lack → HasLack w node lack
+lack_grows v w node lack later h = record {
+  missed = h.missed;
+  had = subst (λ l. IsIn h.missed l) (sym later.missed.same) (in_prefix h.missed v.missed later.missed.news h.had);
+  own = h.own;
+  same = h.same;
+}
+
+pub lacking_grows : (v w : View) (refusal : Refusal) → Later v w → WasLacking v refusal → WasLacking w refusal
+lacking_grows v w refusal later h = record { node = h.node; lack = h.lack; had = lack_grows v w h.node h.lack later h.had; is = h.is }
+
+cause_grows : (v w : View) (what : Refused) (cause : Cause) → Later v w → CauseFits v what cause → CauseFits w what cause
+cause_grows v w (of_request id turn first) (is_stale met) later f = f
+cause_grows v w (of_request id turn first) (is_lack node lack) later f = lack_grows v w node lack later f
+cause_grows v w (of_table namespace create at) (is_stale met) later f = f
+cause_grows v w (of_table namespace create at) (is_lack node lack) later f = lack_grows v w node lack later f
+
+pub version_grows : (v w : View) (a b : ℕ) (namespace : List ℕ) (shard : ℕ) (sent : Sent) → Later v w → a ≤ b → IsVersionOf v a namespace shard sent
+    → IsVersionOf w b namespace shard sent
+version_grows v w a b namespace shard sent later le o =
+    record { table = o.table; known = known_grows v w a b o.table later le o.known; name = o.name; same = o.same }
+
+-- what is noted of a request stays so
+pub reach_longer : (id : RequestId) (old more : List Reach) → reach_of id old ≤ reach_of id (old ++ more)
+reach_longer id [] more = omega arith
+reach_longer id (x ∷ old) more = by_test (same_request x.id id) (reach_longer id old more)
+  where
+    by_test : (b : Bool) → reach_of id old ≤ reach_of id (old ++ more)
+        → (if b then max x.index (reach_of id old) else reach_of id old) ≤ (if b then max x.index (reach_of id (old ++ more)) else reach_of id (old ++ more))
+    by_test true le = omega (arith, le)
+    by_test false le = le
+
+pub reach_grows : (v w : View) (id : RequestId) → Later v w → reach_of id v.reached ≤ reach_of id w.reached
+reach_grows v w id later = subst (λ l. reach_of id v.reached ≤ reach_of id l) (sym later.reached.same) (reach_longer id v.reached later.reached.news)
+
 pub outcomes_later : (v w : View) (early late : ℕ) (write : WriteCommand) (id : RequestId) (index : ℕ) (answers : List (Option StatementOutcome)) → Later v w
-    → early ≤ late → AreOutcomes (history_in v) early write id index answers → AreOutcomes (history_in w) late write id index answers
+    → early ≤ late → AreOutcomes (WasLacking v) (history_in v) early write id index answers
+    → AreOutcomes (WasLacking w) (history_in w) late write id index answers
 outcomes_later v w early late write id index [] later le all = tt
 outcomes_later v w early late write id index (None ∷ answers) later le all = outcomes_later v w early late write id (index + 1) answers later le all
-outcomes_later v w early late write id index (Some x ∷ answers) later le all = (
-  done_at_grows (history_in v) (history_in w) early late write id (record { index = index; answer = x }) (λ e i. history_stays v w e later i) le all.0,
-  outcomes_later v w early late write id (index + 1) answers later le all.1,
-)
+outcomes_later v w early late write id index (Some x ∷ answers) later le all =
+    (by_outcome all.0, outcomes_later v w early late write id (index + 1) answers later le all.1)
+  where
+    by_outcome : IsOutcomeAt (WasLacking v) (history_in v) early write id (record { index = index; answer = x })
+        → IsOutcomeAt (WasLacking w) (history_in w) late write id (record { index = index; answer = x })
+    by_outcome (inl done) =
+        inl (done_at_grows (history_in v) (history_in w) early late write id (record { index = index; answer = x }) (λ e i. history_stays v w e later i) le done)
+    by_outcome (inr given) =
+        inr (record { within = given.within; refusal = given.refusal; is = given.is; why = lacking_grows v w given.refusal later given.why })
 
 pub run_later : (v w : View) (early late : ℕ) (namespace : List ℕ) (ordered : Bool) (statements : List Statement) (answers : List (Option StatementOutcome))
     (run : Run) → Later v w → early ≤ late → RunFits v early namespace ordered statements answers run → RunFits w late namespace ordered statements answers run
@@ -215,6 +259,8 @@ run_later v w early late namespace ordered statements answers run later le f = r
       (λ (s : Statement). has_index run.indices s.number.index ≡ true → IsOwned w late namespace run.shard s) statements
       (λ s h is. owned_grows v w early late namespace run.shard s later le (h is)) f.owned;
   next = f.next;
+  version = version_grows v w early late namespace run.shard run.sent later le f.version;
+  within = f.within;
 }
 
 pub next_later : (v w : View) (early late : ℕ) (write : WriteCommand) (id : RequestId) (statements : List Statement) → Later v w → early ≤ late
@@ -244,6 +290,8 @@ write_grows v w asked more receiver time id ordered namespace statements later a
       owned = all_weaken (IsOwned v time namespace receiver) (IsOwned w time namespace receiver) statements
           (λ s o. owned_grows v w time time namespace receiver s later (omega arith) o) a.owned;
       fresh = a.fresh;
+      below = λ is. all_weaken (λ (s : Statement). s.number.index < reach_of id v.reached) (λ (s : Statement). s.number.index < reach_of id w.reached) statements
+          (λ s less. let grows = reach_grows v w id later in omega (arith, less, grows)) (a.below is);
     }
 
 pub begun_grows : (v w : View) (time : ℕ) (namespace : List ℕ) → Later v w → HasBegun v time namespace → HasBegun w time namespace
@@ -324,16 +372,16 @@ body_grows v w asked more sender receiver time (table_told namespace create at t
 body_grows v w asked more sender receiver time (split_ask id namespace middle) later f = split_grows asked more id namespace middle time f
 body_grows v w asked more sender receiver time (split_done id true) later f = split_done_grows v w asked more id time later f
 body_grows v w asked more sender receiver time (split_done id false) later f = f
-body_grows v w asked more sender receiver time (write_ask id turn ordered namespace statements sent) later f = write_grows v w asked more receiver time id
-    ordered namespace statements later f
+body_grows v w asked more sender receiver time (write_ask id turn ordered namespace statements sent) later f =
+    (write_grows v w asked more receiver time id ordered namespace statements later f.0, version_grows v w time time namespace receiver sent later (omega arith) f.1)
 body_grows v w asked more sender receiver time (write_done id dones) later f =
     (f.0, done_grows v w asked more sender time id dones later f.1)
 body_grows v w asked more sender receiver time (read_ask id turn namespace at half sent) later f =
-    (read_grows v w asked more id namespace at half later f.0, f.1, f.2)
+    (read_grows v w asked more id namespace at half later f.0, f.1, f.2, version_grows v w time time namespace receiver sent later (omega arith) f.3)
 body_grows v w asked more sender receiver time (half_ask id turn namespace at half documents) later f =
     (shown_grows v w asked more sender time time id namespace at half documents later (omega arith) f.0, f.1)
 body_grows v w asked more sender receiver time (read_rows id turn rows) later f = rows_grow v w asked more sender time id rows later f
-body_grows v w asked more sender receiver time (stale id turn met) later f = f
+body_grows v w asked more sender receiver time (refused what cause) later f = cause_grows v w what cause later f
 body_grows v w asked more sender receiver time (time_ask id) later f = request_grows asked more id f
 body_grows v w asked more sender receiver time (time_told id) later f = request_grows asked more id f
 
@@ -348,27 +396,36 @@ seen_grows v w early late a (writing kind ordered statements c) later le seen =
       outcomes_later v w early late write a.id 0 c.answers later le (seen write asks).0,
       all_weaken (RunFits v early write.namespace ordered statements c.answers) (RunFits w late write.namespace ordered statements c.answers) c.runs
           (λ run f. run_later v w early late write.namespace ordered statements c.answers run later le f) (seen write asks).1,
+      λ any.
+          let b = begun_grows v w early write.namespace later ((seen write asks).2 any) in
+          record { creation = b.creation; begun = b.begun; name = b.name; before = let h = b.before in omega arith },
     )
 seen_grows v w early late a (reading named at stages telling) later le seen = tt
 seen_grows v w early late a sharding later le seen = tt
 seen_grows v w early late a (splitting middle) later le seen = tt
 
 -- an entry was made for a request, also among more entries and requests
-pub entry_grows : (old new : List Entry) (asked more : List Asked) (e : Entry) → ((d : Entry) → IsIn d old → IsIn d new) → WasMade old asked e
-    → WasMade new (asked ++ more) e
-entry_grows old new asked more e stays m = record {
+pub entry_grows : (old new : List Entry) (asked more : List Asked) (notes raises : List Reach) (e : Entry) → ((d : Entry) → IsIn d old → IsIn d new)
+    → WasMade old asked notes e → WasMade new (asked ++ more) (notes ++ raises) e
+entry_grows old new asked more notes raises e stays m = record {
   request = m.request;
   taken = in_prefix m.request asked more m.taken;
   sends = m.sends;
   later = m.later;
   reached = λ ordered i before. let r = m.reached ordered i before in (r.0, stays r.0 r.1, r.2, r.3, r.4);
+  below = λ ordered. let less = m.below ordered in let grows = reach_longer m.request.id notes raises in omega (arith, less, grows);
 }
 
+pub made_grows_both : (v w : View) (asked more : List Asked) (e : Entry) → Later v w → WasMade (history_in v) asked v.reached e
+    → WasMade (history_in w) (asked ++ more) w.reached e
+made_grows_both v w asked more e later m =
+    subst (λ n. WasMade (history_in w) (asked ++ more) n e) (sym later.reached.same)
+    (entry_grows (history_in v) (history_in w) asked more v.reached later.reached.news e (λ d i. history_stays v w d later i) m)
+
 -- also where only journals are longer
-pub made_later : (v w : View) (asked : List Asked) (e : Entry) → Later v w → WasMade (history_in v) asked e → WasMade (history_in w) asked e
+pub made_later : (v w : View) (asked : List Asked) (e : Entry) → Later v w → WasMade (history_in v) asked v.reached e → WasMade (history_in w) asked w.reached e
 made_later v w asked e later m =
-    subst (λ l. WasMade (history_in w) l e) (append-nil asked)
-    (entry_grows (history_in v) (history_in w) asked [] e (λ d i. history_stays v w d later i) m)
+    subst (λ l. WasMade (history_in w) l w.reached e) (append-nil asked) (made_grows_both v w asked [] e later m)
 
 pub change_wanted_grows : (asked more : List Asked) (x : Change) → WasWanted asked x → WasWanted (asked ++ more) x
 change_wanted_grows asked more x s = record { request = s.request; taken = in_prefix s.request asked more s.taken; asks = s.asks; later = s.later }

@@ -1,6 +1,6 @@
 -- What a router heard of the times of shards: it stays true in each step of the router, and where all shards returned theirs, it is said of all.
 use Rattle.std.proofs.Common.{◌≡◌, ◌≢◌, ◌⊎◌, inl, inr, ℕ, zero, suc, ◌+◌, ◌<◌, ◌≤◌, List, [], ◌∷◌, ◌++◌, refl, sym, ap, subst, ◌∙◌, arith, append-nil, Bool}
-use Rattle.std.specs.Prelude.{true, false, not, ◌==◌, ◌||◌, if◌then◌else◌}
+use Rattle.std.specs.Prelude.{true, false, not, ◌==◌, ◌||◌, if◌then◌else◌, max}
 use Rattle.std.specs.List.{AllByRecursion, flat_map, list_any}
 use Rattle.std.proofs.lemmas.Bool.{eqb-true}
 use Rattle.history_model.proofs.Lists.{all_push, all_weaken, all_append, all_at, all_from, in_first, in_later, in_cons, in_none, in_prefix, in_back, in_append}
@@ -8,19 +8,21 @@ use Rattle.command_model.specs.Writes.{WriteCommand}
 use Rattle.chunk_model.specs.Tables.{first_shard}
 use Rattle.history_model.specs.History.{Entry, IsIn}
 use Rattle.base_model.specs.Identities.{RequestId}
+use Rattle.base_model.specs.Times.{time_of_moment}
+use Rattle.reply_model.specs.Outcomes.{lack_refusal}
 use Rattle.reply_model.specs.Exchanges.{Asked, Answered}
 use Rattle.reply_model.specs.OneHistory.{ids_asked, AreDifferent}
 use Rattle.node_model.specs.Letters.{time_told, Letter, Input, client_input, letter_input, moment_input, opened_input, Taken, Effect}
 use Rattle.node_model.specs.States.{Open, Router, replaced, without}
 use Rattle.node_model.specs.RouterRequests.{id_of, heard, places_from, untold, reached}
-use Rattle.node_model.specs.RouterNext.{also_told, with_told, with_part, noted, served_in_part, settled, was_created, adopted, Next, stays, is_told, begins_work, next_of, stay_in, after_next}
-use Rattle.node_model.specs.RouterRows.{opened_request, taken_now, RouterRow, router_begin, router_opened, router_plain, router_more, router_no_cursor, router_kill, router_take, router_learn, router_split, router_not_sharded, router_reach, router_hear, router_ahead, router_note, router_part, router_read, router_excess, router_overflow, router_late, router_skip, router_moment}
+use Rattle.node_model.specs.RouterNext.{also_told, with_told, with_part, noted, served_in_part, settled, was_created, adopted, Next, stays, is_told, begins_work, next_of, stay_in, after_next, table_refused, at_moment}
+use Rattle.node_model.specs.RouterRows.{opened_request, taken_now, RouterRow, router_begin, router_opened, router_plain, router_more, router_no_cursor, router_kill, router_take, router_learn, router_split, router_not_sharded, router_reach, router_hear, router_ahead, router_note, router_part, router_read, router_excess, router_overflow, router_refused, router_no_table, router_late, router_skip, router_moment}
 use Rattle.node_model.specs.World.{asked_by, answered_by}
 use Rattle.reply_facts.proofs.Requests.{one_asked}
 use Rattle.node_laws.proofs.Views.{View, history_in}
 use Rattle.node_laws.proofs.TimeFacts.{IsToldOf, IsPast, IsHeard, HasHeard}
 use Rattle.node_laws.proofs.Requests.{answered_now}
-use Rattle.node_laws.proofs.NextKeeps.{Continues, write_keeps, begins_keeps, next_keeps}
+use Rattle.node_laws.proofs.NextKeeps.{Continues, write_keeps, begins_keeps, next_keeps, refused_keeps, no_table_keeps, moment_keeps}
 use Rattle.node_laws.proofs.OpenRequests.{open_of_found, all_without, all_replaced}
 
 -- THE SHARDS THAT RETURNED THEIR TIME
@@ -110,7 +112,7 @@ module _ (r : Router) (i : Input) (f : Effect) (s : Router) where
   from_taken time x q (is_told reply) stands own none is = tt
 
 -- where no open request changes
-leaves_all : (r : Router) (i : Input) (f : Effect) (s : Router) → ((n : ℕ) → id_of r n ≡ id_of s n) → s.shards ≡ r.shards → r.time ≤ s.time
+pub leaves_all : (r : Router) (i : Input) (f : Effect) (s : Router) → ((n : ℕ) → id_of r n ≡ id_of s n) → s.shards ≡ r.shards → r.time ≤ s.time
     → s.requests ≡ r.requests → LeavesTimes r i f s
 leaves_all r i f s same shards later requests = record {
   same = same;
@@ -186,9 +188,29 @@ row_times _ _ _ _ (router_excess r m id rows n q named at stages telling says o 
     record { same = λ n. refl; shards = refl; later = omega arith; requests = from_without r _ _ _ q.count }
 row_times _ _ _ _ (router_overflow r m id rows q named at stages telling says o w target whole got) =
     record { same = λ n. refl; shards = refl; later = omega arith; requests = from_without r _ _ _ q.count }
+row_times _ _ _ _ (router_refused r m id turn first cause q next says o is) = record {
+  same = λ n. refl;
+  shards = refl;
+  later = omega arith;
+  requests = from_after r _ _ _ (heard r m) q next (open_of_found r id q o).stands (refused_keeps r (heard r m) q m.sender turn first cause next is);
+}
+row_times _ _ _ _ (router_no_table r m namespace create at node lack says) = record {
+  same = λ n. refl;
+  shards = refl;
+  later = omega arith;
+  requests = from_next r _ _ _ (heard r m) (λ q. table_refused r (heard r m) namespace create at (lack_refusal node lack) q)
+      (λ q. no_table_keeps r (heard r m) namespace create at (lack_refusal node lack) q) r.requests
+      (all_from (λ q. IsIn q r.requests) r.requests (λ q stands. stands));
+}
 row_times _ _ _ _ (router_late r m l) = leaves_all r _ _ _ (λ n. refl) refl (omega arith) refl
 row_times _ _ _ _ (router_skip r m s) = leaves_all r _ _ _ (λ n. refl) refl (omega arith) refl
-row_times _ _ _ _ (router_moment r moment b) = leaves_all r _ _ _ (λ n. refl) refl (omega arith) refl
+row_times _ _ _ _ (router_moment r moment b) = record {
+  same = λ n. refl;
+  shards = refl;
+  later = omega arith;
+  requests = from_next r _ _ _ (max r.time (time_of_moment moment)) (λ q. at_moment r (max r.time (time_of_moment moment)) moment q)
+      (λ q. moment_keeps r (max r.time (time_of_moment moment)) moment q) r.requests (all_from (λ q. IsIn q r.requests) r.requests (λ q stands. stands));
+}
 
 -- WHAT IS KNOWN OF THE TIMES
 

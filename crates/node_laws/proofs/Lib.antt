@@ -10,6 +10,7 @@ pub mod WriteFacts
 pub mod Outcomes
 pub mod SentRuns
 pub mod SingleParts
+pub mod SentParts
 pub mod TimeFacts
 pub mod SplitFacts
 pub mod TableFacts
@@ -28,9 +29,11 @@ pub mod Dates
 pub mod Requests
 pub mod Others
 pub mod AnswerTimes
+pub mod Cuts
 pub mod Answers
 pub mod AskedOwners
 pub mod HeardTimes
+pub mod Reaches
 pub mod Keeps
 pub mod Neighbours
 pub mod OneJournal
@@ -38,8 +41,10 @@ pub mod OpenRequests
 pub mod NextRequests
 pub mod NextKeeps
 pub mod NextCases
+pub mod Raises
 pub mod KnownTables
 pub mod TableVersions
+pub mod SameReplies
 pub mod NotedOutcomes
 pub mod ReadTimes
 pub mod RouterAsks
@@ -67,8 +72,13 @@ pub mod CatalogueRows
 pub mod Moments
 pub mod ShardSteps
 pub mod ReplySteps
+pub mod CausedWrites
 pub mod Causes
 pub mod ShardWrites
 pub mod ShardRows
 pub mod StepsKeep
+pub mod NodeLacks
+pub mod OrderedGives
+pub mod GivesUp
+pub mod GivesWell
 pub mod Runs

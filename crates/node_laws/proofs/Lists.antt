@@ -1,8 +1,8 @@
 -- What holds of each item of a list, and what is in one.
-use Rattle.std.proofs.Common.{◌≡◌, List, [], ◌∷◌, ◌++◌, refl, ap, Bool}
+use Rattle.std.proofs.Common.{◌≡◌, ◌⊎◌, inl, inr, List, [], ◌∷◌, ◌++◌, refl, ap, subst, Bool}
 use Rattle.std.specs.Prelude.{map, filter, true, false, if◌then◌else◌}
 use Rattle.std.specs.List.{AllByRecursion}
-use Rattle.history_model.proofs.Lists.{in_first, in_later}
+use Rattle.history_model.proofs.Lists.{in_first, in_later, in_cons, in_none}
 use Rattle.history_model.specs.History.{IsIn}
 
 pub all_of : {X : Type 0} (P : X → Type 0) (xs : List X) → ((x : X) → P x) → AllByRecursion P xs
@@ -39,6 +39,14 @@ all_filtered P test (x ∷ xs) all = by_test (test x) refl (all_filtered P test 
 pub map_longer : {X Y : Type 0} (f : X → Y) (xs ys : List X) → map f (xs ++ ys) ≡ map f xs ++ map f ys
 map_longer f [] ys = refl
 map_longer f (x ∷ xs) ys = ap (λ l. f x ∷ l) (map_longer f xs ys)
+
+pub in_mapped : {X Y : Type 0} (f : X → Y) (x : X) (xs : List X) → IsIn x xs → IsIn (f x) (map f xs)
+in_mapped f x [] i = absurd (in_none x i)
+in_mapped f x (y ∷ xs) i = by_place (in_cons x y xs i) (λ j. in_mapped f x xs j)
+  where
+    by_place : (x ≡ y) ⊎ IsIn x xs → (IsIn x xs → IsIn (f x) (map f xs)) → IsIn (f x) (f y ∷ map f xs)
+    by_place (inl same) later = subst (λ z. IsIn (f x) (z ∷ map f xs)) (ap f same) (in_first (f x) (map f xs))
+    by_place (inr j) later = in_later (f x) (f y) (map f xs) (later j)
 
 -- both that an item is there and what holds of it give another fact
 pub all_within : {X : Type 0} (P Q : X → Type 0) (xs : List X) → ((x : X) → IsIn x xs → P x → Q x) → AllByRecursion P xs → AllByRecursion Q xs

@@ -11,10 +11,10 @@ use Rattle.reply_model.specs.OneHistory.{last_from, last_given}
 use Rattle.node_model.specs.Letters.{Letter, Input, client_input, letter_input, moment_input, opened_input, Taken, Effect, nothing}
 use Rattle.node_model.specs.States.{Catalogue, Shard, Router, NodeState, catalogue_state, shard_state, router_state}
 use Rattle.node_model.specs.CatalogueRows.{CatalogueRow, catalogue_create, catalogue_tell, catalogue_split, catalogue_bound, catalogue_none, catalogue_skip, catalogue_moment, catalogue_opened, catalogue_client}
-use Rattle.node_model.specs.ShardRows.{ShardRow, shard_write, shard_repeat, shard_empty, shard_park, shard_waits, shard_stale, shard_read, shard_read_above, shard_rows, shard_excess, shard_overflow, shard_time, shard_learn, shard_known, shard_skip, shard_moment, shard_opened, shard_client}
-use Rattle.node_model.specs.RouterRows.{RouterRow, begins, router_begin, router_opened, router_plain, router_more, router_no_cursor, router_kill, router_take, router_learn, router_split, router_not_sharded, router_reach, router_hear, router_ahead, router_note, router_part, router_read, router_excess, router_overflow, router_late, router_skip, router_moment}
+use Rattle.node_model.specs.ShardRows.{ShardRow, shard_write, shard_repeat, shard_empty, shard_park, shard_waits, shard_stale, shard_read, shard_read_above, shard_rows, shard_excess, shard_overflow, shard_time, shard_learn, shard_known, shard_no_table, shard_skip, shard_moment, shard_opened, shard_client}
+use Rattle.node_model.specs.RouterRows.{RouterRow, begins, router_begin, router_opened, router_plain, router_more, router_no_cursor, router_kill, router_take, router_learn, router_split, router_not_sharded, router_reach, router_hear, router_ahead, router_note, router_part, router_read, router_excess, router_overflow, router_refused, router_no_table, router_late, router_skip, router_moment}
 use Rattle.node_model.specs.Steps.{Step, catalogue_step, shard_step, router_step, begin_step, other_step}
-use Rattle.node_model.specs.World.{World, asked_by, moment_in, Moves}
+use Rattle.node_model.specs.World.{World, asked_by, moment_in, Moves, Misses, steps_after}
 use Rattle.node_laws.proofs.Places.{EachAt, each_get, each_set}
 use Rattle.node_laws.proofs.Journals.{with_more}
 
@@ -33,7 +33,7 @@ HadMoment given a = (a.moment ≡ last_given a.id.router a.came given) × (time_
 
 pub record Moments (w : World) : Type 0 where
   pub nodes : EachAt (λ at h. HasMoment w.given at h.state) 0 w.nodes
-  pub asked : AllByRecursion (λ a. HadMoment w.given a × (a.came < w.now + 1)) w.asked
+  pub asked : AllByRecursion (λ a. HadMoment w.given a × (a.came < w.now)) w.asked
   pub givens : AllByRecursion (λ (g : Given). g.step < w.now) w.given
 
 -- the moment after an input
@@ -92,6 +92,10 @@ row_moments _ _ _ _ (router_excess r m id rows n q named at stages telling says 
     { me = refl; moment = refl; time = omega arith; reached = λ h. omega arith; taken = tt }
 row_moments _ _ _ _ (router_overflow r m id rows q named at stages telling says o w target whole got) = record
     { me = refl; moment = refl; time = omega arith; reached = λ h. omega arith; taken = tt }
+row_moments _ _ _ _ (router_refused r m id turn first cause q next says o is) = record
+    { me = refl; moment = refl; time = omega arith; reached = λ h. omega arith; taken = tt }
+row_moments _ _ _ _ (router_no_table r m namespace create at node lack says) = record
+    { me = refl; moment = refl; time = omega arith; reached = λ h. omega arith; taken = tt }
 row_moments _ _ _ _ (router_late r m l) = record { me = refl; moment = refl; time = omega arith; reached = λ h. omega arith; taken = tt }
 row_moments _ _ _ _ (router_skip r m s) = record { me = refl; moment = refl; time = omega arith; reached = λ h. h; taken = tt }
 row_moments _ _ _ _ (router_moment r moment b) = record { me = refl; moment = refl; time = omega arith; reached = λ h. omega arith; taken = tt }
@@ -129,6 +133,7 @@ no_taken_shard _ _ _ _ (shard_overflow s m id turn namespace at half documents s
 no_taken_shard _ _ _ _ (shard_time s m id says) = refl
 no_taken_shard _ _ _ _ (shard_learn s m namespace create at t says news) = refl
 no_taken_shard _ _ _ _ (shard_known s m namespace create at table says none) = refl
+no_taken_shard _ _ _ _ (shard_no_table s m namespace node lack says) = refl
 no_taken_shard _ _ _ _ (shard_skip s m skips) = refl
 no_taken_shard _ _ _ _ (shard_moment s moment) = refl
 no_taken_shard _ _ _ _ (shard_opened s) = refl
@@ -265,7 +270,7 @@ old_had given at now i a came h = (
 
 new_had : (given : List Given) (at now : ℕ) (i : Input) (r : Router) (taken : List Taken) → HasMoment given at (router_state r)
     → AllByRecursion (λ (g : Given). g.step < now) given → AllByRecursion (TakenBy i r) taken
-    → AllByRecursion (λ a. HadMoment (given ++ moment_in at now i) a × (a.came < now + 1 + 1)) (asked_by now taken)
+    → AllByRecursion (λ a. HadMoment (given ++ moment_in at now i) a × (a.came < now + 1)) (asked_by now taken)
 new_had given at now i r [] has before all = tt
 new_had given at now (letter_input m) r (x ∷ taken) has before all = absurd all.0
 new_had given at now (moment_input moment) r (x ∷ taken) has before all = absurd all.0
@@ -283,12 +288,12 @@ new_had given at now (client_input link number request) r (x ∷ taken) has befo
 
 pub asked_news : (given : List Given) (at now : ℕ) (i : Input) (f : Effect) (s t : NodeState) → StepMoments s i f t → HasMoment given at s
     → AllByRecursion (λ (g : Given). g.step < now) given
-    → AllByRecursion (λ a. HadMoment (given ++ moment_in at now i) a × (a.came < now + 1 + 1)) (asked_by now f.taken)
+    → AllByRecursion (λ a. HadMoment (given ++ moment_in at now i) a × (a.came < now + 1)) (asked_by now f.taken)
 asked_news given at now i f (router_state r) (router_state q) m h before = new_had given at now i r f.taken h before m.taken
 asked_news given at now i f (catalogue_state c) (catalogue_state d) m h before = subst
-    (λ l. AllByRecursion (λ a. HadMoment (given ++ moment_in at now i) a × (a.came < now + 1 + 1)) (asked_by now l)) (sym m) tt
+    (λ l. AllByRecursion (λ a. HadMoment (given ++ moment_in at now i) a × (a.came < now + 1)) (asked_by now l)) (sym m) tt
 asked_news given at now i f (shard_state c) (shard_state d) m h before = subst
-    (λ l. AllByRecursion (λ a. HadMoment (given ++ moment_in at now i) a × (a.came < now + 1 + 1)) (asked_by now l)) (sym m) tt
+    (λ l. AllByRecursion (λ a. HadMoment (given ++ moment_in at now i) a × (a.came < now + 1)) (asked_by now l)) (sym m) tt
 asked_news given at now i f (router_state r) (catalogue_state d) m h before = absurd m
 asked_news given at now i f (router_state r) (shard_state d) m h before = absurd m
 asked_news given at now i f (catalogue_state r) (router_state d) m h before = absurd m
@@ -304,15 +309,27 @@ moments_move w v at i m move =
     (each_get (λ j h. HasMoment w.given j h.state) 0 at w.nodes move.old m.nodes move.here) in
     subst (λ x. Moments x) (sym move.then) (record {
       nodes = each_set (λ j h. HasMoment w.given j h.state) (λ j h. HasMoment (w.given ++ moment_in at w.now i) j h.state) 0 at w.nodes
-          (with_more move.old move.f.written move.new)
+          (with_more move.old move.f.written move.new (move.old.steps + 1))
           (λ j h other old. other_has w.given at w.now i j h.state (λ e. other (omega (arith, e))) old)
           (subst (λ k. HasMoment (w.given ++ moment_in at w.now i) k move.new) (sym zero_at)
           (this_has w.given at w.now i move.f move.old.state move.new step has)) m.nodes;
-      asked = all_append (λ a. HadMoment (w.given ++ moment_in at w.now i) a × (a.came < w.now + 1 + 1)) w.asked (asked_by w.now move.f.taken)
-          (all_weaken (λ a. HadMoment w.given a × (a.came < w.now + 1)) (λ a. HadMoment (w.given ++ moment_in at w.now i) a × (a.came < w.now + 1 + 1))
-          w.asked (λ a h. (old_had w.given at w.now i a h.1 h.0, let came = h.1 in omega arith)) m.asked)
+      asked = all_append (λ a. HadMoment (w.given ++ moment_in at w.now i) a × (a.came < w.now + 1)) w.asked (asked_by w.now move.f.taken)
+          (all_weaken (λ a. HadMoment w.given a × (a.came < w.now)) (λ a. HadMoment (w.given ++ moment_in at w.now i) a × (a.came < w.now + 1))
+          w.asked (λ a h. (old_had w.given at w.now i a (let came = h.1 in omega arith) h.0, let came = h.1 in omega arith)) m.asked)
           (asked_news w.given at w.now i move.f move.old.state move.new step has m.givens);
       givens = all_append (λ (g : Given). g.step < w.now + 1) w.given (moment_in at w.now i)
           (all_weaken (λ (g : Given). g.step < w.now) (λ (g : Given). g.step < w.now + 1) w.given (λ g h. omega arith) m.givens)
           (all_weaken (λ (g : Given). g.step ≡ w.now) (λ (g : Given). g.step < w.now + 1) (moment_in at w.now i) (λ g e. omega arith) (given_now at w.now i));
+    })
+
+-- also where a node takes no step
+pub moments_miss : (w v : World) (at : ℕ) (i : Input) → Moments w → Misses w at i v → Moments v
+moments_miss w v at i m miss =
+    subst (λ x. Moments x) (sym miss.then) (record {
+      nodes = each_set (λ j h. HasMoment w.given j h.state) (λ j h. HasMoment w.given j h.state) 0 at w.nodes
+          (record { state = miss.old.state; kept = miss.old.kept; steps = steps_after miss.lack miss.old.steps }) (λ j h other old. old)
+          (each_get (λ j h. HasMoment w.given j h.state) 0 at w.nodes miss.old m.nodes miss.here) m.nodes;
+      asked = all_weaken (λ a. HadMoment w.given a × (a.came < w.now)) (λ a. HadMoment w.given a × (a.came < w.now + 1)) w.asked
+          (λ a h. (h.0, let came = h.1 in omega arith)) m.asked;
+      givens = all_weaken (λ (g : Given). g.step < w.now) (λ (g : Given). g.step < w.now + 1) w.given (λ g h. omega arith) m.givens;
     })

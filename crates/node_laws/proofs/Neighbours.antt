@@ -1,5 +1,5 @@
 -- What the catalogue and the shard keep, as a router sees it.
-use Rattle.std.proofs.Common.{◌≡◌, ◌≢◌, ℕ, ◌<◌, ◌≤◌, refl, sym, ap, subst, arith}
+use Rattle.std.proofs.Common.{◌≡◌, ◌≢◌, ℕ, ◌<◌, ◌≤◌, [], ◌++◌, refl, sym, ap, subst, arith, append-nil}
 use Rattle.std.specs.List.{AllByRecursion}
 use Rattle.history_model.proofs.Lists.{all_weaken}
 use Rattle.chunk_model.specs.Changes.{time_of}
@@ -11,7 +11,7 @@ use Rattle.node_model.specs.World.{World, journal_at}
 use Rattle.node_laws.proofs.Views.{Book, View, view_of, changes_in, MovesNothing, Later, history_in, IsWithin}
 use Rattle.node_laws.proofs.WriteFacts.{WasMade}
 use Rattle.node_laws.proofs.Facts.{NeighboursFit, Good}
-use Rattle.node_laws.proofs.Growth.{placed_grows}
+use Rattle.node_laws.proofs.Growth.{placed_grows, entry_grows}
 use Rattle.node_laws.proofs.Keeps.{nodes_keep}
 
 -- in a view in which only a router's journal is another
@@ -36,7 +36,11 @@ neighbours w book at v good place later others =
       past = subst (λ l. AllByRecursion (IsWithin v.bound) l) (sym entries)
           (all_weaken (IsWithin u.bound) (IsWithin v.bound) (history_in u)
           (λ e h. (h.0, (let within = h.1 in let risen : u.bound e.shard ≤ v.bound e.shard = later.times e.shard in omega (arith, within, risen)))) k.past);
-      sent = subst (λ l. AllByRecursion (WasMade l w.asked) l) (sym entries) k.sent;
+      sent = subst (λ l. AllByRecursion (WasMade l w.asked v.reached) l) (sym entries)
+          (all_weaken (WasMade (history_in u) w.asked u.reached) (WasMade (history_in u) w.asked v.reached) (history_in u)
+          (λ e m. subst (λ n. WasMade (history_in u) w.asked n e) (sym later.reached.same)
+          (subst (λ l. WasMade (history_in u) l (u.reached ++ later.reached.news) e) (append-nil w.asked)
+          (entry_grows (history_in u) (history_in u) w.asked [] u.reached later.reached.news e (λ d i. i) m))) k.sent);
       numbers = subst (λ l. AreNumbered l) (sym entries) k.numbers;
       parts = subst (λ l. AllByRecursion (StandsInPart l) w.asked) (sym entries) k.parts;
       placed = subst (λ l. AllByRecursion (IsPlaced (changes_in v)) l) (sym entries)

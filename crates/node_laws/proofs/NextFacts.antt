@@ -19,7 +19,7 @@ use Rattle.command_model.specs.Writes.{WriteKind}
 use Rattle.reply_model.specs.Outcomes.{dones_from, answer_of}
 use Rattle.node_model.specs.Letters.{At, Statement, Reply}
 use Rattle.node_model.specs.States.{Run, Course, Telling, in_batches, as_number, Work, writing, reading, sharding, splitting, Wait, for_time, for_catalogue, for_shards, Open, Router}
-use Rattle.node_model.specs.RouterRequests.{id_of, unsent, runs_by, with_runs, asks_to_write, targets_at, asks_to_read, asks_catalogue, table_to_read, asks_times}
+use Rattle.node_model.specs.RouterRequests.{id_of, unsent, runs_by, with_runs, asks_to_write, targets_at, asks_to_read, asks_catalogue, table_to_read, turn_after, asks_times}
 use Rattle.node_model.specs.RouterNext.{reply_to, is_answered, left_of, with_work, empty_answer, is_for, is_for_catalogue, adopted, was_created, Next, stays, is_told, write_on, read_on, begins_work, next_of}
 use Rattle.node_laws.proofs.Views.{View, changes_in}
 use Rattle.node_laws.proofs.ReadFacts.{is_ahead, NoneBegan, IsDecided}
@@ -55,9 +55,9 @@ begins_stay r time q a namespace (writing kind ordered statements c) (write, ask
 
     by_left : (left : List Statement) → IsStay (elim left as (λ (l : List Statement). Next) [
       | [] ↦ stays (with_work q for_shards [] After)
-          (asks_to_write r time (id_of r q.count) q.namespace ordered statements (left_of c.answers [] ++ More))
+          (asks_to_write r time (id_of r q.count) q.namespace ordered statements (with_runs c More) (left_of c.answers [] ++ More))
       | x ∷ rest ↦ stays (with_work q for_catalogue [] After) (asks_catalogue r time q.count q.namespace After
-          ∷ asks_to_write r time (id_of r q.count) q.namespace ordered statements (left_of c.answers [] ++ More))
+          ∷ asks_to_write r time (id_of r q.count) q.namespace ordered statements (with_runs c More) (left_of c.answers [] ++ More))
     ])
     by_left [] = tt
     by_left (x ∷ rest) = tt
@@ -66,9 +66,9 @@ begins_stay r time q a namespace (writing kind ordered statements c) (write, ask
         if b then is_told (reply_to r time q (answer_of kind time (dones_from 0 c.answers)))
         else elim (unsent ordered statements (with_runs c More)) as (λ (l : List Statement). Next) [
           | [] ↦ stays (with_work q for_shards [] After)
-              (asks_to_write r time (id_of r q.count) q.namespace ordered statements (left_of c.answers [] ++ More))
+              (asks_to_write r time (id_of r q.count) q.namespace ordered statements (with_runs c More) (left_of c.answers [] ++ More))
           | x ∷ rest ↦ stays (with_work q for_catalogue [] After) (asks_catalogue r time q.count q.namespace After
-              ∷ asks_to_write r time (id_of r q.count) q.namespace ordered statements (left_of c.answers [] ++ More))
+              ∷ asks_to_write r time (id_of r q.count) q.namespace ordered statements (with_runs c More) (left_of c.answers [] ++ More))
         ])
     by_answered true h = absurd (cc)
     by_answered false h = by_left (unsent ordered statements (with_runs c More))
@@ -78,7 +78,7 @@ begins_stay r time q a namespace (reading named at stages telling) does = by_tim
       | None ↦ stays (with_work q for_catalogue [] (reading named at stages telling))
           (asks_catalogue r time q.count q.namespace (reading named at stages telling) ∷ [])
       | Some t ↦ stays (with_work q for_shards (targets_at t at stages) (reading named at stages telling))
-          (asks_to_read r time (id_of r q.count) q.namespace at (split stages).0 (targets_at t at stages))
+          (asks_to_read r time (id_of r q.count) q.namespace (turn_after q.tries) at (split stages).0 (targets_at t at stages))
     ])
     by_table None = tt
     by_table (Some t) = tt
@@ -86,7 +86,7 @@ begins_stay r time q a namespace (reading named at stages telling) does = by_tim
     by_time : (b : Bool) → IsStay (if b then stays (with_work q for_time [] (reading named at stages telling)) (asks_times r time (id_of r q.count) [])
         else read_on r time r.tables true q named at stages telling)
     by_time true = tt
-    by_time false = by_table (table_to_read (table_of q.namespace r.tables) at)
+    by_time false = by_table (table_to_read (table_of q.namespace r.tables) at q.tries)
 begins_stay r time q a namespace sharding does = tt
 begins_stay r time q a namespace (splitting middle) does = tt
 
@@ -150,7 +150,7 @@ module _ (v : View) (asked : List Asked) (answered said : List Answered) (cursor
       → GoesOn (elim q.work as (λ (x : Work). Next) [
         | writing kind ordered statements c ↦ write_on r s.time (adopted table tables) false [] q kind ordered statements c
         | reading named at stages telling ↦
-            if is_for told at && not (is_some (table_to_read (table_of q.namespace (adopted table tables)) at))
+            if is_for told at && not (is_some (table_to_read (table_of q.namespace (adopted table tables)) at []))
             then is_told (reply_to r s.time q (empty_answer q at telling)) else read_on r s.time (adopted table tables) false q named at stages telling
         | sharding ↦ if was_created create table then is_told (reply_to r s.time q (sharded_answer q.namespace s.time)) else stays q []
         | splitting middle ↦ stays q []
@@ -179,12 +179,12 @@ module _ (v : View) (asked : List Asked) (answered said : List Answered) (cursor
 
       of_read : (named : Bool) (at : ℕ) (stages : List Stage) (telling : Telling) → WorkFits o.request q.namespace (reading named at stages telling)
           → is_ahead s.time (reading named at stages telling) ≡ false → IsDecided v (id_of r q.count) (reading named at stages telling)
-          → (a b : Bool) → is_for told at ≡ a → is_some (table_to_read (table_of q.namespace (adopted table tables)) at) ≡ b
+          → (a b : Bool) → is_for told at ≡ a → is_some (table_to_read (table_of q.namespace (adopted table tables)) at []) ≡ b
           → GoesOn (if a && not b then is_told (reply_to r s.time q (empty_answer q at telling))
           else read_on r s.time (adopted table tables) false q named at stages telling)
-      of_read named at stages telling does reached decided true false h none =
+      of_read named at stages telling does reached decided true false h none = λ noted.
           told_empty q named at stages telling o came does (ltb-false s.time at reached)
-          (told_nothing v asked told_at s.time q.namespace told table tables at n here known h (no_table (table_to_read (table_of q.namespace (adopted table tables)) at) none))
+          (told_nothing v asked told_at s.time q.namespace told table tables at n here known h (no_table (table_to_read (table_of q.namespace (adopted table tables)) at []) none))
         where
           no_table : (x : Option Table) → is_some x ≡ false → x ≡ None
           no_table None e = refl
@@ -198,18 +198,18 @@ module _ (v : View) (asked : List Asked) (answered said : List Answered) (cursor
 
       by_made : (made : Option Table) → table ≡ made → command_of o.request.request ≡ Ok (shard_collection_command q.namespace)
           → GoesOn (if was_created create made then is_told (reply_to r s.time q (sharded_answer q.namespace s.time)) else stays q [])
-      by_made None is asks = (same, tt)
+      by_made None is asks = λ noted. (same, tt)
       by_made (Some t) is asks = by_create create
         where
           by_create : (b : Bool) → GoesOn (if b then is_told (reply_to r s.time q (sharded_answer q.namespace s.time)) else stays q [])
-          by_create true = told_sharded q o came asks name t is
-          by_create false = (same, tt)
+          by_create true = λ noted. told_sharded q o came asks name t is
+          by_create false = λ noted. (same, tt)
 
       by_work : (work : Work) → q.work ≡ work → (is_ahead s.time q.work ≡ false) × IsDecided v (id_of r q.count) q.work
           → GoesOn (elim work as (λ (x : Work). Next) [
             | writing kind ordered statements c ↦ write_on r s.time (adopted table tables) false [] q kind ordered statements c
             | reading named at stages telling ↦
-                if is_for told at && not (is_some (table_to_read (table_of q.namespace (adopted table tables)) at))
+                if is_for told at && not (is_some (table_to_read (table_of q.namespace (adopted table tables)) at []))
                 then is_told (reply_to r s.time q (empty_answer q at telling)) else read_on r s.time (adopted table tables) false q named at stages telling
             | sharding ↦ if was_created create table then is_told (reply_to r s.time q (sharded_answer q.namespace s.time)) else stays q []
             | splitting middle ↦ stays q []
@@ -220,9 +220,9 @@ module _ (v : View) (asked : List Asked) (answered said : List Answered) (cursor
       by_work (reading named at stages telling) is reached =
           of_read named at stages telling (subst (λ x. WorkFits o.request q.namespace x) is o.work) (subst (λ x. is_ahead s.time x ≡ false) is reached.0)
           (subst (λ x. IsDecided v (id_of r q.count) x) is reached.1) (is_for told at)
-          (is_some (table_to_read (table_of q.namespace (adopted table tables)) at)) refl refl
+          (is_some (table_to_read (table_of q.namespace (adopted table tables)) at [])) refl refl
       by_work sharding is reached = by_made table refl (subst (λ x. WorkFits o.request q.namespace x) is o.work)
-      by_work (splitting middle) is reached = (same, tt)
+      by_work (splitting middle) is reached = λ noted. (same, tt)
 
   pub next_fits : (q : Open) (o : IsOpenOf v asked answered r q) → o.request.came < now + 1
       → GoesOn (next_of r s.time (adopted table tables) namespace (was_created create table) told q)
@@ -232,11 +232,11 @@ module _ (v : View) (asked : List Asked) (answered said : List Answered) (cursor
           → GoesOn (if not (a && b) then stays q [] else elim q.work as (λ (x : Work). Next) [
             | writing kind ordered statements c ↦ write_on r s.time (adopted table tables) false [] q kind ordered statements c
             | reading named at stages telling ↦
-                if is_for told at && not (is_some (table_to_read (table_of q.namespace (adopted table tables)) at))
+                if is_for told at && not (is_some (table_to_read (table_of q.namespace (adopted table tables)) at []))
                 then is_told (reply_to r s.time q (empty_answer q at telling)) else read_on r s.time (adopted table tables) false q named at stages telling
             | sharding ↦ if was_created create table then is_told (reply_to r s.time q (sharded_answer q.namespace s.time)) else stays q []
             | splitting middle ↦ stays q []
           ])
       by_tests true true h name = waits_on q o came h ((bytes_eq-Decides q.namespace namespace).0 name)
-      by_tests true false h name = (open_rises v asked answered r s q later o, tt)
-      by_tests false b h name = (open_rises v asked answered r s q later o, tt)
+      by_tests true false h name = λ noted. (open_rises v asked answered r s q later o, tt)
+      by_tests false b h name = λ noted. (open_rises v asked answered r s q later o, tt)

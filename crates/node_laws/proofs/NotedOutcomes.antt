@@ -1,6 +1,6 @@
 -- The outcomes of an ordered write that arrived, and which of its entries are stored.
 use Rattle.std.proofs.Common.{◌≡◌, ◌⊎◌, inl, inr, ℕ, ◌+◌, ◌<◌, ◌≤◌, List, [], ◌∷◌, ◌++◌, refl, sym, ap, subst, ◌∙◌, arith, Bool}
-use Rattle.std.specs.Prelude.{pos, Option, Some, None, true, map, int_lt}
+use Rattle.std.specs.Prelude.{pos, Option, Some, None, map, int_lt}
 use Rattle.std.specs.List.{AllByRecursion}
 use Rattle.history_model.proofs.Lists.{all_weaken, all_at, in_none, in_cons}
 use Rattle.command_model.specs.Writes.{ClientNumber, WriteCommand}
@@ -9,6 +9,7 @@ use Rattle.base_model.specs.Identities.{RequestId}
 use Rattle.reply_model.specs.Exchanges.{Asked, number_for, is_session_of, entries_by}
 use Rattle.reply_model.specs.Outcomes.{StatementOutcome, Done, answer_by, done_of}
 use Rattle.reply_model.specs.Right.{AreStatements, told_by}
+use Rattle.node_laws.proofs.Views.{Reach}
 use Rattle.node_laws.proofs.WriteFacts.{IsAnswerOf, by_entry, by_older, AreAnswers, WasMade}
 use Rattle.node_laws.proofs.SeenStatements.{true_false, own_session, entry_by}
 
@@ -69,8 +70,8 @@ number_no_other : (given : Option ClientNumber) (id : RequestId) (index node lif
 number_no_other None id index node life request same = refl
 number_no_other (Some by) id index node life request same = absurd (cc)
 
-pub made_no_other : (history : List Entry) (asked : List Asked) (e : Entry) → WasMade history asked e → HasNoOther e
-made_no_other history asked e m node life request same =
+pub made_no_other : (history : List Entry) (asked : List Asked) (notes : List Reach) (e : Entry) → WasMade history asked notes e → HasNoOther e
+made_no_other history asked notes e m node life request same =
     let number = m.sends.entry.statement.same_number in
     ap (λ (n : StatementNumber). n.transaction) number
     ∙ number_no_other m.sends.write.number m.request.id m.sends.index node life request (sym (ap (λ (n : StatementNumber). n.session) number) ∙ same)

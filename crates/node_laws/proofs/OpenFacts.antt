@@ -58,6 +58,7 @@ pub record IsOpener (v : View) (asked : List Asked) (answered : List Answered) (
   pub link : request.link ≡ q.link
   pub number : request.number ≡ q.number
   pub asks : request.request ≡ q.request
+  pub arrived : request.moment ≡ q.arrived
   pub past : request.time ≤ time
   pub silent : AllByRecursion (λ (t : Answered). t.id ≢ id_of r q.count) answered
 
@@ -70,6 +71,7 @@ opener_of v asked answered r time q later o = record {
   link = o.link;
   number = o.number;
   asks = o.asks;
+  arrived = o.arrived;
   past = (let p = o.past in omega arith);
   silent = o.silent;
 }
@@ -87,6 +89,7 @@ opens_with v asked answered r s q wait targets work k reached fits seen sent = r
   link = k.link;
   number = k.number;
   asks = k.asks;
+  arrived = k.arrived;
   past = k.past;
   reached = reached;
   silent = k.silent;
@@ -105,6 +108,7 @@ open_rises v asked answered r s q later o = record {
   link = o.link;
   number = o.number;
   asks = o.asks;
+  arrived = o.arrived;
   past = (let p = o.past in omega arith);
   reached = by_reached o.reached;
   silent = o.silent;

@@ -23,8 +23,7 @@ use Rattle.node_laws.proofs.Choices.{none_longer, none_of_others, decided_stays}
 use Rattle.node_laws.proofs.OwnCursors.{same_lives}
 use Rattle.node_laws.proofs.Lists.{map_longer}
 use Rattle.node_laws.proofs.LongerJournals.{still_grows}
-use Rattle.node_laws.proofs.Histories.{history_stays}
-use Rattle.node_laws.proofs.Growth.{known_grows, letter_grows, seen_grows, entry_grows, change_wanted_grows, placed_grows, met_later}
+use Rattle.node_laws.proofs.Growth.{known_grows, letter_grows, seen_grows, made_grows_both, change_wanted_grows, placed_grows, met_later}
 use Rattle.node_laws.proofs.Requests.{parts_grow}
 
 pub told_more : (id : RequestId) (answered news : List Answered) → IsIn id (ids_told answered) → IsIn id (ids_told (answered ++ news))
@@ -73,6 +72,7 @@ open_grows v w asked more answered news r q later still others o = record {
   link = o.link;
   number = o.number;
   asks = o.asks;
+  arrived = o.arrived;
   past = o.past;
   reached = by_reached o.reached;
   silent = all_append (λ (t : Answered). t.id ≢ id_of r q.count) answered news o.silent others;
@@ -165,11 +165,11 @@ other_state v w asked more answered news j at kept (shard_state s) other later d
   tops = fits.tops;
   past = fits.past;
   legal = fits.legal;
-  sent = all_weaken (WasMade (history_in v) asked) (WasMade (history_in w) (asked ++ more)) s.entries
-      (λ e h. entry_grows (history_in v) (history_in w) asked more e (λ d i. history_stays v w d later i) h) fits.sent;
+  sent = all_weaken (WasMade (history_in v) asked v.reached) (WasMade (history_in w) (asked ++ more) w.reached) s.entries
+      (λ e h. made_grows_both v w asked more e later h) fits.sent;
   numbers = fits.numbers;
   placed = all_weaken (IsPlaced (changes_in v)) (IsPlaced (changes_in w)) s.entries (λ e h. placed_grows v w e later fits.still h) fits.placed;
-  parts = parts_grow asked more (history_in v) s.entries different fits.sent fits.parts;
+  parts = parts_grow asked more v.reached (history_in v) s.entries different fits.sent fits.parts;
   still = still_grows v w later fits.still;
   tables = all_weaken (IsKnownTable v s.time) (IsKnownTable w s.time) s.tables (λ t k. known_grows v w s.time s.time t later (omega arith) k) fits.tables;
   parked = all_weaken (ParkedFits v asked s.time) (ParkedFits w (asked ++ more) s.time) s.parked

@@ -1,12 +1,13 @@
 -- The outcomes of an open write, by index: of an ordered one the first statements have theirs, and after one that ends it none has.
-use Rattle.std.proofs.Common.{◌≡◌, ℕ, zero, suc, ◌+◌, ◌<◌, ◌≤◌, List, [], ◌∷◌, ◌++◌, refl, sym, ap, subst, ◌∙◌, arith, append_assoc, Bool}
-use Rattle.std.specs.Prelude.{Option, Some, None, is_some, true, false, not, filter, length, drop, ◌&&◌, ◌||◌, if◌then◌else◌}
+use Rattle.std.proofs.Common.{◌≡◌, ◌⊎◌, inl, inr, ℕ, zero, suc, ◌+◌, ◌<◌, List, [], ◌∷◌, ◌++◌, refl, sym, ap, subst, ◌∙◌, arith, append_assoc, Bool}
+use Rattle.std.specs.Prelude.{Option, Some, None, is_some, true, false, not, length, drop, ◌&&◌, ◌||◌, if◌then◌else◌}
 use Rattle.std.specs.List.{AllByRecursion}
+use Rattle.base_model.specs.Refusals.{Refusal}
 use Rattle.command_model.specs.Writes.{ClientNumber, WriteCommand}
-use Rattle.history_model.specs.History.{StatementNumber, Operation, Entry}
+use Rattle.history_model.specs.History.{Operation, Entry}
 use Rattle.base_model.specs.Identities.{RequestId}
 use Rattle.reply_model.specs.Exchanges.{number_for}
-use Rattle.reply_model.specs.Outcomes.{StatementOutcome, Done, refusal_in, has_outcome, with_outcome, dones_from, none_yet}
+use Rattle.reply_model.specs.Outcomes.{StatementOutcome, was_refused, Done, refusal_in, has_outcome, with_outcome, dones_from, none_yet}
 use Rattle.reply_model.specs.Right.{ends}
 use Rattle.node_model.specs.Letters.{Statement}
 use Rattle.node_model.specs.RouterRequests.{statements_from, unanswered}
@@ -17,12 +18,23 @@ use Rattle.node_laws.proofs.AnswerTimes.{IsBelow, AreBelow}
 abbrev pub Answers : Type 0
 Answers = List (Option StatementOutcome)
 
+-- a statement of a write was given up, for one of these reasons
+pub record IsGivenUpAt (gave : Refusal → Type 0) (write : WriteCommand) (d : Done) : Type 0 where
+  pub within : d.index < length write.operations
+  pub refusal : Refusal
+  pub is : d.answer ≡ was_refused refusal
+  pub why : gave refusal
+
+-- the outcome of a statement, or why it was given up
+abbrev pub IsOutcomeAt : (gave : Refusal → Type 0) → List Entry → (time : ℕ) → WriteCommand → RequestId → Done → Type 0
+IsOutcomeAt gave history time write id d = IsDoneAt history time write id d ⊎ IsGivenUpAt gave write d
+
 -- each that there is is the outcome of a statement of a write, the first of that with this index
-abbrev pub AreOutcomes : List Entry → (time : ℕ) → WriteCommand → RequestId → (index : ℕ) → Answers → Type 0
-AreOutcomes history time write id index [] = Unit {0}
-AreOutcomes history time write id index (None ∷ answers) = AreOutcomes history time write id (index + 1) answers
-AreOutcomes history time write id index (Some x ∷ answers) =
-    IsDoneAt history time write id (record { index = index; answer = x }) × AreOutcomes history time write id (index + 1) answers
+abbrev pub AreOutcomes : (gave : Refusal → Type 0) → List Entry → (time : ℕ) → WriteCommand → RequestId → (index : ℕ) → Answers → Type 0
+AreOutcomes gave history time write id index [] = Unit {0}
+AreOutcomes gave history time write id index (None ∷ answers) = AreOutcomes gave history time write id (index + 1) answers
+AreOutcomes gave history time write id index (Some x ∷ answers) =
+    IsOutcomeAt gave history time write id (record { index = index; answer = x }) × AreOutcomes gave history time write id (index + 1) answers
 
 abbrev pub AreNone : Answers → Type 0
 AreNone [] = Unit {0}
@@ -69,10 +81,10 @@ pub none_long : {A : Type 0} (xs : List A) → length (none_yet xs) ≡ length x
 none_long [] = refl
 none_long (x ∷ xs) = ap suc (none_long xs)
 
-pub none_outcomes : {A : Type 0} (history : List Entry) (time : ℕ) (write : WriteCommand) (id : RequestId) (index : ℕ) (xs : List A)
-    → AreOutcomes history time write id index (none_yet xs)
-none_outcomes history time write id index [] = tt
-none_outcomes history time write id index (x ∷ xs) = none_outcomes history time write id (index + 1) xs
+pub none_outcomes : {A : Type 0} (gave : Refusal → Type 0) (history : List Entry) (time : ℕ) (write : WriteCommand) (id : RequestId) (index : ℕ) (xs : List A)
+    → AreOutcomes gave history time write id index (none_yet xs)
+none_outcomes gave history time write id index [] = tt
+none_outcomes gave history time write id index (x ∷ xs) = none_outcomes gave history time write id (index + 1) xs
 
 -- WHAT AN OPEN WRITE HAS
 
@@ -95,34 +107,68 @@ goes_dones index [] goes = tt
 goes_dones index (None ∷ answers) goes = goes_dones (index + 1) answers goes
 goes_dones index (Some x ∷ answers) goes = (goes.0, goes_dones (index + 1) answers goes.1)
 
-pub front_answers : (history : List Entry) (time : ℕ) (write : WriteCommand) (id : RequestId) (index : ℕ) (answers : Answers) → IsFront answers
-    → AreOutcomes history time write id index answers → AreAnswers history time write id index (dones_from index answers)
-front_answers history time write id index [] front all = tt
-front_answers history time write id index (None ∷ answers) front all =
+-- of an ordered write that is not answered none was given up
+pub front_answers : (gave : Refusal → Type 0) (history : List Entry) (time : ℕ) (write : WriteCommand) (id : RequestId) (index : ℕ) (answers : Answers)
+    → IsFront answers → NoneEnds answers → AreOutcomes gave history time write id index answers
+    → AreAnswers history time write id index (dones_from index answers)
+front_answers gave history time write id index [] front goes all = tt
+front_answers gave history time write id index (None ∷ answers) front goes all =
     subst (λ l. AreAnswers history time write id index l) (sym (no_dones (index + 1) answers front)) tt
-front_answers history time write id index (Some x ∷ answers) front all =
-    (refl, all.0, by_test (is_some (refusal_in x)) front (λ f. front_answers history time write id (index + 1) answers f all.1))
+front_answers gave history time write id index (Some x ∷ answers) front goes all = (
+  refl,
+  by_outcome all.0,
+  front_answers gave history time write id (index + 1) answers (subst (λ b. FrontBy b answers) goes.0 front) goes.1 all.1,
+)
   where
-    by_test : (b : Bool) → FrontBy b answers → (IsFront answers → AreAnswers history time write id (index + 1) (dones_from (index + 1) answers))
-        → AreAnswers history time write id (index + 1) (dones_from (index + 1) answers)
-    by_test true none more = subst (λ l. AreAnswers history time write id (index + 1) l) (sym (no_dones (index + 1) answers none)) tt
-    by_test false f more = more f
+    by_outcome : IsOutcomeAt gave history time write id (record { index = index; answer = x }) → IsDoneAt history time write id (record { index = index; answer = x })
+    by_outcome (inl done) = done
+    by_outcome (inr given) = absurd (true_not (sym (ap (λ (y : StatementOutcome). is_some (refusal_in y)) given.is) ∙ goes.0))
+
+-- so its outcomes are those of entries
+pub open_outcomes : (gave : Refusal → Type 0) (history : List Entry) (time : ℕ) (write : WriteCommand) (id : RequestId) (index : ℕ) (answers : Answers)
+    → NoneEnds answers → AreOutcomes gave history time write id index answers → AreOutcomes (λ r. ⊥) history time write id index answers
+open_outcomes gave history time write id index [] goes all = tt
+open_outcomes gave history time write id index (None ∷ answers) goes all = open_outcomes gave history time write id (index + 1) answers goes all
+open_outcomes gave history time write id index (Some x ∷ answers) goes all =
+    (by_outcome all.0, open_outcomes gave history time write id (index + 1) answers goes.1 all.1)
+  where
+    by_outcome : IsOutcomeAt gave history time write id (record { index = index; answer = x })
+        → IsOutcomeAt (λ r. ⊥) history time write id (record { index = index; answer = x })
+    by_outcome (inl done) = inl done
+    by_outcome (inr given) = absurd (true_not (sym (ap (λ (y : StatementOutcome). is_some (refusal_in y)) given.is) ∙ goes.0))
 
 -- outcomes are of entries that are not above the time
-pub outcomes_below : (history : List Entry) (time : ℕ) (write : WriteCommand) (id : RequestId) (index : ℕ) (answers : Answers)
-    → AreOutcomes history time write id index answers → AreBelow time (dones_from index answers)
-outcomes_below history time write id index [] all = tt
-outcomes_below history time write id index (None ∷ answers) all = outcomes_below history time write id (index + 1) answers all
-outcomes_below history time write id index (Some x ∷ answers) all =
-    (of_answer x all.0.answer, outcomes_below history time write id (index + 1) answers all.1)
+pub outcomes_below : (gave : Refusal → Type 0) (history : List Entry) (time : ℕ) (write : WriteCommand) (id : RequestId) (index : ℕ) (answers : Answers)
+    → AreOutcomes gave history time write id index answers → AreBelow time (dones_from index answers)
+outcomes_below gave history time write id index [] all = tt
+outcomes_below gave history time write id index (None ∷ answers) all = outcomes_below gave history time write id (index + 1) answers all
+outcomes_below gave history time write id index (Some x ∷ answers) all =
+    (by_outcome all.0, outcomes_below gave history time write id (index + 1) answers all.1)
   where
     of_answer : (answer : StatementOutcome) → IsAnswerOf history time (number_for write.number id index) answer → IsBelow time answer
     of_answer _ (by_entry e i numbered past) = past
     of_answer _ (by_older e i session less past) = tt
 
+    by_outcome : IsOutcomeAt gave history time write id (record { index = index; answer = x }) → IsBelow time x
+    by_outcome (inl done) = of_answer x done.answer
+    by_outcome (inr given) = subst (λ (y : StatementOutcome). IsBelow time y) (sym given.is) tt
+
+-- for more reasons
+pub outcomes_weaken : (gave more : Refusal → Type 0) (history : List Entry) (time : ℕ) (write : WriteCommand) (id : RequestId) (index : ℕ) (answers : Answers)
+    → ((r : Refusal) → gave r → more r) → AreOutcomes gave history time write id index answers → AreOutcomes more history time write id index answers
+outcomes_weaken gave more history time write id index [] f all = tt
+outcomes_weaken gave more history time write id index (None ∷ answers) f all = outcomes_weaken gave more history time write id (index + 1) answers f all
+outcomes_weaken gave more history time write id index (Some x ∷ answers) f all =
+    (by_outcome all.0, outcomes_weaken gave more history time write id (index + 1) answers f all.1)
+  where
+    by_outcome : IsOutcomeAt gave history time write id (record { index = index; answer = x })
+        → IsOutcomeAt more history time write id (record { index = index; answer = x })
+    by_outcome (inl done) = inl done
+    by_outcome (inr given) = inr (record { within = given.within; refusal = given.refusal; is = given.is; why = f given.refusal given.why })
+
 -- WHAT IS NOTED
 
-with_long : (index : ℕ) (x : StatementOutcome) (answers : Answers) → length (with_outcome index x answers) ≡ length answers
+pub with_long : (index : ℕ) (x : StatementOutcome) (answers : Answers) → length (with_outcome index x answers) ≡ length answers
 with_long index x [] = refl
 with_long zero x (None ∷ answers) = refl
 with_long zero x (Some y ∷ answers) = refl
@@ -143,33 +189,33 @@ noted_long ordered answers (d ∷ dones) =
     noted_long ordered (with_done ordered d answers) dones
     ∙ by_noted (λ a. length a ≡ length answers) ordered d answers (λ h. with_long d.index d.answer answers) refl
 
-with_outcomes : (history : List Entry) (time : ℕ) (write : WriteCommand) (id : RequestId) (first index : ℕ) (x : StatementOutcome) (answers : Answers)
-    → IsDoneAt history time write id (record { index = first + index; answer = x }) → AreOutcomes history time write id first answers
-    → AreOutcomes history time write id first (with_outcome index x answers)
-with_outcomes history time write id first index x [] done all = tt
-with_outcomes history time write id first zero x (None ∷ answers) done all =
-    (subst (λ n. IsDoneAt history time write id (record { index = n; answer = x })) (omega arith) done, all)
-with_outcomes history time write id first zero x (Some y ∷ answers) done all = all
-with_outcomes history time write id first (suc index) x (None ∷ answers) done all =
-    with_outcomes history time write id (first + 1) index x answers
-    (subst (λ n. IsDoneAt history time write id (record { index = n; answer = x })) (omega arith) done) all
-with_outcomes history time write id first (suc index) x (Some y ∷ answers) done all = (
+pub with_outcomes : (gave : Refusal → Type 0) (history : List Entry) (time : ℕ) (write : WriteCommand) (id : RequestId) (first index : ℕ) (x : StatementOutcome) (answers : Answers)
+    → IsOutcomeAt gave history time write id (record { index = first + index; answer = x }) → AreOutcomes gave history time write id first answers
+    → AreOutcomes gave history time write id first (with_outcome index x answers)
+with_outcomes gave history time write id first index x [] done all = tt
+with_outcomes gave history time write id first zero x (None ∷ answers) done all =
+    (subst (λ n. IsOutcomeAt gave history time write id (record { index = n; answer = x })) (omega arith) done, all)
+with_outcomes gave history time write id first zero x (Some y ∷ answers) done all = all
+with_outcomes gave history time write id first (suc index) x (None ∷ answers) done all =
+    with_outcomes gave history time write id (first + 1) index x answers
+    (subst (λ n. IsOutcomeAt gave history time write id (record { index = n; answer = x })) (omega arith) done) all
+with_outcomes gave history time write id first (suc index) x (Some y ∷ answers) done all = (
   all.0,
-  with_outcomes history time write id (first + 1) index x answers
-      (subst (λ n. IsDoneAt history time write id (record { index = n; answer = x })) (omega arith) done) all.1,
+  with_outcomes gave history time write id (first + 1) index x answers
+      (subst (λ n. IsOutcomeAt gave history time write id (record { index = n; answer = x })) (omega arith) done) all.1,
 )
 
-pub noted_outcomes : (history : List Entry) (time : ℕ) (write : WriteCommand) (id : RequestId) (ordered : Bool) (answers : Answers) (dones : List Done)
-    → AreOutcomes history time write id 0 answers → AllByRecursion (IsDoneAt history time write id) dones
-    → AreOutcomes history time write id 0 (noted ordered answers dones)
-noted_outcomes history time write id ordered answers [] all news = all
-noted_outcomes history time write id ordered answers (d ∷ dones) all news =
-    noted_outcomes history time write id ordered (with_done ordered d answers) dones
-    (by_noted (AreOutcomes history time write id 0) ordered d answers
-    (λ h. with_outcomes history time write id 0 d.index d.answer answers
-    (subst (λ n. IsDoneAt history time write id (record { index = n; answer = d.answer })) (omega arith) news.0) all) all) news.1
+pub noted_outcomes : (gave : Refusal → Type 0) (history : List Entry) (time : ℕ) (write : WriteCommand) (id : RequestId) (ordered : Bool) (answers : Answers) (dones : List Done)
+    → AreOutcomes gave history time write id 0 answers → AllByRecursion (IsDoneAt history time write id) dones
+    → AreOutcomes gave history time write id 0 (noted ordered answers dones)
+noted_outcomes gave history time write id ordered answers [] all news = all
+noted_outcomes gave history time write id ordered answers (d ∷ dones) all news =
+    noted_outcomes gave history time write id ordered (with_done ordered d answers) dones
+    (by_noted (AreOutcomes gave history time write id 0) ordered d answers
+    (λ h. with_outcomes gave history time write id 0 d.index d.answer answers
+    (subst (λ n. IsOutcomeAt gave history time write id (record { index = n; answer = d.answer })) (omega arith) (inl news.0)) all) all) news.1
 
-with_front : (index : ℕ) (x : StatementOutcome) (answers : Answers) → IsFront answers → NoneEnds answers → has_before index answers ≡ true
+pub with_front : (index : ℕ) (x : StatementOutcome) (answers : Answers) → IsFront answers → NoneEnds answers → has_before index answers ≡ true
     → IsFront (with_outcome index x answers)
 with_front index x [] front goes before = tt
 with_front zero x (None ∷ answers) none goes before = by_test (is_some (refusal_in x))
@@ -212,7 +258,7 @@ noted_front answers (d ∷ dones) front goes last =
 abbrev pub HasMore : (old new : Answers) → Type 0
 HasMore old new = (index : ℕ) → has_outcome old index ≡ true → has_outcome new index ≡ true
 
-with_more : (index : ℕ) (x : StatementOutcome) (answers : Answers) (i : ℕ) → has_outcome answers i ≡ true → has_outcome (with_outcome index x answers) i ≡ true
+pub with_more : (index : ℕ) (x : StatementOutcome) (answers : Answers) (i : ℕ) → has_outcome answers i ≡ true → has_outcome (with_outcome index x answers) i ≡ true
 with_more index x [] i h = h
 with_more zero x (None ∷ answers) zero h = refl
 with_more zero x (None ∷ answers) (suc i) h = h

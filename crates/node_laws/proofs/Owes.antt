@@ -1,27 +1,29 @@
 -- What a step of one node owes, so that all facts stay.
-use Rattle.std.proofs.Common.{◌≡◌, ◌≢◌, ℕ, List, ◌++◌}
+use Rattle.std.proofs.Common.{◌≡◌, ◌≢◌, ℕ, ◌+◌, ◌<◌, List, ◌++◌}
 use Rattle.std.specs.Prelude.{filter}
 use Rattle.std.specs.List.{AllByRecursion}
 use Rattle.base_model.specs.Times.{time_of_moment}
 use Rattle.reply_model.specs.Cursors.{Cursor}
 use Rattle.reply_model.specs.Exchanges.{Asked, Answered}
-use Rattle.reply_model.specs.Accounts.{Given, Dated}
+use Rattle.reply_model.specs.Accounts.{Given, Dated, Missed}
 use Rattle.history_model.specs.History.{IsIn}
 use Rattle.reply_model.specs.OneHistory.{IsFresh, IsInOrder, ids_asked, ids_told, AreDifferent}
 use Rattle.node_model.specs.Letters.{Letter, Input, client_input, letter_input, moment_input, opened_input, Taken, Reply, Effect}
 use Rattle.node_model.specs.Journal.{greatest_kept}
 use Rattle.node_model.specs.States.{NodeState, time_of_node}
-use Rattle.node_model.specs.World.{Held, World, asked_by, answered_by, dated_onto, journal_at}
+use Rattle.node_model.specs.World.{World, asked_by, answered_by, dated_onto, journal_at}
 use Rattle.node_laws.proofs.Views.{Choice, Book, View, view_of, IsAbove, Later}
 use Rattle.node_laws.proofs.TimeFacts.{HeardFits}
-use Rattle.node_laws.proofs.Facts.{LetterFits, SentFits, TellsAll, HeldFits, IsMet, AnswersFit, SameKind, is_of}
+use Rattle.node_laws.proofs.Facts.{LetterFits, SentFits, TellsAll, Node, NodeFits, ReachFits, raises_of, IsMet, AnswersFit, SameKind, is_of}
 
--- what is known of an input: a message fits, and its time was met; so was a moment's time
-abbrev pub InputFits : World → Book → Input → Type 0
-InputFits w book (letter_input m) = SentFits (view_of w.nodes book) w.changed w.asked w.answered w.given m
-InputFits w book (moment_input moment) = IsMet (view_of w.nodes book) w.given (time_of_moment moment)
-InputFits w book (client_input link number request) = Unit {0}
-InputFits w book opened_input = Unit {0}
+-- what is known of an input: a message fits, and its time was met; so was a moment's time, which is given to the node, after all requests came
+abbrev pub InputFits : World → Book → (at : ℕ) → Input → Type 0
+InputFits w book at (letter_input m) = SentFits (view_of w.nodes book) w.changed w.asked w.answered w.given m
+InputFits w book at (moment_input moment) =
+    IsMet (view_of w.nodes book) w.given (time_of_moment moment) × IsIn (record { node = at; moment = moment; step = w.now }) w.given
+    × AllByRecursion (λ (a : Asked). a.came < w.now) w.asked
+InputFits w book at (client_input link number request) = Unit {0}
+InputFits w book at opened_input = Unit {0}
 
 abbrev pub asked_after : World → Effect → List Asked
 asked_after w f = w.asked ++ asked_by w.now f.taken
@@ -41,14 +43,20 @@ abbrev pub StaysHeard : World → (at : ℕ) → Effect → NodeState → Type 0
 StaysHeard w at f new = (v : View) → ((p : ℕ) → p ≢ at → v.journal p ≡ journal_at w.nodes p) → HeardFits v (asked_after w f) (answered_after w f) new
 
 -- what the node at a place owes in a view of the world after the step
-pub record OwesIn (v : View) (w : World) (book : Book) (at : ℕ) (old : Held) (f : Effect) (new : NodeState) : Type 0 where
-  pub node : HeldFits v (asked_after w f) (answered_after w f) w.given at (record { state = new; kept = old.kept ++ f.written })
+pub record OwesIn (v : View) (w : World) (book : Book) (at : ℕ) (old : Node) (f : Effect) (new : NodeState) : Type 0 where
+  pub node : NodeFits v (asked_after w f) (answered_after w f) w.given at (record { state = new; kept = old.kept ++ f.written })
   pub letters : AllByRecursion (IsSaid v (asked_after w f) w.given) f.mail
   pub answers : AnswersFit v (asked_after w f) (answered_after w f) book.cursors (answered_by w.now f.replies) v.cursors
   pub known : AllByRecursion (λ (a : Asked). IsMet v w.given a.time) (asked_by w.now f.taken)
   pub met : AllByRecursion (λ (t : Answered). IsMet v w.given t.time) (answered_by w.now f.replies)
 
-pub record Owes (w : World) (book : Book) (at : ℕ) (old : Held) (f : Effect) (new : NodeState) : Type 0 where
+-- what is noted in a view after the step
+pub record IsNotedIn (v : View) (w : World) (book : Book) (new : NodeState) : Type 0 where
+  pub given : v.given ≡ w.given
+  pub lacks : AllByRecursion (λ (x : Missed). x.step < w.now + 1) v.missed
+  pub reached : v.reached ≡ book.reached ++ raises_of new
+
+pub record Owes (w : World) (book : Book) (at : ℕ) (old : Node) (f : Effect) (new : NodeState) : Type 0 where
   pub kind : SameKind old.state new
   -- what it writes is above its time, and its entries are its own
   pub rises : AllByRecursion (IsAbove at (time_of_node old.state)) f.written
@@ -64,8 +72,10 @@ pub record Owes (w : World) (book : Book) (at : ℕ) (old : Held) (f : Effect) (
   pub chose : AllByRecursion (λ (c : Choice). (c.id.router ≡ at) × IsIn c.id (ids_asked (asked_after w f))) news
   -- the cursors after the step: those of the other routers stay
   pub cursors : List Cursor
+  -- of its open requests not more is noted than was sent
+  pub raised : ReachFits book.reached new
   pub elsewhere : (router : ℕ) → router ≢ at → filter (is_of router) cursors ≡ filter (is_of router) book.cursors
   -- the rest is owed in the view after the step, in which the other journals stay, and its own is this
   pub owed : (v : View) → Later (view_of w.nodes book) v → ((p : ℕ) → p ≢ at → v.journal p ≡ journal_at w.nodes p) → v.journal at ≡ old.kept ++ f.written
       → v.bound at ≡ greatest_kept (old.kept ++ f.written)
-      → v.chosen ≡ book.chosen ++ news → v.cursors ≡ cursors → OwesIn v w book at old f new
+      → v.chosen ≡ book.chosen ++ news → v.cursors ≡ cursors → IsNotedIn v w book new → OwesIn v w book at old f new

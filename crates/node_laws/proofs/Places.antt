@@ -31,6 +31,10 @@ each_set P Q i (suc k) (y ∷ xs) x f q all =
     let n : i + 1 + k ≡ i + suc k = omega arith in
     (f i y (λ e. omega arith) all.0, each_set P Q (i + 1) k xs x (λ j z h p. f j z (λ e. h (e ∙ sym n)) p) (subst (λ j. Q j x) (sym n) q) all.1)
 
+pub each_both : {X : Type 0} (P Q : ℕ → X → Type 0) (i : ℕ) (xs : List X) → EachAt P i xs → EachAt Q i xs → EachAt (λ j x. P j x × Q j x) i xs
+each_both P Q i [] all more = tt
+each_both P Q i (x ∷ xs) all more = ((all.0, more.0), each_both P Q (i + 1) xs all.1 more.1)
+
 pub each_weaken : {X : Type 0} (P Q : ℕ → X → Type 0) (i : ℕ) (xs : List X) → ((j : ℕ) (x : X) → P j x → Q j x) → EachAt P i xs → EachAt Q i xs
 each_weaken P Q i [] f all = tt
 each_weaken P Q i (x ∷ xs) f all = (f i x all.0, each_weaken P Q (i + 1) xs f all.1)

@@ -1,6 +1,6 @@
 -- What a reply says of the catalogue was so by its step.
 use Rattle.std.proofs.Common.{◌≡◌, ◌⊎◌, inl, inr, ℕ, ◌+◌, ◌<◌, List, [], ◌∷◌, ◌++◌, refl, sym, ap, subst, ◌∙◌, arith, Bool}
-use Rattle.std.specs.Prelude.{Some, None, Result, Ok, true, false, nat_lt, if◌then◌else◌}
+use Rattle.std.specs.Prelude.{Some, None, Result, Ok, Err, true, false, nat_lt, if◌then◌else◌}
 use Rattle.std.specs.List.{AllByRecursion}
 use Rattle.std.proofs.lemmas.Bool.Decides.{nat_tests}
 use Rattle.history_model.proofs.Lists.{all_weaken, all_append}
@@ -11,29 +11,29 @@ use Rattle.base_model.specs.ReplyParts.{operation_time}
 use Rattle.command_model.specs.Writes.{WriteCommand}
 use Rattle.command_model.specs.Split.{SplitCommand}
 use Rattle.command_model.specs.Reading.{Reading}
-use Rattle.command_model.specs.Command.{Command, write_command, shard_collection_command, split_command, command_of}
-use Rattle.command_model.specs.Answers.{changed_answer, answer_document}
+use Rattle.command_model.specs.Command.{Command, hello_command, legacy_command, ping_command, end_sessions_command, write_command, find_command, count_command, more_command, kill_command, shard_collection_command, split_command, command_of}
+use Rattle.command_model.specs.Answers.{changed_answer, sharded_answer, refusal_answer, answer_document}
 use Rattle.command_model.proofs.AnswerTimes.{time_of_changed, time_refused}
 use Rattle.chunk_model.specs.Changes.{Change}
 use Rattle.reply_model.specs.Exchanges.{Asked, Answered}
 use Rattle.reply_model.specs.Accounts.{Dated, Account, changes_in as changes_of}
 use Rattle.reply_model.specs.Cursors.{Cursor}
-use Rattle.reply_model.specs.Right.{Reads, find_reads, count_reads, WasCreated, WasSplit, not_sharded, IsRight, right_write, right_find, right_count, right_refused_read, right_more, right_no_cursor, right_kill, right_shard, right_split, right_not_sharded, right_hello, right_legacy, right_ping, right_end_sessions, right_refusal}
-use Rattle.reply_model.specs.OneHistory.{changes_before, changes_by}
-use Rattle.reply_facts.proofs.RightAnswers.{TellsSplit, right_of}
+use Rattle.reply_model.specs.Right.{Reads, find_reads, count_reads, WasCreated, WasSplit, not_sharded, IsRight, right_write, right_find, right_count, right_refused_read, right_stale, right_given_up, IsOneTask, right_more, right_no_cursor, right_kill, right_shard, right_split, right_not_sharded, right_hello, right_legacy, right_ping, right_end_sessions, right_refusal}
+use Rattle.reply_model.specs.OneHistory.{Shows, changes_before, changes_by}
+use Rattle.reply_facts.proofs.RightAnswers.{TellsSharded, TellsSplit, TellsGivenUp, right_of}
 use Rattle.node_model.specs.Journal.{Kept, kept_table, kept_entry, kept_change, kept_ceiling, kept_none, kept_life, kept_block}
 use Rattle.node_model.specs.Letters.{Input, Reply}
 use Rattle.node_model.specs.World.{World, answered_by, dated_onto, after, is_given, tick, Moves}
 use Rattle.node_laws.proofs.Views.{Book, View, view_of, changes_in, account_in}
-use Rattle.node_laws.proofs.Facts.{AnswersFit, no_answer, one_answer, Good}
+use Rattle.node_laws.proofs.Facts.{AreCut, IsSettled, AnswersFit, no_answer, one_answer, Good}
 use Rattle.node_laws.proofs.Dates.{before_stays}
 
 -- BY CHANGES
 
 -- what the reply says of the catalogue is so by these changes
 pub record RestsOn (changes : List Change) (t : Answered) : Type 0 where
-  pub written : (write : WriteCommand) → command_of t.request ≡ Ok (write_command write) → WasCreated changes write.namespace t.time
-  pub created : (namespace : List ℕ) → command_of t.request ≡ Ok (shard_collection_command namespace) → WasCreated changes namespace t.time
+  pub created : (namespace : List ℕ) → command_of t.request ≡ Ok (shard_collection_command namespace)
+      → t.document ≡ answer_document (sharded_answer namespace t.time) → WasCreated changes namespace t.time
   pub begins : (split : SplitCommand) → command_of t.request ≡ Ok (split_command split) → t.document ≡ answer_document (changed_answer t.time)
       → WasSplit changes split.namespace split.middle t.time
 
@@ -44,44 +44,67 @@ pub changed_differs : (time : ℕ) → answer_document (changed_answer time) ≡
 changed_differs time same =
     some_none (sym (time_of_changed time) ∙ ap (λ (d : Fields). operation_time (Some d)) same ∙ time_refused (without_evidence namespace_not_sharded))
 
-same_write : (a b : WriteCommand) (command : Result Command Refusal) → command ≡ Ok (write_command a) → command ≡ Ok (write_command b) → a ≡ b
+changed_not_refused : (time : ℕ) (refusal : Refusal) → answer_document (changed_answer time) ≡ answer_document (refusal_answer refusal) → ⊥
+changed_not_refused time refusal same =
+    some_none (sym (time_of_changed time) ∙ ap (λ (d : Fields). operation_time (Some d)) same ∙ time_refused refusal)
+
+sharded_not_refused : (namespace : List ℕ) (time : ℕ) (refusal : Refusal)
+    → answer_document (sharded_answer namespace time) ≡ answer_document (refusal_answer refusal) → ⊥
+sharded_not_refused namespace time refusal same = cc
+
+pub same_write : (a b : WriteCommand) (command : Result Command Refusal) → command ≡ Ok (write_command a) → command ≡ Ok (write_command b) → a ≡ b
 same_write a b command e f = cc
 
 -- a command that does not write
-abbrev IsNoWrite : Result Command Refusal → Type 0
+abbrev pub IsNoWrite : Result Command Refusal → Type 0
 IsNoWrite command = (write : WriteCommand) → command ≡ Ok (write_command write) → ⊥
 
-reads_not : (command : Result Command Refusal) (read : Reading) → Reads command read → IsNoWrite command
+pub reads_not : (command : Result Command Refusal) (read : Reading) → Reads command read → IsNoWrite command
 reads_not _ _ (find_reads find) write e = cc
 reads_not _ _ (count_reads read) write e = cc
 
-other_not : (command other : Result Command Refusal) (write : WriteCommand) → command ≡ other → command ≡ Ok (write_command write) → IsNoWrite other → ⊥
+pub task_not : (command : Result Command Refusal) → IsOneTask command → IsNoWrite command
+task_not (Ok (find_command find)) task write e = cc
+task_not (Ok (count_command read)) task write e = cc
+task_not (Ok (shard_collection_command namespace)) task write e = cc
+task_not (Ok (split_command split)) task write e = cc
+task_not (Ok (write_command own)) task write e = absurd task
+task_not (Ok hello_command) task write e = absurd task
+task_not (Ok (legacy_command legacy)) task write e = absurd task
+task_not (Ok ping_command) task write e = absurd task
+task_not (Ok end_sessions_command) task write e = absurd task
+task_not (Ok (more_command more)) task write e = absurd task
+task_not (Ok (kill_command kill)) task write e = absurd task
+task_not (Err refusal) task write e = absurd task
+
+pub other_not : (command other : Result Command Refusal) (write : WriteCommand) → command ≡ other → command ≡ Ok (write_command write) → IsNoWrite other → ⊥
 other_not command other write is asks not = not write (sym is ∙ asks)
 
 module _ (account : Account) (cursors : List Cursor) (a : Asked) (t : Answered) where
-  write_rests : (next : List Cursor) (write : WriteCommand) → command_of a.request ≡ Ok (write_command write)
-      → IsRight account cursors a t next → WasCreated account.changes write.namespace t.time
-  write_rests _ write asks (right_write other dones c wants tells whole begun name at says) = record {
-    creation = c;
-    begun = begun;
-    name = name ∙ ap (λ (x : WriteCommand). x.namespace) (same_write other write (command_of a.request) wants asks);
-    before = at;
-  }
-  write_rests _ write asks (right_find find time documents batch next wants of may small name at shows says) =
+  -- the outcomes that the reply to a write shows reach as far as its statements were sent
+  pub shows_cut : (v : View) (next : List Cursor) (write : WriteCommand) → command_of a.request ≡ Ok (write_command write)
+      → (right : IsRight account cursors a t next) → IsSettled v account cursors a t next right
+      → (shown : Shows account a t write) × (write.ordered ≡ true → AreCut v.reached a.id shown.dones)
+  shows_cut v _ write asks (right_write other dones wants may whole created says) settled =
+      subst (λ (x : WriteCommand). (shown : Shows account a t x) × (x.ordered ≡ true → AreCut v.reached a.id shown.dones))
+      (same_write other write (command_of a.request) wants asks) (record { dones = dones; told = may; same = says }, settled.1)
+  shows_cut v _ write asks (right_find find time documents batch next wants of may small name at shows says) settled =
       absurd (other_not _ _ write wants asks (λ w e. cc))
-  write_rests _ write asks (right_count read time n wants of may says) = absurd (other_not _ _ write wants asks (λ w e. cc))
-  write_rests _ write asks (right_refused_read read reads refused) = absurd (reads_not (command_of a.request) read reads write asks)
-  write_rests _ write asks (right_more more c batch next wants found shows says) = absurd (other_not _ _ write wants asks (λ w e. cc))
-  write_rests _ write asks (right_no_cursor more wants none says) = absurd (other_not _ _ write wants asks (λ w e. cc))
-  write_rests _ write asks (right_kill kill killed missing next wants closed says) = absurd (other_not _ _ write wants asks (λ w e. cc))
-  write_rests _ write asks (right_shard namespace wants created says) = absurd (other_not _ _ write wants asks (λ w e. cc))
-  write_rests _ write asks (right_split split wants begins says) = absurd (other_not _ _ write wants asks (λ w e. cc))
-  write_rests _ write asks (right_not_sharded split wants says) = absurd (other_not _ _ write wants asks (λ w e. cc))
-  write_rests _ write asks (right_hello wants says) = absurd (other_not _ _ write wants asks (λ w e. cc))
-  write_rests _ write asks (right_legacy legacy wants says) = absurd (other_not _ _ write wants asks (λ w e. cc))
-  write_rests _ write asks (right_ping wants says) = absurd (other_not _ _ write wants asks (λ w e. cc))
-  write_rests _ write asks (right_end_sessions wants says) = absurd (other_not _ _ write wants asks (λ w e. cc))
-  write_rests _ write asks (right_refusal refusal wants says) = absurd (other_not _ _ write wants asks (λ w e. cc))
+  shows_cut v _ write asks (right_count read time n wants of may says) settled = absurd (other_not _ _ write wants asks (λ w e. cc))
+  shows_cut v _ write asks (right_refused_read read reads refused) settled = absurd (reads_not (command_of a.request) read reads write asks)
+  shows_cut v _ write asks (right_stale read tries reads were says) settled = absurd (reads_not (command_of a.request) read reads write asks)
+  shows_cut v _ write asks (right_given_up refusal task why says) settled = absurd (task_not (command_of a.request) task write asks)
+  shows_cut v _ write asks (right_more more c batch next wants found shows says) settled = absurd (other_not _ _ write wants asks (λ w e. cc))
+  shows_cut v _ write asks (right_no_cursor more wants none says) settled = absurd (other_not _ _ write wants asks (λ w e. cc))
+  shows_cut v _ write asks (right_kill kill killed missing next wants closed says) settled = absurd (other_not _ _ write wants asks (λ w e. cc))
+  shows_cut v _ write asks (right_shard namespace wants created says) settled = absurd (other_not _ _ write wants asks (λ w e. cc))
+  shows_cut v _ write asks (right_split split wants begins says) settled = absurd (other_not _ _ write wants asks (λ w e. cc))
+  shows_cut v _ write asks (right_not_sharded split wants says) settled = absurd (other_not _ _ write wants asks (λ w e. cc))
+  shows_cut v _ write asks (right_hello wants says) settled = absurd (other_not _ _ write wants asks (λ w e. cc))
+  shows_cut v _ write asks (right_legacy legacy wants says) settled = absurd (other_not _ _ write wants asks (λ w e. cc))
+  shows_cut v _ write asks (right_ping wants says) settled = absurd (other_not _ _ write wants asks (λ w e. cc))
+  shows_cut v _ write asks (right_end_sessions wants says) settled = absurd (other_not _ _ write wants asks (λ w e. cc))
+  shows_cut v _ write asks (right_refusal refusal wants says) settled = absurd (other_not _ _ write wants asks (λ w e. cc))
 
   split_rests : (next : List Cursor) (split : SplitCommand) → command_of a.request ≡ Ok (split_command split)
       → IsRight account cursors a t next → t.document ≡ answer_document (changed_answer t.time)
@@ -89,17 +112,22 @@ module _ (account : Account) (cursors : List Cursor) (a : Asked) (t : Answered) 
   split_rests next split asks right says =
       by_told (right_of account cursors a t (Ok (split_command split)) next asks right).0
     where
-      by_told : TellsSplit account cursors a t split ⊎ (t.document ≡ not_sharded)
+      by_told : TellsSplit account cursors a t split ⊎ ((t.document ≡ not_sharded) ⊎ TellsGivenUp account cursors a t)
           → WasSplit account.changes split.namespace split.middle t.time
       by_told (inl changed) = changed.begins
-      by_told (inr none) = absurd (changed_differs t.time (sym says ∙ none))
+      by_told (inr (inl none)) = absurd (changed_differs t.time (sym says ∙ none))
+      by_told (inr (inr given)) = absurd (changed_not_refused t.time given.refusal (sym says ∙ given.says))
+
+  created_by : (namespace : List ℕ) → TellsSharded account cursors a t namespace ⊎ TellsGivenUp account cursors a t
+      → t.document ≡ answer_document (sharded_answer namespace t.time) → WasCreated account.changes namespace t.time
+  created_by namespace (inl sharded) says = sharded.created
+  created_by namespace (inr given) says = absurd (sharded_not_refused namespace t.time given.refusal (sym says ∙ given.says))
 
   -- a right reply rests on the changes that it is right by
   right_rests : (next : List Cursor) → a.request ≡ t.request → IsRight account cursors a t next → RestsOn account.changes t
   right_rests next same right = record {
-    written = λ write asks. write_rests next write (ap (λ r. command_of r) same ∙ asks) right;
-    created = λ namespace asks.
-        (right_of account cursors a t (Ok (shard_collection_command namespace)) next (ap (λ r. command_of r) same ∙ asks) right).0.created;
+    created = λ namespace asks says.
+        created_by namespace (right_of account cursors a t (Ok (shard_collection_command namespace)) next (ap (λ r. command_of r) same ∙ asks) right).0 says;
     begins = λ split asks says. split_rests next split (ap (λ r. command_of r) same ∙ asks) right says;
   }
 
@@ -117,7 +145,7 @@ is_before : (n step : ℕ) → n < step → nat_lt n step ≡ true
 is_before n step less = grind (arith, nat_tests)
 
 -- all changes were made before a step that is later than theirs
-all_before : (step : ℕ) (dated : List Dated) → AllByRecursion (λ (d : Dated). d.step < step) dated → changes_before step dated ≡ changes_of dated
+pub all_before : (step : ℕ) (dated : List Dated) → AllByRecursion (λ (d : Dated). d.step < step) dated → changes_before step dated ≡ changes_of dated
 all_before step [] all = refl
 all_before step (d ∷ dated) all =
     by_test (nat_lt d.step step) (is_before d.step step all.0) (all_before step dated all.1)
@@ -148,7 +176,7 @@ pub record AreBased (w : World) : Type 0 where
   pub steps : AllByRecursion (λ (d : Dated). d.step < w.now) w.changed
   pub replies : AllByRecursion (IsBased w.now w.changed) w.answered
 
-all_back : {X : Type 0} (P : X → Type 0) (xs ys : List X) → AllByRecursion P (xs ++ ys) → AllByRecursion P ys
+pub all_back : {X : Type 0} (P : X → Type 0) (xs ys : List X) → AllByRecursion P (xs ++ ys) → AllByRecursion P ys
 all_back P [] ys all = all
 all_back P (x ∷ xs) ys all = all_back P xs ys all.1
 

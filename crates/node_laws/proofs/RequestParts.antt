@@ -22,7 +22,7 @@ use Rattle.node_laws.proofs.Views.{View, changes_in}
 use Rattle.node_laws.proofs.Facts.{IsOwned, IsStatementOf, IsWriteOf}
 use Rattle.node_laws.proofs.CatalogueTables.{owned_from}
 use Rattle.node_laws.proofs.KnownTables.{table_created, known_now}
-use Rattle.node_laws.proofs.Lists.{all_unmapped, all_within, all_prefix}
+use Rattle.node_laws.proofs.Lists.{all_unmapped, all_within}
 use Rattle.node_laws.proofs.Growth.{entries_by_longer}
 use Rattle.reply_facts.proofs.Requests.{same_id, one_asked}
 use Rattle.reply_facts.proofs.Statements.{part_same}

@@ -1,5 +1,5 @@
 -- What new requests and answers leave of the facts on old ones.
-use Rattle.std.proofs.Common.{◌≡◌, ◌≢◌, ℕ, ◌+◌, ◌<◌, List, [], ◌∷◌, ◌++◌, refl, sym, ap, subst, ◌∙◌, arith, Bool}
+use Rattle.std.proofs.Common.{◌≡◌, ◌≢◌, ℕ, ◌+◌, ◌<◌, List, [], ◌∷◌, ◌++◌, refl, sym, ap, ◌∙◌, arith, Bool}
 use Rattle.std.specs.Prelude.{Option, Some, None, true, false, if◌then◌else◌}
 use Rattle.std.specs.List.{AllByRecursion}
 use Rattle.history_model.proofs.Lists.{all_weaken, all_append, all_at}
@@ -13,6 +13,7 @@ use Rattle.node_model.specs.Letters.{Taken, Reply}
 use Rattle.node_model.specs.World.{asked_by, answered_by}
 use Rattle.reply_facts.proofs.Requests.{same_id}
 use Rattle.reply_facts.proofs.Statements.{part_none}
+use Rattle.node_laws.proofs.Views.{Reach}
 use Rattle.node_laws.proofs.WriteFacts.{WasMade}
 use Rattle.node_laws.proofs.Lists.{all_of}
 use Rattle.node_laws.proofs.SeenStatements.{own_session}
@@ -56,23 +57,24 @@ other_sent a b e sends other =
     ap (λ (n : StatementNumber). is_session_of b n.session) sends.entry.statement.same_number ∙ other_number sends.write.number a.id b sends.index other
 
 -- a new request made no entry
-pub none_by : (entries : List Entry) (asked : List Asked) (a : Asked) (history : List Entry) → IsNew asked a → AllByRecursion (WasMade entries asked) history
+pub none_by : (entries : List Entry) (asked : List Asked) (notes : List Reach) (a : Asked) (history : List Entry) → IsNew asked a
+    → AllByRecursion (WasMade entries asked notes) history
     → entries_by a.id history ≡ []
-none_by entries asked a [] new sent = refl
-none_by entries asked a (e ∷ history) new sent =
+none_by entries asked notes a [] new sent = refl
+none_by entries asked notes a (e ∷ history) new sent =
     let s = sent.0 in
     let other : s.request.id ≢ a.id = all_at (λ (b : Asked). b.id ≢ a.id) s.request asked new s.taken in
     ap (λ t. if t then e ∷ entries_by a.id history else entries_by a.id history) (other_sent s.request a.id e s.sends other)
-    ∙ none_by entries asked a history new sent.1
+    ∙ none_by entries asked notes a history new sent.1
 
 -- so of each request a prefix is stored, also of new ones
-pub parts_grow : (asked more : List Asked) (history entries : List Entry) → AreDifferent (ids_asked (asked ++ more))
-    → AllByRecursion (WasMade history asked) entries
+pub parts_grow : (asked more : List Asked) (notes : List Reach) (history entries : List Entry) → AreDifferent (ids_asked (asked ++ more))
+    → AllByRecursion (WasMade history asked notes) entries
     → AllByRecursion (StandsInPart entries) asked → AllByRecursion (StandsInPart entries) (asked ++ more)
-parts_grow asked more history entries different sent parts =
+parts_grow asked more notes history entries different sent parts =
     all_append (StandsInPart entries) asked more parts
     (all_weaken (IsNew asked) (StandsInPart entries) more
-    (λ a new write asks own. part_none entries a.id write (none_by history asked a entries new sent))
+    (λ a new write asks own. part_none entries a.id write (none_by history asked notes a entries new sent))
     (new_ones asked more different))
 
 -- what is answered in this step is answered in it, by this router

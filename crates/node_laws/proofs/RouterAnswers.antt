@@ -1,5 +1,5 @@
 -- The replies of a router are right, and stay so.
-use Rattle.std.proofs.Common.{◌≡◌, ◌≢◌, ◌⊎◌, inl, inr, ℕ, ◌+◌, ◌<◌, ◌≤◌, List, [], ◌∷◌, ◌++◌, refl, sym, ap, subst, ◌∙◌, arith, append-nil, append_assoc, Bool}
+use Rattle.std.proofs.Common.{◌≡◌, ◌≢◌, ◌⊎◌, inl, inr, ℕ, ◌+◌, ◌<◌, ◌≤◌, List, [], ◌∷◌, ◌++◌, refl, sym, ap, subst, ◌∙◌, arith, append_assoc, Bool}
 use Rattle.std.specs.Prelude.{pos, Option, Some, None, Result, Ok, Err, true, false, is_some, length, int_lt, ◌&&◌, if◌then◌else◌}
 use Rattle.std.specs.List.{AllByRecursion}
 use Rattle.history_model.proofs.Lists.{all_weaken, all_at, in_push}
@@ -10,25 +10,26 @@ use Rattle.command_model.specs.Answers.{Answer, hello_answer, legacy_answer, ref
 use Rattle.reply_model.specs.Cursors.{Cursor}
 use Rattle.history_model.specs.History.{StatementNumber, Operation, Entry, IsIn}
 use Rattle.base_model.specs.Identities.{RequestId}
-use Rattle.reply_model.specs.Exchanges.{Asked, Answered, number_for}
-use Rattle.reply_model.specs.Outcomes.{StatementOutcome, Done, refusal_in, dones_from, answer_of}
+use Rattle.reply_model.specs.Exchanges.{Asked, Answered, number_for, entries_by}
+use Rattle.reply_model.specs.Outcomes.{StatementOutcome, WasRefused, is_too_old, Done, AnyDone, refusal_in, dones_from, answer_of}
 use Rattle.reply_model.specs.Accounts.{Account}
 use Rattle.command_model.proofs.Taken.{some_operations}
-use Rattle.reply_model.specs.Right.{IsStatement, HadSent, MayBeTold, told_own, told_other, told_older, AreTold, IsPart, IsWhole, right_write, right_refused_read, refused_ahead, right_hello, right_legacy, right_ping, right_end_sessions, right_refusal}
+use Rattle.reply_model.specs.Right.{IsStatement, HadSent, MayBeTold, told_own, told_other, told_older, told_given_up, IsGivenUp, AreTold, IsPart, IsWhole, right_write, right_refused_read, refused_ahead, right_hello, right_legacy, right_ping, right_end_sessions, right_refusal}
 use Rattle.reply_model.specs.OneHistory.{StandsInPart, IsPlaced, ids_asked, AreDifferent}
 use Rattle.node_model.specs.Letters.{Statement, Reply}
 use Rattle.node_model.specs.States.{Course, writing, Open, Router}
 use Rattle.node_model.specs.RouterRequests.{statements_from, at_once, plan_of}
 use Rattle.node_model.specs.RouterNext.{noted, is_answered, reply_to}
-use Rattle.reply_facts.proofs.Requests.{number_same, one_asked}
-use Rattle.reply_facts.proofs.Statements.{one_number, part_whole}
-use Rattle.node_laws.proofs.Views.{View, entries_in, changes_in, history_in, IsShardAt, account_in}
+use Rattle.reply_facts.proofs.Requests.{number_same, one_asked, by_in}
+use Rattle.reply_facts.proofs.Statements.{one_number, ordered_part, numbered_at, part_whole}
+use Rattle.node_laws.proofs.Views.{Reach, reach_of, View, entries_in, changes_in, history_in, IsShardAt, account_in}
 use Rattle.node_laws.proofs.ReadFacts.{IsAwaited}
 use Rattle.node_laws.proofs.TimeFacts.{IsToldOf, IsPast}
 use Rattle.node_laws.proofs.WriteFacts.{IsAnswerOf, by_entry, by_older, IsDoneAt, OnlyLast, WasMade}
-use Rattle.node_laws.proofs.Outcomes.{AreOutcomes, AreNone, IsFront, no_dones, open_ends, noted_long, noted_outcomes, noted_front, statements_long}
+use Rattle.node_laws.proofs.Outcomes.{IsOutcomeAt, AreOutcomes, AreNone, IsFront, no_dones, open_ends, open_outcomes, noted_long, noted_outcomes, noted_front, statements_long}
+use Rattle.node_laws.proofs.Cuts.{made_for, told_as_far}
 use Rattle.node_laws.proofs.CatalogueTables.{placed_first}
-use Rattle.node_laws.proofs.Facts.{HasBegun, IsDoneOf, WorkFits, AreSeen, IsOpenOf, AnswerFits, NeighboursFit}
+use Rattle.node_laws.proofs.Facts.{WasLacking, AreCut, HasBegun, IsDoneOf, WorkFits, AreSeen, IsOpenOf, AnswerFits, NeighboursFit}
 use Rattle.node_laws.proofs.SeenStatements.{true_false}
 use Rattle.node_laws.proofs.Histories.{entry_of_shard}
 use Rattle.node_laws.proofs.Growth.{done_at_grows}
@@ -70,8 +71,8 @@ ahead_right v asked told cursors a t id at shard heard now old waits past all_of
     wanted = at;
     wants = waits.wanted;
     ahead = ahead;
-    of_all = λ s write index e i before asks stands number shows.
-        by_place s write index e before stands (asks, number, shows) (in_push s old t (subst (λ l. IsIn s l) all i));
+    of_all = λ s write index e i before asks stands number shows nothing.
+        by_place s write index e before stands (asks, number, shows, nothing) (in_push s old t (subst (λ l. IsIn s l) all i));
   }) document);
   settled = tt;
 }
@@ -104,8 +105,8 @@ pub record IsTelling (v : View) (asked : List Asked) (a : Asked) (write : WriteC
   pub came : AllByRecursion (λ (b : Asked). b.came ≤ t.step) asked
 
 module _ (v : View) (asked : List Asked) (answered : List Answered) (a : Asked) (write : WriteCommand) (t : Answered) (x : IsTelling v asked a write t) where
-  made : (e : Entry) → IsIn e (history_in v) → WasMade (history_in v) asked e
-  made e i = all_at (WasMade (history_in v) asked) e (history_in v) x.around.sent i
+  made : (e : Entry) → IsIn e (history_in v) → WasMade (history_in v) asked v.reached e
+  made e i = all_at (WasMade (history_in v) asked v.reached) e (history_in v) x.around.sent i
 
   had : (e : Entry) → IsIn e (history_in v) → HadSent asked e t
   had e i =
@@ -139,50 +140,58 @@ module _ (v : View) (asked : List Asked) (answered : List Answered) (a : Asked) 
   may_tell : (prefix : List Operation) (operation : Operation) (back : List Operation) (answer : StatementOutcome)
       → write.operations ≡ prefix ++ operation ∷ back
       → IsAnswerOf (history_in v) t.time (number_for write.number t.id (length prefix)) answer
-      → MayBeTold (account_in v asked answered) t write.number (number_for write.number t.id (length prefix)) write.namespace operation answer
+      → MayBeTold (account_in v asked answered) a t write.number (number_for write.number t.id (length prefix)) write.namespace operation answer
   may_tell prefix operation back answer both is = by_number write.number refl answer is
     where
       of_own : (number : StatementNumber) → number ≡ number_for write.number t.id (length prefix) → write.number ≡ None → (answer : StatementOutcome)
           → IsAnswerOf (history_in v) t.time number answer
-          → MayBeTold (account_in v asked answered) t write.number (number_for write.number t.id (length prefix)) write.namespace operation answer
+          → MayBeTold (account_in v asked answered) a t write.number (number_for write.number t.id (length prefix)) write.namespace operation answer
       of_own number same none _ (by_entry e i numbered past) = told_own e i (own_statement e prefix operation back none both i (numbered ∙ same)) past
       of_own number same none _ (by_older e i session less past) =
           let zero : number ≡ number_for None t.id (length prefix) = same ∙ ap (λ g. number_for g t.id (length prefix)) none in
           let first : number.transaction ≡ pos 0 = ap (λ (n : StatementNumber). n.transaction) zero in
-          let other : e.number.transaction ≡ pos 0 = made_no_other (history_in v) asked e (made e i) t.id.router t.id.life t.id.count
+          let other : e.number.transaction ≡ pos 0 = made_no_other (history_in v) asked v.reached e (made e i) t.id.router t.id.life t.id.count
           (session ∙ ap (λ (n : StatementNumber). n.session) zero) in
           absurd (true_false (sym less ∙ ap (λ n. int_lt n e.number.transaction) first ∙ ap (λ n. int_lt (pos 0) n) other))
 
       of_client : (by : ClientNumber) → write.number ≡ Some by → (answer : StatementOutcome)
           → IsAnswerOf (history_in v) t.time (number_for write.number t.id (length prefix)) answer
-          → MayBeTold (account_in v asked answered) t write.number (number_for write.number t.id (length prefix)) write.namespace operation answer
+          → MayBeTold (account_in v asked answered) a t write.number (number_for write.number t.id (length prefix)) write.namespace operation answer
       of_client by some _ (by_entry e i numbered past) = told_other e by i some numbered past (had e i)
       of_client by some _ (by_older e i session less past) = told_older e by i some session less past (had e i)
 
       by_number : (given : Option ClientNumber) → write.number ≡ given → (answer : StatementOutcome)
           → IsAnswerOf (history_in v) t.time (number_for write.number t.id (length prefix)) answer
-          → MayBeTold (account_in v asked answered) t write.number (number_for write.number t.id (length prefix)) write.namespace operation answer
+          → MayBeTold (account_in v asked answered) a t write.number (number_for write.number t.id (length prefix)) write.namespace operation answer
       by_number None none answer is = of_own (number_for write.number t.id (length prefix)) refl none answer is
       by_number (Some by) some answer is = of_client by some answer is
 
-  -- outcomes of all statements, or up to the error that ends the command
-  are_told : (prefix operations : List Operation) (answers : List (Option StatementOutcome)) → write.operations ≡ prefix ++ operations
-      → length answers ≡ length operations → AreOutcomes (history_in v) t.time write t.id (length prefix) answers
+  -- outcomes of all statements, or up to the error that ends the command, where some were given up rightly
+  are_told : (gave : Refusal → Type 0) → ((refusal : Refusal) → gave refusal → IsGivenUp (account_in v asked answered) a t refusal) → (prefix operations : List Operation) (answers : List (Option StatementOutcome)) → write.operations ≡ prefix ++ operations
+      → length answers ≡ length operations → AreOutcomes gave (history_in v) t.time write t.id (length prefix) answers
       → (write.ordered ≡ true → IsFront answers) → is_answered write.ordered answers ≡ true
-      → AreTold (account_in v asked answered) t write (length prefix) operations (dones_from (length prefix) answers)
-  are_told prefix [] [] both long all front whole = refl
-  are_told prefix [] (x ∷ answers) both long all front whole = absurd (omega arith)
-  are_told prefix (operation ∷ operations) [] both long all front whole = absurd (omega arith)
-  are_told prefix (operation ∷ operations) (None ∷ answers) both long all front whole = absurd (cc)
-  are_told prefix (operation ∷ operations) (Some x ∷ answers) both long all front whole = (
+      → AreTold (account_in v asked answered) a t write (length prefix) operations (dones_from (length prefix) answers)
+  are_told gave why prefix [] [] both long all front whole = refl
+  are_told gave why prefix [] (x ∷ answers) both long all front whole = absurd (omega arith)
+  are_told gave why prefix (operation ∷ operations) [] both long all front whole = absurd (omega arith)
+  are_told gave why prefix (operation ∷ operations) (None ∷ answers) both long all front whole = absurd (cc)
+  are_told gave why prefix (operation ∷ operations) (Some x ∷ answers) both long all front whole = (
     refl,
-    may_tell prefix operation operations x both all.0.answer,
+    by_outcome all.0,
     by_end write.ordered (is_some (refusal_in x)) refl refl whole front
-        (λ front rest. subst (λ n. AreTold (account_in v asked answered) t write n operations (dones_from n answers)) (length_push prefix)
-        (are_told (prefix ++ operation ∷ []) operations answers (both ∙ sym (append_assoc prefix (operation ∷ []) operations)) (omega arith)
-        (subst (λ n. AreOutcomes (history_in v) t.time write t.id n answers) (sym (length_push prefix)) all.1) front rest)),
+        (λ front rest. subst (λ n. AreTold (account_in v asked answered) a t write n operations (dones_from n answers)) (length_push prefix)
+        (are_told gave why (prefix ++ operation ∷ []) operations answers (both ∙ sym (append_assoc prefix (operation ∷ []) operations)) (omega arith)
+        (subst (λ n. AreOutcomes gave (history_in v) t.time write t.id n answers) (sym (length_push prefix)) all.1) front rest)),
   )
     where
+      by_outcome : IsOutcomeAt gave (history_in v) t.time write t.id (record { index = length prefix; answer = x })
+          → MayBeTold (account_in v asked answered) a t write.number (number_for write.number t.id (length prefix)) write.namespace operation x
+      by_outcome (inl done) = may_tell prefix operation operations x both done.answer
+      by_outcome (inr given) = subst
+          (λ (y : StatementOutcome).
+          MayBeTold (account_in v asked answered) a t write.number (number_for write.number t.id (length prefix)) write.namespace operation y) (sym given.is)
+          (told_given_up given.refusal (why given.refusal given.why))
+
       length_push : (xs : List Operation) → length (xs ++ operation ∷ []) ≡ length xs + 1
       length_push [] = refl
       length_push (y ∷ xs) = let n = length_push xs in omega (arith, n)
@@ -190,10 +199,10 @@ module _ (v : View) (asked : List Asked) (answered : List Answered) (a : Asked) 
       by_end : (o b : Bool) → write.ordered ≡ o → is_some (refusal_in x) ≡ b → (if o && b then true else is_answered o answers) ≡ true
           → (o ≡ true → elim b as (λ z. Type 0) [ true ↦ AreNone answers | false ↦ IsFront answers ])
           → ((write.ordered ≡ true → IsFront answers) → is_answered write.ordered answers ≡ true
-          → AreTold (account_in v asked answered) t write (length prefix + 1) operations (dones_from (length prefix + 1) answers))
+          → AreTold (account_in v asked answered) a t write (length prefix + 1) operations (dones_from (length prefix + 1) answers))
           → (elim (o && b) as (λ z. Type 0) [
             | true ↦ dones_from (length prefix + 1) answers ≡ []
-            | false ↦ AreTold (account_in v asked answered) t write (length prefix + 1) operations (dones_from (length prefix + 1) answers)
+            | false ↦ AreTold (account_in v asked answered) a t write (length prefix + 1) operations (dones_from (length prefix + 1) answers)
           ])
       by_end true true order ends whole front more = no_dones (length prefix + 1) answers (front refl)
       by_end true false order ends whole front more = more (λ e. front refl) (ap (λ b. is_answered b answers) order ∙ whole)
@@ -201,7 +210,7 @@ module _ (v : View) (asked : List Asked) (answered : List Answered) (a : Asked) 
           more (λ e. absurd (true_false (sym e ∙ order))) (ap (λ b. is_answered b answers) order ∙ whole)
 
 -- what is noted of an open write
-pub record NotedFits (v : View) (a : Asked) (time : ℕ) (namespace : List ℕ) (kind : WriteKind) (ordered : Bool) (statements : List Statement)
+pub record NotedFits (gave : Refusal → Type 0) (v : View) (a : Asked) (time : ℕ) (namespace : List ℕ) (kind : WriteKind) (ordered : Bool) (statements : List Statement)
     (answers : List (Option StatementOutcome)) : Type 0 where
   pub write : WriteCommand
   pub asks : command_of a.request ≡ Ok (write_command write)
@@ -210,15 +219,34 @@ pub record NotedFits (v : View) (a : Asked) (time : ℕ) (namespace : List ℕ) 
   pub order : ordered ≡ write.ordered
   pub all : statements ≡ statements_from write.number a.id 0 write.operations
   pub long : length answers ≡ length statements
-  pub outcomes : AreOutcomes (history_in v) time write a.id 0 answers
+  pub outcomes : AreOutcomes gave (history_in v) time write a.id 0 answers
   pub front : ordered ≡ true → IsFront answers
-  pub begun : HasBegun v time write.namespace
+  pub begun : AnyDone (dones_from 0 answers) → HasBegun v time write.namespace
+  pub cut : ordered ≡ true → AreCut v.reached a.id (dones_from 0 answers)
+
+-- where none was given up, a refusal is only that the transaction is too old
+cut_answers : (notes : List Reach) (own : RequestId) (history : List Entry) (time : ℕ) (write : WriteCommand) (id : RequestId) (index : ℕ)
+    (answers : List (Option StatementOutcome)) → AreOutcomes (λ r. ⊥) history time write id index answers → AreCut notes own (dones_from index answers)
+cut_answers notes own history time write id index [] all = tt
+cut_answers notes own history time write id index (None ∷ answers) all = cut_answers notes own history time write id (index + 1) answers all
+cut_answers notes own history time write id index (Some x ∷ answers) all =
+    (by_outcome all.0, cut_answers notes own history time write id (index + 1) answers all.1)
+  where
+    of_answer : (number : StatementNumber) (answer : StatementOutcome) → IsAnswerOf history time number answer → WasRefused answer
+        → is_too_old answer ≡ false → reach_of own notes ≤ index + 1
+    of_answer number _ (by_entry e i numbered past) refused young = absurd refused
+    of_answer number _ (by_older e i session less past) refused young = absurd (true_false young)
+
+    by_outcome : IsOutcomeAt (λ r. ⊥) history time write id (record { index = index; answer = x }) → WasRefused x → is_too_old x ≡ false
+        → reach_of own notes ≤ index + 1
+    by_outcome (inl done) refused young = of_answer (number_for write.number id index) x done.answer refused young
+    by_outcome (inr given) refused young = absurd given.why
 
 pub noted_fits : (v : View) (asked : List Asked) (a : Asked) (sender early time : ℕ) (id : RequestId) (namespace : List ℕ)
     (kind : WriteKind) (ordered : Bool) (statements : List Statement) (c : Course) (dones : List Done)
     → AreDifferent (ids_asked asked) → IsIn a asked → a.id ≡ id → WorkFits a namespace (writing kind ordered statements c)
     → AreSeen v time a (writing kind ordered statements c) → early ≤ time → IsShardAt sender
-    → IsDoneOf v asked sender early id dones → NotedFits v a time namespace kind ordered statements (noted ordered c.answers dones)
+    → IsDoneOf v asked sender early id dones → NotedFits (WasLacking v) v a time namespace kind ordered statements (noted ordered c.answers dones)
 noted_fits v asked a sender early time id namespace kind ordered statements c dones different taken own
     (write, asks, is, name, order, all, course) seen le of_shard done =
     let one : done.request ≡ a = one_asked done.request a asked different done.taken taken (done.own ∙ sym own) in
@@ -230,6 +258,9 @@ noted_fits v asked a sender early time id namespace kind ordered statements c do
     let last : OnlyLast write.ordered dones = subst (λ (x : WriteCommand). OnlyLast x.ordered dones) same done.last in
     let begun : HasBegun v early write.namespace = subst (λ (x : WriteCommand). HasBegun v early x.namespace) same done.begun in
     let before = begun.before in
+    let later : AllByRecursion (IsDoneAt (history_in v) time write a.id) dones =
+    all_weaken (IsDoneAt (entries_in v sender) early write a.id) (IsDoneAt (history_in v) time write a.id) dones
+    (λ d x. done_at_grows (entries_in v sender) (history_in v) early time write a.id d (λ e i. entry_of_shard v sender e of_shard i) le x) each in
     record {
       write = write;
       asks = asks;
@@ -238,48 +269,68 @@ noted_fits v asked a sender early time id namespace kind ordered statements c do
       order = order;
       all = all;
       long = noted_long ordered c.answers dones ∙ course.long;
-      outcomes = noted_outcomes (history_in v) time write a.id ordered c.answers dones (seen write asks).0
-          (all_weaken (IsDoneAt (entries_in v sender) early write a.id) (IsDoneAt (history_in v) time write a.id) dones
-          (λ d x. done_at_grows (entries_in v sender) (history_in v) early time write a.id d (λ e i. entry_of_shard v sender e of_shard i) le x) each);
+      outcomes = noted_outcomes (WasLacking v) (history_in v) time write a.id ordered c.answers dones (seen write asks).0
+          later;
       front = λ in_order.
           subst (λ b. IsFront (noted b c.answers dones)) (sym in_order)
           (noted_front c.answers dones (course.front in_order)
           (open_ends c.answers (course.front in_order) (subst (λ b. is_answered b c.answers ≡ false) in_order course.open_yet))
           (subst (λ b. OnlyLast b dones) (sym order ∙ in_order) last));
-      begun = record { creation = begun.creation; begun = begun.begun; name = begun.name; before = omega arith };
+      cut = λ in_order. cut_answers v.reached a.id (history_in v) time write a.id 0 (noted ordered c.answers dones)
+          (noted_outcomes (λ r. ⊥) (history_in v) time write a.id ordered c.answers dones
+          (open_outcomes (WasLacking v) (history_in v) time write a.id 0 c.answers
+          (open_ends c.answers (course.front in_order) (subst (λ b. is_answered b c.answers ≡ false) in_order course.open_yet)) (seen write asks).0) later);
+      begun = λ any. record { creation = begun.creation; begun = begun.begun; name = begun.name; before = omega arith };
     }
 
 -- a write has statements
-some_told : (account : Account) (t : Answered) (write : WriteCommand) (operations : List Operation) (dones : List Done) → operations ≢ []
-    → AreTold account t write 0 operations dones → dones ≢ []
-some_told account t write [] dones some told none = some refl
-some_told account t write (operation ∷ operations) [] some told none = told
-some_told account t write (operation ∷ operations) (d ∷ dones) some told none = cc
+some_told : (account : Account) (a : Asked) (t : Answered) (write : WriteCommand) (operations : List Operation) (dones : List Done) → operations ≢ []
+    → AreTold account a t write 0 operations dones → dones ≢ []
+some_told account a t write [] dones some told none = some refl
+some_told account a t write (operation ∷ operations) [] some told none = told
+some_told account a t write (operation ∷ operations) (d ∷ dones) some told none = cc
 
-pub wrote_right : (v : View) (asked : List Asked) (old : List Answered) (cursors : List Cursor) (a : Asked) (t : Answered) (namespace : List ℕ)
-    (kind : WriteKind) (ordered : Bool) (statements : List Statement) (answers : List (Option StatementOutcome))
-    → (n : NotedFits v a t.time namespace kind ordered statements answers)
+pub wrote_right : (gave : Refusal → Type 0) (v : View) (asked : List Asked) (old : List Answered) (cursors : List Cursor) (a : Asked) (t : Answered)
+    (namespace : List ℕ) (kind : WriteKind) (ordered : Bool) (statements : List Statement) (answers : List (Option StatementOutcome))
+    → ((refusal : Refusal) → gave refusal → IsGivenUp (account_in v asked old) a t refusal) → (n : NotedFits gave v a t.time namespace kind ordered statements answers)
     → IsTelling v asked a n.write t → is_answered ordered answers ≡ true
     → t.document ≡ answer_document (answer_of kind t.time (dones_from 0 answers)) → StaysRight v asked old cursors a t cursors
-wrote_right v asked old cursors a t namespace kind ordered statements answers n x whole document =
-    let long : length answers ≡ length n.write.operations =
-    n.long ∙ ap (λ (l : List Statement). length l) n.all ∙ statements_long n.write.number a.id 0 n.write.operations in
-    let told : AreTold (account_in v asked old) t n.write 0 n.write.operations (dones_from 0 answers) =
-    are_told v asked old a n.write t x [] n.write.operations answers refl long
-    (subst (λ i. AreOutcomes (history_in v) t.time n.write i 0 answers) x.own n.outcomes) (λ e. n.front (n.order ∙ e))
-    (ap (λ b. is_answered b answers) (sym n.order) ∙ whole) in
-    record {
-      right = right_write n.write (dones_from 0 answers) n.begun.creation n.asks told
-          (λ none. subst (λ (i : RequestId). IsWhole (history_in v) i n.write (dones_from 0 answers)) (sym x.own)
-          (part_whole (account_in v asked old) t n.write none
-          (one_number (history_in v) x.around.numbers
-          (λ e i. placed_first (changes_in v) x.around.begun.still e (all_at (IsPlaced (changes_in v)) e (history_in v) x.around.placed i)))
-          (dones_from 0 answers) told
-          (subst (λ (i : RequestId). IsPart (history_in v) i n.write) x.own
-          (all_at (StandsInPart (history_in v)) a asked x.around.parts x.taken n.write n.asks none))))
-          n.begun.begun n.begun.name n.begun.before (document ∙ ap (λ k. answer_document (answer_of k t.time (dones_from 0 answers))) n.is);
-      settled = some_told (account_in v asked old) t n.write n.write.operations (dones_from 0 answers) (some_operations a.request n.write n.asks) told;
-    }
+wrote_right gave v asked old cursors a t namespace kind ordered statements answers why n x whole document = record {
+  right = right_write n.write (dones_from 0 answers) n.asks told
+      (λ none. subst (λ (i : RequestId). IsWhole (history_in v) i n.write (dones_from 0 answers)) (sym x.own)
+      (part_whole (account_in v asked old) a t n.write none one_entry (dones_from 0 answers) told
+      (subst (λ (i : RequestId). IsPart (history_in v) i n.write) x.own
+      (all_at (StandsInPart (history_in v)) a asked x.around.parts x.taken n.write n.asks none)) (λ in_order e i. reaches none in_order e i)))
+      n.begun (document ∙ ap (λ k. answer_document (answer_of k t.time (dones_from 0 answers))) n.is);
+  settled = (
+    some_told (account_in v asked old) a t n.write n.write.operations (dones_from 0 answers) (some_operations a.request n.write n.asks) told,
+    λ in_order. n.cut (n.order ∙ in_order),
+  );
+}
+  where
+    long : length answers ≡ length n.write.operations
+    long = n.long ∙ ap (λ (l : List Statement). length l) n.all ∙ statements_long n.write.number a.id 0 n.write.operations
+
+    told : AreTold (account_in v asked old) a t n.write 0 n.write.operations (dones_from 0 answers)
+    told = are_told v asked old a n.write t x gave why [] n.write.operations answers refl long
+        (subst (λ i. AreOutcomes gave (history_in v) t.time n.write i 0 answers) x.own n.outcomes) (λ e. n.front (n.order ∙ e))
+        (ap (λ b. is_answered b answers) (sym n.order) ∙ whole)
+
+    one_entry : (d e : Entry) → IsIn d (history_in v) → IsIn e (history_in v) → d.number ≡ e.number → d ≡ e
+    one_entry = one_number (history_in v) x.around.numbers
+        (λ e i. placed_first (changes_in v) x.around.begun.still e (all_at (IsPlaced (changes_in v)) e (history_in v) x.around.placed i))
+
+    reaches : n.write.number ≡ None → n.write.ordered ≡ true → (e : Entry) → IsIn e (entries_by t.id (history_in v))
+        → e.number.index < length (dones_from 0 answers)
+    reaches none in_order e i =
+        let by = by_in t.id (history_in v) e i in
+        told_as_far (account_in v asked old) v.reached one_entry a t n.write (dones_from 0 answers) e x.own none in_order told (n.cut (n.order ∙ in_order))
+        (made_for (history_in v) asked v.reached a n.write e e.number.index x.around.one x.taken n.asks none
+        (numbered_at t.id n.write.namespace n.write.ordered 0 n.write.operations (entries_by t.id (history_in v)) e
+        (ordered_part (history_in v) t.id n.write in_order
+        (subst (λ (k : RequestId). IsPart (history_in v) k n.write) x.own
+        (all_at (StandsInPart (history_in v)) a asked x.around.parts x.taken n.write n.asks none))) i
+        ∙ ap (λ (k : RequestId). number_for None k e.number.index) (sym x.own)) (all_at (WasMade (history_in v) asked v.reached) e (history_in v) x.around.sent by.0))
 
 -- AT ONCE
 

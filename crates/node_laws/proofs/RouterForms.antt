@@ -1,11 +1,10 @@
 -- The forms of the steps in which a router takes no request.
-use Rattle.std.proofs.Common.{◌≡◌, ◌≢◌, inr, ℕ, ◌+◌, ◌<◌, ◌≤◌, List, [], ◌∷◌, ◌++◌, refl, sym, ap, subst, ◌∙◌, arith, append-nil, Bool}
-use Rattle.std.specs.Prelude.{None, true, false, max, nat_lt, ◌==◌, if◌then◌else◌}
-use Rattle.std.specs.List.{AllByRecursion, flat_map}
+use Rattle.std.proofs.Common.{◌≡◌, ◌≢◌, ℕ, ◌+◌, ◌<◌, ◌≤◌, List, [], ◌∷◌, ◌++◌, refl, sym, ap, subst, ◌∙◌, arith, append-nil, Bool}
+use Rattle.std.specs.Prelude.{None, true, false, nat_lt, ◌==◌, if◌then◌else◌}
+use Rattle.std.specs.List.{AllByRecursion}
 use Rattle.std.proofs.lemmas.Bool.{ltb-true}
 use Rattle.std.proofs.lemmas.Bool.Decides.{Decides-eqb}
-use Rattle.history_model.proofs.Lists.{all_weaken, all_append, all_at}
-use Rattle.base_model.specs.Times.{time_of_moment}
+use Rattle.history_model.proofs.Lists.{all_weaken, all_both, all_at}
 use Rattle.command_model.specs.Answers.{Answer}
 use Rattle.reply_model.specs.Cursors.{Cursor}
 use Rattle.chunk_model.specs.Tables.{Table}
@@ -13,26 +12,28 @@ use Rattle.history_model.specs.History.{IsIn}
 use Rattle.reply_model.specs.Exchanges.{Asked, Answered}
 use Rattle.reply_model.specs.OneHistory.{ids_asked}
 use Rattle.node_model.specs.Journal.{Kept}
+use Rattle.node_model.specs.Letters.{Reply}
 use Rattle.node_model.specs.States.{Open, Router, router_state, replaced, without}
 use Rattle.node_model.specs.RouterRequests.{id_of}
-use Rattle.node_model.specs.RouterNext.{asks_again, reply_to, Next, stays, is_told, letters_in, replies_in, after_next}
+use Rattle.node_model.specs.RouterNext.{reply_to, Next, stays, is_told, stay_in, letters_in, replies_in, after_next}
 use Rattle.node_model.specs.RouterRows.{Opened, as_before}
-use Rattle.node_model.specs.World.{World, journal_at}
+use Rattle.node_model.specs.World.{World, answered_by, journal_at}
 use Rattle.node_laws.proofs.Views.{Choice, Book, View, view_of, chosen_time, Later}
 use Rattle.node_laws.proofs.SeenStatements.{true_false}
-use Rattle.node_laws.proofs.NextRequests.{KeepsCount, NextIs}
+use Rattle.node_laws.proofs.NextRequests.{NextIs, left_by, sent_by, told_by, each_next, parted_next}
+use Rattle.node_laws.proofs.NextKeeps.{Continues, keeps_count}
+use Rattle.node_laws.proofs.Raises.{TellsReach, told_reach, none_counted, each_tells_reach, Raises, after_reached, each_reached, all_apart, after_noted}
 use Rattle.node_laws.proofs.NextFacts.{IsToldRightly}
-use Rattle.node_laws.proofs.Facts.{IsKnownTable, IsOpenOf, ToldBelow, RouterFits, HeldFits, IsMet, AnswerFits, AnswersFit, no_answer, one_answer, NeighboursFit, Good}
+use Rattle.node_laws.proofs.Facts.{IsReached, IsNoted, IsKnownTable, IsOpenOf, ToldBelow, RouterFits, NodeFits, IsMet, AnswerFits, AnswersFit, no_answer, one_answer, NeighboursFit, Good}
 use Rattle.node_laws.proofs.Owes.{IsSaid, Owes}
-use Rattle.node_laws.proofs.Growth.{known_grows, met_later, met_max}
+use Rattle.node_laws.proofs.Growth.{known_grows, met_later}
 use Rattle.node_laws.proofs.OpenRequests.{all_without, all_replaced, parted_same, parted_replaced, parted_without}
-use Rattle.node_laws.proofs.RouterAsks.{again_fits}
 use Rattle.node_laws.proofs.Neighbours.{neighbours}
 use Rattle.node_laws.proofs.RouterAnswers.{as_answered}
 use Rattle.node_laws.proofs.OpenFacts.{with_own, open_rises, open_stays}
 use Rattle.node_laws.proofs.Choices.{none_longer}
 use Rattle.node_laws.proofs.Turns.{Turns, turns_same}
-use Rattle.node_laws.proofs.RouterLater.{goes_to, tells, IsTimeless, Leaves, goes_owes}
+use Rattle.node_laws.proofs.RouterLater.{IsKept, goes_to, tells, IsTimeless, Leaves, goes_owes}
 
 -- a read whose time is reached
 pub not_ahead : (time at : ℕ) → at ≤ time → nat_lt time at ≡ false
@@ -43,7 +44,8 @@ not_ahead time at reached = by_test (nat_lt time at) refl
     by_test false h = h
 
 module _ (w : World) (book : Book) (at : ℕ) (kept : List Kept) (r : Router) (good : Good w book)
-    (h : HeldFits (view_of w.nodes book) w.asked w.answered w.given at (record { state = router_state r; kept = kept })) where
+    (h : NodeFits (view_of w.nodes book) w.asked w.answered w.given at (record { state = router_state r; kept = kept }))
+    (reach : AllByRecursion (IsReached book.reached r) r.requests) where
   pub fits : RouterFits (view_of w.nodes book) w.asked w.answered at r
   fits = h.state
 
@@ -93,9 +95,9 @@ module _ (w : World) (book : Book) (at : ℕ) (kept : List Kept) (r : Router) (g
       turns_same book.cursors at r (goes_to r time moment tables requests (as_before r)) h.cursors refl (λ e. e) refl refl refl later
 
   abbrev pub quiet : (time moment : ℕ) (tables : List Table) (requests : List Open) → r.time ≤ time
-      → Leaves w book at r (goes_to r time moment tables requests (as_before r)) (as_before r)
-  quiet time moment tables requests later = record
-      { news = []; chose = tt; cursors = book.cursors; turns = turns_stay time moment tables requests later; timeless = tt }
+      → AllByRecursion (IsReached book.reached r) requests → Leaves w book at r (goes_to r time moment tables requests (as_before r)) (as_before r)
+  quiet time moment tables requests later raised = record
+      { news = []; chose = tt; cursors = book.cursors; turns = turns_stay time moment tables requests later; raised = raised; timeless = tt }
 
   pub no_answers : (v : View) → v.cursors ≡ book.cursors → AnswersFit v w.asked (w.answered ++ []) book.cursors [] v.cursors
   no_answers v same = subst (λ l. AnswersFit v w.asked (w.answered ++ []) book.cursors [] l) (sym same) (no_answer book.cursors)
@@ -108,8 +110,8 @@ module _ (w : World) (book : Book) (at : ℕ) (kept : List Kept) (r : Router) (g
       (router_state (goes_to r time r.moment r.tables r.requests (as_before r)))
   stays_owes time later met =
       goes_owes w book at r fits good kept time r.moment r.tables r.requests (as_before r) [] [] later h.within met (parted_same r r.requests fits.different)
-      (quiet time r.moment r.tables r.requests later)
-      (λ v grows others chosen cursors. record {
+      (quiet time r.moment r.tables r.requests later reach)
+      (λ v grows others chosen cursors given noted reached. record {
         tables = known_tables v (grows, others) time later;
         requests = risen_open v (grows, others) chosen (goes_to r time r.moment r.tables r.requests (as_before r)) later;
         letters = tt;
@@ -118,51 +120,70 @@ module _ (w : World) (book : Book) (at : ℕ) (kept : List Kept) (r : Router) (g
         times = tt;
       })
 
-  -- at a moment all is requested again
-  pub again_owes : (moment : ℕ) → IsMet (view_of w.nodes book) w.given (time_of_moment moment)
-      → Owes w book at (record { state = router_state r; kept = kept })
-      (tells (as_before r) (flat_map (λ q. asks_again r (max r.time (time_of_moment moment)) q) r.requests) [])
-      (router_state (goes_to r (max r.time (time_of_moment moment)) moment r.tables r.requests (as_before r)))
-  again_owes moment met =
-      let later : r.time ≤ max r.time (time_of_moment moment) = omega arith in
-      let met_time = met_max (view_of w.nodes book) w.given r.time (time_of_moment moment) h.met met in
-      goes_owes w book at r fits good kept (max r.time (time_of_moment moment)) moment r.tables r.requests (as_before r)
-      (flat_map (λ q. asks_again r (max r.time (time_of_moment moment)) q) r.requests) []
-      later h.within met_time (parted_same r r.requests fits.different) (quiet (max r.time (time_of_moment moment)) moment r.tables r.requests later)
-      (λ v grows others chosen cursors.
-      let rise = risen_open v (grows, others) chosen (goes_to r (max r.time (time_of_moment moment)) moment r.tables r.requests (as_before r)) later in record {
-        tables = known_tables v (grows, others) (max r.time (time_of_moment moment)) later;
-        requests = rise;
-        letters = each_again v (grows, others) moment
-            (met_later (view_of w.nodes book) v w.given (max r.time (time_of_moment moment)) grows met_time) r.requests rise;
-        answers = no_answers v cursors;
-        below = tt;
-        times = tt;
+  -- answers that leave the cursors
+  all_same : (v : View) (asked : List Asked) (said : List Answered) (cursors : List Cursor) (now : ℕ) (replies : List Reply)
+      → AllByRecursion (λ x. AnswerFits v asked said cursors (as_answered now x) cursors) replies
+      → AnswersFit v asked said cursors (answered_by now replies) cursors
+  all_same v asked said cursors now [] all = no_answer cursors
+  all_same v asked said cursors now (x ∷ replies) all =
+      one_answer cursors cursors cursors (as_answered now x) (answered_by now replies) all.0 (all_same v asked said cursors now replies all.1)
+
+  -- something becomes of each open request
+  pub each_owes : (next : Open → Next) (time moment : ℕ) (tables : List Table) → r.time ≤ time → IsMet (view_of w.nodes book) w.given time
+      → ((q : Open) → Continues r time q (next q)) → ((q : Open) → Raises q (next q))
+      → ((v : View) → IsBehind v → AllByRecursion (IsKnownTable v time) tables)
+      → ((v : View) → IsBehind v → IsKept v w → NeighboursFit v w.asked → (known : AllByRecursion (IsKnownTable v time) tables)
+      → IsMet v w.given time → (q : Open) → (o : IsOpenOf v w.asked w.answered r q) → AllByRecursion (IsNoted v.reached r) (stay_in (next q))
+      → TellsReach v.reached r q (next q)
+      → NextIs (IsOpenOf v w.asked w.answered (goes_to r time moment tables (left_by next r.requests) (as_before r))) (IsSaid v w.asked w.given)
+      (IsToldRightly v w.asked (w.answered ++ answered_by w.now (told_by next r.requests)) book.cursors time w.now) (next q))
+      → Owes w book at (record { state = router_state r; kept = kept }) (tells (as_before r) (sent_by next r.requests) (told_by next r.requests))
+      (router_state (goes_to r time moment tables (left_by next r.requests) (as_before r)))
+  each_owes next time moment tables later met keeps rises known becomes =
+      goes_owes w book at r fits good kept time moment tables (left_by next r.requests) (as_before r) (sent_by next r.requests) (told_by next r.requests) later
+      h.within met (parted_next r w.now next (λ q. keeps_count r time q (next q) (keeps q)) r.requests fits.different)
+      (quiet time moment tables (left_by next r.requests) later (each_reached book.reached r time next r.requests keeps rises reach))
+      (λ v grows others chosen cursors given noted reached.
+      let all = each_next (IsOpenOf v w.asked w.answered (After)) (IsSaid v w.asked w.given) (IsToldRightly v w.asked said book.cursors time w.now) next r.requests
+      (all_both (IsOpenOf v w.asked w.answered r) (λ q. AllByRecursion (IsNoted v.reached r) (stay_in (next q)) × TellsReach v.reached r q (next q))
+      (λ q. NextIs (IsOpenOf v w.asked w.answered After) (IsSaid v w.asked w.given) (IsToldRightly v w.asked said book.cursors time w.now) (next q)) r.requests
+      (λ q o n. becomes v (grows, others) given (around v (grows, others)) (known v (grows, others)) (met_later (view_of w.nodes book) v w.given time grows met) q o n.0 n.1)
+      (each_open v (grows, others) chosen)
+      (all_both (λ q. AllByRecursion (IsNoted v.reached r) (stay_in (next q))) (λ q. TellsReach v.reached r q (next q))
+      (λ q. AllByRecursion (IsNoted v.reached r) (stay_in (next q)) × TellsReach v.reached r q (next q)) r.requests (λ q a b. (a, b))
+      (all_apart (IsNoted v.reached r) next r.requests noted)
+      (each_tells_reach book.reached v.reached r time next r.requests keeps reached fits.different reach))) in
+      record {
+        tables = known v (grows, others);
+        requests = all.stay;
+        letters = all.ask;
+        answers = subst (λ l. AnswersFit v w.asked said book.cursors (answered_by w.now (told_by next r.requests)) l) (sym cursors)
+            (all_same v w.asked said book.cursors w.now (told_by next r.requests)
+            (all_weaken (IsToldRightly v w.asked said book.cursors time w.now) (λ x. AnswerFits v w.asked said book.cursors (as_answered w.now x) book.cursors)
+            (told_by next r.requests) (λ x t. t.0) all.tell));
+        below = all_weaken (IsToldRightly v w.asked said book.cursors time w.now) (λ x. ToldBelow time (as_answered w.now x)) (told_by next r.requests)
+            (λ x t. t.1) all.tell;
+        times = all_weaken (IsToldRightly v w.asked said book.cursors time w.now) (λ (x : Reply). x.time ≡ time) (told_by next r.requests) (λ x t. t.2) all.tell;
       })
     where
-      each_again : (v : View) → IsBehind v → (moment : ℕ) → IsMet v w.given (max r.time (time_of_moment moment)) → (requests : List Open)
-          → AllByRecursion (IsOpenOf v w.asked w.answered (goes_to r (max r.time (time_of_moment moment)) moment r.tables r.requests (as_before r))) requests
-          → AllByRecursion (IsSaid v w.asked w.given) (flat_map (λ q. asks_again r (max r.time (time_of_moment moment)) q) requests)
-      each_again v behind moment met [] all = tt
-      each_again v behind moment met (q ∷ requests) all =
-          let o = all.0 in
-          all_append (IsSaid v w.asked w.given) (asks_again r (max r.time (time_of_moment moment)) q)
-          (flat_map (λ q. asks_again r (max r.time (time_of_moment moment)) q) requests)
-          (again_fits v w.asked w.given r (max r.time (time_of_moment moment)) met q o.request o.taken o.own o.past o.work o.seen o.reached o.sent)
-          (each_again v behind moment met requests all.1)
+      said : List Answered
+      said = w.answered ++ answered_by w.now (told_by next r.requests)
+
+      After : Router
+      After = goes_to r time moment tables (left_by next r.requests) (as_before r)
 
   -- what becomes of an open request, of a time that is decided
-  pub next_owes : (q : Open) (next : Next) (time : ℕ) (news : List Choice) → IsIn q r.requests → KeepsCount r q next
+  pub next_owes : (q : Open) (next : Next) (time : ℕ) (news : List Choice) → IsIn q r.requests → Continues r time q next → Raises q next
       → r.time ≤ time → IsMet (view_of w.nodes book) w.given time
       → AllByRecursion (λ (c : Choice). (c.id.router ≡ at) × IsIn c.id (ids_asked w.asked)) news
       → ((n : ℕ) → n ≢ q.count → chosen_time (id_of r n) news ≡ None)
-      → ((said : List Answered) (v : View) → IsBehind v → v.chosen ≡ book.chosen ++ news → NeighboursFit v w.asked → AllByRecursion (IsKnownTable v time) r.tables
-      → IsMet v w.given time
+      → ((said : List Answered) (v : View) → IsBehind v → v.chosen ≡ book.chosen ++ news → IsKept v w → NeighboursFit v w.asked
+      → AllByRecursion (IsKnownTable v time) r.tables → IsMet v w.given time → AllByRecursion (IsNoted v.reached r) (stay_in next) → TellsReach v.reached r q next
       → NextIs (IsOpenOf v w.asked w.answered (goes_to r time r.moment r.tables (after_next q next r.requests) (as_before r))) (IsSaid v w.asked w.given)
       (IsToldRightly v w.asked said book.cursors time w.now) next)
       → Owes w book at (record { state = router_state r; kept = kept }) (tells (as_before r) (letters_in next) (replies_in next))
       (router_state (goes_to r time r.moment r.tables (after_next q next r.requests) (as_before r)))
-  next_owes q (stays p letters) time news stands same later met chose none becomes =
+  next_owes q (stays p letters) time news stands same rises later met chose none becomes =
       goes_owes w book at r fits good kept time r.moment r.tables (replaced p r.requests) (as_before r) letters [] later h.within
       met (parted_replaced r p r.requests fits.different)
       (record {
@@ -170,36 +191,40 @@ module _ (w : World) (book : Book) (at : ℕ) (kept : List Kept) (r : Router) (g
         chose = chose;
         cursors = book.cursors;
         turns = turns_stay time r.moment r.tables (replaced p r.requests) later;
+        raised = after_reached book.reached r time q (stays p letters) stands same rises reach;
         timeless = tt;
       })
-      (λ v grows others chosen cursors.
+      (λ v grows others chosen cursors given noted reached.
       let known = known_tables v (grows, others) time later in
-      let g = becomes (w.answered ++ []) v (grows, others) chosen (around v (grows, others)) known
-      (met_later (view_of w.nodes book) v w.given time grows met) in
+      let g = becomes (w.answered ++ []) v (grows, others) chosen given (around v (grows, others)) known
+      (met_later (view_of w.nodes book) v w.given time grows met) (after_noted (IsNoted v.reached r) r time q (stays p letters) stands same noted) tt in
       record {
         tables = known;
         requests = all_replaced (IsOpenOf v w.asked w.answered (goes_to r time r.moment r.tables (replaced p r.requests) (as_before r))) p r.requests g.0
             (others_open v (grows, others) news chosen (goes_to r time r.moment r.tables (replaced p r.requests) (as_before r)) later
-            p.count (λ n other. none n (λ e. other (e ∙ sym same))));
+            p.count (λ n other. none n (λ e. other (e ∙ sym same.count))));
         letters = g.1;
         answers = no_answers v cursors;
         below = tt;
         times = tt;
       })
-  next_owes q (is_told reply) time news stands same later met chose none becomes =
+  next_owes q (is_told reply) time news stands same rises later met chose none becomes =
       goes_owes w book at r fits good kept time r.moment r.tables (without q.count r.requests) (as_before r) [] (reply ∷ []) later h.within
-      met (parted_without r q (as_answered w.now reply) r.requests fits.different stands same)
+      met (parted_without r q (as_answered w.now reply) r.requests fits.different stands same.id)
       (record {
         news = news;
         chose = chose;
         cursors = book.cursors;
         turns = turns_stay time r.moment r.tables (without q.count r.requests) later;
+        raised = all_without (IsReached book.reached r) q.count r.requests reach;
         timeless = tt;
       })
-      (λ v grows others chosen cursors.
+      (λ v grows others chosen cursors given noted reached.
       let known = known_tables v (grows, others) time later in
-      let g = becomes (w.answered ++ as_answered w.now reply ∷ []) v (grows, others) chosen (around v (grows, others)) known
-      (met_later (view_of w.nodes book) v w.given time grows met) in
+      let g = becomes (w.answered ++ as_answered w.now reply ∷ []) v (grows, others) chosen given (around v (grows, others)) known
+      (met_later (view_of w.nodes book) v w.given time grows met) tt
+      (told_reach book.reached v.reached r q (without q.count r.requests) reached (all_at (IsReached book.reached r) q r.requests reach stands)
+      (none_counted q.count r.requests)) in
       record {
         tables = known;
         requests = all_left (IsOpenOf v w.asked w.answered (goes_to r time r.moment r.tables (without q.count r.requests) (as_before r))) q.count r.requests
@@ -234,8 +259,15 @@ module _ (w : World) (book : Book) (at : ℕ) (kept : List Kept) (r : Router) (g
   told_owes q answer time f next stands later met rises turns told =
       goes_owes w book at r fits good kept time r.moment r.tables (without q.count r.requests) f [] (reply_to r time q answer ∷ []) later h.within
       met (parted_without r q (as_answered w.now (reply_to r time q answer)) r.requests fits.different stands refl)
-      (record { news = []; chose = tt; cursors = next; turns = turns; timeless = rises })
-      (λ v grows others chosen cursors.
+      (record {
+        news = [];
+        chose = tt;
+        cursors = next;
+        turns = turns;
+        raised = all_without (IsReached book.reached r) q.count r.requests reach;
+        timeless = rises;
+      })
+      (λ v grows others chosen cursors given noted reached.
       let o = all_at (IsOpenOf v w.asked w.answered r) q r.requests (each_open v (grows, others) chosen) stands in
       let t = told v (grows, others) o (around v (grows, others)) in
       record {

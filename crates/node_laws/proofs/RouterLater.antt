@@ -1,5 +1,5 @@
 -- A router at a later time, where it took no request, owes nothing that its row does not give.
-use Rattle.std.proofs.Common.{◌≡◌, ◌≢◌, ◌⊎◌, inl, inr, ℕ, ◌≤◌, List, [], ◌∷◌, ◌++◌, refl, sym, ap, subst, ◌∙◌, arith, append-nil}
+use Rattle.std.proofs.Common.{◌≡◌, ◌≢◌, ◌⊎◌, inl, inr, ℕ, ◌+◌, ◌<◌, ◌≤◌, List, [], ◌∷◌, ◌++◌, refl, sym, ap, subst, ◌∙◌, arith, append-nil}
 use Rattle.std.specs.Prelude.{true, map}
 use Rattle.std.specs.List.{AllByRecursion}
 use Rattle.history_model.proofs.Lists.{all_weaken, all_both, all_append, all_at, in_back}
@@ -7,7 +7,7 @@ use Rattle.chunk_model.specs.Tables.{Table}
 use Rattle.history_model.specs.History.{IsIn}
 use Rattle.base_model.specs.Identities.{RequestId}
 use Rattle.reply_model.specs.Exchanges.{Asked, Answered}
-use Rattle.reply_model.specs.Accounts.{Given}
+use Rattle.reply_model.specs.Accounts.{Given, Missed}
 use Rattle.reply_model.specs.OneHistory.{ids_asked, ids_told, AreDifferent}
 use Rattle.node_model.specs.Journal.{Kept, time_kept, greatest_kept}
 use Rattle.node_model.specs.Letters.{Letter, Reply, Effect}
@@ -18,8 +18,9 @@ use Rattle.node_model.specs.RouterRows.{Opened}
 use Rattle.node_model.specs.World.{World, answered_by, journal_at}
 use Rattle.node_laws.proofs.Views.{Choice, Book, View, view_of, IsAbove, Later}
 use Rattle.node_laws.proofs.GreatestTimes.{within_more}
-use Rattle.node_laws.proofs.Facts.{IsKnownTable, IsOpenOf, IsBy, ToldBelow, IsClosedOrOpen, RouterFits, CursorsFit, IsMet, AnswersFit, Good}
-use Rattle.node_laws.proofs.Owes.{IsSaid, Owes}
+use Rattle.node_laws.proofs.Facts.{raise_of, IsReached, IsNoted, IsKnownTable, IsOpenOf, IsBy, ToldBelow, IsClosedOrOpen, RouterFits, CursorsFit, IsMet, AnswersFit, Good}
+use Rattle.node_laws.proofs.Owes.{IsSaid, IsNotedIn, Owes}
+use Rattle.node_laws.proofs.Reaches.{all_noted}
 use Rattle.node_laws.proofs.Growth.{met_later}
 use Rattle.node_laws.proofs.Others.{told_more}
 use Rattle.node_laws.proofs.OpenRequests.{IsParted}
@@ -45,7 +46,7 @@ goes_to r time moment tables requests f = record {
 }
 
 abbrev pub tells : Opened → List Letter → List Reply → Effect
-tells f mail replies = record { written = f.written; mail = mail; taken = []; replies = replies }
+tells f mail replies = record { written = f.written; mail = mail; taken = []; replies = replies; away = [] }
 
 -- what a transition results in, in a view after the step
 pub record RowFits (v : View) (w : World) (book : Book) (s : Router) (mail : List Letter) (replies : List Reply) : Type 0 where
@@ -55,6 +56,11 @@ pub record RowFits (v : View) (w : World) (book : Book) (s : Router) (mail : Lis
   pub answers : AnswersFit v w.asked (w.answered ++ answered_by w.now replies) book.cursors (answered_by w.now replies) v.cursors
   pub below : AllByRecursion (λ x. ToldBelow s.time (as_answered w.now x)) replies
   pub times : AllByRecursion (λ (x : Reply). x.time ≡ s.time) replies
+
+-- what a view after the step has of moments and lacks
+pub record IsKept (v : View) (w : World) : Type 0 where
+  pub given : v.given ≡ w.given
+  pub lacks : AllByRecursion (λ (x : Missed). x.step < w.now + 1) v.missed
 
 -- a record without a time is above any, and not later than any
 abbrev pub IsTimeless : (at time : ℕ) → Kept → Type 0
@@ -66,6 +72,7 @@ pub record Leaves (w : World) (book : Book) (at : ℕ) (r s : Router) (f : Opene
   pub chose : AllByRecursion (λ (c : Choice). (c.id.router ≡ at) × IsIn c.id (ids_asked w.asked)) news
   pub cursors : List Cursor
   pub turns : Turns book.cursors cursors at s
+  pub raised : AllByRecursion (IsReached book.reached s) s.requests
   pub timeless : AllByRecursion (IsTimeless at r.time) f.written
 
 -- LISTS
@@ -178,6 +185,7 @@ module _ (w : World) (book : Book) (at : ℕ) (r : Router) (fits : RouterFits (v
           link = o.link;
           number = o.number;
           asks = o.asks;
+          arrived = o.arrived;
           past = o.past;
           reached = o.reached;
           silent = all_append (λ (t : Answered). t.id ≢ id_of r q.count) w.answered (answered_by w.now replies) o.silent s;
@@ -203,7 +211,8 @@ module _ (w : World) (book : Book) (at : ℕ) (r : Router) (fits : RouterFits (v
       → IsMet (view_of w.nodes book) w.given time → IsParted r r.requests requests (answered_by w.now replies)
       → (left : Leaves w book at r (goes_to r time moment tables requests f) f)
       → ((v : View) → Later (view_of w.nodes book) v → ((p : ℕ) → p ≢ at → v.journal p ≡ journal_at w.nodes p) → v.chosen ≡ book.chosen ++ left.news
-      → v.cursors ≡ left.cursors → RowFits v w book (goes_to r time moment tables requests f) mail replies)
+      → v.cursors ≡ left.cursors → IsKept v w → AllByRecursion (IsNoted v.reached (goes_to r time moment tables requests f)) requests
+      → v.reached ≡ book.reached ++ map (raise_of r) requests → RowFits v w book (goes_to r time moment tables requests f) mail replies)
       → Owes w book at (record { state = router_state r; kept = kept }) (tells f mail replies) (router_state (goes_to r time moment tables requests f))
   goes_owes kept time moment tables requests f mail replies later within met parted left row = record {
     kind = tt;
@@ -220,8 +229,9 @@ module _ (w : World) (book : Book) (at : ℕ) (r : Router) (fits : RouterFits (v
     news = left.news;
     chose = rw (append-nil w.asked) left.chose;
     cursors = left.cursors;
+    raised = left.raised;
     elsewhere = left.turns.elsewhere;
-    owed = λ v grows others journal bound chosen cursors. let given_row = row v grows others chosen cursors in record {
+    owed = λ v grows others journal bound chosen cursors notes. let given_row = row v grows others chosen cursors (record { given = notes.given; lacks = notes.lacks }) (noted v notes) notes.reached in record {
       node = rw (append-nil w.asked) (record {
         state = router_goes v time moment tables requests f mail replies later parted given_row;
         met = met_later (view_of w.nodes book) v w.given time grows met;
@@ -235,3 +245,8 @@ module _ (w : World) (book : Book) (at : ℕ) (r : Router) (fits : RouterFits (v
       met = met_answers v w.given w.now time replies (met_later (view_of w.nodes book) v w.given time grows met) given_row.times;
     };
   }
+    where
+      noted : (v : View) → IsNotedIn v w book (router_state (goes_to r time moment tables requests f))
+          → AllByRecursion (IsNoted v.reached (goes_to r time moment tables requests f)) requests
+      noted v notes = subst (λ l. AllByRecursion (IsNoted l (goes_to r time moment tables requests f)) requests) (sym notes.reached)
+          (all_noted book.reached (goes_to r time moment tables requests f) requests)

@@ -21,13 +21,13 @@ use Rattle.reply_model.specs.Reads.{MayGive, excess_answer}
 use Rattle.node_model.specs.Journal.{Kept}
 use Rattle.node_model.specs.Letters.{HalfFault, half_overflow, half_excess, read_rows, Letter}
 use Rattle.node_model.specs.States.{Telling, in_batches, as_number, reading, Open, Router, router_state, without}
-use Rattle.node_model.specs.RouterRequests.{id_of, heard}
+use Rattle.node_model.specs.RouterRequests.{turn_after, id_of, heard}
 use Rattle.node_model.specs.RouterNext.{is_target, also_part, awaited, rows_of, reply_to}
 use Rattle.node_model.specs.RouterRows.{Opened, as_before, too_much, block_size, gives_number, next_number, new_cursor, batch_of, Tells, tells_overflow, tells_excess, tells_number, tells_batch, tells_cursor}
 use Rattle.node_model.specs.World.{World}
 use Rattle.node_laws.proofs.Views.{Book, View, view_of, chosen_time, history_in}
 use Rattle.node_laws.proofs.ReadFacts.{WaitsFor, IsDecided, IsReading, IsMade, IsTooMuch}
-use Rattle.node_laws.proofs.Facts.{WorkFits, HasTime, IsOpenOf, IsBy, CursorsFit, HeldFits, NeighboursFit, SentFits, Good}
+use Rattle.node_laws.proofs.Facts.{IsReached, WorkFits, HasTime, IsOpenOf, IsBy, CursorsFit, NodeFits, NeighboursFit, SentFits, Good}
 use Rattle.node_laws.proofs.Owes.{Owes}
 use Rattle.node_laws.proofs.Journals.{later_self}
 use Rattle.node_laws.proofs.Answers.{some_none, StaysRight}
@@ -57,7 +57,8 @@ record ReadIn (v : View) (a : Asked) (namespace : List ℕ) (named : Bool) (time
   pub made : MadeFor v does.read time heard_at rows
 
 module _ (w : World) (book : Book) (at : ℕ) (kept : List Kept) (r : Router) (good : Good w book)
-    (h : HeldFits (view_of w.nodes book) w.asked w.answered w.given at (record { state = router_state r; kept = kept }))
+    (h : NodeFits (view_of w.nodes book) w.asked w.answered w.given at (record { state = router_state r; kept = kept }))
+    (reach : AllByRecursion (IsReached book.reached r) r.requests)
     (m : Letter) (comes : SentFits (view_of w.nodes book) w.changed w.asked w.answered w.given m) where
   -- the time of a read that rows are sent for is decided
   decided_of : (v : View) (q : Open) (a : Asked) (named : Bool) (time other : ℕ) (stages : List Stage) (telling : Telling)
@@ -89,29 +90,29 @@ module _ (w : World) (book : Book) (at : ℕ) (kept : List Kept) (r : Router) (g
 
   -- an answer that leaves the cursors
   told_still : (q : Open) (answer : Answer) → IsIn q r.requests
-      → ((v : View) → IsBehind w book at kept r good h v → (o : IsOpenOf v w.asked w.answered r q) → NeighboursFit v w.asked
+      → ((v : View) → IsBehind w book at kept r good h reach v → (o : IsOpenOf v w.asked w.answered r q) → NeighboursFit v w.asked
       → StaysRight v w.asked (Told q answer) book.cursors o.request (as_answered w.now (reply_to r (heard r m) q answer)) book.cursors × ShowsBelow
       (heard r m) answer)
       → Owes w book at (record { state = router_state r; kept = kept }) (tells (as_before r) [] (reply_to r (heard r m) q answer ∷ []))
       (router_state (goes_to r (heard r m) r.moment r.tables (without q.count r.requests) (as_before r)))
   told_still q answer stands right =
-      told_owes w book at kept r good h q answer (heard r m) (as_before r) book.cursors stands (later w book at kept r good h m comes)
-      (heard_met w book at kept r good h m comes) tt
-      (turns_stay w book at kept r good h (heard r m) r.moment r.tables (without q.count r.requests) (later w book at kept r good h m comes))
+      told_owes w book at kept r good h reach q answer (heard r m) (as_before r) book.cursors stands (later w book at kept r good h reach m comes)
+      (heard_met w book at kept r good h reach m comes) tt
+      (turns_stay w book at kept r good h reach (heard r m) r.moment r.tables (without q.count r.requests) (later w book at kept r good h reach m comes))
       (λ v behind o n.
       let x = right v behind o n in (
-        answer_fits v w.asked w.answered (Told q answer) r (heard r m) w.now q answer book.cursors book.cursors o (later w book at kept r good h m comes)
-            (came_by w book at kept r good h o.request o.taken) x.0,
+        answer_fits v w.asked w.answered (Told q answer) r (heard r m) w.now q answer book.cursors book.cursors o (later w book at kept r good h reach m comes)
+            (came_by w book at kept r good h reach o.request o.taken) x.0,
         x.1,
       ))
 
   module _ (id : RequestId) (rows : Rows) (q : Open) (named : Bool) (time : ℕ) (stages : List Stage) (telling : Telling)
-      (says : m.body ≡ read_rows id 1 (Ok rows))
+      (says : m.body ≡ read_rows id (turn_after q.tries) (Ok rows))
       (found : IsOpenWith r id q) (work : q.work ≡ reading named time stages telling) where
-    read_now : (v : View) → IsBehind w book at kept r good h v → (o : IsOpenOf v w.asked w.answered r q)
+    read_now : (v : View) → IsBehind w book at kept r good h reach v → (o : IsOpenOf v w.asked w.answered r q)
         → ReadIn v o.request q.namespace named time stages telling m.time rows
     read_now v behind o = read_in v id rows q named time stages telling
-        (body_in w book at kept r good h m comes v behind (read_rows id 1 (Ok rows)) says) found work o
+        (body_in w book at kept r good h reach m comes v behind (read_rows id (turn_after q.tries) (Ok rows)) says) found work o
 
     gives : (v : View) (a : Asked) (out : Outcome) → (x : ReadIn v a q.namespace named time stages telling m.time rows)
         → MergesInTurn (split stages).1 (rows ∷ []) out
@@ -124,7 +125,7 @@ module _ (w : World) (book : Book) (at : ℕ) (kept : List Kept) (r : Router) (g
     past v a x = let p = x.made.past in omega arith
 
   opened_owes : (id : RequestId) (rows : Rows) (q : Open) (named : Bool) (time : ℕ) (stages : List Stage) (size : ℕ) (documents batch : List Fields)
-      → m.body ≡ read_rows id 1 (Ok rows)
+      → m.body ≡ read_rows id (turn_after q.tries) (Ok rows)
       → IsOpenWith r id q → q.work ≡ reading named time stages (in_batches size false) → MergesInTurn (split stages).1 (rows ∷ []) (listed documents)
       → excess_of_answer documents ≡ None → IsBatch (Some size) documents batch → drop (length batch) documents ≢ []
       → Owes w book at (record { state = router_state r; kept = kept })
@@ -136,14 +137,14 @@ module _ (w : World) (book : Book) (at : ℕ) (kept : List Kept) (r : Router) (g
       let c : Cursor = new_cursor r q time (drop (length batch) documents) in
       let shown : Answer = first_answer (batch_of q time (pos (next_number r)) batch) in
       let now : Answered = as_answered w.now (reply_to r (heard r m) q (first_answer (batch_of q time (pos (next_number r)) batch))) in
-      let up = later w book at kept r good h m comes in
-      told_owes w book at kept r good h q shown (heard r m) (gives_number r (r.cursors ++ c ∷ [])) (book.cursors ++ c ∷ []) found.stands up
-      (heard_met w book at kept r good h m comes) (no_time at r.time r (r.cursors ++ c ∷ [])) (turns reached_now up)
+      let up = later w book at kept r good h reach m comes in
+      told_owes w book at kept r good h reach q shown (heard r m) (gives_number r (r.cursors ++ c ∷ [])) (book.cursors ++ c ∷ []) found.stands up
+      (heard_met w book at kept r good h reach m comes) (no_time at r.time r (r.cursors ++ c ∷ [])) (turns reached_now up)
       (λ v behind o n.
       let x = read_now id rows q named time stages (in_batches size false) says found work v behind o in
       let reached = past id rows q named time stages (in_batches size false) says found work v o.request x in (
         answer_fits v w.asked w.answered (Told q shown) r (heard r m) w.now q shown book.cursors (book.cursors ++ c ∷ []) o up
-            (came_by w book at kept r good h o.request o.taken)
+            (came_by w book at kept r good h reach o.request o.taken)
             (batch_right v w.asked (Told q shown) book.cursors o.request now q.namespace named time stages size false documents
             (batch_of q time (pos (next_number r)) batch) (book.cursors ++ c ∷ []) x.does
             (gives id rows q named time stages (in_batches size false) says found work v o.request (listed documents) x merged) small is_batch refl refl
@@ -196,7 +197,7 @@ module _ (w : World) (book : Book) (at : ℕ) (kept : List Kept) (r : Router) (g
 
   one_owes : (id : RequestId) (rows : Rows) (q : Open) (named : Bool) (time : ℕ) (stages : List Stage) (telling : Telling) (out : Outcome)
       (answer : Answer) (f : Opened)
-      → m.body ≡ read_rows id 1 (Ok rows) → IsOpenWith r id q → q.work ≡ reading named time stages telling → MergesInTurn (split stages).1 (rows ∷ []) out
+      → m.body ≡ read_rows id (turn_after q.tries) (Ok rows) → IsOpenWith r id q → q.work ≡ reading named time stages telling → MergesInTurn (split stages).1 (rows ∷ []) out
       → Tells r q time telling out answer f
       → Owes w book at (record { state = router_state r; kept = kept }) (tells f [] (reply_to r (heard r m) q answer ∷ []))
       (router_state (goes_to r (heard r m) r.moment r.tables (without q.count r.requests) f))
@@ -268,7 +269,7 @@ module _ (w : World) (book : Book) (at : ℕ) (kept : List Kept) (r : Router) (g
 
   pub read_owes : (id : RequestId) (rows : Result Rows HalfFault) (q : Open) (named : Bool) (time : ℕ) (stages : List Stage) (telling : Telling)
       (all : List Rows) (out : Outcome) (answer : Answer) (f : Opened)
-      → m.body ≡ read_rows id 1 rows → IsOpenWith r id q → q.work ≡ reading named time stages telling → is_target m.sender q.targets ≡ true
+      → m.body ≡ read_rows id (turn_after q.tries) rows → IsOpenWith r id q → q.work ≡ reading named time stages telling → is_target m.sender q.targets ≡ true
       → rows_of q.targets (also_part q.parts m.sender rows) ≡ Ok all → MergesInTurn (split stages).1 all out
       → Tells r q time telling out answer f
       → Owes w book at (record { state = router_state r; kept = kept }) (tells f [] (reply_to r (heard r m) q answer ∷ []))
@@ -276,7 +277,7 @@ module _ (w : World) (book : Book) (at : ℕ) (kept : List Kept) (r : Router) (g
   read_owes id rows q named time stages telling all out answer f says found work target got merged told =
       by_rows rows says (all_alone id rows q (Ok all) found target got)
     where
-      by_rows : (x : Result Rows HalfFault) → m.body ≡ read_rows id 1 x → alone x ≡ Ok all
+      by_rows : (x : Result Rows HalfFault) → m.body ≡ read_rows id (turn_after q.tries) x → alone x ≡ Ok all
           → Owes w book at (record { state = router_state r; kept = kept }) (tells f [] (reply_to r (heard r m) q answer ∷ []))
           (router_state (goes_to r (heard r m) r.moment r.tables (without q.count r.requests) f))
       by_rows (Err fault) says is = absurd (cc)
@@ -290,14 +291,14 @@ module _ (w : World) (book : Book) (at : ℕ) (kept : List Kept) (r : Router) (g
 
   -- too much
   one_much : (id : RequestId) (n : ℕ) (q : Open) (named : Bool) (time : ℕ) (stages : List Stage) (telling : Telling)
-      → m.body ≡ read_rows id 1 (Err (half_excess n))
+      → m.body ≡ read_rows id (turn_after q.tries) (Err (half_excess n))
       → IsOpenWith r id q → q.work ≡ reading named time stages telling
       → Owes w book at (record { state = router_state r; kept = kept }) (tells (as_before r) [] (reply_to r (heard r m) q (refusal_answer (too_much n)) ∷ []))
       (router_state (goes_to r (heard r m) r.moment r.tables (without q.count r.requests) (as_before r)))
   one_much id n q named time stages telling says found work =
       told_still q (refusal_answer (too_much n)) found.stands
       (λ v behind o k.
-      let much : IsTooMuch v w.asked m.sender m.time id n = body_in w book at kept r good h m comes v behind (read_rows id 1 (Err (half_excess n))) says in
+      let much : IsTooMuch v w.asked m.sender m.time id n = body_in w book at kept r good h reach m comes v behind (read_rows id (turn_after q.tries) (Err (half_excess n))) says in
       let x = read_in v id much.rows q named time stages telling much.made found work o in
       let past = x.made.past in (
         excess_right v w.asked (Told q (refusal_answer (too_much n))) book.cursors o.request
@@ -309,20 +310,20 @@ module _ (w : World) (book : Book) (at : ℕ) (kept : List Kept) (r : Router) (g
       ))
 
   pub much_owes : (id : RequestId) (rows : Result Rows HalfFault) (n : ℕ) (q : Open) (named : Bool) (time : ℕ) (stages : List Stage) (telling : Telling)
-      → m.body ≡ read_rows id 1 rows
+      → m.body ≡ read_rows id (turn_after q.tries) rows
       → IsOpenWith r id q → q.work ≡ reading named time stages telling → is_target m.sender q.targets ≡ true
       → rows_of q.targets (also_part q.parts m.sender rows) ≡ Err (half_excess n)
       → Owes w book at (record { state = router_state r; kept = kept }) (tells (as_before r) [] (reply_to r (heard r m) q (refusal_answer (too_much n)) ∷ []))
       (router_state (goes_to r (heard r m) r.moment r.tables (without q.count r.requests) (as_before r)))
   much_owes id rows n q named time stages telling says found work target got =
       let fault : rows ≡ Err (half_excess n) = same_fault rows (half_excess n) (all_alone id rows q (Err (half_excess n)) found target got) in
-      one_much id n q named time stages telling (says ∙ ap (λ x. read_rows id 1 x) fault) found work
+      one_much id n q named time stages telling (says ∙ ap (λ x. read_rows id (turn_after q.tries) x) fault) found work
 
   -- no half overflows
-  pub none_overflows : (id : RequestId) (rows : Result Rows HalfFault) (q : Open) → m.body ≡ read_rows id 1 rows → IsOpenWith r id q
+  pub none_overflows : (id : RequestId) (rows : Result Rows HalfFault) (q : Open) → m.body ≡ read_rows id (turn_after q.tries) rows → IsOpenWith r id q
       → is_target m.sender q.targets ≡ true
       → rows_of q.targets (also_part q.parts m.sender rows) ≡ Err half_overflow → ⊥
   none_overflows id rows q says found target got =
       let fault : rows ≡ Err half_overflow = same_fault rows half_overflow (all_alone id rows q (Err half_overflow) found target got) in
-      body_in w book at kept r good h m comes (view_of w.nodes book) (later_self (view_of w.nodes book), λ p other. refl)
-      (read_rows id 1 (Err half_overflow)) (says ∙ ap (λ x. read_rows id 1 x) fault)
+      body_in w book at kept r good h reach m comes (view_of w.nodes book) (later_self (view_of w.nodes book), λ p other. refl)
+      (read_rows id (turn_after q.tries) (Err half_overflow)) (says ∙ ap (λ x. read_rows id (turn_after q.tries) x) fault)

@@ -1,7 +1,7 @@
 -- Each row of a router owes nothing that it does not give.
 use Rattle.std.proofs.Common.{◌≡◌, ◌≢◌, inl, inr, ℕ, ℤ, ◌+◌, ◌≤◌, List, [], ◌∷◌, ◌++◌, refl, sym, ap, subst, ◌∙◌, arith, append-nil, Bool}
 use Rattle.std.specs.Prelude.{Option, Some, None, Result, Ok, Err, true, false, max, length, drop, ◌||◌, if◌then◌else◌}
-use Rattle.std.specs.List.{AllByRecursion, slice_get}
+use Rattle.std.specs.List.{AllByRecursion, flat_map}
 use Rattle.std.specs.Option.{unwrap_or}
 use Rattle.std.proofs.lemmas.Bool.{ltb-true}
 use Rattle.history_model.proofs.Lists.{in_back, in_first}
@@ -20,23 +20,24 @@ use Rattle.base_model.specs.Identities.{RequestId}
 use Rattle.history_model.specs.History.{Operation}
 use Rattle.command_model.specs.Writes.{WriteCommand}
 use Rattle.command_model.proofs.Taken.{some_operations}
-use Rattle.reply_model.specs.Outcomes.{none_yet}
-use Rattle.node_laws.proofs.Outcomes.{none_front, none_are, none_long, none_outcomes}
+use Rattle.reply_model.specs.Outcomes.{none_yet, AnyDone, lack_refusal}
+use Rattle.reply_model.specs.Accounts.{Lack}
+use Rattle.base_model.specs.Times.{time_of_moment}
+use Rattle.node_laws.proofs.Outcomes.{none_front, none_are, none_long, none_outcomes, no_dones}
 use Rattle.node_laws.proofs.SeenStatements.{true_false}
 use Rattle.reply_model.specs.Exchanges.{Asked, Answered}
 use Rattle.reply_model.specs.Right.{asks_for_one, usual_size, unless_silent, right_more, right_no_cursor, right_kill}
 use Rattle.node_model.specs.Journal.{Kept}
-use Rattle.node_model.specs.Letters.{Input, Reply, Effect}
+use Rattle.node_model.specs.Letters.{nothing, At, Cause, is_lack, refused, of_request, of_table, Letter, Input, letter_input, moment_input, Reply, Effect}
 use Rattle.node_model.specs.States.{Telling, in_batches, as_number, Work, writing, reading, sharding, splitting, Open, Router, router_state}
 use Rattle.node_model.specs.RouterRequests.{id_of, begun_write, statements_from, heard, RequestPlan, at_once, needs, needs_batch, needs_end, plan_of, plan_read}
-use Rattle.node_model.specs.RouterNext.{Next, stays, is_told, stay_in, letters_in, replies_in, is_answered, begins_work}
-use Rattle.node_model.specs.RouterRows.{opened_request, taken_now, RouterRow, router_begin, router_opened, router_plain, router_more, router_no_cursor, router_kill, router_take, router_learn, router_split, router_not_sharded, router_reach, router_hear, router_ahead, router_note, router_part, router_read, router_excess, router_overflow, router_late, router_skip, router_moment}
-use Rattle.node_model.specs.World.{Held, World}
+use Rattle.node_model.specs.RouterNext.{Next, stays, is_told, stay_in, letters_in, replies_in, is_answered, begins_work, after_next, refused_next, table_refused, knows, at_moment}
+use Rattle.node_model.specs.RouterRows.{open_of, goes_on, go_on, opened_request, taken_now, RouterRow, router_begin, router_opened, router_plain, router_more, router_no_cursor, router_kill, router_take, router_learn, router_split, router_not_sharded, router_reach, router_hear, router_ahead, router_note, router_part, router_read, router_excess, router_overflow, router_refused, router_no_table, router_late, router_skip, router_moment}
+use Rattle.node_model.specs.World.{World}
 use Rattle.node_laws.proofs.Views.{Choice, Book, View, view_of, chosen_time, history_in}
-use Rattle.node_laws.proofs.Places.{each_get}
-use Rattle.node_laws.proofs.TimeFacts.{HeardFits}
+use Rattle.node_laws.proofs.TimeFacts.{HasHeard}
 use Rattle.node_laws.proofs.ReadFacts.{is_ahead, is_named, WaitsFor, IsDecided, IsTelling, tells_find, tells_count}
-use Rattle.node_laws.proofs.Facts.{WorkFits, AreSeen, IsOpenOf, CursorsFit, HeldFits, AnswerFits, AnswersFit, no_answer, one_answer, Good}
+use Rattle.node_laws.proofs.Facts.{WasLacking, IsReached, IsNoted, WorkFits, AreSeen, IsOpenOf, CursorsFit, NodeFits, AnswerFits, AnswersFit, no_answer, one_answer, Good}
 use Rattle.node_laws.proofs.Owes.{IsSaid, InputFits, Owes}
 use Rattle.node_laws.proofs.Choices.{chosen_last}
 use Rattle.node_laws.proofs.OwnCursors.{open_own, kills_all}
@@ -52,7 +53,7 @@ use Rattle.node_laws.proofs.Goings.{begins_goes}
 use Rattle.node_laws.proofs.RouterAnswers.{as_answered, IsPlain, plain_fits}
 use Rattle.node_laws.proofs.Turns.{Turns, turns_same, turns_left, turns_closed, open_past}
 use Rattle.node_laws.proofs.RouterLater.{told_now}
-use Rattle.node_laws.proofs.RouterForms.{IsBehind, known_tables, stays_owes, again_owes}
+use Rattle.node_laws.proofs.RouterForms.{IsBehind, known_tables, stays_owes}
 use Rattle.node_laws.proofs.RouterMessages.{heard_met, learn_owes, reach_owes, hear_owes, ahead_owes, note_owes}
 use Rattle.node_laws.proofs.RouterReads.{part_is_all, read_owes, much_owes, none_overflows}
 use Rattle.node_laws.proofs.RouterSplits.{split_owes, unsplit_owes}
@@ -113,9 +114,15 @@ module _ (v : View) (r : Router) (a : Asked) (time : a.time ≡ r.time) where
         front = λ ordered. none_front (none_yet (statements_from write.number a.id 0 write.operations))
             (none_are (statements_from write.number a.id 0 write.operations));
         open_yet = open_yet write.operations (some_operations a.request write asks);
+        one = λ in_order. omega arith;
       },
     ),
-    (λ own of. (none_outcomes (history_in v) a.time own a.id 0 (statements_from write.number a.id 0 write.operations), tt)),
+    (λ own of. (
+      none_outcomes (WasLacking v) (history_in v) a.time own a.id 0 (statements_from write.number a.id 0 write.operations),
+      tt,
+      λ any. absurd (subst (λ l. AnyDone l)
+          (no_dones 0 (none_yet (statements_from write.number a.id 0 write.operations)) (none_are (statements_from write.number a.id 0 write.operations))) any),
+    )),
     λ ahead undecided. absurd (cc),
   )
     where
@@ -166,7 +173,8 @@ choice_decides v id old sharding none same = tt
 choice_decides v id old (splitting middle) none same = tt
 
 module _ (w : World) (book : Book) (at : ℕ) (kept : List Kept) (r : Router) (good : Good w book)
-    (h : HeldFits (view_of w.nodes book) w.asked w.answered w.given at (record { state = router_state r; kept = kept }))
+    (h : NodeFits (view_of w.nodes book) w.asked w.answered w.given at (record { state = router_state r; kept = kept }))
+    (reach : AllByRecursion (IsReached book.reached r) r.requests)
     (link : ℕ) (number : ℤ) (request : Request) (begun : r.begun ≡ true) where
   abbrev New : Asked
   New = asked_now w.now r link number request
@@ -184,12 +192,12 @@ module _ (w : World) (book : Book) (at : ℕ) (kept : List Kept) (r : Router) (g
   told_at_once : (answer : Answer) (own after : List Cursor) → Turns book.cursors after at (took r own []) → ShowsBelow r.time answer
       → ((v : View) → StaysRight v (w.asked ++ New ∷ []) (Said answer) book.cursors New (as_answered w.now (Plain answer)) after)
       → Owes w book at (record { state = router_state r; kept = kept })
-      (record { written = []; mail = []; taken = taken_now r link number request ∷ []; replies = Plain answer ∷ [] }) (router_state (took r own []))
+      (record { written = []; mail = []; taken = taken_now r link number request ∷ []; replies = Plain answer ∷ []; away = [] }) (router_state (took r own []))
   told_at_once answer own after turns below right =
-      takes_owes w book at kept r good h link number request begun [] own after [] [] (Plain answer ∷ []) tt turns tt tt (refl, tt) (tt, tt) (below, tt)
+      takes_owes w book at kept r good h reach link number request begun [] own after [] [] (Plain answer ∷ []) tt turns tt tt (refl, tt) (tt, tt) (below, tt)
       (refl, tt)
       (inr (told_now (id_of r (r.count + 1)) w.answered (as_answered w.now (Plain answer) ∷ []) (in_first (id_of r (r.count + 1)) [])))
-      (λ v behind chosen cursors. record {
+      (λ v behind chosen cursors noted. record {
         requests = tt;
         letters = tt;
         answers = subst (λ l. AnswersFit v (w.asked ++ New ∷ []) (Said answer) book.cursors (as_answered w.now (Plain answer) ∷ []) l) (sym cursors)
@@ -216,7 +224,7 @@ module _ (w : World) (book : Book) (at : ℕ) (kept : List Kept) (r : Router) (g
 
   plain_owes : (answer : Answer) → plan_of r (id_of r (r.count + 1)) request.more (command_of request) ≡ at_once answer
       → Owes w book at (record { state = router_state r; kept = kept })
-      (record { written = []; mail = []; taken = taken_now r link number request ∷ []; replies = Plain answer ∷ [] }) (router_state (took r r.cursors []))
+      (record { written = []; mail = []; taken = taken_now r link number request ∷ []; replies = Plain answer ∷ []; away = [] }) (router_state (took r r.cursors []))
   plain_owes answer plan =
       told_at_once answer r.cursors book.cursors (turns_kept []) (plain (view_of w.nodes book)).below (λ v. (plain v).right)
     where
@@ -271,7 +279,7 @@ module _ (w : World) (book : Book) (at : ℕ) (kept : List Kept) (r : Router) (g
       → plan_of r (id_of r (r.count + 1)) request.more (command_of request) ≡ needs_batch get
       → open_cursor (id_of r (r.count + 1)) get.cursor get.namespace r.cursors ≡ Some c → ShowsNext (id_of r (r.count + 1)) get.size r.cursors c batch next
       → Owes w book at (record { state = router_state r; kept = kept })
-      (record { written = []; mail = []; taken = taken_now r link number request ∷ []; replies = Plain (next_answer batch) ∷ [] })
+      (record { written = []; mail = []; taken = taken_now r link number request ∷ []; replies = Plain (next_answer batch) ∷ []; away = [] })
       (router_state (took r (unless_silent request r.cursors next) []))
   more_owes get c batch next plan found shows =
       told_at_once (next_answer batch) (unless_silent request r.cursors next)
@@ -304,6 +312,7 @@ module _ (w : World) (book : Book) (at : ℕ) (kept : List Kept) (r : Router) (g
         mail = [];
         taken = taken_now r link number request ∷ [];
         replies = Plain (refusal_answer (record { error = cursor_not_found; evidence = cursor_evidence get.cursor })) ∷ [];
+        away = [];
       })
       (router_state (took r r.cursors []))
   missing_owes get plan none =
@@ -318,7 +327,7 @@ module _ (w : World) (book : Book) (at : ℕ) (kept : List Kept) (r : Router) (g
       → plan_of r (id_of r (r.count + 1)) request.more (command_of request) ≡ needs_end kill
       → Kills (id_of r (r.count + 1)) kill.namespace r.cursors kill.cursors killed missing next
       → Owes w book at (record { state = router_state r; kept = kept })
-      (record { written = []; mail = []; taken = taken_now r link number request ∷ []; replies = Plain (killed_answer killed missing) ∷ [] })
+      (record { written = []; mail = []; taken = taken_now r link number request ∷ []; replies = Plain (killed_answer killed missing) ∷ []; away = [] })
       (router_state (took r next []))
   kill_owes kill killed missing next plan ends =
       let k = kills_all (id_of r (r.count + 1)) kill.namespace r.cursors book.cursors kill.cursors killed missing next ends mine.own in
@@ -336,19 +345,19 @@ module _ (w : World) (book : Book) (at : ℕ) (kept : List Kept) (r : Router) (g
   -- what becomes of it: it stays open
   stays_owes_of : (namespace : List ℕ) (work : Work) (next : Next) (news : List Choice) → KeepsCount r (Asking namespace work) next → IsStay next
       → AllByRecursion (λ (c : Choice). c.id ≡ id_of r (r.count + 1)) news
-      → ((v : View) → IsBehind w book at kept r good h v → v.chosen ≡ book.chosen ++ news
+      → ((v : View) → IsBehind w book at kept r good h reach v → v.chosen ≡ book.chosen ++ news → AllByRecursion (IsNoted v.reached r) (stay_in next)
       → NextIs (IsOpenOf v (w.asked ++ New ∷ []) w.answered (took r r.cursors (stay_in next))) (IsSaid v (w.asked ++ New ∷ []) w.given) (λ x. Unit {0}) next)
       → Owes w book at (record { state = router_state r; kept = kept })
-      (record { written = []; mail = letters_in next; taken = taken_now r link number request ∷ []; replies = replies_in next })
+      (record { written = []; mail = letters_in next; taken = taken_now r link number request ∷ []; replies = replies_in next; away = [] })
       (router_state (took r r.cursors (stay_in next)))
   stays_owes_of namespace work (is_told reply) news same stay chose becomes = absurd stay
   stays_owes_of namespace work (stays q letters) news same stay chose becomes =
-      takes_owes w book at kept r good h link number request begun news r.cursors book.cursors (q ∷ [])
+      takes_owes w book at kept r good h reach link number request begun news r.cursors book.cursors (q ∷ [])
       letters [] chose (turns_kept (q ∷ []))
       (tt, tt) (same, tt) tt tt tt tt
       (inl (counts_behind (r.count + 1) r.requests (q ∷ []) (subst (λ n. IsIn (r.count + 1) (n ∷ [])) (sym same) (in_first (r.count + 1) []))))
-      (λ v behind chosen cursors.
-      let g = becomes v behind chosen in
+      (λ v behind chosen cursors noted.
+      let g = becomes v behind chosen noted in
       record {
         requests = (subst (λ l. IsOpenOf v (w.asked ++ New ∷ []) l (took r r.cursors (q ∷ [])) q) (sym (append-nil w.answered)) g.0, tt);
         letters = g.1;
@@ -365,6 +374,7 @@ module _ (w : World) (book : Book) (at : ℕ) (kept : List Kept) (r : Router) (g
         mail = letters_in (begins_work r r.time (Asking namespace work) work);
         taken = taken_now r link number request ∷ [];
         replies = replies_in (begins_work r r.time (Asking namespace work) work);
+        away = [];
       })
       (router_state (took r r.cursors (stay_in (begins_work r r.time (Asking namespace work) work))))
   work_owes namespace work news does chose timed =
@@ -373,11 +383,11 @@ module _ (w : World) (book : Book) (at : ℕ) (kept : List Kept) (r : Router) (g
       (begins_work r r.time (opened_request r link number request namespace work) work)
       (begins_keeps r r.time (opened_request r link number request namespace work) work))
       (begins_stay r r.time (opened_request r link number request namespace work) New namespace work (does (view_of w.nodes book)).0) chose
-      (λ v behind chosen.
+      (λ v behind chosen noted.
       begins_goes v (w.asked ++ New ∷ []) w.answered w.given r
       (took r r.cursors (stay_in (begins_work r r.time (opened_request r link number request namespace work) work)))
       (met_later (view_of w.nodes book) v w.given r.time behind.0 h.met)
-      (known_tables w book at kept r good h v behind r.time (omega arith)) (λ x. Unit {0}) (opened_request r link number request namespace work)
+      (known_tables w book at kept r good h reach v behind r.time (omega arith)) (λ x. Unit {0}) (opened_request r link number request namespace work)
       (record {
         request = New;
         taken = taken;
@@ -385,9 +395,10 @@ module _ (w : World) (book : Book) (at : ℕ) (kept : List Kept) (r : Router) (g
         link = refl;
         number = refl;
         asks = refl;
+        arrived = refl;
         past = omega arith;
-        silent = new_answer w book at kept r good h;
-      }) work (does v).0 (does v).1 (timed v chosen).0 (timed v chosen).1)
+        silent = new_answer w book at kept r good h reach;
+      }) work (does v).0 (does v).1 (timed v chosen).0 (timed v chosen).1 noted)
 
   take_owes : (namespace : List ℕ) (work : Work) → plan_of r (id_of r (r.count + 1)) request.more (command_of request) ≡ needs namespace work
       → Owes w book at (record { state = router_state r; kept = kept })
@@ -396,6 +407,7 @@ module _ (w : World) (book : Book) (at : ℕ) (kept : List Kept) (r : Router) (g
         mail = letters_in (begins_work r r.time (Asking namespace work) work);
         taken = taken_now r link number request ∷ [];
         replies = replies_in (begins_work r r.time (Asking namespace work) work);
+        away = [];
       })
       (router_state (took r r.cursors (stay_in (begins_work r r.time (Asking namespace work) work))))
   take_owes namespace work plan = by_ahead (is_ahead r.time work) refl
@@ -404,7 +416,7 @@ module _ (w : World) (book : Book) (at : ℕ) (kept : List Kept) (r : Router) (g
       does v = planned v r New refl request.more namespace work (command_of request) refl refl plan
 
       none_chosen : (v : View) → v.chosen ≡ book.chosen ++ [] → chosen_time (id_of r (r.count + 1)) v.chosen ≡ None
-      none_chosen v same = ap (λ l. chosen_time (id_of r (r.count + 1)) l) (same ∙ append-nil book.chosen) ∙ undecided w book at kept r good h
+      none_chosen v same = ap (λ l. chosen_time (id_of r (r.count + 1)) l) (same ∙ append-nil book.chosen) ∙ undecided w book at kept r good h reach
 
       by_ahead : (b : Bool) → is_ahead r.time work ≡ b
           → Owes w book at (record { state = router_state r; kept = kept })
@@ -413,6 +425,7 @@ module _ (w : World) (book : Book) (at : ℕ) (kept : List Kept) (r : Router) (g
             mail = letters_in (begins_work r r.time (opened_request r link number request namespace work) work);
             taken = taken_now r link number request ∷ [];
             replies = replies_in (begins_work r r.time (opened_request r link number request namespace work) work);
+            away = [];
           })
           (router_state (took r r.cursors (stay_in (begins_work r r.time (opened_request r link number request namespace work) work))))
       by_ahead true ahead =
@@ -422,53 +435,94 @@ module _ (w : World) (book : Book) (at : ℕ) (kept : List Kept) (r : Router) (g
           work_owes namespace work (choice_of (id_of r (r.count + 1)) work) does (choice_own (id_of r (r.count + 1)) work)
           (λ v same. (
             (λ e. absurd (true_false (sym e ∙ reached))),
-            λ e. choice_decides v (id_of r (r.count + 1)) book.chosen work (undecided w book at kept r good h) same,
+            λ e. choice_decides v (id_of r (r.count + 1)) book.chosen work (undecided w book at kept r good h reach) same,
           ))
+
+-- WORK THAT IS GIVEN UP
+
+-- what the rows owe in which work may be given up (`GivesUp`)
+pub record RestOwes (w : World) (book : Book) (at : ℕ) (kept : List Kept) (r : Router) : Type 0 where
+  pub refused_one : (m : Letter) (id : RequestId) (turn first : ℕ) (cause : Cause) (q : Open) (next : Next) → InputFits w book at (letter_input m)
+      → m.body ≡ refused (of_request id turn first) cause → open_of r id ≡ Some q → refused_next r (heard r m) q m.sender turn first cause ≡ Some next
+      → Owes w book at (record { state = router_state r; kept = kept }) (goes_on next)
+      (router_state (knows r (heard r m) r.tables (after_next q next r.requests)))
+  pub refused_table : (m : Letter) (namespace : List ℕ) (create : Bool) (at_one : At) (node : ℕ) (lack : Lack) → InputFits w book at (letter_input m)
+      → m.body ≡ refused (of_table namespace create at_one) (is_lack node lack)
+      → Owes w book at (record { state = router_state r; kept = kept })
+      (go_on (table_refused r (heard r m) namespace create at_one (lack_refusal node lack)) r.requests)
+      (router_state (knows r (heard r m) r.tables
+      (flat_map (λ q. stay_in (table_refused r (heard r m) namespace create at_one (lack_refusal node lack) q)) r.requests)))
+  pub given_moment : (moment : ℕ) → r.begun ≡ true → InputFits w book at (moment_input moment)
+      → Owes w book at (record { state = router_state r; kept = kept }) (go_on (at_moment r (max r.time (time_of_moment moment)) moment) r.requests)
+      (router_state (record {
+        me = r.me;
+        shards = r.shards;
+        time = max r.time (time_of_moment moment);
+        life = r.life;
+        begun = r.begun;
+        moment = moment;
+        count = r.count;
+        tables = r.tables;
+        requests = flat_map (λ q. stay_in (at_moment r (max r.time (time_of_moment moment)) moment q)) r.requests;
+        cursors = r.cursors;
+        blocks = r.blocks;
+        gave = r.gave;
+      }))
+
+-- where nothing happens
+pub router_rests : (w : World) (book : Book) (at : ℕ) (kept : List Kept) (r : Router) → Good w book → AllByRecursion (IsReached book.reached r) r.requests
+    → NodeFits (view_of w.nodes book) w.asked w.answered w.given at (record { state = router_state r; kept = kept })
+    → Owes w book at (record { state = router_state r; kept = kept }) nothing (router_state r)
+router_rests w book at kept r good reach h = stays_owes w book at kept r good h reach r.time (omega arith) h.met
 
 -- ALL ROWS
 
 pub router_owes : (w : World) (book : Book) (at : ℕ) (kept : List Kept) (r q : Router) (i : Input) (f : Effect) → Good w book
-    → slice_get w.nodes at ≡ Some (record { state = router_state r; kept = kept })
-    → HeldFits (view_of w.nodes book) w.asked w.answered w.given at (record { state = router_state r; kept = kept }) → InputFits w book i → RouterRow r i f q
-    → Owes w book at (record { state = router_state r; kept = kept }) f (router_state q)
-router_owes w book at kept _ _ _ _ good here h comes (router_begin r none) = begin_owes w book at kept r good h none
-router_owes w book at kept _ _ _ _ good here h comes (router_opened r begun) = stays_owes w book at kept r good h r.time (omega arith) h.met
-router_owes w book at kept _ _ _ _ good here h comes
-    (router_plain r link number request answer begun plan) = plain_owes w book at kept r good h link number request begun answer plan
-router_owes w book at kept _ _ _ _ good here h comes (router_more r link number request get c batch next begun plan found shows) =
-    more_owes w book at kept r good h link number request begun get c batch next plan found shows
-router_owes w book at kept _ _ _ _ good here h comes (router_no_cursor r link number request get begun plan none) =
-    missing_owes w book at kept r good h link number request begun get plan none
-router_owes w book at kept _ _ _ _ good here h comes (router_kill r link number request kill killed missing next begun plan ends) =
-    kill_owes w book at kept r good h link number request begun kill killed missing next plan ends
-router_owes w book at kept _ _ _ _ good here h comes
-    (router_take r link number request namespace work begun plan) = take_owes w book at kept r good h link number request begun namespace work plan
-router_owes w book at kept _ _ _ _ good here h comes
-    (router_learn r m namespace create told table says) = learn_owes w book at kept r good h m comes namespace create told table says
-router_owes w book at kept _ _ _ _ good here h comes (router_split r m id q middle says found work) =
-    split_owes w book at kept r good h m comes id q middle says (open_of_found r id q found) work
-router_owes w book at kept _ _ _ _ good here h comes (router_not_sharded r m id q middle says found work) =
-    unsplit_owes w book at kept r good h m comes id q middle (open_of_found r id q found) work
-router_owes w book at kept _ _ _ _ good here h comes (router_reach r m id q named time stages telling says found work wait reached) =
-    reach_owes w book at kept r good h m comes q named time stages telling (open_of_found r id q found).stands work wait reached
-router_owes w book at kept _ _ _ _ good here h comes (router_hear r m id q named time stages telling says found work wait ahead some) =
-    hear_owes w book at kept r good h m comes id q (open_of_found r id q found)
-router_owes w book at kept _ _ _ _ good here h comes (router_ahead r m id q named time stages telling says found work wait ahead all) =
-    ahead_owes w book at kept r good h m comes id q named time stages telling says (open_of_found r id q found) work wait ahead
-    (each_get (λ k (x : Held). HeardFits (view_of w.nodes book) w.asked w.answered x.state) 0 at w.nodes _ good.heard here) all
-router_owes w book at kept _ _ _ _ good here h comes (router_note r m id dones q kind ordered statements c next says found work news is) =
-    note_owes w book at kept r good h m comes id dones q kind ordered statements c says (open_of_found r id q found) work next is
-router_owes w book at kept _ _ _ _ good here h comes (router_part r m id rows q named time stages telling says found work target some) =
-    absurd (some (part_is_all w book at kept r good h m comes id rows q (open_of_found r id q found) target))
-router_owes w book at kept _ _ _ _ good here h comes
+    → AllByRecursion (IsReached book.reached r) r.requests → HasHeard (view_of w.nodes book) w.asked w.answered r
+    → NodeFits (view_of w.nodes book) w.asked w.answered w.given at (record { state = router_state r; kept = kept }) → InputFits w book at i → RestOwes w book at kept r
+    → RouterRow r i f q → Owes w book at (record { state = router_state r; kept = kept }) f (router_state q)
+router_owes w book at kept _ _ _ _ good reach hears h comes rest (router_begin r none) = begin_owes w book at kept r good h reach none
+router_owes w book at kept _ _ _ _ good reach hears h comes rest (router_opened r begun) = stays_owes w book at kept r good h reach r.time (omega arith) h.met
+router_owes w book at kept _ _ _ _ good reach hears h comes rest
+    (router_plain r link number request answer begun plan) = plain_owes w book at kept r good h reach link number request begun answer plan
+router_owes w book at kept _ _ _ _ good reach hears h comes rest (router_more r link number request get c batch next begun plan found shows) =
+    more_owes w book at kept r good h reach link number request begun get c batch next plan found shows
+router_owes w book at kept _ _ _ _ good reach hears h comes rest (router_no_cursor r link number request get begun plan none) =
+    missing_owes w book at kept r good h reach link number request begun get plan none
+router_owes w book at kept _ _ _ _ good reach hears h comes rest (router_kill r link number request kill killed missing next begun plan ends) =
+    kill_owes w book at kept r good h reach link number request begun kill killed missing next plan ends
+router_owes w book at kept _ _ _ _ good reach hears h comes rest
+    (router_take r link number request namespace work begun plan) = take_owes w book at kept r good h reach link number request begun namespace work plan
+router_owes w book at kept _ _ _ _ good reach hears h comes rest
+    (router_learn r m namespace create told table says) = learn_owes w book at kept r good h reach m comes namespace create told table says
+router_owes w book at kept _ _ _ _ good reach hears h comes rest (router_split r m id q middle says found work) =
+    split_owes w book at kept r good h reach m comes id q middle says (open_of_found r id q found) work
+router_owes w book at kept _ _ _ _ good reach hears h comes rest (router_not_sharded r m id q middle says found work) =
+    unsplit_owes w book at kept r good h reach m comes id q middle (open_of_found r id q found) work
+router_owes w book at kept _ _ _ _ good reach hears h comes rest (router_reach r m id q named time stages telling says found work wait reached) =
+    reach_owes w book at kept r good h reach m comes q named time stages telling (open_of_found r id q found).stands work wait reached
+router_owes w book at kept _ _ _ _ good reach hears h comes rest (router_hear r m id q named time stages telling says found work wait ahead some) =
+    hear_owes w book at kept r good h reach m comes id q (open_of_found r id q found)
+router_owes w book at kept _ _ _ _ good reach hears h comes rest (router_ahead r m id q named time stages telling says found work wait ahead all) =
+    ahead_owes w book at kept r good h reach m comes id q named time stages telling says (open_of_found r id q found) work wait ahead
+    hears all
+router_owes w book at kept _ _ _ _ good reach hears h comes rest (router_note r m id dones q kind ordered statements c next says found work news is) =
+    note_owes w book at kept r good h reach m comes id dones q kind ordered statements c says (open_of_found r id q found) work next is
+router_owes w book at kept _ _ _ _ good reach hears h comes rest (router_part r m id rows q named time stages telling says found work target some) =
+    absurd (some (part_is_all w book at kept r good h reach m comes id rows q (open_of_found r id q found) target))
+router_owes w book at kept _ _ _ _ good reach hears h comes rest
     (router_read r m id rows q named time stages telling all out answer f says found work target whole got merged tells) =
-    read_owes w book at kept r good h m comes id rows q named time stages telling all out answer f says (open_of_found r id q found) work target got merged
+    read_owes w book at kept r good h reach m comes id rows q named time stages telling all out answer f says (open_of_found r id q found) work target got merged
     tells
-router_owes w book at kept _ _ _ _ good here h comes (router_excess r m id rows n q named time stages telling says found work target whole got) =
-    much_owes w book at kept r good h m comes id rows n q named time stages telling says (open_of_found r id q found) work target got
-router_owes w book at kept _ _ _ _ good here h comes (router_overflow r m id rows q named time stages telling says found work target whole got) =
-    absurd (none_overflows w book at kept r good h m comes id rows q says (open_of_found r id q found) target got)
-router_owes w book at kept _ _ _ _ good here h comes (router_late r m late) = stays_owes w book at kept r good h (heard r m) (omega arith)
-    (heard_met w book at kept r good h m comes)
-router_owes w book at kept _ _ _ _ good here h comes (router_skip r m none) = stays_owes w book at kept r good h r.time (omega arith) h.met
-router_owes w book at kept _ _ _ _ good here h comes (router_moment r moment begun) = again_owes w book at kept r good h moment comes
+router_owes w book at kept _ _ _ _ good reach hears h comes rest (router_excess r m id rows n q named time stages telling says found work target whole got) =
+    much_owes w book at kept r good h reach m comes id rows n q named time stages telling says (open_of_found r id q found) work target got
+router_owes w book at kept _ _ _ _ good reach hears h comes rest (router_overflow r m id rows q named time stages telling says found work target whole got) =
+    absurd (none_overflows w book at kept r good h reach m comes id rows q says (open_of_found r id q found) target got)
+router_owes w book at kept _ _ _ _ good reach hears h comes rest (router_late r m late) = stays_owes w book at kept r good h reach (heard r m) (omega arith)
+    (heard_met w book at kept r good h reach m comes)
+router_owes w book at kept _ _ _ _ good reach hears h comes rest (router_skip r m none) = stays_owes w book at kept r good h reach r.time (omega arith) h.met
+router_owes w book at kept _ _ _ _ good reach hears h comes rest (router_refused r m id turn first cause q next says found is) =
+    rest.refused_one m id turn first cause q next comes says found is
+router_owes w book at kept _ _ _ _ good reach hears h comes rest (router_no_table r m namespace create told node lack says) =
+    rest.refused_table m namespace create told node lack comes says
+router_owes w book at kept _ _ _ _ good reach hears h comes rest (router_moment r moment begun) = rest.given_moment moment begun comes

@@ -1,5 +1,6 @@
 -- What a router replies to a request to split.
 use Rattle.std.proofs.Common.{◌≡◌, ℕ, List, [], ◌∷◌, ◌++◌, refl, sym, ap, subst, ◌∙◌, arith}
+use Rattle.std.specs.List.{AllByRecursion}
 use Rattle.std.specs.Prelude.{Result, Ok, true}
 use Rattle.bson_model.specs.Tree.{Datum}
 use Rattle.base_model.specs.Errors.{namespace_not_sharded}
@@ -20,7 +21,7 @@ use Rattle.node_model.specs.World.{World}
 use Rattle.reply_facts.proofs.Requests.{one_asked}
 use Rattle.node_laws.proofs.Views.{Book, View, view_of, changes_in}
 use Rattle.node_laws.proofs.SplitFacts.{IsSplitDone}
-use Rattle.node_laws.proofs.Facts.{WorkFits, IsOpenOf, HeldFits, SentFits, Good}
+use Rattle.node_laws.proofs.Facts.{IsReached, WorkFits, IsOpenOf, NodeFits, SentFits, Good}
 use Rattle.node_laws.proofs.Owes.{Owes}
 use Rattle.node_laws.proofs.Growth.{begins_grows}
 use Rattle.node_laws.proofs.Journals.{later_self}
@@ -35,10 +36,11 @@ same_split : (a b : SplitCommand) (command : Result Command Refusal) → command
 same_split a b command e f = cc
 
 module _ (w : World) (book : Book) (at : ℕ) (kept : List Kept) (r : Router) (good : Good w book)
-    (h : HeldFits (view_of w.nodes book) w.asked w.answered w.given at (record { state = router_state r; kept = kept }))
+    (h : NodeFits (view_of w.nodes book) w.asked w.answered w.given at (record { state = router_state r; kept = kept }))
+    (reach : AllByRecursion (IsReached book.reached r) r.requests)
     (m : Letter) (comes : SentFits (view_of w.nodes book) w.changed w.asked w.answered w.given m) where
   abbrev Behind : View → Type 0
-  Behind v = IsBehind w book at kept r good h v
+  Behind v = IsBehind w book at kept r good h reach v
 
   -- what an open request to split is
   does : (v : View) (q : Open) (middle : Datum) → q.work ≡ splitting middle → (o : IsOpenOf v w.asked w.answered r q)
@@ -48,7 +50,7 @@ module _ (w : World) (book : Book) (at : ℕ) (kept : List Kept) (r : Router) (g
   begun_there : (v : View) → Behind v → (id : RequestId) (q : Open) (middle : Datum) → m.body ≡ split_done id true → IsOpenWith r id q
       → q.work ≡ splitting middle → (o : IsOpenOf v w.asked w.answered r q) → WasSplit (changes_in v) q.namespace middle (heard r m)
   begun_there v behind id q middle says found work o =
-      let d : IsSplitDone v w.asked id m.time = body_in w book at kept r good h m comes v behind (split_done id true) says in
+      let d : IsSplitDone v w.asked id m.time = body_in w book at kept r good h reach m comes v behind (split_done id true) says in
       let same : d.request ≡ o.request = one_asked d.request o.request w.asked good.one d.taken o.taken (d.own ∙ found.own ∙ sym o.own) in
       let one : d.split ≡ record { namespace = q.namespace; middle = middle } =
       same_split d.split (record { namespace = q.namespace; middle = middle }) (command_of o.request.request)
@@ -62,13 +64,13 @@ module _ (w : World) (book : Book) (at : ℕ) (kept : List Kept) (r : Router) (g
       (tells (as_before r) [] (reply_to r (heard r m) q (changed_answer (heard r m)) ∷ []))
       (router_state (goes_to r (heard r m) r.moment r.tables (without q.count r.requests) (as_before r)))
   split_owes id q middle says found work =
-      told_owes w book at kept r good h q (changed_answer (heard r m)) (heard r m) (as_before r) book.cursors found.stands
-      (later w book at kept r good h m comes) (heard_met w book at kept r good h m comes) tt
-      (turns_stay w book at kept r good h (heard r m) r.moment r.tables (without q.count r.requests) (later w book at kept r good h m comes))
+      told_owes w book at kept r good h reach q (changed_answer (heard r m)) (heard r m) (as_before r) book.cursors found.stands
+      (later w book at kept r good h reach m comes) (heard_met w book at kept r good h reach m comes) tt
+      (turns_stay w book at kept r good h reach (heard r m) r.moment r.tables (without q.count r.requests) (later w book at kept r good h reach m comes))
       (λ v behind o n. (
         answer_fits v w.asked w.answered (w.answered ++ as_answered w.now (reply_to r (heard r m) q (changed_answer (heard r m))) ∷ []) r (heard r m) w.now q
-            (changed_answer (heard r m)) book.cursors book.cursors o (later w book at kept r good h m comes)
-            (came_by w book at kept r good h o.request o.taken)
+            (changed_answer (heard r m)) book.cursors book.cursors o (later w book at kept r good h reach m comes)
+            (came_by w book at kept r good h reach o.request o.taken)
             (record {
               right = right_split (record { namespace = q.namespace; middle = middle }) (does v q middle work o)
                   (begun_there v behind id q middle says found work o) refl;
@@ -83,14 +85,14 @@ module _ (w : World) (book : Book) (at : ℕ) (kept : List Kept) (r : Router) (g
       (tells (as_before r) [] (reply_to r (heard r m) q (refusal_answer (without_evidence namespace_not_sharded)) ∷ []))
       (router_state (goes_to r (heard r m) r.moment r.tables (without q.count r.requests) (as_before r)))
   unsplit_owes id q middle found work =
-      told_owes w book at kept r good h q (refusal_answer (without_evidence namespace_not_sharded)) (heard r m) (as_before r) book.cursors found.stands
-      (later w book at kept r good h m comes) (heard_met w book at kept r good h m comes) tt
-      (turns_stay w book at kept r good h (heard r m) r.moment r.tables (without q.count r.requests) (later w book at kept r good h m comes))
+      told_owes w book at kept r good h reach q (refusal_answer (without_evidence namespace_not_sharded)) (heard r m) (as_before r) book.cursors found.stands
+      (later w book at kept r good h reach m comes) (heard_met w book at kept r good h reach m comes) tt
+      (turns_stay w book at kept r good h reach (heard r m) r.moment r.tables (without q.count r.requests) (later w book at kept r good h reach m comes))
       (λ v behind o n. (
         answer_fits v w.asked w.answered
             (w.answered ++ as_answered w.now (reply_to r (heard r m) q (refusal_answer (without_evidence namespace_not_sharded))) ∷ []) r (heard r m) w.now q
-            (refusal_answer (without_evidence namespace_not_sharded)) book.cursors book.cursors o (later w book at kept r good h m comes)
-            (came_by w book at kept r good h o.request o.taken)
+            (refusal_answer (without_evidence namespace_not_sharded)) book.cursors book.cursors o (later w book at kept r good h reach m comes)
+            (came_by w book at kept r good h reach o.request o.taken)
             (record {
               right = right_not_sharded (record { namespace = q.namespace; middle = middle }) (does v q middle work o) refl;
               settled = tt;

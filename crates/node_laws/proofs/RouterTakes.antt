@@ -15,10 +15,11 @@ use Rattle.node_model.specs.States.{Open, Router, router_state}
 use Rattle.node_model.specs.RouterRequests.{id_of}
 use Rattle.node_model.specs.RouterRows.{begins, takes, with_cursors, taken_now}
 use Rattle.node_model.specs.World.{World, answered_by}
-use Rattle.node_laws.proofs.Views.{Choice, Book, View, view_of, chosen_time}
+use Rattle.node_laws.proofs.Views.{Reach, reach_of, Choice, Book, View, view_of, chosen_time}
 use Rattle.node_laws.proofs.GreatestTimes.{within_more}
-use Rattle.node_laws.proofs.Facts.{IsOpenOf, IsBy, is_of, ToldBelow, counts_of, AreDifferentCounts, IsClosedOrOpen, RouterFits, CursorsFit, HeldFits, AnswersFit, no_answer, one_answer, Good}
-use Rattle.node_laws.proofs.Owes.{IsSaid, Owes}
+use Rattle.node_laws.proofs.Facts.{IsReached, IsNoted, IsOpenOf, IsBy, is_of, ToldBelow, counts_of, AreDifferentCounts, IsClosedOrOpen, RouterFits, CursorsFit, NodeFits, AnswersFit, no_answer, one_answer, Good}
+use Rattle.node_laws.proofs.Owes.{IsSaid, Owes, IsNotedIn}
+use Rattle.node_laws.proofs.Reaches.{reach_else, all_noted}
 use Rattle.node_laws.proofs.Lists.{all_mapped, map_longer}
 use Rattle.node_laws.proofs.Choices.{none_longer, none_of_others}
 use Rattle.node_laws.proofs.Turns.{Turns, given_later}
@@ -78,6 +79,11 @@ counts_behind n requests more i = subst (λ l. IsIn n l) (same requests) (in_bac
     same [] = refl
     same (q ∷ rest) = ap (λ l. q.count ∷ l) (same rest)
 
+-- what holds of all holds of the last ones
+all_behind : {X : Type 0} (P : X → Type 0) (xs ys : List X) → AllByRecursion P (xs ++ ys) → AllByRecursion P ys
+all_behind P [] ys all = all
+all_behind P (x ∷ xs) ys all = all_behind P xs ys all.1
+
 -- the request that comes
 abbrev pub asked_now : (now : ℕ) → Router → (link : ℕ) → (number : ℤ) → Request → Asked
 asked_now now r link number request = record {
@@ -103,17 +109,18 @@ pub record TakesFit (v : View) (w : World) (book : Book) (asked : List Asked) (a
   pub answers : AnswersFit v asked answered book.cursors (answered_by w.now replies) v.cursors
 
 module _ (w : World) (book : Book) (at : ℕ) (kept : List Kept) (r : Router) (good : Good w book)
-    (h : HeldFits (view_of w.nodes book) w.asked w.answered w.given at (record { state = router_state r; kept = kept })) where
+    (h : NodeFits (view_of w.nodes book) w.asked w.answered w.given at (record { state = router_state r; kept = kept }))
+    (reach : AllByRecursion (IsReached book.reached r) r.requests) where
   mine : RouterFits (view_of w.nodes book) w.asked w.answered at r
   mine = h.state
 
   -- A LIFE BEGINS
 
-  begun_fits : (v : View) → IsBehind w book at kept r good h v → v.chosen ≡ book.chosen ++ [] → r.begun ≡ false → RouterFits v w.asked w.answered at (begins r)
+  begun_fits : (v : View) → IsBehind w book at kept r good h reach v → v.chosen ≡ book.chosen ++ [] → r.begun ≡ false → RouterFits v w.asked w.answered at (begins r)
   begun_fits v behind same none = record {
     own = mine.own;
     place = mine.place;
-    requests = risen_open w book at kept r good h v behind same (begins r) (omega arith);
+    requests = risen_open w book at kept r good h reach v behind same (begins r) (omega arith);
     different = mine.different;
     counted = all_weaken (λ (a : Asked). a.id.router ≡ at → IsBy a.id.life r.life r.begun (a.id.count ≤ r.count))
         (λ (a : Asked). a.id.router ≡ at → IsBy a.id.life r.life true (a.id.count ≤ 0)) w.asked
@@ -121,7 +128,7 @@ module _ (w : World) (book : Book) (at : ℕ) (kept : List Kept) (r : Router) (g
     told = all_weaken (λ (t : Answered). t.id.router ≡ at → IsBy t.id.life r.life r.begun (ToldBelow r.time t))
         (λ (t : Answered). t.id.router ≡ at → IsBy t.id.life r.life true (ToldBelow r.time t)) w.answered
         (λ t c e. before t.id.life r.life r.begun (ToldBelow r.time t) (ToldBelow r.time t) none (c e)) mine.told;
-    tables = known_tables w book at kept r good h v behind r.time (omega arith);
+    tables = known_tables w book at kept r good h reach v behind r.time (omega arith);
     closed = mine.closed;
     risen = all_weaken (λ (a : Asked). a.id.router ≡ at → IsBy a.id.life r.life r.begun (a.time ≤ r.time))
         (λ (a : Asked). a.id.router ≡ at → IsBy a.id.life r.life true (a.time ≤ r.time)) w.asked
@@ -142,8 +149,9 @@ module _ (w : World) (book : Book) (at : ℕ) (kept : List Kept) (r : Router) (g
     news = [];
     chose = tt;
     cursors = book.cursors;
+    raised = reach;
     elsewhere = λ router other. refl;
-    owed = λ v grows others journal bound chosen cursors. record {
+    owed = λ v grows others journal bound chosen cursors notes. record {
       node = rw (append-nil w.asked, append-nil w.answered) (record {
         state = begun_fits v (grows, others) chosen none;
         met = met_later (view_of w.nodes book) v w.given r.time grows h.met;
@@ -184,6 +192,18 @@ module _ (w : World) (book : Book) (at : ℕ) (kept : List Kept) (r : Router) (g
   pub new_answer : AllByRecursion (λ (x : Answered). x.id ≢ id_of r (r.count + 1)) w.answered
   new_answer = none_told (view_of w.nodes book) w.asked w.answered [] book.cursors w.answered good.answers new_number
 
+  -- nor is it noted how far its statements were sent
+  none_reached : reach_of (id_of r (r.count + 1)) book.reached ≡ 0
+  none_reached =
+      reach_else (id_of r (r.count + 1)) book.reached
+      (all_weaken (λ (x : Reach). IsIn x.id (ids_asked w.asked)) (λ (x : Reach). x.id ≢ id_of r (r.count + 1)) book.reached
+      (λ x i e. all_at (λ n. n ≢ id_of r (r.count + 1)) x.id (ids_asked w.asked)
+      (all_mapped (λ n. n ≢ id_of r (r.count + 1)) (λ (a : Asked). a.id) w.asked new_number) i e) good.noted)
+
+  new_reached : (more : List Open) → AllByRecursion (λ (q : Open). q.count ≡ r.count + 1) more → AllByRecursion (IsReached book.reached r) more
+  new_reached more counts = all_weaken (λ (q : Open). q.count ≡ r.count + 1) (IsReached book.reached r) more
+      (λ q e. let none : reach_of (id_of r q.count) book.reached ≡ 0 = ap (λ n. reach_of (id_of r n) book.reached) e ∙ none_reached in omega (arith, none)) counts
+
   -- nor is a time decided for it
   pub undecided : chosen_time (id_of r (r.count + 1)) book.chosen ≡ None
   undecided =
@@ -216,7 +236,7 @@ module _ (w : World) (book : Book) (at : ℕ) (kept : List Kept) (r : Router) (g
         (λ (b : Asked). b.id.router ≡ r.me → b.id.life ≡ r.life → b.came < w.now → b.time ≤ r.time) w.asked
         (λ b c router life step. (of_this_life b.id.life r.life r.begun (b.time ≤ r.time) life (c (router ∙ mine.own))).1) mine.risen
 
-    taken_fits : (v : View) → IsBehind w book at kept r good h v → (news : List Choice) → v.chosen ≡ book.chosen ++ news
+    taken_fits : (v : View) → IsBehind w book at kept r good h reach v → (news : List Choice) → v.chosen ≡ book.chosen ++ news
         → AllByRecursion (λ (c : Choice). c.id ≡ id_of r (r.count + 1)) news
         → (own : List Cursor) (more : List Open) (mail : List Letter) (replies : List Reply)
         → AreDifferentCounts (counts_of more) → AllByRecursion (λ (q : Open). q.count ≡ r.count + 1) more
@@ -245,7 +265,7 @@ module _ (w : World) (book : Book) (at : ℕ) (kept : List Kept) (r : Router) (g
       told = all_append (λ (t : Answered). t.id.router ≡ at → IsBy t.id.life r.life r.begun (ToldBelow r.time t)) w.answered
           (answered_by w.now replies) mine.told
           (told_new (answered_by w.now replies) names below);
-      tables = known_tables w book at kept r good h v behind r.time (omega arith);
+      tables = known_tables w book at kept r good h reach v behind r.time (omega arith);
       closed = all_append (λ (a : Asked). a.id.router ≡ at → a.id.life ≡ r.life → IsClosedOrOpen (r.requests ++ more)
           (w.answered ++ answered_by w.now replies) a) w.asked News
           (all_weaken (λ (a : Asked). a.id.router ≡ at → a.id.life ≡ r.life → IsClosedOrOpen r.requests w.answered a)
@@ -283,10 +303,10 @@ module _ (w : World) (book : Book) (at : ℕ) (kept : List Kept) (r : Router) (g
         → AllByRecursion (λ (x : Reply). x.id ≡ id_of r (r.count + 1)) replies → AreDifferent (ids_told (answered_by w.now replies))
         → AllByRecursion (λ x. ToldBelow r.time (as_answered w.now x)) replies → AllByRecursion (λ (x : Reply). x.time ≡ r.time) replies
         → IsClosedOrOpen (r.requests ++ more) (w.answered ++ answered_by w.now replies) (asked_now w.now r link number request)
-        → ((v : View) → IsBehind w book at kept r good h v → v.chosen ≡ book.chosen ++ news → v.cursors ≡ after
+        → ((v : View) → IsBehind w book at kept r good h reach v → v.chosen ≡ book.chosen ++ news → v.cursors ≡ after → AllByRecursion (IsNoted v.reached r) more
         → TakesFit v w book (w.asked ++ News) (w.answered ++ answered_by w.now replies) (took r own more) more mail replies)
         → Owes w book at (record { state = router_state r; kept = kept })
-        (record { written = []; mail = mail; taken = taken_now r link number request ∷ []; replies = replies }) (router_state (took r own more))
+        (record { written = []; mail = mail; taken = taken_now r link number request ∷ []; replies = replies; away = [] }) (router_state (took r own more))
     takes_owes news own after more mail replies chose turns apart counts names once below times closed row = record {
       kind = tt;
       rises = tt;
@@ -305,8 +325,9 @@ module _ (w : World) (book : Book) (at : ℕ) (kept : List Kept) (r : Router) (g
       chose = all_weaken (λ (c : Choice). c.id ≡ id_of r (r.count + 1)) (λ (c : Choice). (c.id.router ≡ at) × IsIn c.id (ids_asked (w.asked ++ News))) news
           (λ c e. (ap (λ (i : RequestId). i.router) e ∙ mine.own, subst (λ i. IsIn i (ids_asked (w.asked ++ News))) (sym e) asked_too)) chose;
       cursors = after;
+      raised = all_append (IsReached book.reached r) r.requests more reach (new_reached more counts);
       elsewhere = turns.elsewhere;
-      owed = λ v grows others journal bound chosen cursors. let given_row = row v (grows, others) chosen cursors in record {
+      owed = λ v grows others journal bound chosen cursors notes. let given_row = row v (grows, others) chosen cursors (noted_more v own more notes) in record {
         node = record {
           state = taken_fits v (grows, others) news chosen chose own more mail replies apart counts
               (of_answers (λ (t : Answered). t.id ≡ id_of r (r.count + 1)) w.now replies names)
@@ -322,6 +343,11 @@ module _ (w : World) (book : Book) (at : ℕ) (kept : List Kept) (r : Router) (g
       };
     }
       where
+        noted_more : (v : View) (own : List Cursor) (more : List Open) → IsNotedIn v w book (router_state (took r own more)) → AllByRecursion (IsNoted v.reached r) more
+        noted_more v own more notes =
+            all_behind (IsNoted v.reached r) r.requests more
+            (subst (λ l. AllByRecursion (IsNoted l r) (r.requests ++ more)) (sym notes.reached) (all_noted book.reached r (r.requests ++ more)))
+
         asked_too : IsIn (id_of r (r.count + 1)) (ids_asked (w.asked ++ News))
         asked_too =
             subst (λ l. IsIn (id_of r (r.count + 1)) l) (sym (map_longer (λ (a : Asked). a.id) w.asked News))

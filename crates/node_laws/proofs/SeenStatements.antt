@@ -9,10 +9,10 @@ use Rattle.std.proofs.lemmas.Int.{ints}
 use Rattle.std.proofs.lemmas.Bool.Decides.{Decides-eqb, Decides-int_eq}
 use Rattle.std.proofs.lemmas.Slice.Eq.{bytes_eq-Decides}
 use Rattle.history_model.specs.Notes.{Note, new_statement, done_before, older_than, same_session, same_number, greatest_of, noted, seen_beside, notes_of}
-use Rattle.history_model.proofs.Lists.{all_weaken, all_both, in_first, in_later, in_cons, in_none}
+use Rattle.history_model.proofs.Lists.{all_weaken, all_both, in_first, in_later}
 use Rattle.history_model.proofs.Noted.{same_session_is, same_number_is}
 use Rattle.history_model.specs.History.{Session, client_session, router_session, StatementNumber, Outcome, Entry, IsIn}
-use Rattle.base_model.specs.Identities.{RequestId, same_request}
+use Rattle.base_model.specs.Identities.{RequestId}
 use Rattle.reply_model.specs.Exchanges.{is_session_of, entries_by}
 pub use Rattle.reply_facts.proofs.Requests.{own_session, entry_by}
 use Rattle.reply_model.specs.Outcomes.{was_done, is_older, Done, done_of}

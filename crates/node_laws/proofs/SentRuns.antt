@@ -1,28 +1,28 @@
 -- What of an open write was sent: which statements are in a run, who owns them, and that those of an ordered write are the next ones.
-use Rattle.std.proofs.Common.{◌≡◌, ℕ, ◌+◌, ◌<◌, ◌≤◌, List, [], ◌∷◌, ◌++◌, refl, sym, ap, subst, ◌∙◌, arith, Bool}
-use Rattle.std.specs.Prelude.{Option, Some, None, true, false, not, filter, map, ◌==◌, ◌&&◌, ◌||◌, if◌then◌else◌}
-use Rattle.std.specs.List.{AllByRecursion, list_any}
+use Rattle.std.proofs.Common.{◌≡◌, ℕ, suc, append-nil, ◌+◌, ◌<◌, ◌≤◌, List, [], ◌∷◌, ◌++◌, refl, sym, ap, subst, ◌∙◌, arith, Bool}
+use Rattle.std.specs.Prelude.{Option, Some, None, true, false, not, filter, length, ◌==◌, ◌&&◌, ◌||◌, if◌then◌else◌}
+use Rattle.std.specs.List.{AllByRecursion}
 use Rattle.std.proofs.lemmas.Bool.{eqb-true}
 use Rattle.std.proofs.lemmas.Bool.Decides.{Decides-eqb}
 use Rattle.std.proofs.lemmas.List.Elements.{filter-append}
-use Rattle.history_model.proofs.Lists.{all_weaken, all_both, all_filter, all_append}
+use Rattle.history_model.proofs.Lists.{all_weaken, all_filter}
 use Rattle.command_model.specs.Writes.{ClientNumber}
 use Rattle.history_model.specs.History.{Operation}
 use Rattle.base_model.specs.Identities.{RequestId}
 use Rattle.reply_model.specs.Exchanges.{number_for}
-use Rattle.reply_model.specs.Outcomes.{StatementOutcome, has_outcome}
+use Rattle.reply_model.specs.Outcomes.{Try, StatementOutcome, has_outcome}
 use Rattle.chunk_model.specs.Tables.{Table}
 use Rattle.chunk_model.specs.Verdicts.{sent_by}
 use Rattle.node_model.specs.Letters.{Statement}
-use Rattle.node_model.specs.States.{Run, Course}
-use Rattle.node_model.specs.RouterRequests.{statements_from, owner_of_statement, is_on, run_to, indices_of, run_of, next_run, shards_for, all_runs, has_index, is_sent, unanswered, unsent, runs_by, in_run}
-use Rattle.node_model.specs.RouterNext.{left_of, served_in_part}
+use Rattle.node_model.specs.States.{Run}
+use Rattle.node_model.specs.RouterRequests.{statements_from, tries_at, reaches, owner_of_statement, shard_for, is_on, run_to, indices_of, run_of, next_run, shards_for, all_runs, has_index, is_sent, unanswered, runs_by, in_run}
+use Rattle.node_model.specs.RouterNext.{left_of}
 use Rattle.node_laws.proofs.Lists.{all_of, all_mapped, all_filtered, all_prefix}
-use Rattle.node_laws.proofs.Outcomes.{HasMore, index_is}
+use Rattle.node_laws.proofs.Outcomes.{HasMore, index_is, statements_long}
 
 -- FILTERS
 
-twice : {X : Type 0} (p q : X → Bool) (xs : List X) → filter q (filter p xs) ≡ filter (λ x. p x && q x) xs
+pub twice : {X : Type 0} (p q : X → Bool) (xs : List X) → filter q (filter p xs) ≡ filter (λ x. p x && q x) xs
 twice p q [] = refl
 twice p q (x ∷ xs) = by_test (p x) (twice p q xs)
   where
@@ -175,29 +175,72 @@ owner_on : (shard : ℕ) (owner : Option ℕ) → is_on shard owner ≡ true →
 owner_on shard None on = absurd (cc)
 owner_on shard (Some n) on = ap (λ m. Some m) (eqb-true n shard on)
 
-run_split : (t : Table) (shard : ℕ) (statements : List Statement) → (back : List Statement) × (run_to t shard statements ++ back ≡ statements)
-run_split t shard [] = ([], refl)
-run_split t shard (s ∷ statements) = by_test (is_on shard (owner_of_statement t s)) (run_split t shard statements)
+-- a statement goes to the owner of its key
+for_owner : (t : Table) (tries : List (List Try)) (s : Statement) (shard : ℕ) → shard_for t tries s ≡ Some shard → owner_of_statement t s ≡ Some shard
+for_owner t tries s shard goes = by_test (reaches t (tries_at s.number.index tries)) goes
   where
-    by_test : (a : Bool) → (back : List Statement) × (run_to t shard statements ++ back ≡ statements)
-        → (back : List Statement) × ((if a then s ∷ run_to t shard statements else []) ++ back ≡ s ∷ statements)
+    by_test : (b : Bool) → (if b then owner_of_statement t s else None) ≡ Some shard → owner_of_statement t s ≡ Some shard
+    by_test true e = e
+    by_test false e = absurd (cc)
+
+run_split : (t : Table) (tries : List (List Try)) (shard : ℕ) (statements : List Statement)
+    → (back : List Statement) × (run_to t tries shard statements ++ back ≡ statements)
+run_split t tries shard [] = ([], refl)
+run_split t tries shard (s ∷ statements) = by_test (is_on shard (shard_for t tries s)) (run_split t tries shard statements)
+  where
+    by_test : (a : Bool) → (back : List Statement) × (run_to t tries shard statements ++ back ≡ statements)
+        → (back : List Statement) × ((if a then s ∷ run_to t tries shard statements else []) ++ back ≡ s ∷ statements)
     by_test true more = (more.0, ap (λ l. s ∷ l) more.1)
     by_test false more = (s ∷ statements, refl)
 
-run_owned : (t : Table) (shard : ℕ) (statements : List Statement) → AllByRecursion (OwnedBy t shard) (run_to t shard statements)
-run_owned t shard [] = tt
-run_owned t shard (s ∷ statements) = by_test (is_on shard (owner_of_statement t s)) refl (run_owned t shard statements)
+run_owned : (t : Table) (tries : List (List Try)) (shard : ℕ) (statements : List Statement)
+    → AllByRecursion (OwnedBy t shard) (run_to t tries shard statements)
+run_owned t tries shard [] = tt
+run_owned t tries shard (s ∷ statements) = by_test (is_on shard (shard_for t tries s)) refl (run_owned t tries shard statements)
   where
-    by_test : (a : Bool) → is_on shard (owner_of_statement t s) ≡ a → AllByRecursion (OwnedBy t shard) (run_to t shard statements)
-        → AllByRecursion (OwnedBy t shard) (if a then s ∷ run_to t shard statements else [])
-    by_test true h more = (owner_on shard (owner_of_statement t s) h, more)
+    by_test : (a : Bool) → is_on shard (shard_for t tries s) ≡ a → AllByRecursion (OwnedBy t shard) (run_to t tries shard statements)
+        → AllByRecursion (OwnedBy t shard) (if a then s ∷ run_to t tries shard statements else [])
+    by_test true h more = (for_owner t tries s shard (owner_on shard (shard_for t tries s) h), more)
     by_test false h more = tt
+
+from_most : (given : Option ClientNumber) (id : RequestId) (index : ℕ) (operations : List Operation)
+    → AllByRecursion (λ (s : Statement). s.number.index < index + length operations) (statements_from given id index operations)
+from_most given id index [] = tt
+from_most given id index (operation ∷ operations) = (
+  (let at = index_is given id index in omega (arith, at)),
+  all_weaken (λ (s : Statement). s.number.index < index + 1 + length operations) (λ (s : Statement). s.number.index < index + length (operation ∷ operations))
+      (statements_from given id (index + 1) operations) (λ s less. omega (arith, less)) (from_most given id (index + 1) operations),
+)
+
+pub statements_within : (given : Option ClientNumber) (id : RequestId) (operations : List Operation)
+    → AllByRecursion (λ (s : Statement). s.number.index < length (statements_from given id 0 operations)) (statements_from given id 0 operations)
+statements_within given id operations =
+    all_weaken (λ (s : Statement). s.number.index < 0 + length operations) (λ (s : Statement). s.number.index < length (statements_from given id 0 operations))
+    (statements_from given id 0 operations) (λ s less. let long = statements_long given id 0 operations in omega (arith, less, long)) (from_most given id 0 operations)
 
 -- what is known of a run that a table gives
 pub record IsRunBy (t : Table) (ordered : Bool) (statements : List Statement) (answers : List (Option StatementOutcome)) (run : Run) : Type 0 where
   pub versions : run.sent ≡ sent_by t run.shard
   pub owned : InRun run (OwnedBy t run.shard) statements
   pub next : ordered ≡ true → IsNextRun statements answers run
+  pub within : AllByRecursion (λ i. i < length statements) run.indices
+
+-- the statements have indices below their number
+abbrev pub AreWithin : List Statement → Type 0
+AreWithin statements = AllByRecursion (λ (s : Statement). s.number.index < length statements) statements
+
+-- so have those of a part of some
+part_within : (p : Statement → Bool) (statements part back : List Statement) → AreWithin statements → part ++ back ≡ filter p statements
+    → AllByRecursion (λ i. i < length statements) (indices_of part)
+part_within p statements part back below same =
+    all_mapped (λ i. i < length statements) (λ (s : Statement). s.number.index) part
+    (front_of part (subst (λ l. AllByRecursion (λ (s : Statement). s.number.index < length statements) l) (sym same)
+    (all_filter (λ (s : Statement). s.number.index < length statements) p statements below)))
+  where
+    front_of : (xs : List Statement) → AllByRecursion (λ (s : Statement). s.number.index < length statements) (xs ++ back)
+        → AllByRecursion (λ (s : Statement). s.number.index < length statements) xs
+    front_of [] all = tt
+    front_of (x ∷ xs) all = (all.0, front_of xs all.1)
 
 -- the statements of a part of some are owned where the part is
 part_owned : (t : Table) (shard : ℕ) (p : Statement → Bool) (statements part back : List Statement) → AreRising statements → part ++ back ≡ filter p statements
@@ -206,70 +249,115 @@ part_owned t shard p statements part back rising same owned =
     all_passing (OwnedBy t shard) (λ (s : Statement). has_index (indices_of part) s.number.index) statements
     (subst (λ l. AllByRecursion (OwnedBy t shard) l) (sym (picked p statements part back rising same)) owned)
 
-module _ (t : Table) (statements : List Statement) (answers : List (Option StatementOutcome)) (rising : AreRising statements) where
+module _ (t : Table) (tries : List (List Try)) (statements : List Statement) (answers : List (Option StatementOutcome)) (rising : AreRising statements)
+    (below : AreWithin statements) where
   -- of an ordered write
-  next_runs : (left : List Statement) → unanswered statements answers ≡ left → AllByRecursion (IsRunBy t true statements answers) (next_run t left)
+  next_runs : (left : List Statement) → unanswered statements answers ≡ left → AllByRecursion (IsRunBy t true statements answers) (next_run t tries left)
   next_runs [] same = tt
-  next_runs (s ∷ left) same = by_owner (owner_of_statement t s)
+  next_runs (s ∷ left) same = by_owner (shard_for t tries s)
     where
       by_owner : (owner : Option ℕ) → AllByRecursion (IsRunBy t true statements answers) (elim owner as (λ (o : Option ℕ). List Run) [
         | None ↦ []
-        | Some shard ↦ run_of t shard (run_to t shard (s ∷ left)) ∷ []
+        | Some shard ↦ run_of t shard (run_to t tries shard (s ∷ left)) ∷ []
       ])
       by_owner None = tt
       by_owner (Some shard) =
-          let parts = run_split t shard (s ∷ left) in (
+          let parts = run_split t tries shard (s ∷ left) in (
             record {
               versions = refl;
-              owned = part_owned t shard (λ (x : Statement). not (has_outcome answers x.number.index)) statements (run_to t shard (s ∷ left)) parts.0 rising
-                  (parts.1 ∙ sym same) (run_owned t shard (s ∷ left));
+              within = part_within (λ (x : Statement). not (has_outcome answers x.number.index)) statements (run_to t tries shard (s ∷ left)) parts.0 below
+                  (parts.1 ∙ sym same);
+              owned = part_owned t shard (λ (x : Statement). not (has_outcome answers x.number.index)) statements (run_to t tries shard (s ∷ left)) parts.0 rising
+                  (parts.1 ∙ sym same) (run_owned t tries shard (s ∷ left));
               next = λ ordered. (
                 parts.0,
                 same ∙ sym parts.1 ∙ ap (λ l. l ++ parts.0) (sym (picked
-                    (λ (x : Statement). not (has_outcome answers x.number.index)) statements (run_to t shard (s ∷ left)) parts.0 rising (parts.1 ∙ sym same))),
+                    (λ (x : Statement). not (has_outcome answers x.number.index)) statements (run_to t tries shard (s ∷ left)) parts.0 rising (parts.1 ∙ sym same))),
               );
             },
             tt,
           )
 
   -- of an unordered one, of which these are left
-  other_runs : (p : Statement → Bool) → AllByRecursion (IsRunBy t false statements answers) (all_runs t (filter p statements))
+  other_runs : (p : Statement → Bool) → AllByRecursion (IsRunBy t false statements answers) (all_runs t tries (filter p statements))
   other_runs p =
       all_mapped (IsRunBy t false statements answers)
-      (λ shard. run_of t shard (filter (λ (s : Statement). is_on shard (owner_of_statement t s)) (filter p statements))) (shards_for t (filter p statements))
+      (λ shard. run_of t shard (filter (λ (s : Statement). is_on shard (shard_for t tries s)) (filter p statements))) (shards_for t tries (filter p statements))
       (all_of (λ shard. IsRunBy t false statements answers
-      (run_of t shard (filter (λ (s : Statement). is_on shard (owner_of_statement t s)) (filter p statements)))) (shards_for t (filter p statements))
-      (λ shard. record { versions = refl; owned = owned shard; next = λ ordered. absurd (cc) }))
+      (run_of t shard (filter (λ (s : Statement). is_on shard (shard_for t tries s)) (filter p statements)))) (shards_for t tries (filter p statements))
+      (λ shard. record { versions = refl; owned = owned shard; next = λ ordered. absurd (cc); within = within shard }))
     where
       none_back : (xs : List Statement) → xs ++ [] ≡ xs
       none_back [] = refl
       none_back (x ∷ xs) = ap (λ l. x ∷ l) (none_back xs)
 
-      owned : (shard : ℕ) → InRun (run_of t shard (filter (λ (s : Statement). is_on shard (owner_of_statement t s)) (filter p statements)))
+      within : (shard : ℕ) → AllByRecursion (λ i. i < length statements)
+          (indices_of (filter (λ (s : Statement). is_on shard (shard_for t tries s)) (filter p statements)))
+      within shard =
+          part_within (λ (s : Statement). p s && is_on shard (shard_for t tries s)) statements
+          (filter (λ (s : Statement). is_on shard (shard_for t tries s)) (filter p statements)) [] below
+          (none_back (filter (λ (s : Statement). is_on shard (shard_for t tries s)) (filter p statements))
+          ∙ twice p (λ (s : Statement). is_on shard (shard_for t tries s)) statements)
+
+      owned : (shard : ℕ) → InRun (run_of t shard (filter (λ (s : Statement). is_on shard (shard_for t tries s)) (filter p statements)))
           (OwnedBy t shard) statements
       owned shard =
-          part_owned t shard (λ (s : Statement). p s && is_on shard (owner_of_statement t s)) statements
-          (filter (λ (s : Statement). is_on shard (owner_of_statement t s)) (filter p statements)) [] rising
-          (none_back (filter (λ (s : Statement). is_on shard (owner_of_statement t s)) (filter p statements))
-          ∙ twice p (λ (s : Statement). is_on shard (owner_of_statement t s)) statements)
-          (all_weaken (λ (s : Statement). Unit {0} × (is_on shard (owner_of_statement t s) ≡ true)) (OwnedBy t shard)
-          (filter (λ (s : Statement). is_on shard (owner_of_statement t s)) (filter p statements))
-          (λ s h. owner_on shard (owner_of_statement t s) h.1)
-          (all_filtered (λ (s : Statement). Unit {0}) (λ (s : Statement). is_on shard (owner_of_statement t s)) (filter p statements)
+          part_owned t shard (λ (s : Statement). p s && is_on shard (shard_for t tries s)) statements
+          (filter (λ (s : Statement). is_on shard (shard_for t tries s)) (filter p statements)) [] rising
+          (none_back (filter (λ (s : Statement). is_on shard (shard_for t tries s)) (filter p statements))
+          ∙ twice p (λ (s : Statement). is_on shard (shard_for t tries s)) statements)
+          (all_weaken (λ (s : Statement). Unit {0} × (is_on shard (shard_for t tries s) ≡ true)) (OwnedBy t shard)
+          (filter (λ (s : Statement). is_on shard (shard_for t tries s)) (filter p statements))
+          (λ s h. for_owner t tries s shard (owner_on shard (shard_for t tries s) h.1))
+          (all_filtered (λ (s : Statement). Unit {0}) (λ (s : Statement). is_on shard (shard_for t tries s)) (filter p statements)
           (all_of (λ (s : Statement). Unit {0}) (filter p statements) (λ s. tt))))
 
   pub runs_are : (ordered : Bool) (runs : List Run)
-      → AllByRecursion (IsRunBy t ordered statements answers) (runs_by ordered (Some t) statements (record { answers = answers; runs = runs }))
+      → AllByRecursion (IsRunBy t ordered statements answers) (runs_by ordered (Some t) statements (record { answers = answers; tries = tries; runs = runs }))
   runs_are true [] = next_runs (unanswered statements answers) refl
   runs_are true (run ∷ runs) = tt
   runs_are false runs =
-      subst (λ l. AllByRecursion (IsRunBy t false statements answers) (all_runs t l))
+      subst (λ l. AllByRecursion (IsRunBy t false statements answers) (all_runs t tries l))
       (sym (twice (λ (s : Statement). not (has_outcome answers s.number.index)) (λ (s : Statement). not (is_sent runs s)) statements))
       (other_runs (λ (s : Statement). not (has_outcome answers s.number.index) && not (is_sent runs s)))
 
+-- of an ordered write at most one run is under way
+next_one : (t : Table) (tries : List (List Try)) (left : List Statement) → length (next_run t tries left) ≤ 1
+next_one t tries [] = omega arith
+next_one t tries (s ∷ left) = by_owner (shard_for t tries s)
+  where
+    by_owner : (owner : Option ℕ) → length (elim owner as (λ (o : Option ℕ). List Run) [
+      | None ↦ []
+      | Some shard ↦ run_of t shard (run_to t tries shard (s ∷ left)) ∷ []
+    ]) ≤ 1
+    by_owner None = omega arith
+    by_owner (Some shard) = omega arith
+
+pub one_more : (ordered : Bool) (table : Option Table) (statements : List Statement) (answers : List (Option StatementOutcome)) (tries : List (List Try))
+    (runs : List Run) → ordered ≡ true → length runs ≤ 1
+    → length (runs ++ runs_by ordered table statements (record { answers = answers; tries = tries; runs = runs })) ≤ 1
+one_more false table statements answers tries runs in_order le = absurd (cc)
+one_more true None statements answers tries runs in_order le = subst (λ (l : List Run). length l ≤ 1) (sym (append-nil runs)) le
+one_more true (Some t) statements answers tries [] in_order le = next_one t tries (unanswered statements answers)
+one_more true (Some t) statements answers tries (run ∷ runs) in_order le = subst (λ (l : List Run). length l ≤ 1) (sym (append-nil (run ∷ runs))) le
+
 -- WHAT IS LEFT OF RUNS
 
-index_left : (q : ℕ → Bool) (indices : List ℕ) (n : ℕ) → has_index (filter q indices) n ≡ (has_index indices n && q n)
+pub left_long : (answers : List (Option StatementOutcome)) (runs : List Run) → length runs ≤ 1 → length (left_of answers runs) ≤ 1
+left_long answers runs le = let most = left_most runs in omega (arith, most, le)
+  where
+    left_most : (rs : List Run) → length (left_of answers rs) ≤ length rs
+    left_most [] = omega arith
+    left_most (run ∷ rs) = by_rest (filter (λ i. not (has_outcome answers i)) run.indices) (left_most rs)
+      where
+        by_rest : (rest : List ℕ) → length (left_of answers rs) ≤ length rs → length (elim rest as (λ (l : List ℕ). List Run) [
+          | [] ↦ left_of answers rs
+          | i ∷ indices ↦ record { shard = run.shard; sent = run.sent; indices = i ∷ indices } ∷ left_of answers rs
+        ]) ≤ suc (length rs)
+        by_rest [] more = omega (arith, more)
+        by_rest (i ∷ indices) more = omega (arith, more)
+
+pub index_left : (q : ℕ → Bool) (indices : List ℕ) (n : ℕ) → has_index (filter q indices) n ≡ (has_index indices n && q n)
 index_left q [] n = refl
 index_left q (i ∷ indices) n = by_test (q i) refl (i == n) refl (index_left q indices n)
   where

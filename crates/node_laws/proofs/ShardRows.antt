@@ -1,7 +1,7 @@
 -- The rows of a shard keep all facts.
 use Rattle.std.proofs.Common.{◌≡◌, ◌⊎◌, inl, inr, ℕ, ◌<◌, ◌≤◌, List, [], ◌∷◌, ◌++◌, refl, sym, ap, subst, ◌∙◌, arith, append-nil, Bool}
-use Rattle.std.specs.Prelude.{Some, true, not, max, filter}
-use Rattle.std.specs.List.{AllByRecursion, slice_get}
+use Rattle.std.specs.Prelude.{Option, Some, None, true, false, not, max, filter}
+use Rattle.std.specs.List.{AllByRecursion, flat_map}
 use Rattle.history_model.proofs.Lists.{all_weaken, all_both, all_append}
 use Rattle.bson_model.specs.Tree.{Fields}
 use Rattle.base_model.specs.Times.{time_of_moment}
@@ -16,26 +16,28 @@ use Rattle.base_model.specs.Identities.{RequestId}
 use Rattle.reply_model.specs.Exchanges.{Asked}
 use Rattle.reply_model.specs.Outcomes.{Done}
 use Rattle.node_model.specs.Journal.{Kept, kept_table, kept_ceiling, entries_kept, greatest_kept}
-use Rattle.node_model.specs.Letters.{At, Statement, Body, table_told, write_ask, write_done, read_ask, half_ask, time_ask, Letter, Input, letter_input, Effect}
+use Rattle.node_model.specs.Letters.{sends, nothing, At, no_time, Statement, Body, refused, of_table, of_request, is_lack, table_told, write_ask, write_done, read_ask, half_ask, time_ask, Letter, Input, letter_input, Effect}
 use Rattle.node_model.specs.States.{Shard, shard_state}
 use Rattle.node_model.specs.Service.{Repeats, repeats_no_more, repeats, ends_repeat, documents_at}
-use Rattle.node_model.specs.ShardRows.{heard, at_later, under, greatest_entry, top, says, Ask, ask_in, wants_table, tries, asks_table, ShardRow, shard_write, shard_repeat, shard_empty, shard_park, shard_waits, shard_stale, shard_read, shard_read_above, shard_rows, shard_excess, shard_overflow, shard_time, shard_learn, shard_known, shard_skip, shard_moment, shard_opened, shard_client}
+use Rattle.node_model.specs.ShardRows.{heard, at_later, under, greatest_entry, top, says, Ask, ask_in, wants_table, tries, index_shown, refuses, shard_no_table, asks_table, ShardRow, shard_write, shard_repeat, shard_empty, shard_park, shard_waits, shard_stale, shard_read, shard_read_above, shard_rows, shard_excess, shard_overflow, shard_time, shard_learn, shard_known, shard_skip, shard_moment, shard_opened, shard_client}
 use Rattle.node_model.specs.Steps.{IsFor}
-use Rattle.node_model.specs.World.{World}
+use Rattle.node_model.specs.World.{World, journal_at}
 use Rattle.node_laws.proofs.Views.{Book, View, view_of, entries_in, IsShardAt, Later}
 use Rattle.node_laws.proofs.GreatestTimes.{greatest_both, within_more}
 use Rattle.node_laws.proofs.WriteFacts.{OnlyLast}
 use Rattle.node_laws.proofs.ReadFacts.{IsReadOf, IsShown, IsMade}
-use Rattle.node_laws.proofs.Facts.{IsKnownTable, IsWriteOf, IsDoneOf, BodyFits, ParkedFits, ShardFits, HeldFits, IsMet, Good}
+use Rattle.node_laws.proofs.Facts.{HasLack, IsKnownTable, IsWriteOf, IsDoneOf, BodyFits, ParkedFits, ShardFits, NodeFits, IsMet, Good}
 use Rattle.node_laws.proofs.Owes.{InputFits, IsSaid, Owes}
 use Rattle.node_laws.proofs.Lists.{all_filtered, all_mapped}
 use Rattle.node_laws.proofs.LongerJournals.{entries_longer}
-use Rattle.node_laws.proofs.Growth.{read_grows, known_grows, met_later, met_max}
+use Rattle.node_laws.proofs.Growth.{lack_grows, read_grows, known_grows, met_later, met_max}
 use Rattle.node_laws.proofs.ServedStatements.{up_to_later, repeats_told, repeats_last}
 use Rattle.node_laws.proofs.RequestParts.{ask_own}
-use Rattle.node_laws.proofs.ShardSteps.{wrote, quiet, letter_later, shown_later, shard_later, ask_receiver, retried_fits, asks_again_fit, tells_none, AreToldBy, told_done}
+use Rattle.node_laws.proofs.ShardSteps.{wrote, quiet, letter_later, shown_later, shard_later, ask_receiver, never_stale, retried_fits, asks_again_fit, tells_none, AreToldBy, told_done}
 use Rattle.node_laws.proofs.ShardWrites.{held_shard, Stood, heard_later, first_served, begun_by, first_by, served, writes_all}
 use Rattle.node_laws.proofs.KnownTables.{all_with}
+use Rattle.node_laws.proofs.Keeps.{nodes_keep}
+use Rattle.reply_model.specs.Accounts.{Given, Lack}
 
 -- QUIET ROWS
 
@@ -44,9 +46,9 @@ at_rest : (w : World) (book : Book) (at : ℕ) (kept : List Kept) (s : Shard) (t
     → IsMet (view_of w.nodes book) w.given time
     → ((v : View) → Later (view_of w.nodes book) v → IsMet v w.given time → entries_in v at ≡ s.entries → v.bound at ≡ greatest_kept kept
     → AllByRecursion (IsSaid v w.asked w.given) mail)
-    → Owes w book at (held_shard s kept) (record { written = []; mail = mail; taken = []; replies = [] }) (shard_state (at_later s time))
+    → Owes w book at (held_shard s kept) (record { written = []; mail = mail; taken = []; replies = []; away = [] }) (shard_state (at_later s time))
 at_rest w book at kept s time mail is later met letters =
-    quiet w book at (held_shard s kept) mail (shard_state (at_later s time)) is.good tt later (let n = is.within in omega (arith, n, later))
+    quiet w book at (held_shard s kept) mail (shard_state (at_later s time)) is.good tt tt later (let n = is.within in omega (arith, n, later))
     (λ v grows journal bound. record {
       node = shard_later (view_of w.nodes book) v w.asked at time kept s grows later is.fits;
       met = met_later (view_of w.nodes book) v w.given time grows met;
@@ -61,17 +63,17 @@ heard_met w book at kept s m is met = met_max (view_of w.nodes book) w.given s.t
 
 -- a message is received, and one is sent back
 heard_back : (w : World) (book : Book) (at : ℕ) (kept : List Kept) (s : Shard) (m : Letter) (mail : List Letter) → Stood w book at kept s
-    → InputFits w book (letter_input m)
+    → InputFits w book at (letter_input m)
     → ((v : View) → Later (view_of w.nodes book) v → IsMet v w.given (heard s m) → entries_in v at ≡ s.entries → v.bound at ≡ greatest_kept kept
     → AllByRecursion (IsSaid v w.asked w.given) mail)
-    → Owes w book at (held_shard s kept) (record { written = []; mail = mail; taken = []; replies = [] }) (shard_state (at_later s (heard s m)))
+    → Owes w book at (held_shard s kept) (record { written = []; mail = mail; taken = []; replies = []; away = [] }) (shard_state (at_later s (heard s m)))
 heard_back w book at kept s m mail is comes letters = at_rest w book at kept s (heard s m) mail is (heard_later s m)
     (heard_met w book at kept s m is comes.1) letters
 
 -- ROWS BY WHAT THEY ANSWER
 
 -- what a message says that was received, at the node's own numbers
-body_is : (w : World) (book : Book) (at : ℕ) (m : Letter) (b : Body) → m.body ≡ b → InputFits w book (letter_input m)
+body_is : (w : World) (book : Book) (at : ℕ) (m : Letter) (b : Body) → m.body ≡ b → InputFits w book at (letter_input m)
     → BodyFits (view_of w.nodes book) w.asked m.sender m.receiver m.time b
 body_is w book at m b is comes = subst (λ x. BodyFits (view_of w.nodes book) w.asked m.sender m.receiver m.time x) is comes.0
 
@@ -83,10 +85,10 @@ first_repeated ordered entries _ _ (repeats s rest d dones seen on more) = inr (
 first_repeated ordered entries _ _ (ends_repeat s rest d seen over) = inr (s, rest, refl)
 
 tells_again : (w : World) (book : Book) (at : ℕ) (kept : List Kept) (s : Shard) (m : Letter) (id : RequestId) (ordered : Bool) (namespace : List ℕ)
-    (statements : List Statement) (d : Done) (dones : List Done) → Stood w book at kept s → m.receiver ≡ s.me → InputFits w book (letter_input m)
+    (statements : List Statement) (d : Done) (dones : List Done) → Stood w book at kept s → m.receiver ≡ s.me → InputFits w book at (letter_input m)
     → IsWriteOf (view_of w.nodes book) w.asked m.receiver m.time id ordered namespace statements → Repeats ordered s.entries statements (d ∷ dones)
     → Owes w book at (held_shard s kept)
-    (record { written = []; mail = says s id.router (heard s m) (write_done id (d ∷ dones)) ∷ []; taken = []; replies = [] })
+    (record { written = []; mail = says s id.router (heard s m) (write_done id (d ∷ dones)) ∷ []; taken = []; replies = []; away = [] })
     (shard_state (at_later s (heard s m)))
 tells_again w book at kept s m id ordered namespace statements d dones is to comes ask repeated =
     let first = first_repeated ordered s.entries statements (d ∷ dones) repeated in
@@ -119,12 +121,12 @@ tells_again w book at kept s m id ordered namespace statements d dones is to com
 
 -- a request waits
 parks : (w : World) (book : Book) (at : ℕ) (kept : List Kept) (s : Shard) (m : Letter) (a : Ask) → Stood w book at kept s → m.receiver ≡ s.me
-    → InputFits w book (letter_input m)
+    → InputFits w book at (letter_input m)
     → ask_in m.body ≡ Some a
-    → Owes w book at (held_shard s kept) (record { written = []; mail = asks_table s (heard s m) a.namespace ∷ []; taken = []; replies = [] })
+    → Owes w book at (held_shard s kept) (record { written = []; mail = asks_table s (heard s m) a.namespace ∷ []; taken = []; replies = []; away = [] })
     (shard_state (record { me = s.me; time = heard s m; tables = s.tables; entries = s.entries; ceiling = s.ceiling; parked = s.parked ++ m ∷ [] }))
 parks w book at kept s m a is to comes asks =
-    quiet w book at (held_shard s kept) (asks_table s (heard s m) a.namespace ∷ []) _ is.good tt (heard_later s m) (let n = is.within in omega (arith, n))
+    quiet w book at (held_shard s kept) (asks_table s (heard s m) a.namespace ∷ []) _ is.good tt tt (heard_later s m) (let n = is.within in omega (arith, n))
     (λ v grows journal bound.
     let met : IsMet v w.given (heard s m) = met_later (view_of w.nodes book) v w.given (heard s m) grows (heard_met w book at kept s m is comes.1) in
     let f = shard_later (view_of w.nodes book) v w.asked at (heard s m) kept s grows (heard_later s m) is.fits in
@@ -175,7 +177,7 @@ documents_shown w book at kept s m v id namespace moment half is first grows ent
     }
 
 takes_documents : (w : World) (book : Book) (at : ℕ) (kept : List Kept) (s : Shard) (m : Letter) (id : RequestId) (turn : ℕ) (namespace : List ℕ) (moment : ℕ)
-    (half : Half) (sent : Sent) → Stood w book at kept s → m.receiver ≡ s.me → InputFits w book (letter_input m)
+    (half : Half) (sent : Sent) → Stood w book at kept s → m.receiver ≡ s.me → InputFits w book at (letter_input m)
     → m.body ≡ read_ask id turn namespace moment half sent
     → moment ≤ top s
     → Owes w book at (held_shard s kept) (record {
@@ -184,6 +186,7 @@ takes_documents : (w : World) (book : Book) (at : ℕ) (kept : List Kept) (s : S
           (half_ask id turn namespace moment half (documents_at s.entries namespace moment half)) ∷ [];
       taken = [];
       replies = [];
+      away = [];
     })
     (shard_state (at_later s (heard s m)))
 takes_documents w book at kept s m id turn namespace moment half sent is to comes asks covered =
@@ -225,7 +228,7 @@ under_fits u v asked at time ceiling kept s later le above fits =
     }
 
 takes_above : (w : World) (book : Book) (at : ℕ) (kept : List Kept) (s : Shard) (m : Letter) (id : RequestId) (turn : ℕ) (namespace : List ℕ) (moment : ℕ)
-    (half : Half) (sent : Sent) → Stood w book at kept s → m.receiver ≡ s.me → InputFits w book (letter_input m)
+    (half : Half) (sent : Sent) → Stood w book at kept s → m.receiver ≡ s.me → InputFits w book at (letter_input m)
     → m.body ≡ read_ask id turn namespace moment half sent
     → top s < moment
     → Owes w book at (held_shard s kept) (record {
@@ -234,6 +237,7 @@ takes_above : (w : World) (book : Book) (at : ℕ) (kept : List Kept) (s : Shard
           (half_ask id turn namespace moment half (documents_at s.entries namespace moment half)) ∷ [];
       taken = [];
       replies = [];
+      away = [];
     })
     (shard_state (under s (heard s m) moment))
 takes_above w book at kept s m id turn namespace moment half sent is to comes asks above =
@@ -243,7 +247,7 @@ takes_above w book at kept s m id turn namespace moment half sent is to comes as
     ∙ sym is.fits.entries in
     let stored = greatest_both kept (kept_ceiling moment ∷ []) in
     wrote w book at (held_shard s kept) (kept_ceiling moment ∷ [])
-    (says s s.me (heard s m) (half_ask id turn namespace moment half (documents_at s.entries namespace moment half)) ∷ []) _ is.good tt (tt, tt)
+    (says s s.me (heard s m) (half_ask id turn namespace moment half (documents_at s.entries namespace moment half)) ∷ []) _ is.good tt tt (tt, tt)
     (heard_later s m)
     (within_more kept (kept_ceiling moment ∷ []) s.time (heard s m) is.within (heard_later s m) (omega (arith, early), tt))
     (λ v grows journal bound.
@@ -269,7 +273,7 @@ takes_above w book at kept s m id turn namespace moment half sent is to comes as
 -- what is made of the documents that were taken
 made_of : (w : World) (book : Book) (at : ℕ) (kept : List Kept) (s : Shard) (m : Letter) (v : View) (id : RequestId) (turn : ℕ) (namespace : List ℕ)
     (moment : ℕ) (half : Half)
-    (documents : List Fields) (rows : Rows) → Stood w book at kept s → m.receiver ≡ s.me → InputFits w book (letter_input m)
+    (documents : List Fields) (rows : Rows) → Stood w book at kept s → m.receiver ≡ s.me → InputFits w book at (letter_input m)
     → m.body ≡ half_ask id turn namespace moment half documents
     → Later (view_of w.nodes book) v → IsHalf half documents rows → IsMade v w.asked s.me (heard s m) id rows
 made_of w book at kept s m v id turn namespace moment half documents rows is to comes asks grows makes =
@@ -288,7 +292,7 @@ made_of w book at kept s m v id turn namespace moment half documents rows is to 
 -- no half that a pipeline is split into overflows
 never_overflows : (w : World) (book : Book) (at : ℕ) (m : Letter) (id : RequestId) (turn : ℕ) (namespace : List ℕ) (moment : ℕ) (half : Half)
     (documents : List Fields)
-    → InputFits w book (letter_input m) → m.body ≡ half_ask id turn namespace moment half documents → Runs half.stages documents overflowed → ⊥
+    → InputFits w book at (letter_input m) → m.body ≡ half_ask id turn namespace moment half documents → Runs half.stages documents overflowed → ⊥
 never_overflows w book at m id turn namespace moment half documents comes asks runs =
     let f = body_is w book at m (half_ask id turn namespace moment half documents) asks comes in
     split_half_lists f.0.read.read.stages (split f.0.read.read.stages).0 (split f.0.read.read.stages).1 documents refl
@@ -296,12 +300,13 @@ never_overflows w book at m id turn namespace moment half documents comes asks r
 
 -- a table is kept, and what waited for it is tried again
 learns : (w : World) (book : Book) (at : ℕ) (kept : List Kept) (s : Shard) (m : Letter) (namespace : List ℕ) (create : Bool) (moment : At) (t : Table)
-    → Stood w book at kept s → InputFits w book (letter_input m) → m.body ≡ table_told namespace create moment (Some t)
+    → Stood w book at kept s → InputFits w book at (letter_input m) → m.body ≡ table_told namespace create moment (Some t)
     → Owes w book at (held_shard s kept) (record {
       written = kept_table t ∷ [];
       mail = tries s (heard s m) (filter (wants_table t.namespace) s.parked);
       taken = [];
       replies = [];
+      away = [];
     })
     (shard_state (record {
       me = s.me;
@@ -316,7 +321,7 @@ learns w book at kept s m namespace create moment t is comes told =
     let longer : entries_kept (kept ++ kept_table t ∷ []) ≡ s.entries = entries_longer kept (kept_table t ∷ []) ∙ append-nil (entries_kept kept)
     ∙ sym is.fits.entries in
     let same : greatest_kept (kept ++ kept_table t ∷ []) ≡ greatest_kept kept = let both = greatest_both kept (kept_table t ∷ []) in omega (arith, both) in
-    wrote w book at (held_shard s kept) (kept_table t ∷ []) (tries s (heard s m) (filter (wants_table t.namespace) s.parked)) _ is.good tt (tt, tt)
+    wrote w book at (held_shard s kept) (kept_table t ∷ []) (tries s (heard s m) (filter (wants_table t.namespace) s.parked)) _ is.good tt tt (tt, tt)
     (heard_later s m)
     (within_more kept (kept_table t ∷ []) s.time (heard s m) is.within (heard_later s m) (omega arith, tt))
     (λ v grows journal bound.
@@ -361,13 +366,94 @@ learns w book at kept s m namespace create moment t is comes told =
           (λ p fit came. (fit, came)) f.parked f.came)));
     })
 
+-- a table can't be had: what waited for it is refused
+refuses_fit : (v : View) (asked : List Asked) (given : List Given) (s : Shard) (time node : ℕ) (lack : Lack) (parked : List Letter) → IsMet v given time
+    → HasLack v node lack → AllByRecursion (IsSaid v asked given) (flat_map (refuses s time node lack) parked)
+refuses_fit v asked given s time node lack [] met had = tt
+refuses_fit v asked given s time node lack (m ∷ parked) met had = by_ask (ask_in m.body) (refuses_fit v asked given s time node lack parked met had)
+  where
+    by_ask : (o : Option Ask) → AllByRecursion (IsSaid v asked given) (flat_map (refuses s time node lack) parked)
+        → AllByRecursion (IsSaid v asked given) ((elim o as (λ (x : Option Ask). List Letter) [
+          | None ↦ []
+          | Some a ↦ says s a.id.router time (refused (of_request a.id a.turn (index_shown a.first)) (is_lack node lack)) ∷ []
+        ]) ++ flat_map (refuses s time node lack) parked)
+    by_ask None more = more
+    by_ask (Some a) more = ((had, met, tt), more)
+
+refuses_all : (w : World) (book : Book) (at : ℕ) (kept : List Kept) (s : Shard) (m : Letter) (namespace : List ℕ) (node : ℕ) (lack : Lack)
+    → Stood w book at kept s → InputFits w book at (letter_input m) → m.body ≡ refused (of_table namespace false no_time) (is_lack node lack)
+    → Owes w book at (held_shard s kept) (record {
+      written = [];
+      mail = flat_map (refuses s (heard s m) node lack) (filter (wants_table namespace) s.parked);
+      taken = [];
+      replies = [];
+      away = [];
+    })
+    (shard_state (record {
+      me = s.me;
+      time = heard s m;
+      tables = s.tables;
+      entries = s.entries;
+      ceiling = s.ceiling;
+      parked = filter (λ p. not (wants_table namespace p)) s.parked;
+    }))
+refuses_all w book at kept s m namespace node lack is comes told =
+    quiet w book at (held_shard s kept) (flat_map (refuses s (heard s m) node lack) (filter (wants_table namespace) s.parked)) _ is.good tt tt (heard_later s m)
+    (let n = is.within in omega (arith, n))
+    (λ v grows journal bound.
+    let met : IsMet v w.given (heard s m) = met_later (view_of w.nodes book) v w.given (heard s m) grows (heard_met w book at kept s m is comes.1) in
+    let had : HasLack (view_of w.nodes book) node lack = body_is w book at m (refused (of_table namespace false no_time) (is_lack node lack)) told comes in
+    let f = shard_later (view_of w.nodes book) v w.asked at (heard s m) kept s grows (heard_later s m) is.fits in
+    record {
+      node = record {
+        own = f.own;
+        came = all_weaken (λ (p : Letter). (p.receiver ≡ at) × (not (wants_table namespace p) ≡ true)) (λ (p : Letter). p.receiver ≡ at)
+            (filter (λ p. not (wants_table namespace p)) s.parked) (λ p h. h.0)
+            (all_filtered (λ (p : Letter). p.receiver ≡ at) (λ p. not (wants_table namespace p)) s.parked f.came);
+        entries = f.entries;
+        tops = f.tops;
+        past = f.past;
+        legal = f.legal;
+        sent = f.sent;
+        numbers = f.numbers;
+        placed = f.placed;
+        parts = f.parts;
+        still = f.still;
+        tables = f.tables;
+        parked = all_weaken (λ p. ParkedFits v w.asked (heard s m) p × (not (wants_table namespace p) ≡ true)) (ParkedFits v w.asked (heard s m))
+            (filter (λ p. not (wants_table namespace p)) s.parked) (λ p h. h.0)
+            (all_filtered (ParkedFits v w.asked (heard s m)) (λ p. not (wants_table namespace p)) s.parked f.parked);
+      };
+      met = met;
+      cursors = tt;
+      letters = refuses_fit v w.asked w.given s (heard s m) node lack (filter (wants_table namespace) s.parked) met
+          (lack_grows (view_of w.nodes book) v node lack grows had);
+    })
+
+-- where nothing happens
+pub shard_rests : (w : World) (book : Book) (at : ℕ) (kept : List Kept) (s : Shard) → Good w book → journal_at w.nodes at ≡ kept
+    → NodeFits (view_of w.nodes book) w.asked w.answered w.given at (record { state = shard_state s; kept = kept })
+    → Owes w book at (record { state = shard_state s; kept = kept }) nothing (shard_state s)
+shard_rests w book at kept s good here fits =
+    at_rest w book at kept s s.time [] (record { good = good; here = here; fits = fits.state; met = fits.met; within = fits.within }) (omega arith) fits.met
+    (λ v grows met entries bound. tt)
+
+-- where only messages are sent
+pub shard_mails : (w : World) (book : Book) (at : ℕ) (kept : List Kept) (s : Shard) (mail : List Letter) → Good w book → journal_at w.nodes at ≡ kept
+    → NodeFits (view_of w.nodes book) w.asked w.answered w.given at (record { state = shard_state s; kept = kept })
+    → ((v : View) → Later (view_of w.nodes book) v → AllByRecursion (IsSaid v w.asked w.given) mail)
+    → Owes w book at (record { state = shard_state s; kept = kept }) (sends mail) (shard_state s)
+shard_mails w book at kept s mail good here fits letters =
+    at_rest w book at kept s s.time mail (record { good = good; here = here; fits = fits.state; met = fits.met; within = fits.within }) (omega arith) fits.met
+    (λ v grows met entries bound. letters v grows)
+
 -- ALL ROWS
 
-owes_row : (w : World) (book : Book) (at : ℕ) (kept : List Kept) (s t : Shard) (i : Input) (f : Effect) → Stood w book at kept s → IsFor s.me i → InputFits w book i
+owes_row : (w : World) (book : Book) (at : ℕ) (kept : List Kept) (s t : Shard) (i : Input) (f : Effect) → Stood w book at kept s → IsFor s.me i → InputFits w book at i
     → ShardRow s i f t
     → Owes w book at (held_shard s kept) f (shard_state t)
 owes_row w book at kept _ _ _ _ is own comes (shard_write s m id turn ordered namespace statements sent d dones made last asks fits serves) =
-    let ask = body_is w book at m (write_ask id turn ordered namespace statements sent) asks comes in
+    let ask = (body_is w book at m (write_ask id turn ordered namespace statements sent) asks comes).0 in
     let place : IsShardAt at = sym is.fits.own ∙ sym own
     ∙ first_by (view_of w.nodes book) w.asked m.receiver m.time id ordered namespace statements d dones ask
     (first_served s.me namespace ordered s.entries (heard s m) statements (d ∷ dones) made last serves) in
@@ -375,13 +461,15 @@ owes_row w book at kept _ _ _ _ is own comes (shard_write s m id turn ordered na
     (served w book at kept s m.receiver m.time id ordered namespace statements d dones made last is place ask (heard s m) (heard_later s m) (omega arith) serves)
 owes_row w book at kept _ _ _ _ is own comes (shard_repeat s m id turn ordered namespace statements sent d dones asks other repeated) =
     tells_again w book at kept s m id ordered namespace statements d dones is own comes
-    (body_is w book at m (write_ask id turn ordered namespace statements sent) asks comes) repeated
+    (body_is w book at m (write_ask id turn ordered namespace statements sent) asks comes).0 repeated
 owes_row w book at kept _ _ _ _ is own comes (shard_empty s m id turn ordered namespace sent asks) =
     heard_back w book at kept s m [] is comes (λ v grows met entries bound. tt)
 owes_row w book at kept _ _ _ _ is own comes (shard_park s m a asks new old waits) = parks w book at kept s m a is own comes asks
 owes_row w book at kept _ _ _ _ is own comes (shard_waits s m a asks new old waits) = heard_back w book at kept s m [] is comes (λ v grows met entries bound. tt)
 owes_row w book at kept _ _ _ _ is own comes (shard_stale s m a version asks new old) =
-    heard_back w book at kept s m _ is comes (λ v grows met entries bound. ((tt, met, tt), tt))
+    absurd (never_stale (view_of w.nodes book) w.asked m.sender m.receiver m.time s.time s.me s.tables m.body a version
+    (nodes_keep (view_of w.nodes book) w.asked w.answered w.given w.nodes is.good.order is.good.nodes (λ p. refl) (λ p. refl) is.good.one).begun.fitting
+    is.fits.tables own comes.0 asks old)
 owes_row w book at kept _ _ _ _ is own comes (shard_read s m id turn namespace moment half sent asks fits covered) =
     takes_documents w book at kept s m id turn namespace moment half sent is own comes asks covered
 owes_row w book at kept _ _ _ _ is own comes (shard_read_above s m id turn namespace moment half sent asks fits above) =
@@ -422,18 +510,19 @@ owes_row w book at kept _ _ _ _ is own comes (shard_learn s m namespace create m
     is comes told
 owes_row w book at kept _ _ _ _ is own comes (shard_known s m namespace create moment table told old) =
     heard_back w book at kept s m [] is comes (λ v grows met entries bound. tt)
+owes_row w book at kept _ _ _ _ is own comes (shard_no_table s m namespace node lack says_so) = refuses_all w book at kept s m namespace node lack is comes says_so
 owes_row w book at kept _ _ _ _ is own comes (shard_skip s m none) = at_rest w book at kept s s.time [] is (omega arith) is.met (λ v grows met entries bound. tt)
 owes_row w book at kept _ _ _ _ is own comes (shard_moment s moment) =
     at_rest w book at kept s (max s.time (time_of_moment moment)) _ is (omega arith)
-    (met_max (view_of w.nodes book) w.given s.time (time_of_moment moment) is.met comes)
+    (met_max (view_of w.nodes book) w.given s.time (time_of_moment moment) is.met comes.0)
     (λ v grows met entries bound. asks_again_fit v w.asked w.given s (max s.time (time_of_moment moment)) s.parked met)
 owes_row w book at kept _ _ _ _ is own comes (shard_opened s) = at_rest w book at kept s s.time [] is (omega arith) is.met (λ v grows met entries bound. tt)
 owes_row w book at kept _ _ _ _ is own comes (shard_client s link number request) =
     at_rest w book at kept s s.time [] is (omega arith) is.met (λ v grows met entries bound. tt)
 
 pub shard_owes : (w : World) (book : Book) (at : ℕ) (kept : List Kept) (s t : Shard) (i : Input) (f : Effect) → Good w book
-    → slice_get w.nodes at ≡ Some (record { state = shard_state s; kept = kept })
-    → HeldFits (view_of w.nodes book) w.asked w.answered w.given at (record { state = shard_state s; kept = kept }) → IsFor s.me i → InputFits w book i
+    → journal_at w.nodes at ≡ kept
+    → NodeFits (view_of w.nodes book) w.asked w.answered w.given at (record { state = shard_state s; kept = kept }) → IsFor s.me i → InputFits w book at i
     → ShardRow s i f t
     → Owes w book at (record { state = shard_state s; kept = kept }) f (shard_state t)
 shard_owes w book at kept s t i f good here fits own comes row = owes_row w book at kept s t i f

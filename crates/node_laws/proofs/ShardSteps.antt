@@ -3,7 +3,11 @@ use Rattle.std.proofs.Common.{◌≡◌, ℕ, ◌≤◌, List, [], ◌∷◌, �
 use Rattle.std.specs.Prelude.{Option, Some, None, Ok, true, false}
 use Rattle.std.specs.List.{AllByRecursion}
 use Rattle.std.specs.Str.{bytes_eq}
-use Rattle.history_model.proofs.Lists.{all_weaken}
+use Rattle.history_model.proofs.Lists.{all_weaken, all_at}
+use Rattle.chunk_model.specs.Placement.{AreFitting}
+use Rattle.chunk_model.specs.Tables.{Table, first_shard, table_of}
+use Rattle.chunk_model.specs.Verdicts.{sent_by, fits, shard_is_old, router_is_old, verdict_of}
+use Rattle.chunk_model.specs.Versions.{Version}
 use Rattle.bson_model.specs.Tree.{Fields}
 use Rattle.pipeline_model.specs.Halves.{Half}
 use Rattle.history_model.specs.History.{Entry, IsIn}
@@ -15,21 +19,23 @@ use Rattle.reply_model.specs.Accounts.{Given}
 use Rattle.reply_model.specs.Outcomes.{Done}
 use Rattle.reply_model.specs.OneHistory.{IsPlaced, ids_asked, ids_told, AreDifferent}
 use Rattle.node_model.specs.Journal.{Kept, greatest_kept}
-use Rattle.node_model.specs.Letters.{Statement, Body, table_ask, table_told, split_ask, split_done, write_ask, write_done, read_ask, half_ask, read_rows, stale, time_ask, time_told, Letter}
+use Rattle.node_model.specs.Letters.{Statement, Body, table_ask, table_told, split_ask, split_done, write_ask, write_done, read_ask, half_ask, read_rows, refused, time_ask, time_told, Letter}
 use Rattle.node_model.specs.States.{Shard, NodeState, time_of_node}
 use Rattle.node_model.specs.ShardRows.{at_later, says, Ask, ask_in, wants_table, asks_table, asks_again}
-use Rattle.node_model.specs.World.{Held, World}
+use Rattle.node_model.specs.World.{World}
 use Rattle.node_laws.proofs.Views.{Book, View, view_of, entries_in, changes_in, IsShardAt, history_in, IsAbove, Later}
 use Rattle.node_laws.proofs.ReadFacts.{IsShown}
 use Rattle.node_laws.proofs.WriteFacts.{IsDoneAt, OnlyLast, WasMade}
-use Rattle.node_laws.proofs.Facts.{IsKnownTable, IsOwned, HasBegun, IsDoneOf, BodyFits, LetterFits, ParkedFits, ShardFits, StateFits, OwnCursors, IsMet, TellsAll, SameKind, Good}
+use Rattle.node_laws.proofs.Facts.{Node, ReachFits, IsKnownTable, IsOwned, HasBegun, IsDoneOf, BodyFits, LetterFits, ParkedFits, ShardFits, StateFits, OwnCursors, IsMet, TellsAll, SameKind, Good}
 use Rattle.node_laws.proofs.Owes.{IsSaid, Owes}
 use Rattle.node_laws.proofs.CatalogueRows.{no_answers}
 use Rattle.node_laws.proofs.LongerJournals.{still_grows}
-use Rattle.node_laws.proofs.Growth.{next_later, begun_grows, made_later, known_grows, owned_grows, shown_grows, letter_grows, placed_grows}
+use Rattle.node_laws.proofs.Growth.{version_grows, next_later, begun_grows, made_later, known_grows, owned_grows, shown_grows, letter_grows, placed_grows}
 use Rattle.node_laws.proofs.Journals.{later_self}
 use Rattle.node_laws.proofs.ServedStatements.{up_to_later}
-use Rattle.node_laws.proofs.KnownTables.{table_created}
+use Rattle.node_laws.proofs.KnownTables.{FoundTable, table_found, table_created}
+use Rattle.node_laws.proofs.TableFacts.{IsVersionOf}
+use Rattle.node_laws.proofs.TableVersions.{known_fits}
 use Rattle.node_laws.proofs.RequestParts.{owned_by_first}
 
 -- A STEP THAT TAKES AND REPLIES NOTHING
@@ -41,13 +47,13 @@ pub record Leaves (v : View) (w : World) (at : ℕ) (kept : List Kept) (mail : L
   pub cursors : OwnCursors v.cursors at new
   pub letters : AllByRecursion (IsSaid v w.asked w.given) mail
 
-pub wrote : (w : World) (book : Book) (at : ℕ) (old : Held) (written : List Kept) (mail : List Letter) (new : NodeState) → Good w book → SameKind old.state new
+pub wrote : (w : World) (book : Book) (at : ℕ) (old : Node) (written : List Kept) (mail : List Letter) (new : NodeState) → Good w book → SameKind old.state new → ReachFits book.reached new
     → AllByRecursion (IsAbove at (time_of_node old.state)) written → time_of_node old.state ≤ time_of_node new
     → greatest_kept (old.kept ++ written) ≤ time_of_node new
     → ((v : View) → Later (view_of w.nodes book) v → v.journal at ≡ old.kept ++ written → v.bound at ≡ greatest_kept (old.kept ++ written)
     → Leaves v w at (old.kept ++ written) mail new)
-    → Owes w book at old (record { written = written; mail = mail; taken = []; replies = [] }) new
-wrote w book at old written mail new good kind rises later within leaves = record {
+    → Owes w book at old (record { written = written; mail = mail; taken = []; replies = []; away = [] }) new
+wrote w book at old written mail new good kind raised rises later within leaves = record {
   kind = kind;
   rises = rises;
   taken = tt;
@@ -59,8 +65,9 @@ wrote w book at old written mail new good kind rises later within leaves = recor
   news = [];
   chose = tt;
   cursors = book.cursors;
+  raised = raised;
   elsewhere = λ router other. refl;
-  owed = λ v grows others journal bound chosen cursors.
+  owed = λ v grows others journal bound chosen cursors notes.
       let l = leaves v grows journal bound in
       record {
         node = rw (append-nil w.asked, append-nil w.answered) (record { state = l.node; met = l.met; cursors = l.cursors; within = within });
@@ -72,11 +79,11 @@ wrote w book at old written mail new good kind rises later within leaves = recor
 }
 
 -- and writes nothing
-pub quiet : (w : World) (book : Book) (at : ℕ) (old : Held) (mail : List Letter) (new : NodeState) → Good w book → SameKind old.state new
+pub quiet : (w : World) (book : Book) (at : ℕ) (old : Node) (mail : List Letter) (new : NodeState) → Good w book → SameKind old.state new → ReachFits book.reached new
     → time_of_node old.state ≤ time_of_node new → greatest_kept old.kept ≤ time_of_node new
     → ((v : View) → Later (view_of w.nodes book) v → v.journal at ≡ old.kept → v.bound at ≡ greatest_kept old.kept → Leaves v w at old.kept mail new)
-    → Owes w book at old (record { written = []; mail = mail; taken = []; replies = [] }) new
-quiet w book at old mail new good kind later within leaves = wrote w book at old [] mail new good kind tt later
+    → Owes w book at old (record { written = []; mail = mail; taken = []; replies = []; away = [] }) new
+quiet w book at old mail new good kind raised later within leaves = wrote w book at old [] mail new good kind raised tt later
     (subst (λ k. greatest_kept k ≤ time_of_node new) (sym (append-nil old.kept)) within)
     (λ v grows journal bound. subst (λ k. Leaves v w at k mail new) (sym (append-nil old.kept)) (leaves v grows (journal ∙ append-nil old.kept)
     (bound ∙ ap (λ k. greatest_kept k) (append-nil old.kept))))
@@ -106,7 +113,7 @@ shard_later u v asked at time kept s later le f = record {
   tops = f.tops;
   past = up_to_later s.time time s.entries le f.past;
   legal = f.legal;
-  sent = all_weaken (WasMade (history_in u) asked) (WasMade (history_in v) asked) s.entries (λ e m. made_later u v asked e later m) f.sent;
+  sent = all_weaken (WasMade (history_in u) asked u.reached) (WasMade (history_in v) asked v.reached) s.entries (λ e m. made_later u v asked e later m) f.sent;
   numbers = f.numbers;
   placed = all_weaken (IsPlaced (changes_in u)) (IsPlaced (changes_in v)) s.entries (λ e p. placed_grows u v e later f.still p) f.placed;
   parts = f.parts;
@@ -120,12 +127,15 @@ shard_later u v asked at time kept s later le f = record {
 no_ask : {X : Type 0} {x : X} → None ≡ Some x → ⊥
 no_ask e = cc
 
+same_asks : (x y : Ask) → Some x ≡ Some y → x ≡ y
+same_asks x y e = cc
+
 -- a request is for a shard
 pub ask_receiver : (v : View) (asked : List Asked) (sender receiver time : ℕ) (b : Body) (a : Ask) → ask_in b ≡ Some a
     → BodyFits v asked sender receiver time b → IsShardAt receiver
 ask_receiver v asked sender receiver time (write_ask id turn ordered namespace [] sent) a is f = absurd (no_ask is)
 ask_receiver v asked sender receiver time (write_ask id turn ordered namespace (s ∷ statements) sent) a is f =
-    owned_by_first v time namespace receiver s f.owned.0
+    owned_by_first v time namespace receiver s f.0.owned.0
 ask_receiver v asked sender receiver time (read_ask id turn namespace moment half sent) a is f = f.2
 ask_receiver v asked sender receiver time (table_ask namespace create moment) a is f = absurd (no_ask is)
 ask_receiver v asked sender receiver time (table_told namespace create moment table) a is f = absurd (no_ask is)
@@ -134,29 +144,79 @@ ask_receiver v asked sender receiver time (split_done id found) a is f = absurd 
 ask_receiver v asked sender receiver time (write_done id dones) a is f = absurd (no_ask is)
 ask_receiver v asked sender receiver time (half_ask id turn namespace moment half documents) a is f = absurd (no_ask is)
 ask_receiver v asked sender receiver time (read_rows id turn rows) a is f = absurd (no_ask is)
-ask_receiver v asked sender receiver time (stale id turn met) a is f = absurd (no_ask is)
+ask_receiver v asked sender receiver time (refused what cause) a is f = absurd (no_ask is)
 ask_receiver v asked sender receiver time (time_ask id) a is f = absurd (no_ask is)
 ask_receiver v asked sender receiver time (time_told id) a is f = absurd (no_ask is)
+
+-- the versions that it was sent with are of a table that the catalogue had
+ask_version : (v : View) (asked : List Asked) (sender receiver time : ℕ) (b : Body) (a : Ask) → ask_in b ≡ Some a
+    → BodyFits v asked sender receiver time b → IsVersionOf v time a.namespace receiver a.sent
+ask_version v asked sender receiver time (write_ask id turn ordered namespace [] sent) a is f = absurd (no_ask is)
+ask_version v asked sender receiver time (write_ask id turn ordered namespace (s ∷ statements) sent) a is f =
+    subst (λ (x : Ask). IsVersionOf v time x.namespace receiver x.sent) (same_asks _ a is) f.1
+ask_version v asked sender receiver time (read_ask id turn namespace moment half sent) a is f =
+    subst (λ (x : Ask). IsVersionOf v time x.namespace receiver x.sent) (same_asks _ a is) f.3
+ask_version v asked sender receiver time (table_ask namespace create moment) a is f = absurd (no_ask is)
+ask_version v asked sender receiver time (table_told namespace create moment table) a is f = absurd (no_ask is)
+ask_version v asked sender receiver time (split_ask id namespace middle) a is f = absurd (no_ask is)
+ask_version v asked sender receiver time (split_done id found) a is f = absurd (no_ask is)
+ask_version v asked sender receiver time (write_done id dones) a is f = absurd (no_ask is)
+ask_version v asked sender receiver time (half_ask id turn namespace moment half documents) a is f = absurd (no_ask is)
+ask_version v asked sender receiver time (read_rows id turn rows) a is f = absurd (no_ask is)
+ask_version v asked sender receiver time (refused what cause) a is f = absurd (no_ask is)
+ask_version v asked sender receiver time (time_ask id) a is f = absurd (no_ask is)
+ask_version v asked sender receiver time (time_told id) a is f = absurd (no_ask is)
+
+-- nothing moves, so no request is older than the shard's table
+pub never_stale : (v : View) (asked : List Asked) (sender receiver time known : ℕ) (me : ℕ) (tables : List Table) (b : Body) (a : Ask) (met : Version)
+    → AreFitting (changes_in v) → AllByRecursion (IsKnownTable v known) tables → receiver ≡ me → BodyFits v asked sender receiver time b → ask_in b ≡ Some a
+    → verdict_of a.sent me (table_of a.namespace tables) ≡ router_is_old met → ⊥
+never_stale v asked sender receiver time known me tables b a met fitting all to f asks old = by_table (table_of a.namespace tables) refl
+  where
+    sent : IsVersionOf v time a.namespace receiver a.sent
+    sent = ask_version v asked sender receiver time b a asks f
+
+    place : receiver ≡ first_shard
+    place = ask_receiver v asked sender receiver time b a asks f
+
+    no_fit : fits ≡ router_is_old met → ⊥
+    no_fit e = cc
+
+    no_old : shard_is_old ≡ router_is_old met → ⊥
+    no_old e = cc
+
+    by_table : (o : Option Table) → table_of a.namespace tables ≡ o → ⊥
+    by_table None h = no_old (ap (λ x. verdict_of a.sent me x) (sym h) ∙ old)
+    by_table (Some u) h =
+        let found : FoundTable a.namespace tables u = table_found a.namespace tables u h in
+        let both = known_fits v time known sent.table u fitting sent.known (all_at (IsKnownTable v known) u tables all found.stands) (sent.name ∙ sym found.name) in
+        let as_sent : a.sent ≡ sent_by sent.table first_shard = sent.same ∙ ap (λ n. sent_by sent.table n) place in
+        no_fit (sym both ∙ ap (λ n. verdict_of (sent_by sent.table first_shard) n (Some u)) (sym place ∙ to)
+        ∙ ap (λ x. verdict_of x me (Some u)) (sym as_sent) ∙ ap (λ x. verdict_of a.sent me x) (sym h) ∙ old)
 
 -- it fits as a message to the same node from any other, at a later time
 pub ask_retried : (v : View) (asked : List Asked) (sender other receiver early late : ℕ) (b : Body) (a : Ask) → ask_in b ≡ Some a → early ≤ late
     → BodyFits v asked sender receiver early b → BodyFits v asked other receiver late b
-ask_retried v asked sender other receiver early late (write_ask id turn ordered namespace statements sent) a is le f = record {
-  request = f.request;
-  write = f.write;
-  taken = f.taken;
-  own = f.own;
-  asks = f.asks;
-  order = f.order;
-  name = f.name;
-  each = f.each;
-  next = λ in_order. next_later v v early late f.write id statements (later_self v) le (f.next in_order);
-  owned = all_weaken (IsOwned v early namespace receiver) (IsOwned v late namespace receiver) statements
-      (λ s o. owned_grows v v early late namespace receiver s (later_self v) le o) f.owned;
-  fresh = let h = f.fresh in omega arith;
-}
+ask_retried v asked sender other receiver early late (write_ask id turn ordered namespace statements sent) a is le f = (
+  record {
+    request = f.0.request;
+    write = f.0.write;
+    taken = f.0.taken;
+    own = f.0.own;
+    asks = f.0.asks;
+    order = f.0.order;
+    name = f.0.name;
+    each = f.0.each;
+    next = λ in_order. next_later v v early late f.0.write id statements (later_self v) le (f.0.next in_order);
+    owned = all_weaken (IsOwned v early namespace receiver) (IsOwned v late namespace receiver) statements
+        (λ s o. owned_grows v v early late namespace receiver s (later_self v) le o) f.0.owned;
+    fresh = let h = f.0.fresh in omega arith;
+    below = f.0.below;
+  },
+  version_grows v v early late namespace receiver sent (later_self v) le f.1,
+)
 ask_retried v asked sender other receiver early late (read_ask id turn namespace moment half sent) a is le f =
-    (f.0, (let h = f.1 in omega arith), f.2)
+    (f.0, (let h = f.1 in omega arith), f.2, version_grows v v early late namespace receiver sent (later_self v) le f.3)
 ask_retried v asked sender other receiver early late (table_ask namespace create moment) a is le f = absurd (no_ask is)
 ask_retried v asked sender other receiver early late (table_told namespace create moment table) a is le f = absurd (no_ask is)
 ask_retried v asked sender other receiver early late (split_ask id namespace middle) a is le f = absurd (no_ask is)
@@ -164,7 +224,7 @@ ask_retried v asked sender other receiver early late (split_done id found) a is 
 ask_retried v asked sender other receiver early late (write_done id dones) a is le f = absurd (no_ask is)
 ask_retried v asked sender other receiver early late (half_ask id turn namespace moment half documents) a is le f = absurd (no_ask is)
 ask_retried v asked sender other receiver early late (read_rows id turn rows) a is le f = absurd (no_ask is)
-ask_retried v asked sender other receiver early late (stale id turn met) a is le f = f
+ask_retried v asked sender other receiver early late (refused what cause) a is le f = absurd (no_ask is)
 ask_retried v asked sender other receiver early late (time_ask id) a is le f = f
 ask_retried v asked sender other receiver early late (time_told id) a is le f = absurd (no_ask is)
 
@@ -242,5 +302,5 @@ tells_none v asked sender time namespace (write_done id dones) h = tt
 tells_none v asked sender time namespace (read_ask id turn name moment half sent) h = tt
 tells_none v asked sender time namespace (half_ask id turn name moment half documents) h = tt
 tells_none v asked sender time namespace (read_rows id turn rows) h = tt
-tells_none v asked sender time namespace (stale id turn met) h = tt
+tells_none v asked sender time namespace (refused what cause) h = tt
 tells_none v asked sender time namespace (time_ask id) h = tt

@@ -1,10 +1,11 @@
 -- Where a shard serves a request and stores its entries, all facts stay.
 use Rattle.std.proofs.Common.{◌≡◌, ◌⊎◌, inl, inr, ℕ, ◌+◌, ◌<◌, ◌≤◌, List, [], ◌∷◌, ◌++◌, refl, sym, ap, subst, ◌∙◌, arith, append-nil, Bool}
-use Rattle.std.specs.Prelude.{Some, None, true, false, max, map, length, drop}
-use Rattle.std.specs.List.{AllByRecursion, slice_get}
-use Rattle.history_model.proofs.Lists.{all_weaken, all_both, all_append, all_at, in_back}
+use Rattle.std.specs.Prelude.{Option, Some, None, true, false, max, map, length, drop}
+use Rattle.std.specs.List.{AllByRecursion}
+use Rattle.history_model.proofs.Lists.{all_weaken, all_both, all_append, all_at, all_from, in_back}
 use Rattle.chunk_model.specs.Tables.{first_shard}
-use Rattle.history_model.specs.History.{Operation, Entry, IsIn, Legal}
+use Rattle.history_model.specs.History.{StatementNumber, Operation, Entry, IsIn, Legal}
+use Rattle.command_model.specs.Writes.{ClientNumber}
 use Rattle.base_model.specs.Identities.{RequestId}
 use Rattle.reply_model.specs.Exchanges.{Asked, number_for, entries_by}
 use Rattle.reply_model.specs.Outcomes.{Done}
@@ -17,11 +18,10 @@ use Rattle.node_model.specs.States.{Shard, shard_state}
 use Rattle.node_model.specs.Service.{Serves, serves_no_more, serves_again, serves_new, ends_again, ends_new}
 use Rattle.node_model.specs.RouterRequests.{statements_from}
 use Rattle.node_model.specs.ShardRows.{heard, greatest_entry, says}
-use Rattle.node_model.specs.World.{Held, World}
-use Rattle.node_model.proofs.Journals.{journal_got}
-use Rattle.node_laws.proofs.Views.{Book, View, view_of, entries_in, changes_in, IsShardAt, history_in, IsAbove}
+use Rattle.node_model.specs.World.{World, journal_at}
+use Rattle.node_laws.proofs.Views.{Reach, reach_of, Book, View, view_of, entries_in, changes_in, IsShardAt, history_in, IsAbove}
 use Rattle.node_laws.proofs.WriteFacts.{AreAnswers, OnlyLast, AreDoneBefore, WasMade}
-use Rattle.node_laws.proofs.Facts.{IsKnownTable, IsOwned, IsStatementOf, AreNext, IsWriteOf, HasBegun, IsDoneOf, ParkedFits, ShardFits, IsMet, Good}
+use Rattle.node_laws.proofs.Facts.{Node, IsKnownTable, IsOwned, IsStatementOf, AreNext, IsWriteOf, HasBegun, IsDoneOf, ParkedFits, ShardFits, IsMet, Good}
 use Rattle.node_laws.proofs.Owes.{Owes}
 use Rattle.node_laws.proofs.Lists.{all_mapped}
 use Rattle.node_laws.proofs.GreatestTimes.{greatest_both, greatest_entries, greatest_made, within_more}
@@ -37,13 +37,13 @@ use Rattle.node_laws.proofs.MadeEntries.{drop_statements, parted, few_answers, f
 use Rattle.node_laws.proofs.RequestParts.{owned_by_first, owned_placed, ask_own, request_part, IsBy, parts_longer}
 use Rattle.node_laws.proofs.ShardSteps.{wrote, parked_later, AreToldBy, told_done, begun_owned}
 
-abbrev pub held_shard : Shard → List Kept → Held
+abbrev pub held_shard : Shard → List Kept → Node
 held_shard s kept = record { state = shard_state s; kept = kept }
 
 -- a shard that fits in a world, at its place
 pub record Stood (w : World) (book : Book) (at : ℕ) (kept : List Kept) (s : Shard) : Type 0 where
   pub good : Good w book
-  pub here : slice_get w.nodes at ≡ Some (held_shard s kept)
+  pub here : journal_at w.nodes at ≡ kept
   pub fits : ShardFits (view_of w.nodes book) w.asked at kept s
   pub met : IsMet (view_of w.nodes book) w.given s.time
   pub within : greatest_kept kept ≤ s.time
@@ -64,7 +64,7 @@ pub record Served (w : World) (book : Book) (at : ℕ) (s : Shard) (time : ℕ) 
   pub rises : Rises time made last
   pub past : AreUpTo last (s.entries ++ made)
   pub legal : Legal (s.entries ++ made)
-  pub sent : AllByRecursion (WasMade (s.entries ++ made) w.asked) made
+  pub sent : AllByRecursion (WasMade (s.entries ++ made) w.asked book.reached) made
   pub numbers : AreNumbered (s.entries ++ made)
   pub placed : AllByRecursion (IsPlaced (changes_in (view_of w.nodes book))) made
   pub parts : AllByRecursion (StandsInPart (s.entries ++ made)) w.asked
@@ -75,7 +75,7 @@ pub record Served (w : World) (book : Book) (at : ℕ) (s : Shard) (time : ℕ) 
 own_entries : (w : World) (book : Book) (at : ℕ) (kept : List Kept) (s : Shard) → Stood w book at kept s → IsShardAt at
     → history_in (view_of w.nodes book) ≡ s.entries
 own_entries w book at kept s is place = sym (shard_entries (view_of w.nodes book) at place)
-    ∙ ap (λ k. entries_kept k) (journal_got w.nodes at (held_shard s kept) is.here) ∙ sym is.fits.entries
+    ∙ ap (λ k. entries_kept k) is.here ∙ sym is.fits.entries
 
 part_moved : (a : RequestId) (from into : List ℕ) (x y : Bool) (operations : List Operation) (entries : List Entry) → from ≡ into → x ≡ y
     → AreStatements a from x 0 operations (entries_by a entries) → AreStatements a into y 0 operations (entries_by a entries)
@@ -112,8 +112,19 @@ first_by v asked receiver time id ordered namespace statements d dones ask (inr 
     owned_by_first v time namespace receiver s (subst (λ l. AllByRecursion (IsOwned v time namespace receiver) l) same ask.owned).0
 
 -- an entry that was made for a request was so among more entries
-pub longer_made : (old new : List Entry) (asked : List Asked) (e : Entry) → ((d : Entry) → IsIn d old → IsIn d new) → WasMade old asked e → WasMade new asked e
-longer_made old new asked e stays m = subst (λ l. WasMade new l e) (append-nil asked) (entry_grows old new asked [] e stays m)
+pub longer_made : (old new : List Entry) (asked : List Asked) (notes raises : List Reach) (e : Entry) → ((d : Entry) → IsIn d old → IsIn d new)
+    → WasMade old asked notes e → WasMade new asked (notes ++ raises) e
+longer_made old new asked notes raises e stays m =
+    subst (λ l. WasMade new l (notes ++ raises) e) (append-nil asked) (entry_grows old new asked [] notes raises e stays m)
+
+-- what all have under a condition each has under it
+where_so : {X : Type 0} (b : Bool) (P : X → Type 0) (xs : List X) → (b ≡ true → AllByRecursion P xs) → AllByRecursion (λ x. b ≡ true → P x) xs
+where_so true P xs f = all_weaken P (λ x. true ≡ true → P x) xs (λ x p e. p) (f refl)
+where_so false P xs f = all_from (λ x. false ≡ true → P x) xs (λ x i e. absurd (cc))
+
+index_of : (given : Option ClientNumber) (id : RequestId) (n : ℕ) → (number_for given id n).index ≡ n
+index_of None id n = refl
+index_of (Some by) id n = refl
 
 -- the last time is one that was met: that of the message, or of the last entry
 last_met : (w : World) (book : Book) (at : ℕ) (v : View) (time last : ℕ) (made entries : List Entry) → IsShardAt at → entries_in v at ≡ entries ++ made
@@ -175,8 +186,8 @@ module _ (w : World) (book : Book) (at : ℕ) (kept : List Kept) (s : Shard) (is
         ordered_part s.entries Own.id ask.write in_turn
         (all_at (StandsInPart s.entries) Own w.asked is.fits.parts ask.taken ask.write ask.asks none) in
         let u : View = view_of w.nodes book in
-        let zero : AllByRecursion HasNoOther s.entries = all_weaken (WasMade (history_in u) w.asked) HasNoOther s.entries
-        (λ e m. made_no_other (history_in u) w.asked e m) is.fits.sent in
+        let zero : AllByRecursion HasNoOther s.entries = all_weaken (WasMade (history_in u) w.asked u.reached) HasNoOther s.entries
+        (λ e m. made_no_other (history_in u) w.asked u.reached e m) is.fits.sent in
         let told = answers_stand s.entries early ask.write Own.id nexts.front none zero part before in
         part_ordered (s.entries ++ made) Own.id ask.write in_turn
         (part_moved Own.id namespace ask.write.namespace ordered ask.write.ordered ask.write.operations (s.entries ++ made) ask.name ask.order
@@ -229,7 +240,7 @@ module _ (w : World) (book : Book) (at : ℕ) (kept : List Kept) (s : Shard) (is
           part_single (s.entries ++ made) Own.id ask.write (sym ask.order ∙ h)
           (singles w.asked Own ask.write is.good.one ask.taken ask.asks none (s.entries ++ made)
           (all_append (IsFrom w.asked) s.entries made
-          (all_weaken (WasMade (history_in u) w.asked) (IsFrom w.asked) s.entries
+          (all_weaken (WasMade (history_in u) w.asked u.reached) (IsFrom w.asked) s.entries
           (λ e m. record { request = m.request; taken = m.taken; sends = m.sends }) is.fits.sent)
           (all_weaken (IsMadeAt Own ask.write ordered (s.entries ++ made)) (IsFrom w.asked) made
           (λ e m. record {
@@ -245,6 +256,10 @@ module _ (w : World) (book : Book) (at : ℕ) (kept : List Kept) (s : Shard) (is
           (λ e o. o.0 ∙ is.fits.own ∙ place)
           (serves_entries (IsOwned u early namespace receiver) s.me namespace ordered s.entries now statements dones made last serves ask.owned))))
 
+  -- it is noted that its statement was sent
+  abbrev IsNotedAt : Entry → Type 0
+  IsNotedAt e = ordered ≡ true → e.number.index < reach_of id book.reached
+
   served_all : HasBegun (view_of w.nodes book) last ask.write.namespace → Served w book at s now id dones made last
   served_all begun =
       let u : View = view_of w.nodes book in
@@ -258,14 +273,26 @@ module _ (w : World) (book : Book) (at : ℕ) (kept : List Kept) (s : Shard) (is
         rises = rises;
         past = all_append (λ (e : Entry). e.time ≤ last) s.entries made (up_to_later now last s.entries rises.later past) rises.past;
         legal = legal_joined s.entries made is.fits.legal (serves_legal s.me namespace ordered s.entries now statements dones made last serves past);
-        sent = all_both (IsMadeAt Own ask.write ordered (s.entries ++ made)) (λ (e : Entry). now < e.time) (WasMade (s.entries ++ made) w.asked) made
-            (λ e h above. record {
+        sent = all_both (IsMadeAt Own ask.write ordered (s.entries ++ made)) (λ (e : Entry). (now < e.time) × IsNotedAt e)
+            (WasMade (s.entries ++ made) w.asked book.reached) made
+            (λ e h (above, noted). record {
               request = Own;
               taken = ask.taken;
               sends = record { write = ask.write; index = h.index; asks = ask.asks; entry = h.entry };
               later = let f = ask.fresh in omega (arith, f, above, reached);
               reached = λ in_order. h.reached (ask.order ∙ in_order);
-            }) made_at rises.above;
+              below = λ in_order.
+                  let less : e.number.index < reach_of Own.id book.reached =
+                  subst (λ i. e.number.index < reach_of i book.reached) (sym ask.own) (noted (ask.order ∙ in_order)) in
+                  let place : e.number.index ≡ h.index = ap (λ (n : StatementNumber). n.index) h.entry.statement.same_number
+                  ∙ index_of ask.write.number Own.id h.index in
+                  omega (arith, less, place);
+            }) made_at
+            (all_both (λ (e : Entry). now < e.time) (IsEntryOf s.me namespace (λ (x : Statement). ordered ≡ true → x.number.index < reach_of id book.reached))
+            (λ (e : Entry). (now < e.time) × IsNotedAt e) made (λ e above h. (above, h.2)) rises.above
+            (serves_entries (λ (x : Statement). ordered ≡ true → x.number.index < reach_of id book.reached) s.me namespace ordered s.entries now statements dones
+            made last serves
+            (where_so ordered (λ (x : Statement). x.number.index < reach_of id book.reached) statements ask.below)));
         numbers = numbers;
         placed = all_both (IsEntryOf s.me namespace (IsOwned u early namespace receiver)) (λ (e : Entry). now < e.time) (IsPlaced (changes_in u)) made
             (λ e h above. owned_placed u early namespace receiver e (h.0 ∙ first, h.1, h.2) (omega arith)) owned rises.above;
@@ -319,6 +346,7 @@ pub writes_all : (w : World) (book : Book) (at : ℕ) (kept : List Kept) (s : Sh
       mail = says s id.router last (write_done id dones) ∷ [];
       taken = [];
       replies = [];
+      away = [];
     }) (shard_state (record { me = s.me; time = last; tables = s.tables; entries = s.entries ++ made; ceiling = s.ceiling; parked = s.parked }))
 writes_all w book at kept s m id dones made last is place met h =
     let u : View = view_of w.nodes book in
@@ -333,7 +361,7 @@ writes_all w book at kept s m id dones made last is place met h =
     (kept_past last made (made_past s.entries made last h.past)) in
     let longer : entries_kept (kept ++ map kept_entry made) ≡ s.entries ++ made = entries_longer kept (map kept_entry made)
     ∙ ap (λ l. l ++ entries_kept (map kept_entry made)) (sym is.fits.entries) ∙ ap (λ l. s.entries ++ l) (entries_only made) in
-    wrote w book at (held_shard s kept) (map kept_entry made) (says s id.router last (write_done id dones) ∷ []) _ is.good tt
+    wrote w book at (held_shard s kept) (map kept_entry made) (says s id.router last (write_done id dones) ∷ []) _ is.good tt tt
     (kept_above at s.time made place (all_both (λ (e : Entry). heard s m < e.time) (λ (e : Entry). e.shard ≡ s.me) (IsNewAt at s.time) made
     (λ e l own. (own ∙ is.fits.own, omega arith)) h.rises.above h.own)) le within
     (λ v grows journal bound.
@@ -348,12 +376,13 @@ writes_all w book at kept s m id dones made last is place met h =
         tops = tops;
         past = h.past;
         legal = h.legal;
-        sent = all_append (WasMade (history_in v) w.asked) s.entries made
-            (all_weaken (WasMade (history_in u) w.asked) (WasMade (history_in v) w.asked) s.entries
+        sent = all_append (WasMade (history_in v) w.asked v.reached) s.entries made
+            (all_weaken (WasMade (history_in u) w.asked u.reached) (WasMade (history_in v) w.asked v.reached) s.entries
             (λ e m. made_later u v w.asked e grows m) is.fits.sent)
-            (all_weaken (WasMade (s.entries ++ made) w.asked) (WasMade (history_in v) w.asked) made
-            (λ e m. longer_made (s.entries ++ made) (history_in v) w.asked e
-            (λ d i. entry_of_shard v at d place (subst (λ l. IsIn d l) (sym entries) i)) m) h.sent);
+            (all_weaken (WasMade (s.entries ++ made) w.asked book.reached) (WasMade (history_in v) w.asked v.reached) made
+            (λ e m. subst (λ n. WasMade (history_in v) w.asked n e) (sym grows.reached.same)
+            (longer_made (s.entries ++ made) (history_in v) w.asked book.reached grows.reached.news e
+            (λ d i. entry_of_shard v at d place (subst (λ l. IsIn d l) (sym entries) i)) m)) h.sent);
         numbers = h.numbers;
         placed = all_weaken (IsPlaced (changes_in u)) (IsPlaced (changes_in v)) (s.entries ++ made) (λ e p. placed_grows u v e grows is.fits.still p)
             (all_append (IsPlaced (changes_in u)) s.entries made is.fits.placed h.placed);

@@ -1,5 +1,5 @@
 -- Of a request without a client's number each statement is stored at most once.
-use Rattle.std.proofs.Common.{◌≡◌, ◌≢◌, ℕ, List, [], ◌∷◌, ◌++◌, refl, sym, ap, subst, ◌∙◌, Bool}
+use Rattle.std.proofs.Common.{◌≡◌, ℕ, List, [], ◌∷◌, refl, sym, ap, ◌∙◌, Bool}
 use Rattle.std.specs.Prelude.{Option, Some, None, Ok, true, false, ◌==◌, if◌then◌else◌}
 use Rattle.std.specs.List.{AllByRecursion}
 use Rattle.std.proofs.lemmas.Bool.{eqb-true}
@@ -13,7 +13,6 @@ use Rattle.reply_model.specs.Exchanges.{Asked, number_for, is_session_of, entrie
 use Rattle.reply_model.specs.Right.{Sends, IsStored, AreSingle}
 use Rattle.reply_model.specs.OneHistory.{KeepsNumbers, AreNumbered, ids_asked, AreDifferent}
 use Rattle.reply_facts.proofs.Requests.{same_id, one_asked, by_in}
-use Rattle.node_laws.proofs.Outcomes.{index_is}
 
 -- a request that was taken sent the entry's statement
 pub record IsFrom (asked : List Asked) (e : Entry) : Type 0 where

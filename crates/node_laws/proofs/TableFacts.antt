@@ -5,6 +5,7 @@ use Rattle.std.specs.List.{AllByRecursion}
 use Rattle.chunk_model.specs.Changes.{Change, known_table}
 use Rattle.chunk_model.specs.Placement.{AreFitting}
 use Rattle.chunk_model.specs.Tables.{Table}
+use Rattle.chunk_model.specs.Verdicts.{Sent, sent_by}
 use Rattle.pipeline_model.specs.Stages.{Stage}
 use Rattle.reply_model.specs.Right.{WasCreated}
 use Rattle.node_model.specs.States.{Target, Work, writing, reading, sharding, splitting, Wait, for_time, for_catalogue, for_shards}
@@ -20,6 +21,13 @@ pub record IsKnownTable (v : View) (time : ℕ) (t : Table) : Type 0 where
   pub known : known_table t.namespace older ≡ Some t
   pub fitting : AreFitting older
   pub still : AllByRecursion MovesNothing (changes_in v)
+
+-- the versions that were sent to a shard along with a request are those of a table of the collection that the catalogue had by a time
+pub record IsVersionOf (v : View) (time : ℕ) (namespace : List ℕ) (shard : ℕ) (sent : Sent) : Type 0 where
+  pub table : Table
+  pub known : IsKnownTable v time table
+  pub name : table.namespace ≡ namespace
+  pub same : sent ≡ sent_by table shard
 
 -- a read was sent to these shards by a table of its collection that says who owned each key at its time
 pub record IsSentBy (v : View) (time : ℕ) (namespace : List ℕ) (at : ℕ) (stages : List Stage) (targets : List Target) : Type 0 where

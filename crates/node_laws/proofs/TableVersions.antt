@@ -1,5 +1,5 @@
 -- Where no change moves a chunk, all tables of a collection agree in their versions.
-use Rattle.std.proofs.Common.{◌≡◌, ℕ, ◌+◌, ◌≤◌, List, [], ◌∷◌, refl, sym, ap, subst, ◌∙◌, arith, Bool}
+use Rattle.std.proofs.Common.{◌≡◌, ℕ, ◌+◌, ◌≤◌, List, [], ◌∷◌, ◌++◌, refl, sym, ap, subst, ◌∙◌, arith, Bool}
 use Rattle.std.specs.Prelude.{Option, Some, None, true, false, if◌then◌else◌}
 use Rattle.std.specs.List.{AllByRecursion}
 use Rattle.std.specs.Option.{option_map}
@@ -15,8 +15,12 @@ use Rattle.chunk_model.specs.Changes.{Change, create_change, split_change, commi
 use Rattle.chunk_model.specs.Placement.{Follows, AreFitting}
 use Rattle.chunk_model.specs.Verdicts.{fits, sent_by, verdict_of}
 use Rattle.chunk_laws.proofs.Majors.{top, top_most, greatest_is, split_all}
-use Rattle.node_laws.proofs.Views.{View, changes_in, MovesNothing}
-use Rattle.node_laws.proofs.CatalogueTables.{same_name, one_creation}
+use Rattle.node_laws.proofs.Views.{View, changes_in, MovesNothing, account_in}
+use Rattle.node_laws.proofs.CatalogueTables.{IsCreated, same_name, one_creation, some_created, table_name}
+use Rattle.node_laws.proofs.SeenStatements.{true_false}
+use Rattle.reply_model.specs.Exchanges.{Asked, Answered}
+use Rattle.reply_model.specs.Outcomes.{Try, most_tries}
+use Rattle.reply_model.specs.Right.{HadVersion, WereStale}
 use Rattle.node_laws.proofs.Facts.{IsKnownTable}
 use Rattle.node_laws.proofs.KnownTables.{older_still}
 
@@ -183,3 +187,52 @@ known_fits v early late t u fitting k l name =
       not_later (collection_version t) (collection_version u) (ca.epoch_is ∙ same ∙ sym cb.epoch_is) (ca.major_is ∙ sym cb.major_is),
       they_agree (shard_version t first_shard) (shard_version u first_shard) (sa.epoch_is ∙ same ∙ sym sb.epoch_is) (sa.major_is ∙ sym sb.major_is),
     ) refl
+
+-- nor is its version later
+known_not_later : (v : View) (early late : ℕ) (t u : Table) → AreFitting (changes_in v) → IsKnownTable v early t → IsKnownTable v late u
+    → t.namespace ≡ u.namespace → is_later (collection_version t) (collection_version u) ≡ false
+known_not_later v early late t u fitting k l name =
+    let a = made_of t.namespace k.older t k.fitting (older_still v early t k) k.known in
+    let b = made_of u.namespace l.older u l.fitting (older_still v late u l) l.known in
+    let first : IsIn (create_change a.creation) (changes_in v) =
+    subst (λ x. IsIn (create_change a.creation) x) (sym k.all) (in_back (create_change a.creation) k.more k.older a.begun) in
+    let second : IsIn (create_change b.creation) (changes_in v) =
+    subst (λ x. IsIn (create_change b.creation) x) (sym l.all) (in_back (create_change b.creation) l.more l.older b.begun) in
+    let one : a.creation ≡ b.creation = one_creation a.creation b.creation (changes_in v) fitting first second (a.name ∙ name ∙ sym b.name) in
+    let same : a.creation.epoch ≡ b.creation.epoch = ap (λ (c : Creation). c.epoch) one in
+    let ca = greatest_one a.creation.epoch t a.chunks in
+    let cb = greatest_one b.creation.epoch u b.chunks in
+    not_later (collection_version t) (collection_version u) (ca.epoch_is ∙ same ∙ sym cb.epoch_is) (ca.major_is ∙ sym cb.major_is)
+
+back_fits : (more older : List Change) → AreFitting (more ++ older) → AreFitting older
+back_fits [] older all = all
+back_fits (x ∷ more) older all = back_fits more older all.1
+
+had_known : (v : View) (namespace : List ℕ) (version : Version) → AreFitting (changes_in v) → AllByRecursion MovesNothing (changes_in v)
+    → (h : HadVersion (changes_in v) namespace version) → IsKnownTable v (some_created namespace h.older h.table h.known).creation.at h.table
+had_known v namespace version fitting still h =
+    let c : IsCreated h.older namespace = some_created namespace h.older h.table h.known in
+    let name : h.table.namespace ≡ namespace = table_name namespace h.older h.table h.known in
+    record {
+      more = h.later;
+      older = h.older;
+      all = h.all;
+      begun = record { creation = c.creation; begun = c.begun; name = c.name ∙ sym name; before = omega arith };
+      known = ap (λ n. known_table n h.older) name ∙ h.known;
+      fitting = back_fits h.later h.older (subst (λ l. AreFitting l) h.all fitting);
+      still = still;
+    }
+
+-- so nothing was stale
+pub never_were_stale : (v : View) (asked : List Asked) (answered : List Answered) (a : Asked) (namespace : List ℕ) (tries : List Try) → AreFitting (changes_in v)
+    → AllByRecursion MovesNothing (changes_in v) → WereStale (account_in v asked answered) a namespace tries → ⊥
+never_were_stale v asked answered a namespace [] fitting still were = let none : 0 ≡ most_tries = were.all in omega (arith, none)
+never_were_stale v asked answered a namespace (x ∷ tries) fitting still were =
+    let met = were.had.0.1 in
+    let sent = were.had.0.0 in
+    let k = had_known v namespace x.met fitting still met in
+    let l = had_known v namespace x.sent fitting still sent in
+    let none = known_not_later v (some_created namespace met.older met.table met.known).creation.at (some_created namespace sent.older sent.table sent.known).creation.at
+    met.table sent.table fitting k l
+    (table_name namespace met.older met.table met.known ∙ sym (table_name namespace sent.older sent.table sent.known)) in
+    true_false (sym were.turns.0 ∙ ap (λ v. is_later v x.sent) (sym met.same) ∙ ap (λ v. is_later (collection_version met.table) v) (sym sent.same) ∙ none)

@@ -7,14 +7,15 @@ use Rattle.command_model.specs.Writes.{WriteCommand}
 use Rattle.command_model.specs.Command.{write_command, command_of}
 use Rattle.history_model.specs.History.{Entry, IsIn}
 use Rattle.reply_model.specs.Exchanges.{Asked, Answered, number_for}
+use Rattle.reply_model.specs.Reads.{GivesUpNothing}
 use Rattle.node_model.specs.States.{Open, Router, NodeState, catalogue_state, shard_state, router_state}
 use Rattle.node_model.specs.RouterRequests.{id_of}
 use Rattle.node_laws.proofs.Views.{View, history_in}
 
--- the entry is one of the statements of a write whose reply has the entry's time
+-- the entry is one of the statements of a write whose reply has the entry's time, and gives no statement up
 abbrev pub IsToldOf : (s : Answered) (write : WriteCommand) (index : ℕ) (e : Entry) → Type 0
 IsToldOf s write index e = (command_of s.request ≡ Ok (write_command write)) × (e.number ≡ number_for write.number s.id index)
-    × (operation_time (Some s.document) ≡ Some e.time)
+    × (operation_time (Some s.document) ≡ Some e.time) × GivesUpNothing s write
 
 -- no entry of a shard whose time any router had returned before the request came is above the time
 abbrev pub IsPast : View → (shard : ℕ) → List Answered → Asked → ℕ → Type 0

@@ -7,6 +7,7 @@ use Rattle.base_model.specs.Identities.{RequestId}
 use Rattle.reply_model.specs.Exchanges.{Asked, number_for}
 use Rattle.reply_model.specs.Outcomes.{StatementOutcome, is_older, Done, answer_by}
 use Rattle.reply_model.specs.Right.{ends, Sends}
+use Rattle.node_laws.proofs.Views.{Reach, reach_of}
 
 -- THE OUTCOME OF A STATEMENT
 
@@ -38,10 +39,12 @@ abbrev pub AreDoneBefore : List Entry → (time : ℕ) → WriteCommand → Requ
 AreDoneBefore history time write id index = (i : ℕ) → i < index
     → (d : Entry) × IsIn d history × (d.number ≡ number_for write.number id i) × (d.outcome.error ≡ None) × (d.time < time)
 
--- the entry was made for a request that a router took, and where that is ordered, after all statements before it
-pub record WasMade (history : List Entry) (asked : List Asked) (e : Entry) : Type 0 where
+-- The entry was made for a request that a router took, and where that is ordered, after all statements before it; and its statement is noted as one that was
+-- sent.
+pub record WasMade (history : List Entry) (asked : List Asked) (notes : List Reach) (e : Entry) : Type 0 where
   pub request : Asked
   pub taken : IsIn request asked
   pub sends : Sends request e
   pub later : request.time < e.time
   pub reached : sends.write.ordered ≡ true → AreDoneBefore history e.time sends.write request.id sends.index
+  pub below : sends.write.ordered ≡ true → sends.index < reach_of request.id notes

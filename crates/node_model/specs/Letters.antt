@@ -10,6 +10,7 @@ use Rattle.reply_model.specs.Versions.{Version}
 use Rattle.reply_model.specs.Verdicts.{Sent}
 use Rattle.base_model.specs.Identities.{RequestId}
 use Rattle.reply_model.specs.Outcomes.{Done}
+use Rattle.reply_model.specs.Accounts.{Lack}
 use Rattle.node_model.specs.Journal.{Kept}
 
 -- for which time a table is requested: for none, or for a read at this one
@@ -27,7 +28,17 @@ pub data HalfFault : Type 0 where
   half_overflow : HalfFault
   half_excess : ℕ → HalfFault
 
--- A turn is one more try of a request that met a stale table.
+-- why a request is refused: it was sent with an older table than the shard's, whose version is this; or a node, this one, was out of memory or at its last step
+pub data Cause : Type 0 where
+  is_stale : (met : Version) → Cause
+  is_lack : (node : ℕ) → Lack → Cause
+
+-- what is refused: of a client's request, what was sent in a turn from a statement on (0 and 0 where it has none); or the request for a table
+pub data Refused : Type 0 where
+  of_request : RequestId → (turn first : ℕ) → Refused
+  of_table : (namespace : List ℕ) → (create : Bool) → At → Refused
+
+-- A turn is one more try of a request, or of a statement of it, that met a later table.
 pub data Body : Type 0 where
   -- to the catalogue: the table of a collection, which begins now where `create` is true and there is none
   table_ask : (namespace : List ℕ) → (create : Bool) → At → Body
@@ -36,7 +47,7 @@ pub data Body : Type 0 where
   -- to the catalogue: a chunk of the collection is split at the key; and the answer: whether there is such a collection
   split_ask : RequestId → (namespace : List ℕ) → (middle : Datum) → Body
   split_done : RequestId → (found : Bool) → Body
-  -- to a shard: the statements of a request that follow one another and go there
+  -- to a shard: statements of a request that go there, in order
   write_ask : RequestId → (turn : ℕ) → (ordered : Bool) → (namespace : List ℕ) → List Statement → Sent → Body
   -- the answer: what was done, in order
   write_done : RequestId → List Done → Body
@@ -46,8 +57,8 @@ pub data Body : Type 0 where
   half_ask : RequestId → (turn : ℕ) → (namespace : List ℕ) → (at : ℕ) → Half → List Fields → Body
   -- the answer: the rows, or why there are none
   read_rows : RequestId → (turn : ℕ) → Result Rows HalfFault → Body
-  -- the answer to a request that was sent with an older table than the shard's; the version of that
-  stale : RequestId → (turn : ℕ) → Version → Body
+  -- the answer to a request that is not served
+  refused : Refused → Cause → Body
   -- to a shard, for a read of a time that the router has not reached: its time; and the answer
   time_ask : RequestId → Body
   time_told : RequestId → Body
@@ -86,23 +97,31 @@ pub record Reply : Type 0 where
   pub time : ℕ
   pub document : Fields
 
--- What a step results in beside the node: what it wrote in the journal, the messages that it sent, the requests that it took, and its
--- replies.
+-- a reply to a request that a router does not take
+pub record Rejection : Type 0 where
+  pub link : ℕ
+  pub number : ℤ
+  pub request : Request
+  pub document : Fields
+
+-- What a step results in beside the node: what it wrote in the journal, the messages that it sent, the requests that it took, its replies, and its replies to
+-- requests that it did not take.
 pub record Effect : Type 0 where
   pub written : List Kept
   pub mail : List Letter
   pub taken : List Taken
   pub replies : List Reply
+  pub away : List Rejection
 
 abbrev pub nothing : Effect
-nothing = record { written = []; mail = []; taken = []; replies = [] }
+nothing = record { written = []; mail = []; taken = []; replies = []; away = [] }
 
 abbrev pub sends : List Letter → Effect
-sends mail = record { written = []; mail = mail; taken = []; replies = [] }
+sends mail = record { written = []; mail = mail; taken = []; replies = []; away = [] }
 
 abbrev pub writes : List Kept → List Letter → Effect
-writes written mail = record { written = written; mail = mail; taken = []; replies = [] }
+writes written mail = record { written = written; mail = mail; taken = []; replies = []; away = [] }
 
 -- one effect after another
 abbrev pub both : Effect → Effect → Effect
-both f g = record { written = f.written ++ g.written; mail = f.mail ++ g.mail; taken = f.taken ++ g.taken; replies = f.replies ++ g.replies }
+both f g = record { written = f.written ++ g.written; mail = f.mail ++ g.mail; taken = f.taken ++ g.taken; replies = f.replies ++ g.replies; away = f.away ++ g.away }

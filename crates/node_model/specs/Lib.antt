@@ -8,6 +8,7 @@ pub mod RouterRequests
 pub mod RouterNext
 pub mod RouterRows
 pub mod Steps
+pub mod Lacks
 pub mod World
 pub mod Schedule
 pub use Rattle.reply_model.specs.Answers

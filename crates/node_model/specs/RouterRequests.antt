@@ -1,5 +1,5 @@
 -- What an open request of a router has to do, and what is sent for it.
-use Rattle.std.specs.Prelude.{ℕ, zero, suc, ◌+◌, max, List, [], ◌∷◌, ◌++◌, map, filter, not, Bool, true, false, ◌==◌, ◌||◌, Option, Some, None, is_some, Result, Ok, Err, if◌then◌else◌}
+use Rattle.std.specs.Prelude.{ℕ, zero, suc, ◌+◌, max, List, [], ◌∷◌, ◌++◌, length, map, filter, not, Bool, true, false, ◌==◌, ◌&&◌, ◌||◌, Option, Some, None, is_some, Result, Ok, Err, if◌then◌else◌}
 use Rattle.std.specs.List.{list_all, list_any}
 use Rattle.std.specs.Option.{unwrap_or}
 use Rattle.reply_model.specs.Tree.{null_value}
@@ -18,11 +18,12 @@ use Rattle.chunk_model.specs.Targets.{targets}
 use Rattle.reply_model.specs.Command.{Command, hello_command, legacy_command, ping_command, end_sessions_command, write_command, find_command, count_command, more_command, kill_command, shard_collection_command, split_command}
 use Rattle.reply_model.specs.Answers.{Answer, hello_answer, legacy_answer, done_answer, refusal_answer}
 use Rattle.reply_model.specs.History.{Operation, key_written}
-use Rattle.reply_model.specs.Tables.{Table, first_shard, owner_now, owner_at}
+use Rattle.reply_model.specs.Tables.{Table, first_shard, collection_version, owner_now, owner_at}
 use Rattle.reply_model.specs.Verdicts.{sent_by}
 use Rattle.base_model.specs.Identities.{RequestId}
 use Rattle.reply_model.specs.Exchanges.{number_for}
-use Rattle.reply_model.specs.Outcomes.{StatementOutcome, none_yet, has_outcome}
+use Rattle.reply_model.specs.Versions.{Version, is_later}
+use Rattle.reply_model.specs.Outcomes.{StatementOutcome, Try, none_yet, has_outcome}
 use Rattle.reply_model.specs.Right.{usual_size}
 use Rattle.node_model.specs.Letters.{no_time, at_time, Statement, Body, table_ask, split_ask, write_ask, read_ask, time_ask, Letter}
 use Rattle.node_model.specs.States.{Target, Run, Course, Telling, in_batches, as_number, Work, writing, reading, sharding, splitting, Router}
@@ -44,7 +45,8 @@ statements_from given id index (operation ∷ operations) = record { number = nu
 
 -- a write of which nothing was sent
 abbrev pub begun_write : WriteKind → Bool → List Statement → Work
-begun_write kind ordered statements = writing kind ordered statements (record { answers = none_yet statements; runs = [] })
+begun_write kind ordered statements =
+    writing kind ordered statements (record { answers = none_yet statements; tries = map (λ (s : Statement). []) statements; runs = [] })
 
 -- a command is answered at once, or is about cursors, or there is work to do on a collection first
 pub data RequestPlan : Type 0 where
@@ -75,6 +77,36 @@ plan_of r id silent (Ok (kill_command kill)) = needs_end kill
 plan_of r id silent (Ok (shard_collection_command namespace)) = needs namespace sharding
 plan_of r id silent (Ok (split_command split)) = needs split.namespace (splitting split.middle)
 
+-- TRIES (MongoDB manual, "Sharded Cluster Query Routing"; how many is own)
+
+-- the version that the last try met
+abbrev pub last_met : List Try → Option Version
+last_met [] = None
+last_met (x ∷ tries) = elim (last_met tries) [ None ↦ Some x.met | Some met ↦ Some met ]
+
+-- the table is not older than what the last try met
+abbrev pub reaches : Table → List Try → Bool
+reaches t tries = elim (last_met tries) [ None ↦ true | Some met ↦ not (is_later met (collection_version t)) ]
+
+-- the number of the turn after these tries, from 1 on
+abbrev pub turn_after : List Try → ℕ
+turn_after tries = length tries + 1
+
+abbrev pub tries_at : ℕ → List (List Try) → List Try
+tries_at index [] = []
+tries_at zero (own ∷ tries) = own
+tries_at (suc index) (own ∷ tries) = tries_at index tries
+
+-- one try more of the statement with this index, and of the statements with these
+abbrev pub with_try : Try → ℕ → List (List Try) → List (List Try)
+with_try x index [] = []
+with_try x zero (own ∷ tries) = (own ++ x ∷ []) ∷ tries
+with_try x (suc index) (own ∷ tries) = own ∷ with_try x index tries
+
+abbrev pub with_tries : Try → List ℕ → List (List Try) → List (List Try)
+with_tries x [] tries = tries
+with_tries x (index ∷ indices) tries = with_try x index (with_tries x indices tries)
+
 -- WHAT IT REQUESTS
 
 abbrev pub says : Router → (to time : ℕ) → Body → Letter
@@ -83,10 +115,14 @@ says r to time body = record { sender = r.me; receiver = to; time = time; body =
 abbrev pub owner_of_statement : Table → Statement → Option ℕ
 owner_of_statement t s = elim (key_written s.operation) [ None ↦ None | Some key ↦ owner_now t key ]
 
+-- the shard that a statement can be sent to by a table
+abbrev pub shard_for : Table → List (List Try) → Statement → Option ℕ
+shard_for t tries s = if reaches t (tries_at s.number.index tries) then owner_of_statement t s else None
+
 -- the statements that follow one another and go to a shard
-abbrev pub run_to : Table → ℕ → List Statement → List Statement
-run_to t shard [] = []
-run_to t shard (s ∷ statements) = if is_on shard (owner_of_statement t s) then s ∷ run_to t shard statements else []
+abbrev pub run_to : Table → List (List Try) → ℕ → List Statement → List Statement
+run_to t tries shard [] = []
+run_to t tries shard (s ∷ statements) = if is_on shard (shard_for t tries s) then s ∷ run_to t tries shard statements else []
 
 abbrev pub indices_of : List Statement → List ℕ
 indices_of statements = map (λ (s : Statement). s.number.index) statements
@@ -94,22 +130,22 @@ indices_of statements = map (λ (s : Statement). s.number.index) statements
 abbrev pub run_of : Table → ℕ → List Statement → Run
 run_of t shard statements = record { shard = shard; sent = sent_by t shard; indices = indices_of statements }
 
--- the next run of an ordered write: to the shard that owns the first of these statements
-abbrev pub next_run : Table → List Statement → List Run
-next_run t [] = []
-next_run t (s ∷ statements) = elim (owner_of_statement t s) [ None ↦ [] | Some shard ↦ run_of t shard (run_to t shard (s ∷ statements)) ∷ [] ]
+-- the next run of an ordered write: to the shard that the first of these statements goes to
+abbrev pub next_run : Table → List (List Try) → List Statement → List Run
+next_run t tries [] = []
+next_run t tries (s ∷ statements) = elim (shard_for t tries s) [ None ↦ [] | Some shard ↦ run_of t shard (run_to t tries shard (s ∷ statements)) ∷ [] ]
 
 -- the shards that statements go to, in order of the first statement of each
-abbrev pub shards_for : Table → List Statement → List ℕ
-shards_for t [] = []
-shards_for t (s ∷ statements) = elim (owner_of_statement t s) [
-  | None ↦ shards_for t statements
-  | Some shard ↦ shard ∷ filter (λ other. not (other == shard)) (shards_for t statements)
+abbrev pub shards_for : Table → List (List Try) → List Statement → List ℕ
+shards_for t tries [] = []
+shards_for t tries (s ∷ statements) = elim (shard_for t tries s) [
+  | None ↦ shards_for t tries statements
+  | Some shard ↦ shard ∷ filter (λ other. not (other == shard)) (shards_for t tries statements)
 ]
 
 -- a run to each of them
-abbrev pub all_runs : Table → List Statement → List Run
-all_runs t statements = map (λ shard. run_of t shard (filter (λ (s : Statement). is_on shard (owner_of_statement t s)) statements)) (shards_for t statements)
+abbrev pub all_runs : Table → List (List Try) → List Statement → List Run
+all_runs t tries statements = map (λ shard. run_of t shard (filter (λ (s : Statement). is_on shard (shard_for t tries s)) statements)) (shards_for t tries statements)
 
 abbrev pub has_index : List ℕ → ℕ → Bool
 has_index indices index = list_any (λ i. i == index) indices
@@ -129,20 +165,27 @@ unsent false statements c = filter (λ (s : Statement). not (is_sent c.runs s)) 
 -- what of them a table sends
 abbrev pub runs_by : (ordered : Bool) → Option Table → List Statement → Course → List Run
 runs_by ordered None statements c = []
-runs_by true (Some t) statements c = next_run t (unsent true statements c)
-runs_by false (Some t) statements c = all_runs t (unsent false statements c)
+runs_by true (Some t) statements c = next_run t c.tries (unsent true statements c)
+runs_by false (Some t) statements c = all_runs t c.tries (unsent false statements c)
 
 abbrev pub with_runs : Course → List Run → Course
-with_runs c more = record { answers = c.answers; runs = c.runs ++ more }
+with_runs c more = record { answers = c.answers; tries = c.tries; runs = c.runs ++ more }
+
+abbrev pub first_index : List ℕ → ℕ
+first_index [] = 0
+first_index (index ∷ indices) = index
+
+abbrev pub turn_of : Course → Run → ℕ
+turn_of c run = turn_after (tries_at (first_index run.indices) c.tries)
 
 -- the statements of a run
 abbrev pub in_run : Run → List Statement → List Statement
 in_run run statements = filter (λ (s : Statement). has_index run.indices s.number.index) statements
 
--- the message of each of these runs of a write; turn 1 is currently the only one
-abbrev pub asks_to_write : Router → ℕ → RequestId → (namespace : List ℕ) → (ordered : Bool) → List Statement → List Run → List Letter
-asks_to_write r time id namespace ordered statements runs =
-    map (λ (run : Run). says r run.shard time (write_ask id 1 ordered namespace (in_run run statements) run.sent)) runs
+-- the message of each of these runs of a write, in the turn of its statements
+abbrev pub asks_to_write : Router → ℕ → RequestId → (namespace : List ℕ) → (ordered : Bool) → List Statement → Course → List Run → List Letter
+asks_to_write r time id namespace ordered statements c runs =
+    map (λ (run : Run). says r run.shard time (write_ask id (turn_of c run) ordered namespace (in_run run statements) run.sent)) runs
 
 -- the shards that own keys of a span at a time, rising; where the span has no key, the owner of the least one
 abbrev pub owners_of_span : Table → ℕ → List Span → List ℕ
@@ -155,8 +198,8 @@ owners_of_span t at span = elim (targets t span at) [
 abbrev pub targets_at : Table → ℕ → List Stage → List Target
 targets_at t at stages = map (λ shard. record { shard = shard; sent = sent_by t shard }) (owners_of_span t at (split stages).0.span)
 
-abbrev pub asks_to_read : Router → ℕ → RequestId → (namespace : List ℕ) → ℕ → Half → List Target → List Letter
-asks_to_read r time id namespace at half targets = map (λ (t : Target). says r t.shard time (read_ask id 1 namespace at half t.sent)) targets
+abbrev pub asks_to_read : Router → ℕ → RequestId → (namespace : List ℕ) → (turn at : ℕ) → Half → List Target → List Letter
+asks_to_read r time id namespace turn at half targets = map (λ (t : Target). says r t.shard time (read_ask id turn namespace at half t.sent)) targets
 
 -- what it sends to the catalogue: a write creates its collection
 abbrev pub asks_catalogue : Router → ℕ → (count : ℕ) → (namespace : List ℕ) → Work → Letter
@@ -173,10 +216,10 @@ has_owner at c = is_some (owner_among at c.owners)
 abbrev pub is_owned_at : Table → (at : ℕ) → Bool
 is_owned_at t at = list_all (has_owner at) t.chunks
 
--- the table that a read can be sent with, if it is there
-abbrev pub table_to_read : Option Table → (at : ℕ) → Option Table
-table_to_read None at = None
-table_to_read (Some t) at = if is_owned_at t at then Some t else None
+-- the table that a read can be sent with after these tries, if it is there
+abbrev pub table_to_read : Option Table → (at : ℕ) → List Try → Option Table
+table_to_read None at tries = None
+table_to_read (Some t) at tries = if reaches t tries && is_owned_at t at then Some t else None
 
 -- so many places, from this one on
 abbrev pub places_from : (first count : ℕ) → List ℕ

@@ -21,19 +21,20 @@ use Rattle.reply_model.specs.Command.{command_of}
 use Rattle.reply_model.specs.Answers.{Answer, first_answer, next_answer, count_answer, killed_answer, changed_answer, refusal_answer, answer_document}
 use Rattle.reply_model.specs.Tables.{Table}
 use Rattle.base_model.specs.Identities.{RequestId, same_request}
-use Rattle.reply_model.specs.Outcomes.{Done}
+use Rattle.reply_model.specs.Accounts.{Lack}
+use Rattle.reply_model.specs.Outcomes.{Done, lack_refusal}
 use Rattle.reply_model.specs.Right.{unless_silent}
 use Rattle.node_model.specs.Journal.{Kept, kept_block, kept_life}
-use Rattle.node_model.specs.Letters.{At, Statement, HalfFault, half_overflow, half_excess, Body, table_told, split_done, write_done, read_rows, stale, time_told, Letter, Input, client_input, letter_input, moment_input, opened_input, Taken, Reply, Effect, nothing, sends, writes}
+use Rattle.node_model.specs.Letters.{At, Statement, HalfFault, half_overflow, half_excess, Body, table_told, split_done, write_done, read_rows, refused, of_request, of_table, Cause, is_stale, is_lack, time_told, Letter, Input, client_input, letter_input, moment_input, opened_input, Taken, Reply, Effect, nothing, writes}
 use Rattle.node_model.specs.States.{Course, Telling, in_batches, as_number, Work, writing, reading, sharding, splitting, for_time, for_catalogue, Open, Router, open_with, without, replaced}
-use Rattle.node_model.specs.RouterRequests.{heard, id_of, plan_of, shards_of, untold, reached, at_once, needs, needs_batch, needs_end}
-use Rattle.node_model.specs.RouterNext.{reply_to, noted, served_in_part, settled, also_told, with_told, is_target, also_part, with_part, awaited, rows_of, Next, stay_in, letters_in, replies_in, after_next, write_on, begins_work, was_created, next_of, adopted, knows, asks_again}
+use Rattle.node_model.specs.RouterRequests.{heard, id_of, plan_of, turn_after, shards_of, untold, reached, at_once, needs, needs_batch, needs_end}
+use Rattle.node_model.specs.RouterNext.{reply_to, noted, served_in_part, settled, also_told, with_told, is_target, also_part, with_part, awaited, rows_of, Next, stay_in, letters_in, replies_in, after_next, write_on, begins_work, refused_next, table_refused, was_created, next_of, adopted, knows, at_moment}
 
 -- A REQUEST THAT COMES
 
 -- a request before anything was sent for it
 abbrev pub opened_request : Router → (link : ℕ) → (number : ℤ) → Request → (namespace : List ℕ) → Work → Open
-opened_request r link number request namespace work = record { count = r.count + 1; link = link; number = number; request = request; namespace = namespace; wait = for_catalogue; told = []; targets = []; parts = []; work = work }
+opened_request r link number request namespace work = record { count = r.count + 1; link = link; number = number; request = request; arrived = r.moment; tries = []; namespace = namespace; wait = for_catalogue; told = []; targets = []; parts = []; work = work }
 
 abbrev pub taken_now : Router → (link : ℕ) → (number : ℤ) → Request → Taken
 taken_now r link number request = record { id = id_of r (r.count + 1); link = link; number = number; time = r.time; moment = r.moment; request = request }
@@ -46,7 +47,7 @@ TellsNothing (table_told namespace create at table) = ⊥
 TellsNothing (split_done id found) = ⊥
 TellsNothing (write_done id dones) = ⊥
 TellsNothing (read_rows id turn rows) = ⊥
-TellsNothing (stale id turn met) = ⊥
+TellsNothing (refused what cause) = ⊥
 TellsNothing (time_told id) = ⊥
 TellsNothing body = Unit {0}
 
@@ -62,7 +63,7 @@ AreNoNews (Some q) dones = elim q.work [ writing kind ordered statements c ↦ n
 -- rows are new to an open read of the turn that it is in, which was sent to the shard that returns them
 abbrev pub IsNoRead : Option Open → (sender turn : ℕ) → Type 0
 IsNoRead None sender turn = Unit {0}
-IsNoRead (Some q) sender turn = elim q.work [ writing kind ordered statements c ↦ Unit {0} | reading named at stages telling ↦ (turn ≢ 1) ⊎ (is_target sender q.targets ≡ false) | sharding ↦ Unit {0} | splitting middle ↦ Unit {0} ]
+IsNoRead (Some q) sender turn = elim q.work [ writing kind ordered statements c ↦ Unit {0} | reading named at stages telling ↦ (turn ≢ turn_after q.tries) ⊎ (is_target sender q.targets ≡ false) | sharding ↦ Unit {0} | splitting middle ↦ Unit {0} ]
 
 -- a time is new to a read that waits for it
 abbrev pub IsNotAwaited : Option Open → Type 0
@@ -74,13 +75,19 @@ abbrev pub IsNoSplit : Option Open → Type 0
 IsNoSplit None = Unit {0}
 IsNoSplit (Some q) = elim q.work [ writing kind ordered statements c ↦ Unit {0} | reading named at stages telling ↦ Unit {0} | sharding ↦ Unit {0} | splitting middle ↦ ⊥ ]
 
+-- a refusal is about no open request, or this does not wait for that
+abbrev pub IsNoRefusal : Router → ℕ → Option Open → (sender turn first : ℕ) → Cause → Type 0
+IsNoRefusal r time None sender turn first cause = Unit {0}
+IsNoRefusal r time (Some q) sender turn first cause = refused_next r time q sender turn first cause ≡ None
+
 -- a message is late: what it carries changes nothing
 abbrev pub IsLate : Router → (sender : ℕ) → Body → Type 0
 IsLate r sender (write_done id dones) = AreNoNews (open_of r id) dones
 IsLate r sender (read_rows id turn rows) = IsNoRead (open_of r id) sender turn
 IsLate r sender (time_told id) = IsNotAwaited (open_of r id)
 IsLate r sender (split_done id found) = IsNoSplit (open_of r id)
-IsLate r sender (stale id turn met) = Unit {0}
+IsLate r sender (refused (of_request id turn first) cause) = IsNoRefusal r r.time (open_of r id) sender turn first cause
+IsLate r sender (refused (of_table namespace create at) (is_stale met)) = Unit {0}
 IsLate r sender body = ⊥
 
 -- the router in its life
@@ -97,17 +104,18 @@ answers_at_once r link number request answer = record {
   mail = [];
   taken = taken_now r link number request ∷ [];
   replies = record { id = id_of r (r.count + 1); link = link; number = number; request = request; time = r.time; document = answer_document answer } ∷ [];
+  away = [];
 }
 
 abbrev pub with_cursors : List Cursor → Router → Router
 with_cursors cursors r = record { me = r.me; shards = r.shards; time = r.time; life = r.life; begun = r.begun; moment = r.moment; count = r.count; tables = r.tables; requests = r.requests; cursors = cursors; blocks = r.blocks; gave = r.gave }
 
 abbrev pub answers_now : Reply → Effect
-answers_now reply = record { written = []; mail = []; taken = []; replies = reply ∷ [] }
+answers_now reply = record { written = []; mail = []; taken = []; replies = reply ∷ []; away = [] }
 
 -- what becomes of an open request, and of each
 abbrev pub goes_on : Next → Effect
-goes_on next = record { written = []; mail = letters_in next; taken = []; replies = replies_in next }
+goes_on next = record { written = []; mail = letters_in next; taken = []; replies = replies_in next; away = [] }
 
 abbrev pub go_on : (Open → Next) → List Open → Effect
 go_on next requests = record {
@@ -115,6 +123,7 @@ go_on next requests = record {
   mail = flat_map (λ q. letters_in (next q)) requests;
   taken = [];
   replies = flat_map (λ q. replies_in (next q)) requests;
+  away = [];
 }
 
 abbrev pub too_much : ℕ → Refusal
@@ -200,6 +209,7 @@ pub data RouterRow : Router → Input → Effect → Router → Type 0 where
         mail = letters_in (begins_work r r.time (opened_request r link number request namespace work) work);
         taken = taken_now r link number request ∷ [];
         replies = replies_in (begins_work r r.time (opened_request r link number request namespace work) work);
+        away = [];
       })
       (takes r (stay_in (begins_work r r.time (opened_request r link number request namespace work) work)))
   -- a table arrives: a longer one is stored, and what waits for it proceeds
@@ -210,6 +220,7 @@ pub data RouterRow : Router → Input → Effect → Router → Type 0 where
         mail = flat_map (λ q. letters_in (next_of r (heard r m) (adopted table r.tables) namespace (was_created create table) at q)) r.requests;
         taken = [];
         replies = flat_map (λ q. replies_in (next_of r (heard r m) (adopted table r.tables) namespace (was_created create table) at q)) r.requests;
+        away = [];
       })
       (knows r (heard r m) (adopted table r.tables) (flat_map (λ q. stay_in (next_of r (heard r m) (adopted table r.tables) namespace (was_created create table) at q)) r.requests))
   -- a chunk was split, or began there before; or there is no such collection
@@ -241,25 +252,33 @@ pub data RouterRow : Router → Input → Effect → Router → Type 0 where
       → open_of r id ≡ Some q → q.work ≡ writing kind ordered statements c → noted ordered c.answers dones ≢ c.answers
       → next ≡ write_on r (heard r m) r.tables ordered (served_in_part (noted ordered c.answers dones) c.runs) q kind ordered statements (settled c (noted ordered c.answers dones))
       → RouterRow r (letter_input m) (goes_on next) (knows r (heard r m) r.tables (after_next q next r.requests))
+  -- what was sent for a request is refused: it is tried again, or given up
+  router_refused : (r : Router) (m : Letter) (id : RequestId) (turn first : ℕ) (cause : Cause) (q : Open) (next : Next) → m.body ≡ refused (of_request id turn first) cause
+      → open_of r id ≡ Some q → refused_next r (heard r m) q m.sender turn first cause ≡ Some next
+      → RouterRow r (letter_input m) (goes_on next) (knows r (heard r m) r.tables (after_next q next r.requests))
+  -- a request for a table is refused: what waits for just that is given up
+  router_no_table : (r : Router) (m : Letter) (namespace : List ℕ) (create : Bool) (at : At) (node : ℕ) (lack : Lack) → m.body ≡ refused (of_table namespace create at) (is_lack node lack)
+      → RouterRow r (letter_input m) (go_on (table_refused r (heard r m) namespace create at (lack_refusal node lack)) r.requests)
+      (knows r (heard r m) r.tables (flat_map (λ q. stay_in (table_refused r (heard r m) namespace create at (lack_refusal node lack) q)) r.requests))
   -- a shard returned its part of a read, and others have not
-  router_part : (r : Router) (m : Letter) (id : RequestId) (rows : Result Rows HalfFault) (q : Open) (named : Bool) (at : ℕ) (stages : List Stage) (telling : Telling) → m.body ≡ read_rows id 1 rows
+  router_part : (r : Router) (m : Letter) (id : RequestId) (rows : Result Rows HalfFault) (q : Open) (named : Bool) (at : ℕ) (stages : List Stage) (telling : Telling) → m.body ≡ read_rows id (turn_after q.tries) rows
       → open_of r id ≡ Some q → q.work ≡ reading named at stages telling → is_target m.sender q.targets ≡ true
       → awaited q.targets (also_part q.parts m.sender rows) ≢ []
       → RouterRow r (letter_input m) nothing (knows r (heard r m) r.tables (replaced (with_part q m.sender rows) r.requests))
   -- a read has all its rows
   router_read : (r : Router) (m : Letter) (id : RequestId) (rows : Result Rows HalfFault) (q : Open) (named : Bool) (at : ℕ) (stages : List Stage) (telling : Telling) (all : List Rows) (out : Outcome) (answer : Answer) (f : Opened)
-      → m.body ≡ read_rows id 1 rows → open_of r id ≡ Some q → q.work ≡ reading named at stages telling → is_target m.sender q.targets ≡ true
+      → m.body ≡ read_rows id (turn_after q.tries) rows → open_of r id ≡ Some q → q.work ≡ reading named at stages telling → is_target m.sender q.targets ≡ true
       → awaited q.targets (also_part q.parts m.sender rows) ≡ [] → rows_of q.targets (also_part q.parts m.sender rows) ≡ Ok all
       → MergesInTurn (split stages).1 all out → Tells r q at telling out answer f
-      → RouterRow r (letter_input m) (record { written = f.written; mail = []; taken = []; replies = reply_to r (heard r m) q answer ∷ [] })
+      → RouterRow r (letter_input m) (record { written = f.written; mail = []; taken = []; replies = reply_to r (heard r m) q answer ∷ []; away = [] })
       (opens f (knows r (heard r m) r.tables (without q.count r.requests)))
   -- all returned their parts, and the first that has no rows has too many
-  router_excess : (r : Router) (m : Letter) (id : RequestId) (rows : Result Rows HalfFault) (n : ℕ) (q : Open) (named : Bool) (at : ℕ) (stages : List Stage) (telling : Telling) → m.body ≡ read_rows id 1 rows
+  router_excess : (r : Router) (m : Letter) (id : RequestId) (rows : Result Rows HalfFault) (n : ℕ) (q : Open) (named : Bool) (at : ℕ) (stages : List Stage) (telling : Telling) → m.body ≡ read_rows id (turn_after q.tries) rows
       → open_of r id ≡ Some q → q.work ≡ reading named at stages telling → is_target m.sender q.targets ≡ true
       → awaited q.targets (also_part q.parts m.sender rows) ≡ [] → rows_of q.targets (also_part q.parts m.sender rows) ≡ Err (half_excess n)
       → RouterRow r (letter_input m) (answers_now (reply_to r (heard r m) q (refusal_answer (too_much n)))) (knows r (heard r m) r.tables (without q.count r.requests))
   -- the same of one whose sum is outside int64
-  router_overflow : (r : Router) (m : Letter) (id : RequestId) (rows : Result Rows HalfFault) (q : Open) (named : Bool) (at : ℕ) (stages : List Stage) (telling : Telling) → m.body ≡ read_rows id 1 rows
+  router_overflow : (r : Router) (m : Letter) (id : RequestId) (rows : Result Rows HalfFault) (q : Open) (named : Bool) (at : ℕ) (stages : List Stage) (telling : Telling) → m.body ≡ read_rows id (turn_after q.tries) rows
       → open_of r id ≡ Some q → q.work ≡ reading named at stages telling → is_target m.sender q.targets ≡ true
       → awaited q.targets (also_part q.parts m.sender rows) ≡ [] → rows_of q.targets (also_part q.parts m.sender rows) ≡ Err half_overflow
       → RouterRow r (letter_input m) (answers_now (reply_to r (heard r m) q (refusal_answer (without_evidence overflow)))) (knows r (heard r m) r.tables (without q.count r.requests))
@@ -267,5 +286,5 @@ pub data RouterRow : Router → Input → Effect → Router → Type 0 where
   -- a message of another kind has no effect
   router_skip : (r : Router) (m : Letter) → TellsNothing m.body → RouterRow r (letter_input m) nothing r
   router_moment : (r : Router) (moment : ℕ) → r.begun ≡ true
-      → RouterRow r (moment_input moment) (sends (flat_map (λ q. asks_again r (max r.time (time_of_moment moment)) q) r.requests))
-      (record { me = r.me; shards = r.shards; time = max r.time (time_of_moment moment); life = r.life; begun = r.begun; moment = moment; count = r.count; tables = r.tables; requests = r.requests; cursors = r.cursors; blocks = r.blocks; gave = r.gave })
+      → RouterRow r (moment_input moment) (go_on (at_moment r (max r.time (time_of_moment moment)) moment) r.requests)
+      (record { me = r.me; shards = r.shards; time = max r.time (time_of_moment moment); life = r.life; begun = r.begun; moment = moment; count = r.count; tables = r.tables; requests = flat_map (λ q. stay_in (at_moment r (max r.time (time_of_moment moment)) moment q)) r.requests; cursors = r.cursors; blocks = r.blocks; gave = r.gave })

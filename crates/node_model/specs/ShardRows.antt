@@ -1,6 +1,6 @@
 -- What a shard may do in a step.
 use Rattle.std.specs.Prelude.{◌≡◌, ◌≢◌, ◌⊎◌, ◌<◌, ◌≤◌, ◌^◌, ℕ, ℤ, max, List, [], ◌∷◌, ◌++◌, map, filter, not, Bool, true, false, ◌==◌, ◌&&◌, Option, Some, None, is_some, Ok, Err}
-use Rattle.std.specs.List.{list_any}
+use Rattle.std.specs.List.{flat_map, list_any}
 use Rattle.std.specs.Str.{bytes_eq}
 use Rattle.reply_model.specs.Tree.{Fields}
 use Rattle.reply_model.specs.Requests.{Request}
@@ -11,11 +11,12 @@ use Rattle.reply_model.specs.Tables.{Table, table_of, with_table, is_longer}
 use Rattle.reply_model.specs.Verdicts.{Sent, fits, shard_is_old, router_is_old, verdict_of}
 use Rattle.base_model.specs.Identities.{RequestId, same_request}
 use Rattle.reply_model.specs.Outcomes.{Done}
+use Rattle.reply_model.specs.Accounts.{Lack}
 use Rattle.node_model.specs.Journal.{kept_table, kept_entry, kept_ceiling}
 use Rattle.pipeline_model.specs.Halves.{Half, Rows, IsHalf}
 use Rattle.pipeline_model.specs.Lengths.{excess_of_half}
 use Rattle.pipeline_model.specs.Runs.{Runs, overflowed}
-use Rattle.node_model.specs.Letters.{At, no_time, Statement, half_overflow, half_excess, Body, table_ask, table_told, write_ask, write_done, read_ask, half_ask, read_rows, stale, time_ask, time_told, Letter, Input, client_input, letter_input, moment_input, opened_input, Effect, nothing, sends, writes}
+use Rattle.node_model.specs.Letters.{At, no_time, Statement, half_overflow, half_excess, Body, table_ask, table_told, write_ask, write_done, read_ask, half_ask, read_rows, refused, of_request, of_table, is_stale, is_lack, time_ask, time_told, Letter, Input, client_input, letter_input, moment_input, opened_input, Effect, nothing, sends, writes}
 use Rattle.node_model.specs.States.{Shard}
 use Rattle.node_model.specs.Service.{seen_before, Serves, Repeats, documents_at}
 
@@ -49,6 +50,7 @@ AsksNothing (read_ask id turn namespace at half sent) = ⊥
 AsksNothing (half_ask id turn namespace at half documents) = ⊥
 AsksNothing (table_told namespace create at table) = ⊥
 AsksNothing (time_ask id) = ⊥
+AsksNothing (refused (of_table namespace false no_time) (is_lack node lack)) = ⊥
 AsksNothing body = Unit {0}
 
 -- Which request of documents a message is: of which client's request, in which turn, from which statement on (a read has none), and the
@@ -65,6 +67,11 @@ abbrev pub ask_in : Body → Option Ask
 ask_in (write_ask id turn ordered namespace (s ∷ statements) sent) = Some (record { id = id; turn = turn; first = Some s.number.index; namespace = namespace; sent = sent })
 ask_in (read_ask id turn namespace at half sent) = Some (record { id = id; turn = turn; first = None; namespace = namespace; sent = sent })
 ask_in body = None
+
+-- a request has the first index 0 where it has no statements
+abbrev pub index_shown : Option ℕ → ℕ
+index_shown None = 0
+index_shown (Some index) = index
 
 abbrev pub same_index : Option ℕ → Option ℕ → Bool
 same_index None None = true
@@ -100,6 +107,13 @@ asks_table s time namespace = says s 0 time (table_ask namespace false no_time)
 abbrev pub asks_again : Shard → (time : ℕ) → List Letter → List Letter
 asks_again s time [] = []
 asks_again s time (m ∷ parked) = elim (ask_in m.body) [ None ↦ asks_again s time parked | Some a ↦ asks_table s time a.namespace ∷ asks_again s time parked ]
+
+-- that the table of a request that waits could not be had is returned to its router
+abbrev pub refuses : Shard → (time node : ℕ) → Lack → Letter → List Letter
+refuses s time node lack m = elim (ask_in m.body) [
+  | None ↦ []
+  | Some a ↦ says s a.id.router time (refused (of_request a.id a.turn (index_shown a.first)) (is_lack node lack)) ∷ []
+]
 
 -- the table is new: there is none of its collection, or it has seen more changes
 abbrev pub is_news : Table → Option Table → Bool
@@ -142,7 +156,7 @@ pub data ShardRow : Shard → Input → Effect → Shard → Type 0 where
   -- a request that was sent with an older table is not served
   shard_stale : (s : Shard) (m : Letter) (a : Ask) (met : Version) → ask_in m.body ≡ Some a → was_seen m.body s.entries ≡ false
       → verdict_of a.sent s.me (table_of a.namespace s.tables) ≡ router_is_old met
-      → ShardRow s (letter_input m) (sends (says s a.id.router (heard s m) (stale a.id a.turn met) ∷ [])) (at_later s (heard s m))
+      → ShardRow s (letter_input m) (sends (says s a.id.router (heard s m) (refused (of_request a.id a.turn (index_shown a.first)) (is_stale met)) ∷ [])) (at_later s (heard s m))
   -- the documents of a read are taken in one step, and its half is made of them in another
   shard_read : (s : Shard) (m : Letter) (id : RequestId) (turn : ℕ) (namespace : List ℕ) (at : ℕ) (half : Half) (sent : Sent)
       → m.body ≡ read_ask id turn namespace at half sent → verdict_of sent s.me (table_of namespace s.tables) ≡ fits → at ≤ top s
@@ -181,6 +195,17 @@ pub data ShardRow : Shard → Input → Effect → Shard → Type 0 where
       })
   shard_known : (s : Shard) (m : Letter) (namespace : List ℕ) (create : Bool) (at : At) (table : Option Table)
       → m.body ≡ table_told namespace create at table → IsNoNews table s namespace → ShardRow s (letter_input m) nothing (at_later s (heard s m))
+  -- a table can't be had: what waited for it waits no longer, and its routers learn why
+  shard_no_table : (s : Shard) (m : Letter) (namespace : List ℕ) (node : ℕ) (lack : Lack) → m.body ≡ refused (of_table namespace false no_time) (is_lack node lack)
+      → ShardRow s (letter_input m) (sends (flat_map (refuses s (heard s m) node lack) (filter (wants_table namespace) s.parked)))
+      (record {
+        me = s.me;
+        time = heard s m;
+        tables = s.tables;
+        entries = s.entries;
+        ceiling = s.ceiling;
+        parked = filter (λ p. not (wants_table namespace p)) s.parked;
+      })
   -- a message of another kind has no effect
   shard_skip : (s : Shard) (m : Letter) → AsksNothing m.body → ShardRow s (letter_input m) nothing s
   shard_moment : (s : Shard) (moment : ℕ) → ShardRow s (moment_input moment) (sends (asks_again s (max s.time (time_of_moment moment)) s.parked)) (at_later s (max s.time (time_of_moment moment)))

@@ -5,7 +5,7 @@ use Rattle.reply_model.specs.History.{Entry}
 use Rattle.chunk_model.specs.Changes.{Change}
 use Rattle.reply_model.specs.Tables.{Table}
 use Rattle.reply_model.specs.Tree.{Datum}
-use Rattle.reply_model.specs.Outcomes.{StatementOutcome}
+use Rattle.reply_model.specs.Outcomes.{StatementOutcome, Try}
 use Rattle.reply_model.specs.Writes.{WriteKind}
 use Rattle.pipeline_model.specs.Halves.{Rows}
 use Rattle.pipeline_model.specs.Stages.{Stage}
@@ -40,9 +40,10 @@ pub record Run : Type 0 where
   pub sent : Sent
   pub indices : List ℕ
 
--- How far a write has come: of each statement, by its index, its outcome, if it has one; and what was sent.
+-- How far a write has come: of each statement, by its index, its outcome, if it has one, and its tries that met a later table; and what was sent.
 pub record Course : Type 0 where
   pub answers : List (Option StatementOutcome)
+  pub tries : List (List Try)
   pub runs : List Run
 
 -- what a request has to do before it is answered
@@ -72,13 +73,16 @@ pub record Part : Type 0 where
   pub shard : ℕ
   pub rows : Result Rows HalfFault
 
--- A request that is not answered yet. `told`: the shards that returned their time to it, in order; of a read that was sent to shards: to which ones, in order of
--- their numbers, and what they returned, in order of arrival.
+-- A request that is not answered yet. `arrived`: the last moment that the router was given before it took it, 0 if there was none. `tries`: of a read, those that
+-- met a later table. `told`: the shards that returned their time to it, in order; of a read that was sent to shards: to which ones, in order of their numbers, and
+-- what they returned, in order of arrival.
 pub record Open : Type 0 where
   pub count : ℕ
   pub link : ℕ
   pub number : ℤ
   pub request : Request
+  pub arrived : ℕ
+  pub tries : List Try
   pub namespace : List ℕ
   pub wait : Wait
   pub told : List ℕ

@@ -6,7 +6,7 @@ use Rattle.std.specs.List.{AllByRecursion, slice_get}
 use Rattle.std.proofs.lemmas.Option.{slice_get_within}
 use Rattle.chunk_model.specs.Tables.{first_shard}
 use Rattle.history_model.specs.History.{IsIn}
-use Rattle.history_model.proofs.Lists.{all_at, in_back, in_first, in_later, in_cons, in_none}
+use Rattle.history_model.proofs.Lists.{all_at, all_weaken, in_back, in_first, in_later, in_cons, in_none}
 use Rattle.reply_model.specs.Exchanges.{Asked}
 use Rattle.reply_model.specs.OneHistory.{AreDifferent, ids_asked}
 use Rattle.node_model.specs.Letters.{no_time}
@@ -19,7 +19,8 @@ use Rattle.node_laws.proofs.Views.{Book}
 use Rattle.node_laws.proofs.Lists.{all_within}
 use Rattle.node_laws.proofs.Places.{EachAt, each_get}
 use Rattle.node_laws.proofs.Facts.{IsOfRequest, HeldFits, RouterFits, IsClosedOrOpen, Good}
-use Rattle.node_laws.proofs.StepsKeep.{StaysTrue, fits_here, happens_keeps}
+use Rattle.node_laws.proofs.StepsKeep.{StaysTrue, fits_here}
+use Rattle.restart_laws.proofs.Kept.{event_keeps as facts_keep}
 use Rattle.node_replay.specs.Restarts.{EventOrStop, restart_event, stop_event, Occurs, occurs, restarts, stops, RunWithStops, stays, proceeds}
 use Rattle.restart_laws.specs.Calls.{with_mail}
 use Rattle.restart_laws.proofs.ReachedCalls.{reached_calls_are_one_run, replays_without}
@@ -29,13 +30,14 @@ use Rattle.node_progress.specs.Firsts.{IsFirst, first_start, first_again}
 use Rattle.node_progress.specs.UnderWay.{Thing, a_table, a_part, a_run, things_of, IsSent, IsDelivered, IsLeft}
 use Rattle.node_progress.proofs.Things.{awaits, ask_brings, thing_asked}
 use Rattle.node_progress.proofs.Lateness.{named_in, names_own}
-use Rattle.node_progress.proofs.Bags.{Left, left_but, IsCarried, OpenGoes, ParkedGoes, NodeGoes, Bag}
+use Rattle.node_progress.proofs.Bags.{Left, left_but, all_of, AllLost, changes_made, IsCarried, OpenGoes, ParkedGoes, NodeGoes, IsPosted, none_refuses, not_all_taken, Bag}
 use Rattle.node_progress.proofs.BagFacts.{now}
 use Rattle.node_progress.proofs.BagSteps.{each_both}
 use Rattle.node_progress.proofs.BagRuns.{Leaves, BagIn, event_bag, first_bag, left_past, within_more, leaves_last, sent_grows}
 use Rattle.node_progress.proofs.StoppedBags.{forgotten, stop_bag}
 use Rattle.node_progress.proofs.Firsts.{first_rests, first_shards}
-use Rattle.node_progress.proofs.Restarted.{begins_true, begins_reached}
+use Rattle.node_progress.proofs.Restarted.{begins_true, begins_reached, occurs_placed}
+use Rattle.node_progress.proofs.NoneMissed.{first_none_missed, run_more_missed, stops_more, first_stop_none, first_misses_none, rest_misses_none}
 use Rattle.node_progress.proofs.Lives.{AreOfLives, run_lives, dropped}
 use Rattle.node_progress.proofs.Progress.{counted}
 use Rattle.node_progress.proofs.Answered.{answered_served}
@@ -67,27 +69,32 @@ leaves_all left (opened_event at) = λ n l. tt
 -- some bag
 pub record SomeBag (w : World) : Type 1 where
   pub left : Left
+  pub some : AllLost left → ⊥
   pub bag : Bag left w
 
-occurs_bag : (u v : World) (e : EventOrStop) → StaysWhole u → SomeBag u → Occurs u e v → SomeBag v
-occurs_bag _ _ _ whole b (occurs u v e h) = record {
+occurs_bag : (u v : World) (e : EventOrStop) → StaysWhole u → SomeBag u → v.missed ≡ u.missed → Occurs u e v → SomeBag v
+occurs_bag _ _ _ whole b none (occurs u v e h) = record {
   left = left_but (λ n. Unit {0}) b.left.lost;
+  some = b.some;
   bag = event_bag b.left (left_but (λ n. Unit {0}) b.left.lost) u v whole.facts.0.book e whole.facts.0.good b.bag (leaves_all b.left.places e) (λ id l. l)
-      (λ n le. tt) h;
+      (λ n le. tt) (inl none) h;
 }
-occurs_bag _ _ _ whole b (restarts u v at m) = record {
-  left = _;
-  bag = stop_bag b.left (λ n. Unit {0}) u v (restart_event at) whole b.bag b.bag.asked tt (restarts u v at m) (λ n le. tt);
+occurs_bag _ _ _ whole b none (restarts u v at m) = record {
+  left = left_but (λ n. Unit {0}) (IsOfRequest v.asked);
+  some = not_all_taken (λ n. Unit {0}) v (occurs_placed u v (restart_event at) whole.facts (restarts u v at m) b.bag.asked);
+  bag = stop_bag b.left (λ n. Unit {0}) u v (restart_event at) whole b.bag b.some b.bag.asked tt (restarts u v at m) (λ n le. tt);
 }
-occurs_bag _ _ _ whole b (stops u v at e i gives m) = record {
-  left = _;
-  bag = stop_bag b.left (λ n. Unit {0}) u v (stop_event at e) whole b.bag b.bag.asked tt (stops u v at e i gives m) (λ n le. tt);
+occurs_bag _ _ _ whole b none (stops u v at e i gives m) = record {
+  left = left_but (λ n. Unit {0}) (IsOfRequest v.asked);
+  some = not_all_taken (λ n. Unit {0}) v (occurs_placed u v (stop_event at e) whole.facts (stops u v at e i gives m) b.bag.asked);
+  bag = stop_bag b.left (λ n. Unit {0}) u v (stop_event at e) whole b.bag b.some b.bag.asked tt (stops u v at e i gives m) (λ n le. tt);
 }
 
-pub run_some_bag : (u w : World) (events : List EventOrStop) → StaysWhole u → SomeBag u → RunWithStops u events w → SomeBag w
-run_some_bag _ _ _ whole b (stays w) = b
-run_some_bag _ _ _ whole b (proceeds u v w e events h more) =
-    run_some_bag v w events (occurs_keeps u v e whole h) (occurs_bag u v e whole b h) more
+pub run_some_bag : (u w : World) (events : List EventOrStop) → StaysWhole u → SomeBag u → RunWithStops u events w → w.missed ≡ u.missed → SomeBag w
+run_some_bag _ _ _ whole b (stays w) none = b
+run_some_bag _ _ _ whole b (proceeds u v w e events h more) none =
+    let first : v.missed ≡ u.missed = first_stop_none u v w e events h more none in
+    run_some_bag v w events (occurs_keeps u v e whole h) (occurs_bag u v e whole b first h) more (none ∙ sym first)
 
 -- FROM A WORLD ON
 
@@ -96,14 +103,15 @@ each_map P Q i [] f all = tt
 each_map P Q i (x ∷ xs) f all = (f i x all.0, each_map P Q (i + 1) xs f all.1)
 
 -- of all requests until then nothing is said
-pub forget_bag : (before : Left) (left : ℕ → Type 0) (v : World) (book : Book) → Good v book → Bag before v → ((n : ℕ) → length v.sent ≤ n → left n)
+pub forget_bag : (before : Left) (left : ℕ → Type 0) (v : World) (book : Book) → Good v book → Bag before v → (AllLost before → ⊥) → ((n : ℕ) → length v.sent ≤ n → left n)
     → Bag (left_but left (IsOfRequest v.asked)) v
-forget_bag before left v book good bag fresh = record {
+forget_bag before left v book good bag some fresh = record {
   fresh = fresh;
-  well = bag.well;
+  well = all_weaken (IsPosted before (changes_made v) (length v.nodes)) (IsPosted (left_but left (IsOfRequest v.asked)) (changes_made v) (length v.nodes)) v.sent
+      (λ m posted. inl (none_refuses before (changes_made v) (length v.nodes) m some posted)) bag.well;
   shards = bag.shards;
   nodes = each_map Before (λ j (h : Held). NodeGoes (left_but left (IsOfRequest v.asked)) v j h.state) 0 v.nodes
-      (λ j h x. forgotten before left v v book good bag refl (record { news = []; is = refl }) (λ a i. i) j h.kept h.state x.0.state x.1)
+      (λ j h x. forgotten before left v v book good bag refl (record { news = []; is = refl }) (λ a i. i) j h.kept h.steps h.state x.0.state x.1)
       (each_both (HeldFits (now v book) v.asked v.answered v.given) (λ j (h : Held). NodeGoes before v j h.state) 0 v.nodes good.nodes bag.nodes);
   asked = bag.asked;
 }
@@ -111,14 +119,18 @@ forget_bag before left v book good bag fresh = record {
     Before : ℕ → Held → Type 0
     Before j h = HeldFits (now v book) v.asked v.answered v.given j h × NodeGoes before v j h.state
 
-pub since_bag : (first : World) (early : List EventOrStop) (v : World) → IsFirst first → RunWithStops first early v → (left : ℕ → Type 0)
+pub since_bag : (first : World) (early : List EventOrStop) (v : World) → IsFirst first → RunWithStops first early v → v.missed ≡ first.missed → (left : ℕ → Type 0)
     → ((n : ℕ) → length v.sent ≤ n → left n) → BagIn (left_but left (IsOfRequest v.asked)) v
-since_bag first early v is run left fresh =
+since_bag first early v is run none left fresh =
     let whole = first_whole first is in
-    let b : SomeBag first = record { left = _; bag = first_bag (λ n. Unit {0}) first (first_rests first is) (first_shards first is) (λ n. tt) } in
-    let there = run_some_bag first v early whole b run in
+    let b : SomeBag first = record {
+      left = all_of (λ n. Unit {0});
+      some = λ all. all (record { router = 0; life = 0; count = 0 });
+      bag = first_bag (λ n. Unit {0}) first (first_rests first is) (first_shards first is) (λ n. tt);
+    } in
+    let there = run_some_bag first v early whole b run none in
     let facts = (runs_with_stops_stay_true first v early whole run).facts in
-    record { true_there = facts; bag = forget_bag there.left left v facts.0.book facts.0.good there.bag fresh }
+    record { true_there = facts; bag = forget_bag there.left left v facts.0.book facts.0.good there.bag there.some fresh }
 
 -- WHERE NOTHING IS LEFT
 
@@ -168,7 +180,7 @@ module _ (v w : World) (left : ℕ → Type 0) (good : StaysTrue w) (bag : Bag (
       by_place (inl s) = none_sent t s
       by_place (inr h) =
           let g = all_at (ParkedGoes lost w h.at h.shard) h.letter h.shard.parked
-          (goes_there h.at (record { state = shard_state h.shard; kept = h.kept }) h.here) h.parked in
+          (goes_there h.at (record { state = shard_state h.shard; kept = h.kept; steps = h.steps }) h.here) h.parked in
           let thing = ask_brings t h.letter.sender h.letter.receiver h.letter.body g.ask g.asks h.brings in
           let mine : g.ask.id ≡ id_of r q.count =
           names_own (id_of r q.count) r.me (untold q.told (shards_of r)) (awaited q.targets q.parts) q.namespace q.work q.wait t g.ask.id
@@ -191,7 +203,7 @@ module _ (v w : World) (left : ℕ → Type 0) (good : StaysTrue w) (bag : Bag (
   answered_one a there o =
       let in_all : IsIn a w.asked = subst (λ l. IsIn a l) (sym are.all) (in_back a v.asked are.since there) in
       let fits : RouterFits (now w good.0.book) w.asked w.answered a.id.router o.router =
-      (fits_here w good.0.book a.id.router (record { state = router_state o.router; kept = o.kept }) good.0.good o.here).state in
+      (fits_here w good.0.book a.id.router (record { state = router_state o.router; kept = o.kept; steps = o.steps }) good.0.good o.here).state in
       by_place fits (all_at (λ (x : Asked). x.id.router ≡ a.id.router → x.id.life ≡ o.router.life → IsClosedOrOpen o.router.requests w.answered x) a w.asked
       fits.closed in_all refl o.life)
     where
@@ -201,7 +213,7 @@ module _ (v w : World) (left : ℕ → Type 0) (good : StaysTrue w) (bag : Bag (
           let q = counted a.id.count o.router.requests is_open in
           let own : a.id ≡ id_of o.router q.0.count =
           λ i. record { router = sym fits.own i; life = o.life i; count = sym q.2 i } in
-          let g = all_at (OpenGoes lost w o.router) q.0 o.router.requests (goes_there a.id.router (record { state = router_state o.router; kept = o.kept }) o.here)
+          let g = all_at (OpenGoes lost w o.router) q.0 o.router.requests (goes_there a.id.router (record { state = router_state o.router; kept = o.kept; steps = o.steps }) o.here)
           q.1 in
           absurd (by_carried q.0 own g.some g.carried)
         where
@@ -248,29 +260,31 @@ leaves_since base left later (deliver_event at which) leaves = λ n l. by_place 
 leaves_since base left later (moment_event at moment) leaves = λ n l. (l.0, leaves n l.1)
 leaves_since base left later (opened_event at) leaves = λ n l. (l.0, leaves n l.1)
 
-late_event : (v : World) (before : List Event) (w x : World) (e : Event) → LateBag v before w → Happens w e x → LateBag v (before ++ e ∷ []) x
-late_event v before w x e b h =
+late_event : (v : World) (before : List Event) (w x : World) (e : Event) → LateBag v before w → x.missed ≡ w.missed → Happens w e x → LateBag v (before ++ e ∷ []) x
+late_event v before w x e b none h =
     let grows = sent_grows w x e h in
     record {
-      true_there = happens_keeps w x e b.true_there h;
+      true_there = facts_keep w x e b.true_there h;
       bag = event_bag (left_but (LeftSince v before) (IsOfRequest v.asked)) (left_but (LeftSince v (before ++ e ∷ [])) (IsOfRequest v.asked)) w x
           b.true_there.0.book e b.true_there.0.good b.bag
           (leaves_since (λ n. length v.sent ≤ n) (IsLeft before) (IsLeft (before ++ e ∷ [])) e (leaves_last before e)) (λ id l. l)
-          (λ n le. let m = b.more in (omega (arith, m, le), left_past before w x e b.within h n le)) h;
+          (λ n le. let m = b.more in (omega (arith, m, le), left_past before w x e b.within h n le)) (inl none) h;
       within = within_more before w x e b.within h;
       more = let m = b.more in omega (arith, m, grows);
     }
 
-late_run : (v : World) (before : List Event) (u : World) (es : List Event) (w : World) → LateBag v before u → Run u es w → LateBag v (before ++ es) w
-late_run v before _ _ _ b (stands w) = subst (λ l. LateBag v l w) (sym (append-nil before)) b
-late_run v before _ _ _ b (goes u x w e es h run) =
-    subst (λ l. LateBag v l w) (append_assoc before (e ∷ []) es) (late_run v (before ++ e ∷ []) x es w (late_event v before u x e b h) run)
+late_run : (v : World) (before : List Event) (u : World) (es : List Event) (w : World) → LateBag v before u → Run u es w → w.missed ≡ u.missed → LateBag v (before ++ es) w
+late_run v before _ _ _ b (stands w) none = subst (λ l. LateBag v l w) (sym (append-nil before)) b
+late_run v before _ _ _ b (goes u x w e es h run) none =
+    subst (λ l. LateBag v l w) (append_assoc before (e ∷ []) es)
+    (late_run v (before ++ e ∷ []) x es w (late_event v before u x e b (first_misses_none u x w e es h run none) h) run (rest_misses_none u x w e es h run none))
 
 pub delivered_since_are_answered : (first : World) (early : List EventOrStop) (v : World) (late : List Event) (w : World) → IsFirst first
-    → RunWithStops first early v → Run v late w → ((n : ℕ) → length v.sent ≤ n → n < length w.sent → IsDelivered late n) → AreAnsweredSince v w
-delivered_since_are_answered first early v late w is run more all =
-    let b = since_bag first early v is run (LeftSince v []) (λ n le. (le, λ at i. in_none (deliver_event at n) i)) in
+    → RunWithStops first early v → Run v late w → w.missed ≡ first.missed → ((n : ℕ) → length v.sent ≤ n → n < length w.sent → IsDelivered late n) → AreAnsweredSince v w
+delivered_since_are_answered first early v late w is run more none all =
+    let until : v.missed ≡ first.missed = first_none_missed first v w (stops_more first v early run) (run_more_missed v w late more) none in
+    let b = since_bag first early v is run until (LeftSince v []) (λ n le. (le, λ at i. in_none (deliver_event at n) i)) in
     let there = late_run v [] v late w
-    (record { true_there = b.true_there; bag = b.bag; within = λ at n i. absurd (in_none (deliver_event at n) i); more = omega arith }) more in
+    (record { true_there = b.true_there; bag = b.bag; within = λ at n i. absurd (in_none (deliver_event at n) i); more = omega arith }) more (none ∙ sym until) in
     are_answered_since v w (LeftSince v late) there.true_there there.bag (lives_since v late w b.true_there more)
     (λ n below l. let d = all n l.0 below in l.1 d.0 d.1)

@@ -1,17 +1,19 @@
 -- Each request that comes is taken, once.
-use Rattle.std.proofs.Common.{◌≡◌, ℕ, List, [], ◌∷◌, ◌++◌, map, refl, sym, ap, subst, ◌∙◌, append-nil, append_assoc}
+use Rattle.std.proofs.Common.{◌≡◌, inl, inr, ℕ, List, [], ◌∷◌, ◌++◌, map, refl, sym, ap, subst, ◌∙◌, append-nil, append_assoc}
 use Rattle.std.specs.Prelude.{Some}
 use Rattle.std.specs.List.{slice_get}
 use Rattle.node_model.specs.Letters.{Input, client_input, letter_input, moment_input, opened_input, Taken, Effect}
 use Rattle.node_model.specs.States.{Router, NodeState, catalogue_state, shard_state, router_state}
-use Rattle.node_model.specs.RouterRows.{RouterRow, router_begin, router_opened, router_plain, router_more, router_no_cursor, router_kill, router_take, router_learn, router_split, router_not_sharded, router_reach, router_hear, router_ahead, router_note, router_part, router_read, router_excess, router_overflow, router_late, router_skip, router_moment}
+use Rattle.node_model.specs.RouterRows.{RouterRow, router_begin, router_opened, router_plain, router_more, router_no_cursor, router_kill, router_take, router_learn, router_split, router_not_sharded, router_reach, router_hear, router_ahead, router_note, router_refused, router_no_table, router_part, router_read, router_excess, router_overflow, router_late, router_skip, router_moment}
 use Rattle.node_model.specs.Steps.{Step, catalogue_step, shard_step, router_step, begin_step, other_step}
-use Rattle.node_model.specs.World.{Held, World, asked_by, Moves, IsRouter, Event, Happens, client_event, deliver_event, moment_event, opened_event, comes, delivers, passes, begins as was_opened, Run, stands, goes}
+use Rattle.node_model.specs.World.{Held, World, asked_by, Moves, Meets, IsRouter, Event, Happens, client_event, deliver_event, moment_event, opened_event, comes, delivers, passes, begins as was_opened, Run, stands, goes}
 use Rattle.node_laws.proofs.Views.{view_of}
 use Rattle.node_laws.proofs.Facts.{StateFits}
 use Rattle.node_laws.proofs.Lists.{map_longer}
-use Rattle.node_laws.proofs.StepsKeep.{StaysTrue, fits_here, happens_keeps}
+use Rattle.node_laws.proofs.StepsKeep.{StaysTrue, fits_here}
+use Rattle.restart_laws.proofs.Kept.{event_keeps as facts_keep}
 use Rattle.node_progress.specs.Arrivals.{Arrival, arrivals, arrival_of}
+use Rattle.node_progress.proofs.NoneMissed.{miss_noted, first_misses_none, rest_misses_none}
 use Rattle.node_progress.proofs.Takings.{catalogue_takes_none, shard_takes_none}
 
 -- what comes in an input
@@ -39,6 +41,8 @@ row_takes _ _ _ _ (router_reach r m id q named at stages telling says found work
 row_takes _ _ _ _ (router_hear r m id q named at stages telling says found work waits ahead others) = refl
 row_takes _ _ _ _ (router_ahead r m id q named at stages telling says found work waits ahead all) = refl
 row_takes _ _ _ _ (router_note r m id dones q kind ordered statements c next says found work news is) = refl
+row_takes _ _ _ _ (router_refused r m id turn first cause q next says found is) = refl
+row_takes _ _ _ _ (router_no_table r m namespace create at node lack says) = refl
 row_takes _ _ _ _ (router_part r m id rows q named at stages telling says found work target some) = refl
 row_takes _ _ _ _ (router_read r m id rows q named at stages telling all out answer f says found work target whole got merged tells) = refl
 row_takes _ _ _ _ (router_excess r m id rows n q named at stages telling says found work target whole got) = refl
@@ -95,18 +99,24 @@ any_client i none (router_state r) = tt
 
 router_client : (w : World) (at : ℕ) (i : Input) (h : Held) → IsRouter w.nodes at → slice_get w.nodes at ≡ Some h → IsClientOf h.state i
 router_client w at i h is here =
-    let both : Some (record { state = router_state is.0; kept = is.1 }) ≡ Some h = sym is.2 ∙ here in
-    let held : record { state = router_state is.0; kept = is.1 } ≡ h = cc both in
+    let both : Some (record { state = router_state is.0; kept = is.1; steps = is.2 }) ≡ Some h = sym is.3 ∙ here in
+    let held : record { state = router_state is.0; kept = is.1; steps = is.2 } ≡ h = cc both in
     subst (λ (x : Held). IsClientOf x.state i) held tt
 
-event_takes : (w v : World) (e : Event) → StaysTrue w → Happens w e v → map arrival_of v.asked ≡ map arrival_of w.asked ++ arrivals (e ∷ [])
-event_takes _ _ _ good (comes w v at link number request is m) =
-    move_takes w v at (client_input link number request) good m (router_client w at (client_input link number request) m.old is m.here)
-event_takes _ _ _ good (delivers w v at which letter got to m) =
-    move_takes w v at (letter_input letter) good m (any_client (letter_input letter) (λ n. refl) m.old.state)
-event_takes _ _ _ good (passes w v at moment m) =
-    move_takes w v at (moment_input moment) good m (any_client (moment_input moment) (λ n. refl) m.old.state)
-event_takes _ _ _ good (was_opened w v at m) = move_takes w v at opened_input good m (any_client opened_input (λ n. refl) m.old.state)
+-- where no step is missed
+meet_takes : (w v : World) (at : ℕ) (i : Input) → StaysTrue w → v.missed ≡ w.missed → (m : Meets w at i v)
+    → ((h : Held) → slice_get w.nodes at ≡ Some h → IsClientOf h.state i) → map arrival_of v.asked ≡ map arrival_of w.asked ++ arrivals_in at i
+meet_takes w v at i good none (inl m) client = move_takes w v at i good m (client m.old m.here)
+meet_takes w v at i good none (inr m) client = miss_noted w v at i m none
+
+event_takes : (w v : World) (e : Event) → StaysTrue w → v.missed ≡ w.missed → Happens w e v → map arrival_of v.asked ≡ map arrival_of w.asked ++ arrivals (e ∷ [])
+event_takes _ _ _ good none (comes w v at link number request is m) =
+    meet_takes w v at (client_input link number request) good none m (λ h here. router_client w at (client_input link number request) h is here)
+event_takes _ _ _ good none (delivers w v at which letter got to m) =
+    meet_takes w v at (letter_input letter) good none m (λ h here. any_client (letter_input letter) (λ n. refl) h.state)
+event_takes _ _ _ good none (passes w v at moment m) =
+    meet_takes w v at (moment_input moment) good none m (λ h here. any_client (moment_input moment) (λ n. refl) h.state)
+event_takes _ _ _ good none (was_opened w v at m) = meet_takes w v at opened_input good none m (λ h here. any_client opened_input (λ n. refl) h.state)
 
 arrivals_first : (e : Event) (es : List Event) → arrivals (e ∷ es) ≡ arrivals (e ∷ []) ++ arrivals es
 arrivals_first (client_event at link number request) es = refl
@@ -114,9 +124,9 @@ arrivals_first (deliver_event at which) es = refl
 arrivals_first (moment_event at moment) es = refl
 arrivals_first (opened_event at) es = refl
 
-pub run_takes : (u : World) (es : List Event) (w : World) → StaysTrue u → Run u es w → map arrival_of w.asked ≡ map arrival_of u.asked ++ arrivals es
-run_takes _ _ _ good (stands w) = sym (append-nil (map arrival_of w.asked))
-run_takes _ _ _ good (goes u v w e es h run) =
-    run_takes v es w (happens_keeps u v e good h) run
-    ∙ (ap (λ l. l ++ arrivals es) (event_takes u v e good h)
+pub run_takes : (u : World) (es : List Event) (w : World) → StaysTrue u → Run u es w → w.missed ≡ u.missed → map arrival_of w.asked ≡ map arrival_of u.asked ++ arrivals es
+run_takes _ _ _ good (stands w) none = sym (append-nil (map arrival_of w.asked))
+run_takes _ _ _ good (goes u v w e es h run) none =
+    run_takes v es w (facts_keep u v e good h) run (rest_misses_none u v w e es h run none)
+    ∙ (ap (λ l. l ++ arrivals es) (event_takes u v e good (first_misses_none u v w e es h run none) h)
     ∙ (append_assoc (map arrival_of u.asked) (arrivals (e ∷ [])) (arrivals es) ∙ ap (λ l. map arrival_of u.asked ++ l) (sym (arrivals_first e es))))

@@ -24,28 +24,33 @@ use Rattle.node_progress.proofs.CataloguePasses.{IsAmong}
 use Rattle.node_progress.proofs.ShardParks.{IsParkedAfter}
 use Rattle.node_progress.proofs.RunVersions.{OpenRuns, runs_later}
 use Rattle.node_progress.proofs.RouterWaits.{WaitsAfter}
-use Rattle.node_progress.proofs.Bags.{Left, changes_made, IsHeldFor, IsCarried, OpenGoes, ParkedGoes, NodeGoes, Bag, WasFor, Clears, sent_moves, sent_anew, MoreMade, changes_more}
+use Rattle.node_progress.proofs.Bags.{Left, AllLost, changes_made, IsHeldFor, IsCarried, OpenGoes, ParkedGoes, NodeGoes, IsPosted, posted_later, posted_ask, Bag, WasFor, Clears, sent_moves, sent_anew, MoreMade, changes_more}
 
 pub each_both : (P Q : ℕ → Held → Type 0) (i : ℕ) (xs : List Held) → EachAt P i xs → EachAt Q i xs → EachAt (λ j h. P j h × Q j h) i xs
 each_both P Q i [] p q = tt
 each_both P Q i (x ∷ xs) p q = ((p.0, q.0), each_both P Q (i + 1) xs p.1 q.1)
 
-module _ (left later : Left) (w : World) (p : ℕ) (i : Input) (kept : List Kept) (old : NodeState) (f : Effect) (new : NodeState)
-    (bag : Bag left w) (here : slice_get w.nodes p ≡ Some (record { state = old; kept = kept })) (clears : Clears left later w.sent i)
+module _ (left later : Left) (w : World) (p : ℕ) (i : Input) (kept : List Kept) (steps : ℕ) (old : NodeState) (f : Effect) (new : NodeState)
+    (bag : Bag left w) (here : slice_get w.nodes p ≡ Some (record { state = old; kept = kept; steps = steps })) (clears : Clears left later w.sent i)
     (fresh : (n : ℕ) → length w.sent ≤ n → later.places n) where
   abbrev pub stepped : Held
-  stepped = record { state = new; kept = kept ++ f.written }
+  stepped = record { state = new; kept = kept ++ f.written; steps = steps + 1 }
 
   abbrev pub next_world : World
-  next_world = tick (after (is_given w p i) p (record { state = old; kept = kept }) f new)
+  next_world = tick (after (is_given w p i) p (record { state = old; kept = kept; steps = steps }) f new)
 
   more_made : MoreMade (changes_made w) (changes_made next_world)
-  more_made = changes_more w.nodes p old kept f.written new here
+  more_made = changes_more w.nodes p old kept f.written steps (steps + 1) new here
 
   pub still_well : (m : Letter) → IsWell (changes_made w) (length w.nodes) m → IsWell (changes_made next_world) (length next_world.nodes) m
   still_well m well =
       subst (λ n. IsWell (changes_made next_world) n m) (sym (length_set w.nodes p stepped))
       (well_later more_made.news (changes_made w) (changes_made next_world) (length w.nodes) m more_made.is well)
+
+  pub posted_still : (m : Letter) → IsPosted left (changes_made w) (length w.nodes) m → IsPosted later (changes_made next_world) (length next_world.nodes) m
+  posted_still m posted =
+      subst (λ n. IsPosted later (changes_made next_world) n m) (sym (length_set w.nodes p stepped))
+      (posted_later left later more_made.news (changes_made w) (changes_made next_world) (length w.nodes) m clears.stay more_made.is posted)
 
   -- WHAT IS UNDER WAY
 
@@ -60,9 +65,9 @@ module _ (left later : Left) (w : World) (p : ℕ) (i : Input) (kept : List Kept
 
   held_here : (t : Thing) → (h : IsHeldFor w.nodes t) → h.at ≡ p → old ≡ shard_state h.shard
   held_here t h same =
-      let both : Some (record { state = shard_state h.shard; kept = h.kept }) ≡ Some (record { state = old; kept = kept }) =
+      let both : Some (record { state = shard_state h.shard; kept = h.kept; steps = h.steps }) ≡ Some (record { state = old; kept = kept; steps = steps }) =
       sym h.here ∙ (ap (λ k. slice_get w.nodes k) same ∙ here) in
-      let held : record { state = old; kept = kept } ≡ record { state = shard_state h.shard; kept = h.kept } = cc both in
+      let held : record { state = old; kept = kept; steps = steps } ≡ record { state = shard_state h.shard; kept = h.kept; steps = h.steps } = cc both in
       ap (λ (x : Held). x.state) held
 
   pub carried_moves : (t : Thing) → Carries t → IsCarried left w t → IsCarried later next_world t
@@ -79,6 +84,7 @@ module _ (left later : Left) (w : World) (p : ℕ) (i : Input) (kept : List Kept
         at = h.at;
         shard = h.shard;
         kept = h.kept;
+        steps = h.steps;
         letter = h.letter;
         here = get_other w.nodes p h.at stepped other ∙ h.here;
         parked = h.parked;
@@ -118,6 +124,19 @@ module _ (left later : Left) (w : World) (p : ℕ) (i : Input) (kept : List Kept
   parked_moves at s x g passes =
       record { first = g.first; ask = g.ask; asks = g.asks; none = g.none; well = still_well x g.well; table = table_moves at s x g passes }
 
+  -- where all was lost
+  pub open_lost : AllLost later → (r : Router) (q : Open) → OpenGoes left w r q → OpenGoes later next_world r q
+  open_lost lost r q o = record {
+    waiting = o.waiting;
+    runs = runs_later more_made.news (changes_made w) (changes_made next_world) q.namespace q.work more_made.is o.runs;
+    some = o.some;
+    carried = inl (lost (id_of r q.count));
+  }
+
+  pub parked_lost : AllLost later → (at : ℕ) (s : Shard) (x : Letter) → ParkedGoes left w at s x → ParkedGoes later next_world at s x
+  parked_lost lost at s x g =
+      record { first = g.first; ask = g.ask; asks = g.asks; none = g.none; well = still_well x g.well; table = inl (lost g.ask.id) }
+
   -- THE NODE ITSELF
 
   -- a shard's parked requests after its step
@@ -144,7 +163,8 @@ module _ (left later : Left) (w : World) (p : ℕ) (i : Input) (kept : List Kept
         ask = begins.ask;
         asks = begins.asks;
         none = begins.none;
-        well = still_well x (all_at (IsWell (changes_made w) (length w.nodes)) x w.sent bag.well (came x begins.came));
+        well = still_well x (posted_ask left (changes_made w) (length w.nodes) x begins.ask begins.asks
+            (all_at (IsPosted left (changes_made w) (length w.nodes)) x w.sent bag.well (came x begins.came)));
         table = inr (sent_anew left.places later.places w.sent f.mail i (a_table first_shard begins.ask.namespace false no_time) fresh
             (subst (λ n. IsAmong f.mail (a_table n begins.ask.namespace false no_time)) begins.first begins.sent));
       }
@@ -172,7 +192,7 @@ module _ (left later : Left) (w : World) (p : ℕ) (i : Input) (kept : List Kept
                 (subst (λ id. left.lost id ⊎ AllByRecursion (IsCarried left w) (things_of r still.before)) (sym still.own) o.carried);
           }
       by_case q sent (inr anew) = record {
-        waiting = record { going = anew.going; fits = anew.fits };
+        waiting = record { going = anew.going; fits = anew.fits; untried = anew.untried; fresh = anew.fresh };
         runs = runs_later more_made.news (changes_made w) (changes_made next_world) q.namespace q.work more_made.is sent;
         some = anew.sent.some;
         carried = inr (all_weaken (IsAmong f.mail) (IsCarried later next_world) (things_of u q)
@@ -187,7 +207,7 @@ module _ (left later : Left) (w : World) (p : ℕ) (i : Input) (kept : List Kept
 
   -- the bag, where its parts are known
   pub bag_after : (v : View) (answered : List Answered) → IsSameNode old new → EachAt (HeldFits v w.asked answered w.given) 0 w.nodes
-      → AllByRecursion (IsWell (changes_made next_world) (length next_world.nodes)) f.mail
+      → AllByRecursion (IsPosted later (changes_made next_world) (length next_world.nodes)) f.mail
       → NodeGoes later next_world p new
       → ((j : ℕ) (h : Held) → slice_get w.nodes j ≡ Some h → j ≢ p → HeldFits v w.asked answered w.given j h → NodeGoes left w j h.state
       → NodeGoes later next_world j h.state)
@@ -195,10 +215,10 @@ module _ (left later : Left) (w : World) (p : ℕ) (i : Input) (kept : List Kept
       → Bag later next_world
   bag_after v answered same fit well node others taken = record {
     fresh = λ n le. let l = length-append w.sent f.mail in fresh n (omega (arith, le, l));
-    well = all_append (IsWell (changes_made next_world) (length next_world.nodes)) w.sent f.mail
-        (all_weaken (IsWell (changes_made w) (length w.nodes)) (IsWell (changes_made next_world) (length next_world.nodes)) w.sent (λ m x. still_well m x) bag.well)
-        well;
-    shards = shards_stay w.nodes p (record { state = old; kept = kept }) stepped here same bag.shards;
+    well = all_append (IsPosted later (changes_made next_world) (length next_world.nodes)) w.sent f.mail
+        (all_weaken (IsPosted left (changes_made w) (length w.nodes)) (IsPosted later (changes_made next_world) (length next_world.nodes)) w.sent
+        (λ m x. posted_still m x) bag.well) well;
+    shards = shards_stay w.nodes p (record { state = old; kept = kept; steps = steps }) stepped here same bag.shards;
     nodes =
         each_set Before (λ j (h : Held). NodeGoes later next_world j h.state) 0 p w.nodes stepped
         (λ j h other x. others j h x.0 (λ e. other (e ∙ from_zero)) x.1.0 x.1.1) (subst (λ k. NodeGoes later next_world k new) from_zero node)

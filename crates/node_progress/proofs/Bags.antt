@@ -4,11 +4,13 @@ use Rattle.std.specs.Prelude.{Some, false, None}
 use Rattle.std.specs.List.{AllByRecursion, slice_get, slice_set}
 use Rattle.base_model.specs.Identities.{RequestId}
 use Rattle.history_model.specs.History.{IsIn}
+use Rattle.history_model.proofs.Lists.{all_at}
+use Rattle.node_laws.proofs.Facts.{IsOfRequest}
 use Rattle.chunk_model.specs.Changes.{Change}
 use Rattle.chunk_model.specs.Tables.{first_shard, table_of}
 use Rattle.reply_model.specs.Exchanges.{Asked}
 use Rattle.node_model.specs.Journal.{Kept, changes_kept}
-use Rattle.node_model.specs.Letters.{no_time, Letter, Input, letter_input}
+use Rattle.node_model.specs.Letters.{no_time, refused, Refused, Cause, Letter, Input, letter_input}
 use Rattle.node_model.specs.States.{Shard, Router, Open, NodeState, catalogue_state, shard_state, router_state}
 use Rattle.node_model.specs.ShardRows.{Ask, ask_in}
 use Rattle.node_model.specs.RouterRequests.{id_of}
@@ -21,14 +23,14 @@ use Rattle.node_progress.specs.UnderWay.{Thing, a_table, things_of, IsFor, IsSen
 use Rattle.node_progress.proofs.Places.{get_behind, get_longer}
 pub use Rattle.node_progress.proofs.Places.{get_other, length_set, same_place}
 use Rattle.node_progress.proofs.Shards.{AreShards}
-use Rattle.node_progress.proofs.Versions.{IsWell}
+use Rattle.node_progress.proofs.Versions.{IsWell, well_later}
 use Rattle.node_progress.proofs.CataloguePasses.{IsAmong}
 use Rattle.node_progress.proofs.RouterWaits.{IsWaiting}
 use Rattle.node_progress.proofs.RunVersions.{OpenRuns}
 
 -- THE BAG
 
--- The places of the messages that are left to deliver; and the requests of which nothing is said: they were taken before a node stopped.
+-- The places of the messages that are left to deliver; and the requests of which nothing is said: they were taken before a node stopped, or a step was missed.
 pub record Left : Type 1 where
   pub places : ℕ → Type 0
   pub lost : RequestId → Type 0
@@ -36,9 +38,13 @@ pub record Left : Type 1 where
 abbrev pub left_but : (left : ℕ → Type 0) → (lost : RequestId → Type 0) → Left
 left_but left lost = record { places = left; lost = lost }
 
--- those where no node stopped
+-- those where no node stopped, and none missed a step
 abbrev pub all_of : (ℕ → Type 0) → Left
 all_of left = left_but left (λ id. ⊥)
+
+-- nothing is said of any request, as where a step was missed
+abbrev pub AllLost : Left → Type 0
+AllLost left = (id : RequestId) → left.lost id
 
 abbrev pub changes_made : World → List Change
 changes_made w = changes_kept (journal_at w.nodes 0)
@@ -48,8 +54,9 @@ pub record IsHeldFor (nodes : List Held) (t : Thing) : Type 0 where
   pub at : ℕ
   pub shard : Shard
   pub kept : List Kept
+  pub steps : ℕ
   pub letter : Letter
-  pub here : slice_get nodes at ≡ Some (record { state = shard_state shard; kept = kept })
+  pub here : slice_get nodes at ≡ Some (record { state = shard_state shard; kept = kept; steps = steps })
   pub parked : IsIn letter shard.parked
   pub brings : IsFor t letter
 
@@ -76,9 +83,57 @@ NodeGoes left w at (catalogue_state c) = Unit {0}
 NodeGoes left w at (shard_state s) = AllByRecursion (ParkedGoes left w at s) s.parked
 NodeGoes left w at (router_state r) = AllByRecursion (OpenGoes left w r) r.requests
 
+-- a message that refuses something goes from one node to another; there is none where no step was missed
+pub record Refuses (left : Left) (count : ℕ) (m : Letter) : Type 0 where
+  pub lost : AllLost left
+  pub what : Refused
+  pub cause : Cause
+  pub says : m.body ≡ refused what cause
+  pub from : m.sender < count
+  pub to : m.receiver < count
+
+abbrev pub IsPosted : (left : Left) → List Change → (count : ℕ) → Letter → Type 0
+IsPosted left changes count m = IsWell changes count m ⊎ Refuses left count m
+
+pub posted_later : (left later : Left) (news changes more : List Change) (count : ℕ) (m : Letter) → ((id : RequestId) → left.lost id → later.lost id)
+    → more ≡ news ++ changes → IsPosted left changes count m → IsPosted later more count m
+posted_later left later news changes more count m stay is (inl well) = inl (well_later news changes more count m is well)
+posted_later left later news changes more count m stay is (inr r) =
+    inr (record { lost = λ id. stay id (r.lost id); what = r.what; cause = r.cause; says = r.says; from = r.from; to = r.to })
+
+-- a request of documents refuses nothing
+pub posted_ask : (left : Left) (changes : List Change) (count : ℕ) (m : Letter) (a : Ask) → ask_in m.body ≡ Some a → IsPosted left changes count m
+    → IsWell changes count m
+posted_ask left changes count m a asks (inl well) = well
+posted_ask left changes count m a asks (inr r) =
+    let none : ask_in m.body ≡ None = ap (λ b. ask_in b) r.says in
+    absurd (cc (none, asks))
+
+-- where not all was lost nothing was refused
+pub none_refuses : (left : Left) (changes : List Change) (count : ℕ) (m : Letter) → (AllLost left → ⊥) → IsPosted left changes count m → IsWell changes count m
+none_refuses left changes count m some (inl well) = well
+none_refuses left changes count m some (inr r) = absurd (some r.lost)
+
+-- not every request was taken
+pub not_all_taken : (places : ℕ → Type 0) (w : World) → AllByRecursion (λ (a : Asked). a.id.router < length w.nodes) w.asked
+    → AllLost (left_but places (IsOfRequest w.asked)) → ⊥
+not_all_taken places w placed all =
+    let o = all (record { router = length w.nodes; life = 0; count = 0 }) in
+    let inside = all_at (λ (a : Asked). a.id.router < length w.nodes) o.request w.asked placed o.taken in
+    let there = ap (λ (id : RequestId). id.router) o.own in
+    omega (arith, inside, there)
+
+pub posted_from : (left : Left) (changes : List Change) (count : ℕ) (m : Letter) → IsPosted left changes count m → m.sender < count
+posted_from left changes count m (inl well) = well.from
+posted_from left changes count m (inr r) = r.from
+
+pub posted_to : (left : Left) (changes : List Change) (count : ℕ) (m : Letter) → IsPosted left changes count m → m.receiver < count
+posted_to left changes count m (inl well) = well.to
+posted_to left changes count m (inr r) = r.to
+
 pub record Bag (left : Left) (w : World) : Type 0 where
   pub fresh : (n : ℕ) → length w.sent ≤ n → left.places n
-  pub well : AllByRecursion (IsWell (changes_made w) (length w.nodes)) w.sent
+  pub well : AllByRecursion (IsPosted left (changes_made w) (length w.nodes)) w.sent
   pub shards : AreShards w.nodes
   pub nodes : EachAt (λ j (h : Held). NodeGoes left w j h.state) 0 w.nodes
   pub asked : AllByRecursion (λ (a : Asked). a.id.router < length w.nodes) w.asked
@@ -137,17 +192,17 @@ pub record MoreMade (old new : List Change) : Type 0 where
   pub news : List Change
   pub is : new ≡ news ++ old
 
-pub changes_more : (nodes : List Held) (p : ℕ) (old : NodeState) (kept written : List Kept) (new : NodeState)
-    → slice_get nodes p ≡ Some (record { state = old; kept = kept })
-    → MoreMade (changes_kept (journal_at nodes 0)) (changes_kept (journal_at (slice_set nodes p (record { state = new; kept = kept ++ written })) 0))
-changes_more nodes p old kept written new here = by_place (same_place p 0)
+pub changes_more : (nodes : List Held) (p : ℕ) (old : NodeState) (kept written : List Kept) (steps new_steps : ℕ) (new : NodeState)
+    → slice_get nodes p ≡ Some (record { state = old; kept = kept; steps = steps })
+    → MoreMade (changes_kept (journal_at nodes 0)) (changes_kept (journal_at (slice_set nodes p (record { state = new; kept = kept ++ written; steps = new_steps })) 0))
+changes_more nodes p old kept written steps new_steps new here = by_place (same_place p 0)
   where
     by_place : (p ≡ 0) ⊎ (p ≢ 0)
-        → MoreMade (changes_kept (journal_at nodes 0)) (changes_kept (journal_at (slice_set nodes p (record { state = new; kept = kept ++ written })) 0))
+        → MoreMade (changes_kept (journal_at nodes 0)) (changes_kept (journal_at (slice_set nodes p (record { state = new; kept = kept ++ written; steps = new_steps })) 0))
     by_place (inl zero_place) =
-        let new_held : Held = record { state = new; kept = kept ++ written } in
-        let after : journal_at (slice_set nodes p new_held) p ≡ kept ++ written = journal_here nodes p (record { state = old; kept = kept }) new_held here in
-        let before : journal_at nodes p ≡ kept = journal_got nodes p (record { state = old; kept = kept }) here in
+        let new_held : Held = record { state = new; kept = kept ++ written; steps = new_steps } in
+        let after : journal_at (slice_set nodes p new_held) p ≡ kept ++ written = journal_here nodes p (record { state = old; kept = kept; steps = steps }) new_held here in
+        let before : journal_at nodes p ≡ kept = journal_got nodes p (record { state = old; kept = kept; steps = steps }) here in
         record {
           news = changes_kept written;
           is = ap (λ k. changes_kept (journal_at (slice_set nodes p new_held) k)) (sym zero_place)
@@ -156,5 +211,5 @@ changes_more nodes p old kept written new here = by_place (same_place p 0)
         }
     by_place (inr other) = record {
       news = [];
-      is = ap (λ l. changes_kept l) (journal_else nodes p (record { state = new; kept = kept ++ written }) 0 (λ e. other (sym e)));
+      is = ap (λ l. changes_kept l) (journal_else nodes p (record { state = new; kept = kept ++ written; steps = new_steps }) 0 (λ e. other (sym e)));
     }

@@ -72,11 +72,11 @@ IsFrom count i = (m : Letter) → i ≡ letter_input m → m.sender < count
 
 told_well : (changes : List Change) (count : ℕ) (c : Catalogue) (m : Letter) (time : ℕ) (namespace : List ℕ) (create : Bool) (at : At) (o : Option Table)
     → c.me < count → m.sender < count → IsWell changes count (told c m time namespace create at o)
-told_well changes count c m time namespace create at o own from = record { knowing = λ a asks. absurd (cc asks); first = λ a asks. absurd (cc asks); not_stale = tt; from = own; to = from }
+told_well changes count c m time namespace create at o own from = record { knowing = λ a asks. absurd (cc asks); first = λ a asks. absurd (cc asks); plain = tt; from = own; to = from }
 
 split_well : (changes : List Change) (count : ℕ) (c : Catalogue) (m : Letter) (time : ℕ) (id : RequestId) (found : Bool)
     → c.me < count → m.sender < count → IsWell changes count (split_told c m time id found)
-split_well changes count c m time id found own from = record { knowing = λ a asks. absurd (cc asks); first = λ a asks. absurd (cc asks); not_stale = tt; from = own; to = from }
+split_well changes count c m time id found own from = record { knowing = λ a asks. absurd (cc asks); first = λ a asks. absurd (cc asks); plain = tt; from = own; to = from }
 
 pub catalogue_well : (changes : List Change) (count : ℕ) (c d : Catalogue) (i : Input) (f : Effect) → c.me < count → IsFrom count i → CatalogueRow c i f d
     → AllByRecursion (IsWell changes count) f.mail

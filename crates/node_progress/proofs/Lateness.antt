@@ -7,9 +7,9 @@ use Rattle.history_model.specs.History.{IsIn}
 use Rattle.history_model.proofs.Lists.{in_first, in_later, in_cons, in_none, all_at}
 use Rattle.base_model.specs.Identities.{RequestId}
 use Rattle.reply_model.specs.Outcomes.{Done, has_outcome}
-use Rattle.node_model.specs.Letters.{At, no_time, at_time, Statement, Body, table_ask, table_told, split_ask, split_done, write_ask, write_done, read_ask, half_ask, read_rows, stale, time_ask, time_told}
+use Rattle.node_model.specs.Letters.{At, no_time, at_time, Statement, Body, table_ask, table_told, split_ask, split_done, write_ask, write_done, read_ask, half_ask, read_rows, refused, time_ask, time_told}
 use Rattle.node_model.specs.States.{Target, Run, Course, Wait, for_time, for_catalogue, for_shards, Work, writing, reading, sharding, splitting, Open, Router, open_with}
-use Rattle.node_model.specs.RouterRequests.{id_of, shards_of, untold, indices_of}
+use Rattle.node_model.specs.RouterRequests.{id_of, shards_of, untold, turn_after, indices_of}
 use Rattle.node_model.specs.RouterNext.{part_of, is_target, awaited, has_before, noted}
 use Rattle.node_model.specs.RouterRows.{AreNoNews, IsNoRead, IsNotAwaited, IsNoSplit, IsLate, open_of}
 use Rattle.node_laws.proofs.Facts.{counts_of, AreDifferentCounts}
@@ -18,7 +18,7 @@ use Rattle.node_progress.specs.UnderWay.{Thing, a_time, a_table, a_split, a_run,
 use Rattle.node_progress.proofs.Members.{in_filtered}
 use Rattle.node_progress.proofs.Things.{IsOfRun, IsAwaited, Awaits, awaits}
 use Rattle.node_progress.proofs.FirstLeft.{noted_has}
-use Rattle.node_progress.proofs.OneRun.{HasNext, OneRun}
+use Rattle.node_progress.proofs.OneRun.{HasNext, OneRun, AreUntried}
 
 -- WHAT WORK MAY WAIT FOR
 
@@ -40,6 +40,13 @@ WaitFits sharding for_shards = ⊥
 WaitFits (splitting middle) for_time = ⊥
 WaitFits (splitting middle) for_catalogue = Unit {0}
 WaitFits (splitting middle) for_shards = ⊥
+
+-- nothing that was sent for it met a later table
+abbrev pub IsFresh : Work → Type 0
+IsFresh (writing kind ordered statements c) = AreUntried c.tries
+IsFresh (reading named at stages telling) = Unit {0}
+IsFresh sharding = Unit {0}
+IsFresh (splitting middle) = Unit {0}
 
 -- a table is requested as the work wants it
 abbrev pub WantsTable : Work → (create : Bool) → At → Type 0
@@ -130,7 +137,7 @@ module _ (id : RequestId) (node : ℕ) (shards : List ℕ) (targets : List Targe
 
 -- WHAT IS NEW TO IT
 
-only_one_run : (x run : Run) → IsIn x (run ∷ []) → x ≡ run
+pub only_one_run : (x run : Run) → IsIn x (run ∷ []) → x ≡ run
 only_one_run x run i = by_place (in_cons x run [] i)
   where
     by_place : (x ≡ run) ⊎ IsIn x [] → x ≡ run
@@ -292,8 +299,8 @@ found_there r q id different there own =
 -- NO SUCH MESSAGE IS LATE
 
 pub not_late : (r : Router) (q : Open) (t : Thing) (from to : ℕ) (b : Body) → AreDifferentCounts (counts_of r.requests) → IsIn q r.requests
-    → IsGoing q.work → WaitFits q.work q.wait → IsIn t (things_of r q) → IsLate r from b → Brings t from to b → ⊥
-not_late r q t from to b different there going fits one late is = by_body b late is
+    → IsGoing q.work → WaitFits q.work q.wait → q.tries ≡ [] → IsIn t (things_of r q) → IsLate r from b → Brings t from to b → ⊥
+not_late r q t from to b different there going fits untried one late is = by_body b late is
   where
     awaits_it : (x : Thing) → t ≡ x → Awaits r q x
     awaits_it x same = subst (λ y. Awaits r q y) same (awaits r q t one)
@@ -322,8 +329,14 @@ not_late r q t from to b different there going fits one late is = by_body b late
     by_body (read_rows id turn rows) late is =
         rows_are_new (id_of r q.count) r.me (untold q.told (shards_of r)) (awaited q.targets q.parts) q.namespace id from turn q.targets q.work q.wait
         (λ x one. target_there x q.targets (in_filtered (λ (y : Target). not (is_some (part_of y.shard q.parts))) x q.targets one).0)
-        (awaits_it (a_part id from turn) is.0) (subst (λ o. IsNoRead o from turn) (found (a_part id from turn) id is.0 refl) late)
-    by_body (stale id turn met) late is = is
+        (awaits_it (a_part id from turn) is.0)
+        (subst (λ l. elim q.work as (λ (w : Work). Type 0) [
+          | writing kind ordered statements c ↦ Unit {0}
+          | reading named at stages telling ↦ (turn ≢ turn_after l) ⊎ (is_target from q.targets ≡ false)
+          | sharding ↦ Unit {0}
+          | splitting middle ↦ Unit {0}
+        ]) untried (subst (λ o. IsNoRead o from turn) (found (a_part id from turn) id is.0 refl) late))
+    by_body (refused what cause) late is = is
     by_body (time_ask id) late is = late
     by_body (time_told id) late is =
         time_is_new (id_of r q.count) r.me (untold q.told (shards_of r)) (awaited q.targets q.parts) q.namespace id from q.work q.wait fits

@@ -15,6 +15,7 @@ pub mod Shards
 pub mod Sends
 pub mod Plans
 pub mod RouterWaits
+pub mod GiveUps
 pub mod NextWaits
 pub mod RouterLearns
 pub mod RouterHears
@@ -22,6 +23,7 @@ pub mod RouterParts
 pub mod RouterGoesOn
 pub mod RouterSends
 pub mod RouterRuns
+pub mod NoneMissed
 pub mod Arrivals
 pub mod Bags
 pub mod Lives
@@ -32,6 +34,7 @@ pub mod BagSteps
 pub mod BagFacts
 pub mod BagMoves
 pub mod BagKinds
+pub mod BagMisses
 pub mod BagRuns
 pub mod StoppedBags
 pub mod AnsweredSince

@@ -1,18 +1,19 @@
 -- A router stays in its life, and each request that was taken since a world is of a life that goes on.
-use Rattle.std.proofs.Common.{◌≡◌, ◌≢◌, ◌⊎◌, inl, inr, ℕ, List, [], ◌∷◌, ◌++◌, length, refl, sym, ap, subst, ◌∙◌, append_assoc, append-nil}
+use Rattle.std.proofs.Common.{◌≡◌, ◌≢◌, ◌⊎◌, inl, inr, ℕ, ◌+◌, List, [], ◌∷◌, ◌++◌, length, refl, sym, ap, subst, ◌∙◌, append_assoc, append-nil}
 use Rattle.std.specs.Prelude.{Some, drop}
 use Rattle.std.specs.List.{AllByRecursion, slice_get, slice_set}
 use Rattle.history_model.specs.History.{IsIn}
 use Rattle.history_model.proofs.Lists.{all_weaken, all_append, in_back}
 use Rattle.base_model.specs.Identities.{RequestId}
 use Rattle.reply_model.specs.Exchanges.{Asked}
-use Rattle.node_model.specs.Letters.{Input, Taken, Effect}
+use Rattle.node_model.specs.Letters.{Input, Taken, Effect, nothing}
 use Rattle.node_model.specs.States.{Router, NodeState, catalogue_state, shard_state, router_state}
 use Rattle.node_model.specs.RouterRows.{begins}
 use Rattle.node_model.specs.Steps.{Step, catalogue_step, shard_step, router_step, begin_step, other_step}
-use Rattle.node_model.specs.World.{Held, World, asked_by, Moves, Event, Happens, comes, delivers, passes, begins as was_opened, Run, stands, goes}
+use Rattle.node_model.specs.World.{Held, World, asked_by, Moves, steps_after, Misses, Meets, Event, Happens, comes, delivers, passes, begins as was_opened, Run, stands, goes}
 use Rattle.node_laws.proofs.Lists.{all_mapped}
-use Rattle.node_laws.proofs.StepsKeep.{StaysTrue, get_set, happens_keeps}
+use Rattle.node_laws.proofs.StepsKeep.{StaysTrue, get_set}
+use Rattle.restart_laws.proofs.Kept.{event_keeps as facts_keep}
 use Rattle.node_progress.specs.Completion.{IsOfRouter, asked_since}
 use Rattle.node_progress.proofs.Arrivals.{me_of, own_place}
 use Rattle.node_progress.proofs.Places.{get_other, same_place}
@@ -68,16 +69,17 @@ module _ (w : World) (at : ℕ) (old stepped : Held) (f : Effect) (here : slice_
   still_of id o = by_place (same_place id.router at)
     where
       by_place : (id.router ≡ at) ⊎ (id.router ≢ at) → IsOfRouter (slice_set w.nodes at stepped) id
-      by_place (inr other) = record { router = o.router; kept = o.kept; here = get_other w.nodes at id.router stepped other ∙ o.here; life = o.life }
+      by_place (inr other) = record { router = o.router; kept = o.kept; steps = o.steps; here = get_other w.nodes at id.router stepped other ∙ o.here; life = o.life }
       by_place (inl place) =
-          let both : Some (record { state = router_state o.router; kept = o.kept }) ≡ Some old = sym o.here ∙ (ap (λ k. slice_get w.nodes k) place ∙ here) in
-          let held : old ≡ record { state = router_state o.router; kept = o.kept } = cc both in
+          let both : Some (record { state = router_state o.router; kept = o.kept; steps = o.steps }) ≡ Some old = sym o.here ∙ (ap (λ k. slice_get w.nodes k) place ∙ here) in
+          let held : old ≡ record { state = router_state o.router; kept = o.kept; steps = o.steps } = cc both in
           let next = keeps.same o.router (ap (λ (x : Held). x.state) held) in
           record {
             router = next.0;
             kept = stepped.kept;
+            steps = stepped.steps;
             here = ap (λ k. slice_get (slice_set w.nodes at stepped) k) place
-                ∙ (get_set w.nodes at old stepped here ∙ ap (λ (s : NodeState). Some (record { state = s; kept = stepped.kept })) next.1);
+                ∙ (get_set w.nodes at old stepped here ∙ ap (λ (s : NodeState). Some (record { state = s; kept = stepped.kept; steps = stepped.steps })) next.1);
             life = o.life ∙ sym next.2;
           }
 
@@ -88,8 +90,9 @@ module _ (w : World) (at : ℕ) (old stepped : Held) (f : Effect) (here : slice_
       (λ x h. record {
         router = h.router;
         kept = stepped.kept;
+        steps = stepped.steps;
         here = ap (λ k. slice_get (slice_set w.nodes at stepped) k) h.place
-            ∙ (get_set w.nodes at old stepped here ∙ ap (λ (s : NodeState). Some (record { state = s; kept = stepped.kept })) h.is);
+            ∙ (get_set w.nodes at old stepped here ∙ ap (λ (s : NodeState). Some (record { state = s; kept = stepped.kept; steps = stepped.steps })) h.is);
         life = h.life;
       }) keeps.taken)
 
@@ -114,20 +117,41 @@ move_lives old w v at i good are m =
     })
   where
     stepped : Held
-    stepped = record { state = m.new; kept = m.old.kept ++ m.f.written }
+    stepped = record { state = m.new; kept = m.old.kept ++ m.f.written; steps = m.old.steps + 1 }
 
     keeps : KeepsLife at m.old.state m.f m.new
     keeps = step_keeps_life m.old.state i m.f m.new at (own_place w good at m.old m.here) m.step
 
+-- a node that takes no step stays as it is, and takes no request
+miss_lives : (old : List Asked) (w v : World) (at : ℕ) (i : Input) → AreOfLives old w → Misses w at i v → AreOfLives old v
+miss_lives old w v at i are m =
+    subst (λ x. AreOfLives old x) (sym m.then)
+    (record {
+      since = are.since;
+      all = are.all;
+      lives = all_weaken (λ (a : Asked). IsOfRouter w.nodes a.id) (λ (a : Asked). IsOfRouter (slice_set w.nodes at stepped) a.id) are.since
+          (λ a o. still_of w at m.old stepped nothing m.here keeps a.id o) are.lives;
+    })
+  where
+    stepped : Held
+    stepped = record { state = m.old.state; kept = m.old.kept; steps = steps_after m.lack m.old.steps }
+
+    keeps : KeepsLife at m.old.state nothing m.old.state
+    keeps = record { same = λ r is. (r, is, refl); taken = tt }
+
+meet_lives : (old : List Asked) (w v : World) (at : ℕ) (i : Input) → StaysTrue w → AreOfLives old w → Meets w at i v → AreOfLives old v
+meet_lives old w v at i good are (inl m) = move_lives old w v at i good are m
+meet_lives old w v at i good are (inr m) = miss_lives old w v at i are m
+
 event_lives : (old : List Asked) (w v : World) (e : Event) → StaysTrue w → AreOfLives old w → Happens w e v → AreOfLives old v
-event_lives old _ _ _ good are (comes w v at link number request router m) = move_lives old w v at _ good are m
-event_lives old _ _ _ good are (delivers w v at which letter got to m) = move_lives old w v at _ good are m
-event_lives old _ _ _ good are (passes w v at moment m) = move_lives old w v at _ good are m
-event_lives old _ _ _ good are (was_opened w v at m) = move_lives old w v at _ good are m
+event_lives old _ _ _ good are (comes w v at link number request router m) = meet_lives old w v at _ good are m
+event_lives old _ _ _ good are (delivers w v at which letter got to m) = meet_lives old w v at _ good are m
+event_lives old _ _ _ good are (passes w v at moment m) = meet_lives old w v at _ good are m
+event_lives old _ _ _ good are (was_opened w v at m) = meet_lives old w v at _ good are m
 
 pub run_lives : (old : List Asked) (u : World) (es : List Event) (w : World) → StaysTrue u → AreOfLives old u → Run u es w → AreOfLives old w
 run_lives old _ _ _ good are (stands w) = are
-run_lives old _ _ _ good are (goes u v w e es h run) = run_lives old v es w (happens_keeps u v e good h) (event_lives old u v e good are h) run
+run_lives old _ _ _ good are (goes u v w e es h run) = run_lives old v es w (facts_keep u v e good h) (event_lives old u v e good are h) run
 
 pub dropped : {X : Type 0} (xs ys : List X) → drop (length xs) (xs ++ ys) ≡ ys
 dropped [] ys = refl

@@ -12,10 +12,10 @@ use Rattle.command_model.specs.Writes.{ClientNumber}
 use Rattle.command_model.proofs.Judged.{HasKey}
 use Rattle.chunk_model.specs.Tables.{Table, first_shard, owner_now}
 use Rattle.base_model.specs.Identities.{RequestId}
-use Rattle.reply_model.specs.Outcomes.{StatementOutcome, Done, has_outcome}
+use Rattle.reply_model.specs.Outcomes.{StatementOutcome, Done, Try, has_outcome}
 use Rattle.node_model.specs.Letters.{Statement}
 use Rattle.node_model.specs.States.{Run, Course}
-use Rattle.node_model.specs.RouterRequests.{statements_from, owner_of_statement, is_on, run_to, indices_of, run_of, next_run, shards_for, all_runs, has_index, is_sent, unanswered, unsent, runs_by, in_run}
+use Rattle.node_model.specs.RouterRequests.{statements_from, tries_at, reaches, owner_of_statement, shard_for, is_on, run_to, indices_of, run_of, next_run, shards_for, all_runs, has_index, is_sent, unanswered, unsent, runs_by, in_run}
 use Rattle.node_model.specs.RouterNext.{noted, is_answered, left_of, served_in_part}
 use Rattle.node_laws.proofs.Outcomes.{HasMore}
 use Rattle.node_laws.proofs.SentRuns.{AreRising, statements_rise, picked}
@@ -129,84 +129,92 @@ none_any p (x ∷ l) s none i = by_test (p x.number.index) refl none (in_cons s 
     by_test false h none (inl same) later = ap (λ (y : Statement). p y.number.index) same ∙ h
     by_test false h none (inr j) later = later none j
 
+-- no statement met a later table
+abbrev pub AreUntried : List (List Try) → Type 0
+AreUntried tries = (index : ℕ) → tries_at index tries ≡ []
+
 -- BY A TABLE
 
-module _ (t : Table) (first : IsFirst t) where
+module _ (t : Table) (first : IsFirst t) (tries : List (List Try)) (untried : AreUntried tries) where
   pub owner_of : (s : Statement) → IsKeyed s → owner_of_statement t s ≡ Some first_shard
   owner_of s is =
       ap (λ o. elim o as (λ (o : Option Datum). Option ℕ) [ None ↦ None | Some key ↦ owner_now t key ]) is.1 ∙ first.now is.0 is.2
 
-  on_first : (s : Statement) → IsKeyed s → is_on first_shard (owner_of_statement t s) ≡ true
-  on_first s is = ap (λ o. is_on first_shard o) (owner_of s is)
+  goes_first : (s : Statement) → IsKeyed s → shard_for t tries s ≡ Some first_shard
+  goes_first s is = ap (λ l. if reaches t l then owner_of_statement t s else None) (untried s.number.index) ∙ owner_of s is
 
-  run_all : (statements : List Statement) → AllByRecursion IsKeyed statements → run_to t first_shard statements ≡ statements
+  on_first : (s : Statement) → IsKeyed s → is_on first_shard (shard_for t tries s) ≡ true
+  on_first s is = ap (λ o. is_on first_shard o) (goes_first s is)
+
+  run_all : (statements : List Statement) → AllByRecursion IsKeyed statements → run_to t tries first_shard statements ≡ statements
   run_all [] keyed = refl
   run_all (s ∷ statements) keyed =
-      ap (λ b. if b then s ∷ run_to t first_shard statements else []) (on_first s keyed.0) ∙ ap (λ l. s ∷ l) (run_all statements keyed.1)
+      ap (λ b. if b then s ∷ run_to t tries first_shard statements else []) (on_first s keyed.0) ∙ ap (λ l. s ∷ l) (run_all statements keyed.1)
 
   all_there : (statements : List Statement) → AllByRecursion IsKeyed statements
-      → filter (λ (s : Statement). is_on first_shard (owner_of_statement t s)) statements ≡ statements
+      → filter (λ (s : Statement). is_on first_shard (shard_for t tries s)) statements ≡ statements
   all_there [] keyed = refl
   all_there (s ∷ statements) keyed =
-      ap (λ b. if b then s ∷ filter (λ (x : Statement). is_on first_shard (owner_of_statement t x)) statements
-      else filter (λ (x : Statement). is_on first_shard (owner_of_statement t x)) statements) (on_first s keyed.0)
+      ap (λ b. if b then s ∷ filter (λ (x : Statement). is_on first_shard (shard_for t tries x)) statements
+      else filter (λ (x : Statement). is_on first_shard (shard_for t tries x)) statements) (on_first s keyed.0)
       ∙ ap (λ l. s ∷ l) (all_there statements keyed.1)
 
-  one_shard : (s : Statement) (more : List Statement) → IsKeyed s → AllByRecursion IsKeyed more → shards_for t (s ∷ more) ≡ first_shard ∷ []
+  one_shard : (s : Statement) (more : List Statement) → IsKeyed s → AllByRecursion IsKeyed more → shards_for t tries (s ∷ more) ≡ first_shard ∷ []
   one_shard s [] is keyed =
-      ap (λ o. elim o as (λ (o : Option ℕ). List ℕ) [ None ↦ [] | Some shard ↦ shard ∷ [] ]) (owner_of s is)
+      ap (λ o. elim o as (λ (o : Option ℕ). List ℕ) [ None ↦ [] | Some shard ↦ shard ∷ [] ]) (goes_first s is)
   one_shard s (x ∷ more) is keyed =
       ap (λ o. elim o as (λ (o : Option ℕ). List ℕ) [
-        | None ↦ shards_for t (x ∷ more)
-        | Some shard ↦ shard ∷ filter (λ other. not (other == shard)) (shards_for t (x ∷ more))
-      ]) (owner_of s is)
+        | None ↦ shards_for t tries (x ∷ more)
+        | Some shard ↦ shard ∷ filter (λ other. not (other == shard)) (shards_for t tries (x ∷ more))
+      ]) (goes_first s is)
       ∙ ap (λ l. first_shard ∷ filter (λ other. not (other == first_shard)) l) (one_shard x more keyed.0 keyed.1)
 
   pub next_one : (s : Statement) (more : List Statement) → IsKeyed s → AllByRecursion IsKeyed more
-      → next_run t (s ∷ more) ≡ run_of t first_shard (s ∷ more) ∷ []
+      → next_run t tries (s ∷ more) ≡ run_of t first_shard (s ∷ more) ∷ []
   next_one s more is keyed =
-      ap (λ o. elim o as (λ (o : Option ℕ). List Run) [ None ↦ [] | Some shard ↦ run_of t shard (run_to t shard (s ∷ more)) ∷ [] ]) (owner_of s is)
+      ap (λ o. elim o as (λ (o : Option ℕ). List Run) [ None ↦ [] | Some shard ↦ run_of t shard (run_to t tries shard (s ∷ more)) ∷ [] ]) (goes_first s is)
       ∙ ap (λ l. run_of t first_shard l ∷ []) (run_all (s ∷ more) (is, keyed))
 
   pub all_one : (s : Statement) (more : List Statement) → IsKeyed s → AllByRecursion IsKeyed more
-      → all_runs t (s ∷ more) ≡ run_of t first_shard (s ∷ more) ∷ []
+      → all_runs t tries (s ∷ more) ≡ run_of t first_shard (s ∷ more) ∷ []
   all_one s more is keyed =
-      ap (λ shards. map (λ shard. run_of t shard (filter (λ (x : Statement). is_on shard (owner_of_statement t x)) (s ∷ more))) shards)
+      ap (λ shards. map (λ shard. run_of t shard (filter (λ (x : Statement). is_on shard (shard_for t tries x)) (s ∷ more))) shards)
       (one_shard s more is keyed)
       ∙ ap (λ l. run_of t first_shard l ∷ []) (all_there (s ∷ more) (is, keyed))
 
 -- WHERE NOTHING WAS SENT
 
-abbrev pub unsent_course : Answers → Course
-unsent_course answers = record { answers = answers; runs = [] }
+abbrev pub unsent_course : List (List Try) → Answers → Course
+unsent_course tries answers = record { answers = answers; tries = tries; runs = [] }
 
-abbrev pub run_course : Answers → Run → Course
-run_course answers run = record { answers = answers; runs = run ∷ [] }
+abbrev pub run_course : List (List Try) → Answers → Run → Course
+run_course tries answers run = record { answers = answers; tries = tries; runs = run ∷ [] }
 
 nothing_sent : (statements : List Statement) → filter (λ (s : Statement). not (is_sent [] s)) statements ≡ statements
 nothing_sent [] = refl
 nothing_sent (s ∷ statements) = ap (λ l. s ∷ l) (nothing_sent statements)
 
-pub all_unsent : (ordered : Bool) (statements : List Statement) (answers : Answers)
-    → unsent ordered statements (unsent_course answers) ≡ unanswered statements answers
-all_unsent true statements answers = refl
-all_unsent false statements answers = nothing_sent (unanswered statements answers)
+pub all_unsent : (ordered : Bool) (statements : List Statement) (tries : List (List Try)) (answers : Answers)
+    → unsent ordered statements (unsent_course tries answers) ≡ unanswered statements answers
+all_unsent true statements tries answers = refl
+all_unsent false statements tries answers = nothing_sent (unanswered statements answers)
 
 -- the one run that a table gives
 abbrev pub run_left : Table → List Statement → Answers → Run
 run_left t statements answers = run_of t first_shard (unanswered statements answers)
 
-pub gives_one : (t : Table) → IsFirst t → (ordered : Bool) (statements : List Statement) (answers : Answers) → HasNext statements answers
-    → runs_by ordered (Some t) statements (unsent_course answers) ≡ run_left t statements answers ∷ []
-gives_one t first ordered statements answers n =
+pub gives_one : (t : Table) → IsFirst t → (ordered : Bool) (statements : List Statement) (tries : List (List Try)) → AreUntried tries → (answers : Answers)
+    → HasNext statements answers → runs_by ordered (Some t) statements (unsent_course tries answers) ≡ run_left t statements answers ∷ []
+gives_one t first ordered statements tries untried answers n =
     by_order ordered ∙ ap (λ l. run_of t first_shard l ∷ []) (sym n.left)
   where
     keyed : AllByRecursion IsKeyed (n.first ∷ n.more)
     keyed = subst (λ l. AllByRecursion IsKeyed l) n.left (kept_keyed (λ (s : Statement). not (has_outcome answers s.number.index)) statements n.keyed)
 
-    by_order : (o : Bool) → runs_by o (Some t) statements (unsent_course answers) ≡ run_of t first_shard (n.first ∷ n.more) ∷ []
-    by_order true = ap (λ l. next_run t l) n.left ∙ next_one t first n.first n.more keyed.0 keyed.1
-    by_order false = ap (λ l. all_runs t l) (nothing_sent (unanswered statements answers) ∙ n.left) ∙ all_one t first n.first n.more keyed.0 keyed.1
+    by_order : (o : Bool) → runs_by o (Some t) statements (unsent_course tries answers) ≡ run_of t first_shard (n.first ∷ n.more) ∷ []
+    by_order true = ap (λ l. next_run t tries l) n.left ∙ next_one t first tries untried n.first n.more keyed.0 keyed.1
+    by_order false =
+        ap (λ l. all_runs t tries l) (nothing_sent (unanswered statements answers) ∙ n.left) ∙ all_one t first tries untried n.first n.more keyed.0 keyed.1
 
 -- what is to be sent has keys
 pub unsent_keyed : (ordered : Bool) (statements : List Statement) (c : Course) → AllByRecursion IsKeyed statements
@@ -226,20 +234,20 @@ unsent_keyed false statements c keyed =
 -- WHERE ONE RUN IS UNDER WAY
 
 -- nothing is left to send
-pub none_unsent : (ordered : Bool) (statements : List Statement) (answers : Answers) (run : Run) → run.indices ≡ indices_of (unanswered statements answers)
-    → unsent ordered statements (run_course answers run) ≡ []
-none_unsent true statements answers run all = refl
-none_unsent false statements answers run all =
+pub none_unsent : (ordered : Bool) (statements : List Statement) (tries : List (List Try)) (answers : Answers) (run : Run)
+    → run.indices ≡ indices_of (unanswered statements answers) → unsent ordered statements (run_course tries answers run) ≡ []
+none_unsent true statements tries answers run all = refl
+none_unsent false statements tries answers run all =
     none_kept (λ (s : Statement). not (is_sent (run ∷ []) s)) (unanswered statements answers)
     (all_from (λ (s : Statement). not (is_sent (run ∷ []) s) ≡ false) (unanswered statements answers)
     (λ s i. ap (λ b. not (b || false)) (ap (λ l. has_index l s.number.index) all ∙ has_own (unanswered statements answers) s i)))
 
-pub gives_none : (ordered : Bool) (o : Option Table) (statements : List Statement) (answers : Answers) (run : Run)
-    → run.indices ≡ indices_of (unanswered statements answers) → runs_by ordered o statements (run_course answers run) ≡ []
-gives_none ordered None statements answers run all = refl
-gives_none true (Some t) statements answers run all = refl
-gives_none false (Some t) statements answers run all =
-    ap (λ l. all_runs t l) (none_unsent false statements answers run all)
+pub gives_none : (ordered : Bool) (o : Option Table) (statements : List Statement) (tries : List (List Try)) (answers : Answers) (run : Run)
+    → run.indices ≡ indices_of (unanswered statements answers) → runs_by ordered o statements (run_course tries answers run) ≡ []
+gives_none ordered None statements tries answers run all = refl
+gives_none true (Some t) statements tries answers run all = refl
+gives_none false (Some t) statements tries answers run all =
+    ap (λ l. all_runs t tries l) (none_unsent false statements tries answers run all)
 
 -- its statements are those that are not answered
 pub in_one : (statements : List Statement) (answers : Answers) (run : Run) → AreRising statements → run.indices ≡ indices_of (unanswered statements answers)

@@ -1,6 +1,6 @@
 -- A request with work to do has a first thing to do.
-use Rattle.std.proofs.Common.{◌≡◌, ◌≢◌, ℕ, List, [], ◌∷◌, refl, subst, ◌∙◌, Bool}
-use Rattle.std.specs.Prelude.{Option, Some, None, Result, Ok, Err, true, false, max, ◌||◌}
+use Rattle.std.proofs.Common.{◌≡◌, ◌≢◌, ℕ, zero, suc, List, [], ◌∷◌, refl, subst, ◌∙◌, Bool}
+use Rattle.std.specs.Prelude.{Option, Some, None, Result, Ok, Err, true, false, max, map, ◌||◌}
 use Rattle.std.specs.List.{AllByRecursion}
 use Rattle.std.specs.Option.{unwrap_or}
 use Rattle.opmsg_model.specs.Requests.{Request}
@@ -13,25 +13,30 @@ use Rattle.history_model.specs.History.{Operation}
 use Rattle.base_model.specs.Identities.{RequestId}
 use Rattle.reply_model.specs.Outcomes.{none_yet}
 use Rattle.node_model.specs.States.{Telling, in_batches, as_number, Router, Work, writing, reading, sharding, splitting}
-use Rattle.node_model.specs.RouterRequests.{needs, plan_of, begun_write, statements_from}
+use Rattle.node_model.specs.RouterRequests.{needs, plan_of, begun_write, statements_from, tries_at}
 use Rattle.command_model.proofs.Taken.{some_operations, operations_with_keys}
 use Rattle.command_model.proofs.Judged.{HasKey}
 use Rattle.node_laws.proofs.Outcomes.{none_long, statements_long}
 use Rattle.node_progress.proofs.Lateness.{IsGoing}
-use Rattle.node_progress.proofs.OneRun.{going_of}
+use Rattle.node_progress.proofs.OneRun.{AreUntried, going_of}
 
 same_plan : {n m : List ℕ} {a b : Work} → needs n a ≡ needs m b → a ≡ b
 same_plan e = cc e
 
 -- nothing was sent for it
 abbrev pub IsBegun : Work → Type 0
-IsBegun (writing kind ordered statements c) = c.runs ≡ []
+IsBegun (writing kind ordered statements c) = (c.runs ≡ []) × AreUntried c.tries
 IsBegun (reading named at stages telling) = Unit {0}
 IsBegun sharding = Unit {0}
 IsBegun (splitting middle) = Unit {0}
 
 abbrev pub Starts : Work → Type 0
 Starts work = IsGoing work × IsBegun work
+
+none_tried : {X : Type 0} (xs : List X) (index : ℕ) → tries_at index (map (λ (x : X). []) xs) ≡ []
+none_tried [] index = refl
+none_tried (x ∷ xs) zero = refl
+none_tried (x ∷ xs) (suc index) = none_tried xs index
 
 write_goes : (given : Option ClientNumber) (id : RequestId) (kind : WriteKind) (ordered : Bool) (operations : List Operation) → operations ≢ []
     → AllByRecursion HasKey operations
@@ -46,7 +51,7 @@ write_goes given id kind ordered (operation ∷ operations) some keys = (
     keys = keys;
     long = none_long (statements_from given id 0 (operation ∷ operations)) ∙ statements_long given id 0 (operation ∷ operations);
   }) refl,
-  refl,
+  (refl, none_tried (statements_from given id 0 (operation ∷ operations))),
 )
 
 -- a read is of some time

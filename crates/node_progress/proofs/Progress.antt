@@ -48,11 +48,11 @@ module _ (left : ℕ → Type 0) (w : World) (book : Book) (good : Good w book) 
       let from_zero : 0 + at ≡ at = omega arith in
       subst (λ k. NodeGoes (all_of left) w k h.state) from_zero (each_get (λ j (x : Held). NodeGoes (all_of left) w j x.state) 0 at w.nodes h bag.nodes here)
 
-  fetched : (at : ℕ) (s : Shard) (kept : List Kept) (p : Letter) → slice_get w.nodes at ≡ Some (record { state = shard_state s; kept = kept })
+  fetched : (at : ℕ) (s : Shard) (kept : List Kept) (steps : ℕ) (p : Letter) → slice_get w.nodes at ≡ Some (record { state = shard_state s; kept = kept; steps = steps })
       → IsIn p s.parked → IsFetched left w.sent s p
-  fetched at s kept p here there =
-      let fits : ShardFits (now w book) w.asked at kept s = (fits_here w book at (record { state = shard_state s; kept = kept }) good here).state in
-      let g = all_at (ParkedGoes (all_of left) w at s) p s.parked (node_goes at (record { state = shard_state s; kept = kept }) here) there in
+  fetched at s kept steps p here there =
+      let fits : ShardFits (now w book) w.asked at kept s = (fits_here w book at (record { state = shard_state s; kept = kept; steps = steps }) good here).state in
+      let g = all_at (ParkedGoes (all_of left) w at s) p s.parked (node_goes at (record { state = shard_state s; kept = kept; steps = steps }) here) there in
       record {
         ask = g.ask;
         asks = g.asks;
@@ -65,23 +65,24 @@ module _ (left : ℕ → Type 0) (w : World) (book : Book) (good : Good w book) 
     at = h.at;
     shard = h.shard;
     kept = h.kept;
+    steps = h.steps;
     letter = h.letter;
     here = h.here;
     parked = h.parked;
     brings = h.brings;
-    fetched = fetched h.at h.shard h.kept h.letter h.here h.parked;
+    fetched = fetched h.at h.shard h.kept h.steps h.letter h.here h.parked;
   })
 
-  open_coming : (at : ℕ) (r : Router) (kept : List Kept) (q : Open) → slice_get w.nodes at ≡ Some (record { state = router_state r; kept = kept })
+  open_coming : (at : ℕ) (r : Router) (kept : List Kept) (steps : ℕ) (q : Open) → slice_get w.nodes at ≡ Some (record { state = router_state r; kept = kept; steps = steps })
       → IsIn q r.requests → AreComing left w (things_of r q)
-  open_coming at r kept q here there =
-      let o = all_at (OpenGoes (all_of left) w r) q r.requests (node_goes at (record { state = router_state r; kept = kept }) here) there in
+  open_coming at r kept steps q here there =
+      let o = all_at (OpenGoes (all_of left) w r) q r.requests (node_goes at (record { state = router_state r; kept = kept; steps = steps }) here) there in
       record { some = o.some; each = all_weaken (IsCarried (all_of left) w) (IsComing left w) (things_of r q) coming (unlost o.carried) }
 
   served_next : (a : Asked) → IsIn a w.asked → IsOfRouter w.nodes a.id → IsAnswered w.answered a ⊎ IsServedNext left w a
   served_next a there o =
       let fits : RouterFits (now w book) w.asked w.answered a.id.router o.router =
-      (fits_here w book a.id.router (record { state = router_state o.router; kept = o.kept }) good o.here).state in
+      (fits_here w book a.id.router (record { state = router_state o.router; kept = o.kept; steps = o.steps }) good o.here).state in
       by_place o fits (all_at (λ (x : Asked). x.id.router ≡ a.id.router → x.id.life ≡ o.router.life → IsClosedOrOpen o.router.requests w.answered x) a w.asked
       fits.closed there refl o.life)
     where
@@ -93,11 +94,12 @@ module _ (left : ℕ → Type 0) (w : World) (book : Book) (good : Good w book) 
           inr (record {
             router = o.router;
             kept = o.kept;
+            steps = o.steps;
             request = q.0;
             here = o.here;
             there = q.1;
             own = λ i. record { router = sym fits.own i; life = o.life i; count = sym q.2 i };
-            coming = open_coming a.id.router o.router o.kept q.0 o.here q.1;
+            coming = open_coming a.id.router o.router o.kept o.steps q.0 o.here q.1;
           })
 
   pub bag_under_way : (first : World) → TakenSince first w → IsUnderWay first left w
@@ -110,17 +112,17 @@ module _ (left : ℕ → Type 0) (w : World) (book : Book) (good : Good w book) 
 
 -- FROM A FIRST WORLD
 
-pub each_request_is_taken : (first : World) (events : List Event) (w : World) → IsFirst first → Run first events w
+pub each_request_is_taken : (first : World) (events : List Event) (w : World) → IsFirst first → Run first events w → w.missed ≡ first.missed
     → map arrival_of w.asked ≡ map arrival_of first.asked ++ arrivals events
-each_request_is_taken first events w is run = run_takes first events w (first_true first is) run
+each_request_is_taken first events w is run none = run_takes first events w (first_true first is) run none
 
 pub requests_are_of_lives : (first : World) (events : List Event) (w : World) → IsFirst first → Run first events w
     → AllByRecursion (λ (a : Asked). IsOfRouter w.nodes a.id) (asked_since first w)
 requests_are_of_lives first events w is run = (taken_since first (first_true first is) events w run).lives
 
-pub run_under_way : (first : World) (events : List Event) (w : World) → IsFirst first → Run first events w → IsUnderWay first (IsLeft events) w
-run_under_way first events w is run =
-    let b = run_bag first (first_true first is) (first_rests first is) (first_shards first is) events w run in
+pub run_under_way : (first : World) (events : List Event) (w : World) → IsFirst first → Run first events w → w.missed ≡ first.missed → IsUnderWay first (IsLeft events) w
+run_under_way first events w is run none =
+    let b = run_bag first (first_true first is) (first_rests first is) (first_shards first is) events w run none in
     bag_under_way (IsLeft events) w b.true_there.0.book b.true_there.0.good b.bag first (taken_since first (first_true first is) events w run)
 
 -- WHERE NOTHING IS LEFT
@@ -156,10 +158,10 @@ module _ (first : World) (left : ℕ → Type 0) (w : World) (none : (n : ℕ) �
 
   -- no request is open, and none is parked
   pub all_quiet : IsUnderWay first left w → AllByRecursion (λ (h : Held). IsQuiet h.state) w.nodes
-  all_quiet u = each_place (λ (h : Held). IsQuiet h.state) w.nodes (λ k h here. by_state k h.kept h.state here)
+  all_quiet u = each_place (λ (h : Held). IsQuiet h.state) w.nodes (λ k h here. by_state k h.kept h.steps h.state here)
     where
-      by_state : (k : ℕ) (kept : List Kept) (s : NodeState) → slice_get w.nodes k ≡ Some (record { state = s; kept = kept }) → IsQuiet s
-      by_state k kept (catalogue_state c) here = tt
-      by_state k kept (shard_state s) here =
-          none_in s.parked (λ p there. let f = u.parked k s kept p here there in none_sent (a_table s.me f.ask.namespace false no_time) f.table)
-      by_state k kept (router_state r) here = none_in r.requests (λ q there. none_waits (things_of r q) (u.waiting k r kept q here there))
+      by_state : (k : ℕ) (kept : List Kept) (steps : ℕ) (s : NodeState) → slice_get w.nodes k ≡ Some (record { state = s; kept = kept; steps = steps }) → IsQuiet s
+      by_state k kept steps (catalogue_state c) here = tt
+      by_state k kept steps (shard_state s) here =
+          none_in s.parked (λ p there. let f = u.parked k s kept steps p here there in none_sent (a_table s.me f.ask.namespace false no_time) f.table)
+      by_state k kept steps (router_state r) here = none_in r.requests (λ q there. none_waits (things_of r q) (u.waiting k r kept steps q here there))

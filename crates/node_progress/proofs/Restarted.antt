@@ -10,7 +10,7 @@ use Rattle.node_model.specs.Journal.{Kept}
 use Rattle.node_model.specs.Letters.{Letter, Input, Taken, Effect}
 use Rattle.node_model.specs.States.{NodeState}
 use Rattle.node_model.specs.Steps.{Step}
-use Rattle.node_model.specs.World.{Held, World, asked_by, Moves, Event, Happens, comes, delivers, passes, begins as was_opened, start}
+use Rattle.node_model.specs.World.{Held, World, asked_by, Moves, steps_after, Misses, Meets, Event, Happens, comes, delivers, passes, begins as was_opened, start}
 use Rattle.node_laws.proofs.Facts.{SentFits, Good}
 use Rattle.node_laws.proofs.Lists.{all_mapped}
 use Rattle.node_laws.proofs.StepsKeep.{StaysTrue, get_set}
@@ -58,21 +58,33 @@ step_placed w at i old f reached h good here step placed =
 move_placed : (w v : World) (at : ℕ) (i : Input) → StaysTrue w → Moves w at i v → ArePlaced w → ArePlaced v
 move_placed w v at i good m placed =
     subst (λ x. ArePlaced x) (sym m.then)
-    (step_placed w at i m.old m.f m.new (record { state = m.new; kept = m.old.kept ++ m.f.written }) good m.here m.step placed)
+    (step_placed w at i m.old m.f m.new (record { state = m.new; kept = m.old.kept ++ m.f.written; steps = m.old.steps + 1 }) good m.here m.step placed)
+
+miss_placed : (w v : World) (at : ℕ) (i : Input) → Misses w at i v → ArePlaced w → ArePlaced v
+miss_placed w v at i m placed =
+    subst (λ x. ArePlaced x) (sym m.then)
+    (subst (λ n. AllByRecursion (λ (a : Asked). a.id.router < n) w.asked) (sym (length_set w.nodes at stepped)) placed)
+  where
+    stepped : Held
+    stepped = record { state = m.old.state; kept = m.old.kept; steps = steps_after m.lack m.old.steps }
+
+meet_placed : (w v : World) (at : ℕ) (i : Input) → StaysTrue w → Meets w at i v → ArePlaced w → ArePlaced v
+meet_placed w v at i good (inl m) placed = move_placed w v at i good m placed
+meet_placed w v at i good (inr m) placed = miss_placed w v at i m placed
 
 happens_placed : (w v : World) (e : Event) → StaysTrue w → Happens w e v → ArePlaced w → ArePlaced v
-happens_placed _ _ _ good (comes w v at link number request router m) placed = move_placed w v at _ good m placed
-happens_placed _ _ _ good (delivers w v at which letter got to m) placed = move_placed w v at _ good m placed
-happens_placed _ _ _ good (passes w v at moment m) placed = move_placed w v at _ good m placed
-happens_placed _ _ _ good (was_opened w v at m) placed = move_placed w v at _ good m placed
+happens_placed _ _ _ good (comes w v at link number request router m) placed = meet_placed w v at _ good m placed
+happens_placed _ _ _ good (delivers w v at which letter got to m) placed = meet_placed w v at _ good m placed
+happens_placed _ _ _ good (passes w v at moment m) placed = meet_placed w v at _ good m placed
+happens_placed _ _ _ good (was_opened w v at m) placed = meet_placed w v at _ good m placed
 
 pub occurs_placed : (w v : World) (e : EventOrStop) → StaysTrue w → Occurs w e v → ArePlaced w → ArePlaced v
 occurs_placed _ _ _ good (occurs w v e h) placed = happens_placed w v e good h placed
 occurs_placed _ _ _ good (restarts w v at m) placed =
-    subst (λ x. ArePlaced x) (sym m.then) (placed_more w at (record { state = m.new; kept = m.old.kept ++ [] }) [] placed tt)
+    subst (λ x. ArePlaced x) (sym m.then) (placed_more w at (record { state = m.new; kept = m.old.kept ++ []; steps = m.steps }) [] placed tt)
 occurs_placed _ _ _ good (stops w v at e i gives m) placed =
     subst (λ x. ArePlaced x) (sym m.then)
-    (step_placed w at i m.old m.f m.reached (record { state = m.new; kept = m.old.kept ++ m.f.written }) good m.here m.step placed)
+    (step_placed w at i m.old m.f m.reached (record { state = m.new; kept = m.old.kept ++ m.f.written; steps = m.old.steps + 1 }) good m.here m.step placed)
 
 pub run_placed : (u w : World) (events : List EventOrStop) → StaysWhole u → RunWithStops u events w → ArePlaced u → ArePlaced w
 run_placed _ _ _ whole (stays w) placed = placed
@@ -112,7 +124,7 @@ restart_quiet count at w v m below =
     (record { counted = length_set w.nodes at started ∙ below.counted; quiet = λ k h less got. by_place k h less got (same_place k at) })
   where
     started : Held
-    started = record { state = m.new; kept = m.old.kept ++ [] }
+    started = record { state = m.new; kept = m.old.kept ++ []; steps = m.steps }
 
     by_place : (k : ℕ) (h : Held) → k < at + 1 → slice_get (slice_set w.nodes at started) k ≡ Some h → (k ≡ at) ⊎ (k ≢ at) → IsQuiet h.state
     by_place k h less got (inl same) =
@@ -180,14 +192,21 @@ good_without w mail book none g = record {
   in_order = g.in_order;
   known = g.known;
   met = g.met;
+  given = g.given;
+  missed = g.missed;
+  lacks = g.lacks;
+  away = g.away;
+  reach = g.reach;
+  noted = g.noted;
 }
 
 true_without : (w : World) (mail : List Letter) → w.sent ≡ [] → StaysTrue (with_mail mail w) → StaysTrue w
-true_without w mail none (known, moments, told, based) = (
+true_without w mail none (known, moments, told, based, caused) = (
   record { book = known.book; good = good_without w mail known.book none known.good },
   record { nodes = moments.nodes; asked = moments.asked; givens = moments.givens },
   told,
   record { steps = based.steps; replies = based.replies },
+  caused,
 )
 
 pub begins_true : (others routers : ℕ) (u first : World) → Reached others routers u → BeginsOn u first → StaysTrue first

@@ -1,18 +1,18 @@
 -- Nodes that are started again stay of their kinds, and routers know of the same shards.
-use Rattle.std.proofs.Common.{◌≡◌, ℕ, List, [], ◌∷◌, ◌++◌, refl, sym, ap, subst, ◌∙◌, Bool}
+use Rattle.std.proofs.Common.{◌≡◌, inl, inr, ℕ, ◌+◌, List, [], ◌∷◌, ◌++◌, refl, sym, ap, subst, ◌∙◌, Bool}
 use Rattle.std.specs.Prelude.{Option, Some, None, true, false, ◌==◌, ◌&&◌, nat_lt, if◌then◌else◌}
 use Rattle.std.specs.Option.{option_map}
 use Rattle.record_model.specs.Records.{Record, table_record, entry_record, ceiling_record, floor_record, move_start_record, section_record, move_end_record, released_record, receive_start_record, batch_record, receive_done_record, receive_end_record, deletion_record, create_record, split_record, commit_record, resolve_record, purge_record, catalogue_ceiling_record, life_record, block_record}
 use Rattle.node_model.specs.Journal.{Kept}
 use Rattle.node_model.specs.Letters.{Input}
 use Rattle.node_model.specs.States.{NodeState, catalogue_state, shard_state, router_state}
-use Rattle.node_model.specs.World.{World, Moves, Event, Happens, comes, delivers, passes, begins as was_opened}
+use Rattle.node_model.specs.World.{World, Moves, steps_after, Misses, Meets, Event, Happens, comes, delivers, passes, begins as was_opened}
 use Rattle.node_replay.specs.Durable.{DurableCatalogue, DurableShard, DurableRouter, DurableState, durable_catalogue, durable_shard, durable_router, empty_of}
 use Rattle.node_replay.specs.Follow.{catalogue_follow, shard_follow, router_follow}
 use Rattle.node_replay.specs.Openings.{opened, opened_on}
 use Rattle.node_replay.specs.Replays.{follow, replayed, records_of, latest_time}
 use Rattle.node_replay.specs.Restarts.{EventOrStop, Occurs, occurs, restarts, stops, RunWithStops, stays, proceeds}
-use Rattle.node_progress.proofs.Shards.{AreShards, IsSameNode, step_same, shards_stay}
+use Rattle.node_progress.proofs.Shards.{AreShards, IsSameNode, same_node, step_same, shards_stay}
 
 -- RECORDS
 
@@ -133,22 +133,31 @@ opened_on_same s kept new = by_replay (replayed (Some (empty_of s)) (records_of 
 move_shards : (w v : World) (at : ℕ) (i : Input) → Moves w at i v → AreShards w.nodes → AreShards v.nodes
 move_shards w v at i m are =
     subst (λ (x : World). AreShards x.nodes) (sym m.then)
-    (shards_stay w.nodes at m.old (record { state = m.new; kept = m.old.kept ++ m.f.written }) m.here (step_same m.old.state m.new i m.f m.step) are)
+    (shards_stay w.nodes at m.old (record { state = m.new; kept = m.old.kept ++ m.f.written; steps = m.old.steps + 1 }) m.here (step_same m.old.state m.new i m.f m.step) are)
+
+miss_shards : (w v : World) (at : ℕ) (i : Input) → Misses w at i v → AreShards w.nodes → AreShards v.nodes
+miss_shards w v at i m are =
+    subst (λ (x : World). AreShards x.nodes) (sym m.then)
+    (shards_stay w.nodes at m.old (record { state = m.old.state; kept = m.old.kept; steps = steps_after m.lack m.old.steps }) m.here (same_node m.old.state) are)
+
+meet_shards : (w v : World) (at : ℕ) (i : Input) → Meets w at i v → AreShards w.nodes → AreShards v.nodes
+meet_shards w v at i (inl m) are = move_shards w v at i m are
+meet_shards w v at i (inr m) are = miss_shards w v at i m are
 
 happens_shards : (w v : World) (e : Event) → Happens w e v → AreShards w.nodes → AreShards v.nodes
-happens_shards _ _ _ (comes w v at link number request router m) are = move_shards w v at _ m are
-happens_shards _ _ _ (delivers w v at which letter got to m) are = move_shards w v at _ m are
-happens_shards _ _ _ (passes w v at moment m) are = move_shards w v at _ m are
-happens_shards _ _ _ (was_opened w v at m) are = move_shards w v at _ m are
+happens_shards _ _ _ (comes w v at link number request router m) are = meet_shards w v at _ m are
+happens_shards _ _ _ (delivers w v at which letter got to m) are = meet_shards w v at _ m are
+happens_shards _ _ _ (passes w v at moment m) are = meet_shards w v at _ m are
+happens_shards _ _ _ (was_opened w v at m) are = meet_shards w v at _ m are
 
 pub occurs_shards : (w v : World) (e : EventOrStop) → Occurs w e v → AreShards w.nodes → AreShards v.nodes
 occurs_shards _ _ _ (occurs w v e h) are = happens_shards w v e h are
 occurs_shards _ _ _ (restarts w v at m) are =
     subst (λ (x : World). AreShards x.nodes) (sym m.then)
-    (shards_stay w.nodes at m.old (record { state = m.new; kept = m.old.kept ++ [] }) m.here (opened_on_same m.old.state m.old.kept m.new m.opens) are)
+    (shards_stay w.nodes at m.old (record { state = m.new; kept = m.old.kept ++ []; steps = m.steps }) m.here (opened_on_same m.old.state m.old.kept m.new m.opens) are)
 occurs_shards _ _ _ (stops w v at e i gives m) are =
     subst (λ (x : World). AreShards x.nodes) (sym m.then)
-    (shards_stay w.nodes at m.old (record { state = m.new; kept = m.old.kept ++ m.f.written }) m.here
+    (shards_stay w.nodes at m.old (record { state = m.new; kept = m.old.kept ++ m.f.written; steps = m.old.steps + 1 }) m.here
     (opened_on_same m.old.state (m.old.kept ++ m.f.written) m.new m.opens) are)
 
 pub run_shards : (u w : World) (events : List EventOrStop) → RunWithStops u events w → AreShards u.nodes → AreShards w.nodes

@@ -46,7 +46,7 @@ module _ (r u : Router) (q : Open) (m : Letter) (waits : q.wait ≡ for_time) (s
     before = q;
     there = there;
     own = same_id r u q.count same;
-    known = λ w. record { going = w.going; fits = w.fits };
+    known = λ w. record { going = w.going; fits = w.fits; untried = w.untried; fresh = w.fresh };
     some = λ had none.
         some_more time_by others some
         (subst (λ w. things_by (id_of r q.count) r.me others (awaited q.targets q.parts) q.namespace q.work w ≡ []) waits (sym things ∙ none));

@@ -18,7 +18,7 @@ use Rattle.node_model.specs.RouterNext.{awaited, with_work, adopted, is_for, is_
 use Rattle.node_laws.proofs.KnownTables.{table_found, table_there}
 use Rattle.node_progress.specs.UnderWay.{thing_there, things_sent, things_by, things_of, Brings, IsFor}
 use Rattle.node_progress.proofs.Things.{Awaits, awaits, InSameLife}
-use Rattle.node_progress.proofs.Lateness.{IsGoing, WaitFits, WantsTable, wants_table}
+use Rattle.node_progress.proofs.Lateness.{IsGoing, WaitFits, IsFresh, WantsTable, wants_table}
 use Rattle.node_progress.proofs.Versions.{IsFirst}
 use Rattle.node_progress.proofs.OneRun.{unsent_course}
 use Rattle.node_progress.proofs.RouterWaits.{StillWaits, WaitsAfter, IsWaiting, unchanged_as, all_flat, in_flat}
@@ -65,44 +65,45 @@ module _ (r u : Router) (m : Letter) (time : ℕ) (namespace : List ℕ) (create
       → q.wait ≡ for_catalogue → NextWaits r u (letter_input m) (write_on r time all_tables false [] q kind ordered statements c)
   next_write kind ordered statements c is wait =
       let known : IsGoing (writing kind ordered statements c) = subst (λ w. IsGoing w) is waiting.going in
+      let fresh : IsFresh (writing kind ordered statements c) = subst (λ w. IsFresh w) is waiting.fresh in
       let none : c.runs ≡ [] = subst (λ w. WaitFits w for_catalogue) is (subst (λ w. WaitFits q.work w) wait waiting.fits) in
-      subst (λ runs. NextWaits r u (letter_input m) (write_on r time all_tables false [] q kind ordered statements (record { answers = c.answers; runs = runs })))
+      subst (λ runs. NextWaits r u (letter_input m) (write_on r time all_tables false [] q kind ordered statements (record { answers = c.answers; tries = c.tries; runs = runs })))
       (sym none)
-      (first_waits r u (letter_input m) time all_tables q alive first_there kind ordered statements false c.answers (λ h. known)
-      (λ a absent. kept_as (with_work q for_catalogue [] (writing kind ordered statements (unsent_course c.answers))) refl
+      (first_waits r u (letter_input m) time all_tables q alive waiting.untried first_there kind ordered statements c.tries fresh false c.answers (λ h. known)
+      (λ a absent. kept_as (with_work q for_catalogue [] (writing kind ordered statements (unsent_course c.tries c.answers))) refl
       (sym (ap (λ w. things_by (id_of r q.count) r.me (untold q.told (shards_of r)) (awaited q.targets q.parts) q.namespace q.work w) wait
       ∙ (ap (λ w. things_by (id_of r q.count) r.me (untold q.told (shards_of r)) (awaited q.targets q.parts) q.namespace w for_catalogue) is
       ∙ ap (λ runs. thing_there (id_of r q.count) r.me q.namespace (writing kind ordered statements c) ∷ things_sent (id_of r q.count) runs) none)))
-      (λ w. record { going = known; fits = refl })
+      (λ w. record { going = known; fits = refl; untried = w.untried; fresh = fresh })
       (λ some name waits wants.
       let w : WantsTable (writing kind ordered statements c) create at = subst (λ x. WantsTable x create at) is wants in
       some_there q.namespace table r.tables (some w.1) (λ x e. named x e ∙ name) absent)))
 
   next_read : (named_time : Bool) (at_read : ℕ) (stages : List Stage) (telling : Telling) → q.work ≡ reading named_time at_read stages telling
       → q.wait ≡ for_catalogue → NextWaits r u (letter_input m)
-      (if is_for at at_read && not (is_some (table_to_read (table_of q.namespace all_tables) at_read)) then is_told (reply_to r time q (empty_answer q at_read telling))
+      (if is_for at at_read && not (is_some (table_to_read (table_of q.namespace all_tables) at_read [])) then is_told (reply_to r time q (empty_answer q at_read telling))
       else read_on r time all_tables false q named_time at_read stages telling)
-  next_read named_time at_read stages telling is wait = by_told (is_for at at_read) refl (is_some (table_to_read (table_of q.namespace all_tables) at_read)) refl
+  next_read named_time at_read stages telling is wait = by_told (is_for at at_read) refl (is_some (table_to_read (table_of q.namespace all_tables) at_read [])) refl
     where
-      on : (table_to_read (table_of q.namespace all_tables) at_read ≡ None → is_for at at_read ≡ true → ⊥)
+      on : (table_to_read (table_of q.namespace all_tables) at_read [] ≡ None → is_for at at_read ≡ true → ⊥)
           → NextWaits r u (letter_input m) (read_on r time all_tables false q named_time at_read stages telling)
       on other =
-          read_waits r u (letter_input m) time all_tables q alive first_there named_time at_read stages telling false
+          read_waits r u (letter_input m) time all_tables q alive waiting.untried first_there named_time at_read stages telling false
           (λ a absent. kept_as (with_work q for_catalogue [] (reading named_time at_read stages telling)) refl
           (sym (ap (λ w. things_by (id_of r q.count) r.me (untold q.told (shards_of r)) (awaited q.targets q.parts) q.namespace q.work w) wait
           ∙ ap (λ w. things_by (id_of r q.count) r.me (untold q.told (shards_of r)) (awaited q.targets q.parts) q.namespace w for_catalogue) is))
-          (λ w. record { going = tt; fits = tt })
+          (λ w. record { going = tt; fits = tt; untried = w.untried; fresh = tt })
           (λ some name waits wants.
           let w : WantsTable (reading named_time at_read stages telling) create at = subst (λ x. WantsTable x create at) is wants in
           let yes : is_for at at_read ≡ true = ap (λ a. is_for a at_read) w.1 ∙ (Decides-eqb at_read at_read).1 refl in
-          other absent yes))
+          other (ap (λ l. table_to_read (table_of q.namespace all_tables) at_read l) (sym waiting.untried) ∙ absent) yes))
 
-      by_told : (a : Bool) → is_for at at_read ≡ a → (b : Bool) → is_some (table_to_read (table_of q.namespace all_tables) at_read) ≡ b
+      by_told : (a : Bool) → is_for at at_read ≡ a → (b : Bool) → is_some (table_to_read (table_of q.namespace all_tables) at_read []) ≡ b
           → NextWaits r u (letter_input m) (if a && not b then is_told (reply_to r time q (empty_answer q at_read telling))
           else read_on r time all_tables false q named_time at_read stages telling)
       by_told true e false h = tt
       by_told true e true h =
-          on (λ absent yes. let lost : is_some (table_to_read (table_of q.namespace all_tables) at_read) ≡ false = ap (λ o. is_some o) absent in cc (h, lost))
+          on (λ absent yes. let lost : is_some (table_to_read (table_of q.namespace all_tables) at_read []) ≡ false = ap (λ o. is_some o) absent in cc (h, lost))
       by_told false e b h = on (λ absent yes. cc (e, yes))
 
   next_shard : q.work ≡ sharding
@@ -133,7 +134,7 @@ module _ (r u : Router) (m : Letter) (time : ℕ) (namespace : List ℕ) (create
       by_work : q.wait ≡ for_catalogue → (work : Work) → q.work ≡ work → NextWaits r u (letter_input m) (elim work as (λ (x : Work). Next) [
         | writing kind ordered statements c ↦ write_on r time all_tables false [] q kind ordered statements c
         | reading named_time at_read stages telling ↦
-            if is_for at at_read && not (is_some (table_to_read (table_of q.namespace all_tables) at_read))
+            if is_for at at_read && not (is_some (table_to_read (table_of q.namespace all_tables) at_read []))
             then is_told (reply_to r time q (empty_answer q at_read telling))
             else read_on r time all_tables false q named_time at_read stages telling
         | sharding ↦ if was_created create table then is_told (reply_to r time q (sharded_answer q.namespace time)) else stays q []
@@ -148,7 +149,7 @@ module _ (r u : Router) (m : Letter) (time : ℕ) (namespace : List ℕ) (create
           (if not b then stays q [] else elim q.work as (λ (x : Work). Next) [
             | writing kind ordered statements c ↦ write_on r time all_tables false [] q kind ordered statements c
             | reading named_time at_read stages telling ↦
-                if is_for at at_read && not (is_some (table_to_read (table_of q.namespace all_tables) at_read))
+                if is_for at at_read && not (is_some (table_to_read (table_of q.namespace all_tables) at_read []))
                 then is_told (reply_to r time q (empty_answer q at_read telling))
                 else read_on r time all_tables false q named_time at_read stages telling
             | sharding ↦ if was_created create table then is_told (reply_to r time q (sharded_answer q.namespace time)) else stays q []

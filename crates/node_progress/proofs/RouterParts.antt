@@ -94,7 +94,7 @@ module _ (r u : Router) (q : Open) (m : Letter) (rows : Result Rows HalfFault) (
     before = q;
     there = there;
     own = same_id r u q.count same;
-    known = λ w. record { going = w.going; fits = w.fits };
+    known = λ w. record { going = w.going; fits = w.fits; untried = w.untried; fresh = w.fresh };
     some = λ had none. some_more part_by others some (none_left (sym things ∙ none));
     among = still_among;
     not_come = λ t one n is brings.

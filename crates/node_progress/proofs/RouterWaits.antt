@@ -13,13 +13,15 @@ use Rattle.node_model.specs.RouterNext.{awaited}
 use Rattle.node_laws.proofs.OpenRequests.{all_replaced}
 use Rattle.node_progress.specs.UnderWay.{Thing, things_of, IsFor}
 use Rattle.node_progress.proofs.Things.{awaits, InSameLife, same_things}
-use Rattle.node_progress.proofs.Lateness.{IsGoing, WaitFits, named_in, names_own}
+use Rattle.node_progress.proofs.Lateness.{IsGoing, WaitFits, IsFresh, named_in, names_own}
 use Rattle.node_progress.proofs.Sends.{AreSent}
 
 -- what is known of an open request
 pub record IsWaiting (q : Open) : Type 0 where
   pub going : IsGoing q.work
   pub fits : WaitFits q.work q.wait
+  pub untried : q.tries ≡ []
+  pub fresh : IsFresh q.work
 
 -- it was open before, and what it waits for it waited for then, and did not come
 pub record StillWaits (r u : Router) (i : Input) (q : Open) : Type 0 where
@@ -36,6 +38,8 @@ pub record WaitsAnew (u : Router) (mail : List Letter) (q : Open) : Type 0 where
   pub going : IsGoing q.work
   pub fits : WaitFits q.work q.wait
   pub sent : AreSent mail (things_of u q)
+  pub untried : q.tries ≡ []
+  pub fresh : IsFresh q.work
 
 abbrev pub WaitsAfter : (r u : Router) → Input → List Letter → Open → Type 0
 WaitsAfter r u i mail q = StillWaits r u i q ⊎ WaitsAnew u mail q
@@ -59,7 +63,7 @@ unchanged_as r u i q p same there counts those known none =
     }
 
 -- nothing of it changes
-unchanged : (r u : Router) (i : Input) (q : Open) → InSameLife r u → IsIn q r.requests
+pub unchanged : (r u : Router) (i : Input) (q : Open) → InSameLife r u → IsIn q r.requests
     → ((t : Thing) → IsIn t (things_of r q) → (m : Letter) → i ≡ letter_input m → IsFor t m → ⊥) → StillWaits r u i q
 unchanged r u i q same there none = unchanged_as r u i q q same there refl refl (λ w. w) none
 

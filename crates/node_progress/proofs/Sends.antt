@@ -1,6 +1,6 @@
 -- What a router requests is for what the request waits for.
 use Rattle.std.proofs.Common.{◌≡◌, ◌≢◌, ℕ, zero, suc, List, [], ◌∷◌, map, refl, sym, ap, subst, ◌∙◌, Bool}
-use Rattle.std.specs.Prelude.{Option, Some, None, is_some, true, false, if◌then◌else◌}
+use Rattle.std.specs.Prelude.{Option, Some, None, is_some, true, false, ◌&&◌, if◌then◌else◌}
 use Rattle.std.specs.List.{AllByRecursion}
 use Rattle.pipeline_model.specs.Stages.{Stage}
 use Rattle.pipeline_model.specs.Split.{split}
@@ -8,10 +8,10 @@ use Rattle.bson_model.specs.Tree.{null_value}
 use Rattle.chunk_model.specs.Tables.{Table, first_shard, owner_at}
 use Rattle.chunk_model.specs.Verdicts.{sent_by}
 use Rattle.base_model.specs.Identities.{RequestId}
-use Rattle.reply_model.specs.Outcomes.{StatementOutcome}
+use Rattle.reply_model.specs.Outcomes.{StatementOutcome, Try}
 use Rattle.node_model.specs.Letters.{Statement, write_ask, read_ask, time_ask, Letter}
-use Rattle.node_model.specs.States.{Target, Run, Router, Work, writing, reading, sharding, splitting}
-use Rattle.node_model.specs.RouterRequests.{id_of, places_from, shards_of, untold, says, indices_of, unanswered, in_run, asks_to_write, targets_at, asks_to_read, asks_catalogue, is_owned_at, table_to_read, asks_times}
+use Rattle.node_model.specs.States.{Target, Run, Course, Router, Work, writing, reading, sharding, splitting}
+use Rattle.node_model.specs.RouterRequests.{id_of, places_from, shards_of, untold, reaches, turn_after, says, indices_of, turn_of, unanswered, in_run, asks_to_write, targets_at, asks_to_read, asks_catalogue, is_owned_at, table_to_read, asks_times}
 use Rattle.node_model.specs.RouterNext.{awaited}
 use Rattle.history_model.proofs.Lists.{all_from}
 use Rattle.node_laws.proofs.SpanOwners.{listed_owner}
@@ -64,13 +64,14 @@ one_target t at stages first enough = by_owner (owner_at t null_value at) refl (
         ap (map (λ s. record { shard = s; sent = sent_by t s })) (first.spans at (split stages).0.span ∙ ap listed_owner owner)
 
 -- a read that a table is enough for
-pub table_of_read : (o : Option Table) (at : ℕ) (t : Table) → table_to_read o at ≡ Some t → (o ≡ Some t) × (is_owned_at t at ≡ true)
-table_of_read None at t got = absurd (cc got)
-table_of_read (Some x) at t got = by_enough (is_owned_at x at) refl got
+pub table_of_read : (o : Option Table) (at : ℕ) (tries : List Try) (t : Table) → table_to_read o at tries ≡ Some t → (o ≡ Some t) × (is_owned_at t at ≡ true)
+table_of_read None at tries t got = absurd (cc got)
+table_of_read (Some x) at tries t got = by_enough (reaches x tries) (is_owned_at x at) refl got
   where
-    by_enough : (b : Bool) → is_owned_at x at ≡ b → (if b then Some x else None) ≡ Some t → (Some x ≡ Some t) × (is_owned_at t at ≡ true)
-    by_enough false lacks got = absurd (cc got)
-    by_enough true enough got =
+    by_enough : (a b : Bool) → is_owned_at x at ≡ b → (if a && b then Some x else None) ≡ Some t → (Some x ≡ Some t) × (is_owned_at t at ≡ true)
+    by_enough false b lacks got = absurd (cc got)
+    by_enough true false lacks got = absurd (cc got)
+    by_enough true true enough got =
         let same : x ≡ t = cc got in
         (got, subst (λ z. is_owned_at z at ≡ true) same enough)
 
@@ -78,25 +79,34 @@ table_of_read (Some x) at t got = by_enough (is_owned_at x at) refl got
 
 module _ (r : Router) (time count : ℕ) (namespace : List ℕ) where
   -- the message of the one run
-  pub run_sends : (ordered : Bool) (statements : List Statement) (answers : List (Option StatementOutcome)) (run : Run) → HasNext statements answers
+  pub run_sends : (ordered : Bool) (statements : List Statement) (c : Course) (answers : List (Option StatementOutcome)) (run : Run) → HasNext statements answers
       → run.shard ≡ first_shard → run.indices ≡ indices_of (unanswered statements answers)
-      → AreSent (asks_to_write r time (id_of r count) namespace ordered statements (run ∷ [])) (things_sent (id_of r count) (run ∷ []))
-  run_sends ordered statements answers run n shard all =
-      one_sent (says r run.shard time (write_ask (id_of r count) 1 ordered namespace (in_run run statements) run.sent))
+      → AreSent (asks_to_write r time (id_of r count) namespace ordered statements c (run ∷ [])) (things_sent (id_of r count) (run ∷ []))
+  run_sends ordered statements c answers run n shard all =
+      one_sent (says r run.shard time (write_ask (id_of r count) (turn_of c run) ordered namespace (in_run run statements) run.sent))
       (a_run (id_of r count) (first_index run.indices))
-      (subst (λ l. Brings (a_run (id_of r count) (first_index run.indices)) r.me run.shard (write_ask (id_of r count) 1 ordered namespace l run.sent))
+      (subst (λ l. Brings (a_run (id_of r count) (first_index run.indices)) r.me run.shard (write_ask (id_of r count) (turn_of c run) ordered namespace l run.sent))
       (sym (in_one statements answers run n.rising all ∙ n.left))
       (ap (λ k. a_run (id_of r count) k) (ap (λ l. first_index l) all ∙ ap (λ l. first_index (indices_of l)) n.left), shard))
 
-  pub read_sends : (t : Table) → IsFirst t → (at : ℕ) (stages : List Stage) → is_owned_at t at ≡ true
-      → AreSent (asks_to_read r time (id_of r count) namespace at (split stages).0 (targets_at t at stages))
+  -- in the first turn
+  first_turn : (t : Table) → IsFirst t → (at : ℕ) (stages : List Stage) → is_owned_at t at ≡ true
+      → AreSent (asks_to_read r time (id_of r count) namespace 1 at (split stages).0 (targets_at t at stages))
       (map (λ (x : Target). a_part (id_of r count) x.shard 1) (awaited (targets_at t at stages) []))
-  read_sends t first at stages enough =
-      subst (λ l. AreSent (asks_to_read r time (id_of r count) namespace at (split stages).0 l)
+  first_turn t first at stages enough =
+      subst (λ l. AreSent (asks_to_read r time (id_of r count) namespace 1 at (split stages).0 l)
       (map (λ (x : Target). a_part (id_of r count) x.shard 1) (awaited l [])))
       (sym (one_target t at stages first enough))
       (one_sent (says r first_shard time (read_ask (id_of r count) 1 namespace at (split stages).0 (sent_by t first_shard)))
       (a_part (id_of r count) first_shard 1) (refl, refl))
+
+  pub read_sends : (t : Table) → IsFirst t → (tries : List Try) → tries ≡ [] → (at : ℕ) (stages : List Stage) → is_owned_at t at ≡ true
+      → AreSent (asks_to_read r time (id_of r count) namespace (turn_after tries) at (split stages).0 (targets_at t at stages))
+      (map (λ (x : Target). a_part (id_of r count) x.shard 1) (awaited (targets_at t at stages) []))
+  read_sends t first tries untried at stages enough =
+      subst (λ tried. AreSent (asks_to_read r time (id_of r count) namespace (turn_after tried) at (split stages).0 (targets_at t at stages))
+      (map (λ (x : Target). a_part (id_of r count) x.shard 1) (awaited (targets_at t at stages) [])))
+      (sym untried) (first_turn t first at stages enough)
 
   -- THE CATALOGUE
 

@@ -8,9 +8,10 @@ use Rattle.history_model.specs.History.{IsIn}
 use Rattle.history_model.proofs.Lists.{all_from, all_weaken, all_push}
 use Rattle.chunk_model.specs.Tables.{Table, first_shard, table_of, with_table, is_longer}
 use Rattle.chunk_model.specs.Verdicts.{shard_is_old, verdict_of}
-use Rattle.node_model.specs.Letters.{At, no_time, Body, table_ask, table_told, split_ask, split_done, write_ask, write_done, read_ask, half_ask, read_rows, stale, time_ask, time_told, Letter, Input, letter_input, Effect}
+use Rattle.reply_model.specs.Accounts.{Lack}
+use Rattle.node_model.specs.Letters.{At, no_time, of_table, is_lack, Body, table_ask, table_told, split_ask, split_done, write_ask, write_done, read_ask, half_ask, read_rows, refused, time_ask, time_told, Letter, Input, letter_input, Effect}
 use Rattle.node_model.specs.States.{Shard}
-use Rattle.node_model.specs.ShardRows.{Ask, ask_in, wants_table, asks_table, says, heard, is_news, IsNoNews, AsksNothing, ShardRow, shard_write, shard_repeat, shard_empty, shard_park, shard_waits, shard_stale, shard_read, shard_read_above, shard_rows, shard_excess, shard_overflow, shard_time, shard_learn, shard_known, shard_skip, shard_moment, shard_opened, shard_client}
+use Rattle.node_model.specs.ShardRows.{Ask, ask_in, wants_table, asks_table, says, heard, is_news, IsNoNews, AsksNothing, ShardRow, shard_write, shard_repeat, shard_empty, shard_park, shard_waits, shard_stale, shard_read, shard_read_above, shard_rows, shard_excess, shard_overflow, shard_time, shard_learn, shard_known, shard_no_table, shard_skip, shard_moment, shard_opened, shard_client}
 use Rattle.node_laws.proofs.Lists.{all_filtered}
 use Rattle.node_progress.specs.UnderWay.{a_table, Brings, IsFor}
 use Rattle.node_progress.proofs.Versions.{none_where_old}
@@ -38,7 +39,7 @@ a_table_told node namespace from to (write_done id (d ∷ dones)) place is = abs
 a_table_told node namespace from to (read_ask id turn name at half sent) place is = absurd (cc is.0)
 a_table_told node namespace from to (half_ask id turn name at half documents) place is = absurd (cc is.0)
 a_table_told node namespace from to (read_rows id turn rows) place is = absurd (cc is.0)
-a_table_told node namespace from to (stale id turn met) place is = absurd is
+a_table_told node namespace from to (refused what cause) place is = absurd is
 a_table_told node namespace from to (time_ask id) place is = absurd (cc is)
 a_table_told node namespace from to (time_told id) place is = absurd (cc is.0)
 
@@ -179,6 +180,22 @@ knew s m namespace create at table u mail says place named old tables =
           absurd (cc (news, is_new));
     }))
 
+-- no table can be had: what does not want it stays
+not_had : (s : Shard) (m : Letter) (namespace : List ℕ) (node : ℕ) (lack : Lack) (u : Shard) (mail : List Letter)
+    → m.body ≡ refused (of_table namespace false no_time) (is_lack node lack) → m.receiver ≢ 0 → u.tables ≡ s.tables
+    → AllByRecursion (IsParkedAfter s u (letter_input m) mail) (filter (λ p. not (wants_table namespace p)) s.parked)
+not_had s m namespace node lack u mail says place tables =
+    all_weaken (λ (p : Letter). IsIn p s.parked × (not (wants_table namespace p) ≡ true)) (IsParkedAfter s u (letter_input m) mail)
+    (filter (λ p. not (wants_table namespace p)) s.parked) (λ p h. inl (record {
+      there = h.0;
+      still = λ a asks none. ap (λ l. table_of a.namespace l) tables ∙ none;
+      not_come = λ a asks none n is brings.
+          let same = same_letter m n is in
+          let refuses : n.body ≡ refused (of_table namespace false no_time) (is_lack node lack) = sym (ap (λ (x : Letter). x.body) same) ∙ says in
+          subst (λ b. Brings (a_table s.me a.namespace false no_time) n.sender n.receiver b) refuses brings;
+    }))
+    (all_filtered (λ (p : Letter). IsIn p s.parked) (λ p. not (wants_table namespace p)) s.parked (all_from (λ (p : Letter). IsIn p s.parked) s.parked (λ p i. i)))
+
 pub shard_parked : (s : Shard) (i : Input) (f : Effect) (u : Shard) → IsToShard i → ((m : Letter) → i ≡ letter_input m → IsNamed m)
     → ((m : Letter) → i ≡ letter_input m → FitsThere s m) → ShardRow s i f u → AllByRecursion (IsParkedAfter s u i f.mail) u.parked
 shard_parked _ _ _ u to named fit (shard_write s m id turn ordered namespace statements sent d dones made last body verdict serves) =
@@ -216,6 +233,7 @@ shard_parked _ _ _ u to named fit (shard_learn s m namespace create at t body ne
     learned s m namespace create at t u _ body (to m refl) (named m refl) refl
 shard_parked _ _ _ u to named fit (shard_known s m namespace create at table body old) =
     knew s m namespace create at table u _ body (to m refl) (named m refl) old refl
+shard_parked _ _ _ u to named fit (shard_no_table s m namespace node lack body) = not_had s m namespace node lack u _ body (to m refl) refl
 shard_parked _ _ _ u to named fit (shard_skip s m none) =
     all_stay s u (letter_input m) _ to refl (λ n is namespace t told.
     subst (λ b. AsksNothing b) (ap (λ (x : Letter). x.body) (same_letter m n is) ∙ told) none)

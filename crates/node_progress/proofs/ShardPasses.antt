@@ -13,12 +13,12 @@ use Rattle.reply_model.specs.Outcomes.{Done}
 use Rattle.node_model.specs.Letters.{Statement, HalfFault, half_overflow, half_excess, write_ask, write_done, half_ask, read_rows, time_told, Letter, Input, letter_input, Effect}
 use Rattle.node_model.specs.States.{Shard}
 use Rattle.node_model.specs.Service.{seen_before, Serves, serves_again, serves_new, ends_again, ends_new, Repeats, repeats, ends_repeat, documents_at}
-use Rattle.node_model.specs.ShardRows.{Ask, is_ask, same_ask, ask_in, wants_table, says, heard, ShardRow, shard_write, shard_repeat, shard_empty, shard_park, shard_waits, shard_stale, shard_read, shard_read_above, shard_rows, shard_excess, shard_overflow, shard_time, shard_learn, shard_known, shard_skip, shard_moment, shard_opened, shard_client}
+use Rattle.node_model.specs.ShardRows.{Ask, is_ask, same_ask, ask_in, wants_table, says, heard, ShardRow, shard_write, shard_repeat, shard_empty, shard_park, shard_waits, shard_stale, shard_read, shard_read_above, shard_rows, shard_excess, shard_overflow, shard_time, shard_learn, shard_known, shard_no_table, shard_skip, shard_moment, shard_opened, shard_client}
 use Rattle.node_laws.proofs.SeenStatements.{IsFound, found_entry, found_older, seen_found}
 use Rattle.node_progress.specs.UnderWay.{Thing, a_time, a_run, a_part, Brings, IsFor}
 use Rattle.node_progress.proofs.Members.{in_map, in_filter, any_found}
 use Rattle.node_progress.proofs.Things.{home, shard_idle, thing_asked, ask_brings, brings_asked, same_thing}
-use Rattle.node_progress.proofs.Versions.{never_stale}
+use Rattle.node_progress.proofs.Versions.{IsPlain, never_stale}
 use Rattle.node_progress.proofs.CataloguePasses.{IsAmong, only_among}
 
 -- a parked request is for the thing
@@ -124,27 +124,29 @@ shard_passes _ _ _ _ t place away own fit to is (shard_learn s m namespace creat
 shard_passes _ _ _ _ t place away own fit to is (shard_known s m namespace create at table body old) =
     let l = subst (λ b. Brings t m.sender m.receiver b) body is in
     absurd (own (ap (λ x. home x) l.0 ∙ place))
+shard_passes _ _ _ _ t place away own fit to is (shard_no_table s m namespace node lack body) =
+    absurd (subst (λ b. Brings t m.sender m.receiver b) body is)
 shard_passes _ _ _ _ t place away own fit to is (shard_skip s m none) =
     absurd (shard_idle t m.sender m.receiver m.body (λ e. away (sym place ∙ e)) (λ e. own (e ∙ place)) none is)
 
 -- WHAT IS PARKED
 
--- it stays parked, or is tried again
+-- it stays parked, or is tried again; where no table is refused
 pub shard_holds : (s : Shard) (i : Input) (f : Effect) (u : Shard) (p : Letter) (a : Ask) → s.me ≡ first_shard → IsIn p s.parked → ask_in p.body ≡ Some a
-    → ShardRow s i f u → IsIn p u.parked ⊎ IsAmong f.mail (thing_asked a)
-shard_holds _ _ _ _ p a me there asks (shard_write s m id turn ordered namespace statements sent d dones made last body verdict serves) = inl there
-shard_holds _ _ _ _ p a me there asks (shard_repeat s m id turn ordered namespace statements sent d dones body verdict again) = inl there
-shard_holds _ _ _ _ p a me there asks (shard_empty s m id turn ordered namespace sent body) = inl there
-shard_holds _ _ _ _ p a me there asks (shard_park s m b own unseen old not_parked) = inl (in_prefix p s.parked (m ∷ []) there)
-shard_holds _ _ _ _ p a me there asks (shard_waits s m b own unseen old waits) = inl there
-shard_holds _ _ _ _ p a me there asks (shard_stale s m b met own unseen old) = inl there
-shard_holds _ _ _ _ p a me there asks (shard_read s m id turn namespace at half sent body verdict covered) = inl there
-shard_holds _ _ _ _ p a me there asks (shard_read_above s m id turn namespace at half sent body verdict above) = inl there
-shard_holds _ _ _ _ p a me there asks (shard_rows s m id turn namespace at half documents rows body makes few) = inl there
-shard_holds _ _ _ _ p a me there asks (shard_excess s m id turn namespace at half documents rows length n body makes much told) = inl there
-shard_holds _ _ _ _ p a me there asks (shard_overflow s m id turn namespace at half documents body runs) = inl there
-shard_holds _ _ _ _ p a me there asks (shard_time s m id body) = inl there
-shard_holds _ _ _ _ p a me there asks (shard_learn s m namespace create at t body news) = by_test (wants_table t.namespace p) refl
+    → ((m : Letter) → i ≡ letter_input m → IsPlain m.body) → ShardRow s i f u → IsIn p u.parked ⊎ IsAmong f.mail (thing_asked a)
+shard_holds _ _ _ _ p a me there asks plain (shard_write s m id turn ordered namespace statements sent d dones made last body verdict serves) = inl there
+shard_holds _ _ _ _ p a me there asks plain (shard_repeat s m id turn ordered namespace statements sent d dones body verdict again) = inl there
+shard_holds _ _ _ _ p a me there asks plain (shard_empty s m id turn ordered namespace sent body) = inl there
+shard_holds _ _ _ _ p a me there asks plain (shard_park s m b own unseen old not_parked) = inl (in_prefix p s.parked (m ∷ []) there)
+shard_holds _ _ _ _ p a me there asks plain (shard_waits s m b own unseen old waits) = inl there
+shard_holds _ _ _ _ p a me there asks plain (shard_stale s m b met own unseen old) = inl there
+shard_holds _ _ _ _ p a me there asks plain (shard_read s m id turn namespace at half sent body verdict covered) = inl there
+shard_holds _ _ _ _ p a me there asks plain (shard_read_above s m id turn namespace at half sent body verdict above) = inl there
+shard_holds _ _ _ _ p a me there asks plain (shard_rows s m id turn namespace at half documents rows body makes few) = inl there
+shard_holds _ _ _ _ p a me there asks plain (shard_excess s m id turn namespace at half documents rows length n body makes much told) = inl there
+shard_holds _ _ _ _ p a me there asks plain (shard_overflow s m id turn namespace at half documents body runs) = inl there
+shard_holds _ _ _ _ p a me there asks plain (shard_time s m id body) = inl there
+shard_holds _ _ _ _ p a me there asks plain (shard_learn s m namespace create at t body news) = by_test (wants_table t.namespace p) refl
   where
     by_test : (b : Bool) → wants_table t.namespace p ≡ b
         → IsIn p (filter (λ q. not (wants_table t.namespace q)) s.parked)
@@ -156,8 +158,9 @@ shard_holds _ _ _ _ p a me there asks (shard_learn s m namespace create at t bod
           (in_filter (wants_table t.namespace) p s.parked there is);
       brings = brings_asked s.me s.me p.body a asks me;
     })
-shard_holds _ _ _ _ p a me there asks (shard_known s m namespace create at table body old) = inl there
-shard_holds _ _ _ _ p a me there asks (shard_skip s m none) = inl there
-shard_holds _ _ _ _ p a me there asks (shard_moment s moment) = inl there
-shard_holds _ _ _ _ p a me there asks (shard_opened s) = inl there
-shard_holds _ _ _ _ p a me there asks (shard_client s link number request) = inl there
+shard_holds _ _ _ _ p a me there asks plain (shard_known s m namespace create at table body old) = inl there
+shard_holds _ _ _ _ p a me there asks plain (shard_no_table s m namespace node lack body) = absurd (subst (λ b. IsPlain b) body (plain m refl))
+shard_holds _ _ _ _ p a me there asks plain (shard_skip s m none) = inl there
+shard_holds _ _ _ _ p a me there asks plain (shard_moment s moment) = inl there
+shard_holds _ _ _ _ p a me there asks plain (shard_opened s) = inl there
+shard_holds _ _ _ _ p a me there asks plain (shard_client s link number request) = inl there

@@ -4,8 +4,8 @@ use Rattle.std.specs.List.{AllByRecursion}
 use Rattle.node_model.specs.Letters.{Input, Taken, Effect}
 use Rattle.node_model.specs.States.{Catalogue, Shard, Router}
 use Rattle.node_model.specs.CatalogueRows.{CatalogueRow, catalogue_create, catalogue_tell, catalogue_split, catalogue_bound, catalogue_none, catalogue_skip, catalogue_moment, catalogue_opened, catalogue_client}
-use Rattle.node_model.specs.ShardRows.{ShardRow, shard_write, shard_repeat, shard_empty, shard_park, shard_waits, shard_stale, shard_read, shard_read_above, shard_rows, shard_excess, shard_overflow, shard_time, shard_learn, shard_known, shard_skip, shard_moment, shard_opened, shard_client}
-use Rattle.node_model.specs.RouterRows.{RouterRow, router_begin, router_opened, router_plain, router_more, router_no_cursor, router_kill, router_take, router_learn, router_split, router_not_sharded, router_reach, router_hear, router_ahead, router_note, router_part, router_read, router_excess, router_overflow, router_late, router_skip, router_moment}
+use Rattle.node_model.specs.ShardRows.{ShardRow, shard_write, shard_repeat, shard_empty, shard_park, shard_waits, shard_stale, shard_read, shard_read_above, shard_rows, shard_excess, shard_overflow, shard_time, shard_learn, shard_known, shard_no_table, shard_skip, shard_moment, shard_opened, shard_client}
+use Rattle.node_model.specs.RouterRows.{RouterRow, router_begin, router_opened, router_plain, router_more, router_no_cursor, router_kill, router_take, router_learn, router_split, router_not_sharded, router_reach, router_hear, router_ahead, router_note, router_refused, router_no_table, router_part, router_read, router_excess, router_overflow, router_late, router_skip, router_moment}
 
 pub catalogue_takes_none : (c d : Catalogue) (i : Input) (f : Effect) → CatalogueRow c i f d → f.taken ≡ []
 catalogue_takes_none _ _ _ _ (catalogue_create c m namespace at x says new) = refl
@@ -33,6 +33,7 @@ shard_takes_none _ _ _ _ (shard_overflow s m id turn namespace at half documents
 shard_takes_none _ _ _ _ (shard_time s m id body) = refl
 shard_takes_none _ _ _ _ (shard_learn s m namespace create at t body news) = refl
 shard_takes_none _ _ _ _ (shard_known s m namespace create at table body old) = refl
+shard_takes_none _ _ _ _ (shard_no_table s m namespace node lack body) = refl
 shard_takes_none _ _ _ _ (shard_skip s m none) = refl
 shard_takes_none _ _ _ _ (shard_moment s moment) = refl
 shard_takes_none _ _ _ _ (shard_opened s) = refl
@@ -59,6 +60,8 @@ stays_in_life _ _ _ _ (router_reach r m id q named at stages telling says found 
 stays_in_life _ _ _ _ (router_hear r m id q named at stages telling says found work waits ahead others) = record { life = refl; shards = refl; taken = tt }
 stays_in_life _ _ _ _ (router_ahead r m id q named at stages telling says found work waits ahead all) = record { life = refl; shards = refl; taken = tt }
 stays_in_life _ _ _ _ (router_note r m id dones q kind ordered statements c next says found work news is) = record { life = refl; shards = refl; taken = tt }
+stays_in_life _ _ _ _ (router_refused r m id turn first cause q next says found is) = record { life = refl; shards = refl; taken = tt }
+stays_in_life _ _ _ _ (router_no_table r m namespace create at node lack says) = record { life = refl; shards = refl; taken = tt }
 stays_in_life _ _ _ _ (router_part r m id rows q named at stages telling says found work target some) = record { life = refl; shards = refl; taken = tt }
 stays_in_life _ _ _ _ (router_read r m id rows q named at stages telling all out answer f says found work target whole got merged tells) =
     record { life = refl; shards = refl; taken = tt }

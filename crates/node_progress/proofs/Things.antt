@@ -6,7 +6,7 @@ use Rattle.history_model.specs.History.{IsIn}
 use Rattle.history_model.proofs.Lists.{in_cons, in_none}
 use Rattle.chunk_model.specs.Tables.{first_shard}
 use Rattle.base_model.specs.Identities.{RequestId, same_request}
-use Rattle.node_model.specs.Letters.{no_time, at_time, Body, table_ask, table_told, split_ask, split_done, write_ask, write_done, read_ask, half_ask, read_rows, stale, time_ask, time_told}
+use Rattle.node_model.specs.Letters.{no_time, at_time, Body, table_ask, table_told, split_ask, split_done, write_ask, write_done, read_ask, half_ask, read_rows, refused, time_ask, time_told}
 use Rattle.node_model.specs.States.{Target, Run, Wait, for_time, for_catalogue, for_shards, Work, writing, reading, sharding, splitting, Open, Router}
 use Rattle.node_model.specs.CatalogueRows.{AsksNothing as AsksNoTable}
 use Rattle.node_model.specs.ShardRows.{Ask, ask_in, same_index, same_ask, AsksNothing}
@@ -149,7 +149,7 @@ module _ (t : Thing) (from to : ℕ) where
   brings_to (read_ask id turn namespace at half sent) is = inr (inl is.1)
   brings_to (half_ask id turn namespace at half documents) is = inr (inl is.1)
   brings_to (read_rows id turn rows) is = inr (inr (inl (at_home (a_part id from turn) is.0 is.1)))
-  brings_to (stale id turn met) is = absurd is
+  brings_to (refused what cause) is = absurd is
   brings_to (time_ask id) is = inr (inr (inr (id, is)))
   brings_to (time_told id) is = inr (inr (inl (at_home (a_time id from) is.0 is.1)))
 
@@ -166,7 +166,7 @@ module _ (t : Thing) (from to : ℕ) where
   catalogue_idle (read_ask id turn namespace at half sent) place own timeless none is = cc (is.1, place)
   catalogue_idle (half_ask id turn namespace at half documents) place own timeless none is = cc (is.1, place)
   catalogue_idle (read_rows id turn rows) place own timeless none is = own (sym (at_home (a_part id from turn) is.0 is.1) ∙ place)
-  catalogue_idle (stale id turn met) place own timeless none is = is
+  catalogue_idle (refused what cause) place own timeless none is = is
   catalogue_idle (time_ask id) place own timeless none is = timeless (id, is)
   catalogue_idle (time_told id) place own timeless none is = own (sym (at_home (a_time id from) is.0 is.1) ∙ place)
 
@@ -182,7 +182,7 @@ module _ (t : Thing) (from to : ℕ) where
   shard_idle (read_ask id turn namespace at half sent) not_zero own none is = none
   shard_idle (half_ask id turn namespace at half documents) not_zero own none is = none
   shard_idle (read_rows id turn rows) not_zero own none is = own (sym (at_home (a_part id from turn) is.0 is.1))
-  shard_idle (stale id turn met) not_zero own none is = is
+  shard_idle (refused what cause) not_zero own none is = is
   shard_idle (time_ask id) not_zero own none is = none
   shard_idle (time_told id) not_zero own none is = own (sym (at_home (a_time id from) is.0 is.1))
 
@@ -198,7 +198,7 @@ module _ (t : Thing) (from to : ℕ) where
   router_idle (read_ask id turn namespace at half sent) not_zero not_one timeless none is = not_one is.1
   router_idle (half_ask id turn namespace at half documents) not_zero not_one timeless none is = not_one is.1
   router_idle (read_rows id turn rows) not_zero not_one timeless none is = none
-  router_idle (stale id turn met) not_zero not_one timeless none is = none
+  router_idle (refused what cause) not_zero not_one timeless none is = none
   router_idle (time_ask id) not_zero not_one timeless none is = timeless (id, is)
   router_idle (time_told id) not_zero not_one timeless none is = none
 
@@ -223,7 +223,7 @@ ask_brings t from to (read_ask id turn namespace at half sent) a asks is =
     is.0 ∙ ap (λ n. a_part id n turn) is.1 ∙ ap (λ x. thing_asked x) same
 ask_brings t from to (half_ask id turn namespace at half documents) a asks is = absurd (cc asks)
 ask_brings t from to (read_rows id turn rows) a asks is = absurd (cc asks)
-ask_brings t from to (stale id turn met) a asks is = absurd (cc asks)
+ask_brings t from to (refused what cause) a asks is = absurd (cc asks)
 ask_brings t from to (time_ask id) a asks is = absurd (cc asks)
 ask_brings t from to (time_told id) a asks is = absurd (cc asks)
 
@@ -242,7 +242,7 @@ brings_asked from to (read_ask id turn namespace at half sent) a asks place =
     (ap (λ x. thing_asked x) (sym same) ∙ ap (λ n. a_part id n turn) (sym place), place)
 brings_asked from to (half_ask id turn namespace at half documents) a asks place = absurd (cc asks)
 brings_asked from to (read_rows id turn rows) a asks place = absurd (cc asks)
-brings_asked from to (stale id turn met) a asks place = absurd (cc asks)
+brings_asked from to (refused what cause) a asks place = absurd (cc asks)
 brings_asked from to (time_ask id) a asks place = absurd (cc asks)
 brings_asked from to (time_told id) a asks place = absurd (cc asks)
 

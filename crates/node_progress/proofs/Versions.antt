@@ -1,4 +1,4 @@
--- Every request of documents carries the versions of a table that the catalogue had, so that none is sent back as stale.
+-- Every request of documents carries the versions of a table that the catalogue had, so that none meets a later one.
 use Rattle.std.proofs.Common.{◌≡◌, ◌⊎◌, inl, inr, ℕ, ◌<◌, ◌≤◌, List, ◌++◌, refl, sym, ap, subst, ◌∙◌, append_assoc}
 use Rattle.std.specs.Prelude.{Option, Some, None, is_some, true}
 use Rattle.std.specs.List.{AllByRecursion}
@@ -11,7 +11,7 @@ use Rattle.chunk_model.specs.Placement.{AreFitting}
 use Rattle.chunk_model.specs.Tables.{Table, first_shard, owner_now, owner_at, table_of}
 use Rattle.chunk_model.specs.Versions.{Version}
 use Rattle.chunk_model.specs.Verdicts.{fits, shard_is_old, router_is_old, sent_by, verdict_of}
-use Rattle.node_model.specs.Letters.{Body, Letter}
+use Rattle.node_model.specs.Letters.{Body, refused, Letter}
 use Rattle.node_model.specs.ShardRows.{Ask, ask_in}
 use Rattle.node_model.specs.RouterRequests.{owners_of_span, is_owned_at}
 use Rattle.node_laws.proofs.Views.{View, changes_in}
@@ -21,7 +21,6 @@ use Rattle.node_laws.proofs.CatalogueTables.{IsNoCreation, none_created, some_cr
 use Rattle.node_laws.proofs.TableVersions.{known_fits}
 use Rattle.node_laws.proofs.SpanOwners.{listed_owner}
 use Rattle.node_laws.proofs.KnownTables.{table_found, known_owned, known_owned_at, known_at, known_span}
-use Rattle.node_progress.specs.UnderWay.{IsNotStale}
 
 -- TABLES
 
@@ -105,11 +104,16 @@ IsKnowing changes b = (a : Ask) → ask_in b ≡ Some a → IsVersioned changes 
 abbrev pub GoesFirst : (to : ℕ) → Body → Type 0
 GoesFirst to b = (a : Ask) → ask_in b ≡ Some a → to ≡ first_shard
 
--- what is true of each message: it goes from one of so many nodes to another
+-- it refuses nothing
+abbrev pub IsPlain : Body → Type 0
+IsPlain (refused what cause) = ⊥
+IsPlain body = Unit {0}
+
+-- what is true of each message but those: it goes from one of so many nodes to another
 pub record IsWell (changes : List Change) (count : ℕ) (m : Letter) : Type 0 where
   pub knowing : IsKnowing changes m.body
   pub first : GoesFirst m.receiver m.body
-  pub not_stale : IsNotStale m.body
+  pub plain : IsPlain m.body
   pub from : m.sender < count
   pub to : m.receiver < count
 
@@ -120,7 +124,7 @@ pub well_later : (news changes later : List Change) (count : ℕ) (m : Letter) �
 well_later news changes later count m is w = record {
   knowing = λ a asks. versioned_later news changes later a is (w.knowing a asks);
   first = w.first;
-  not_stale = w.not_stale;
+  plain = w.plain;
   from = w.from;
   to = w.to;
 }

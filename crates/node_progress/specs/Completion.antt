@@ -1,5 +1,5 @@
 -- What it means that every request is answered.
-use Rattle.std.specs.Prelude.{◌≡◌, List, [], None, Some, Ok, length, drop}
+use Rattle.std.specs.Prelude.{◌≡◌, ℕ, List, [], None, Some, Ok, length, drop}
 use Rattle.std.specs.List.{AllByRecursion, slice_get}
 use Rattle.base_model.specs.Identities.{RequestId}
 use Rattle.command_model.specs.Writes.{WriteCommand}
@@ -24,7 +24,8 @@ IsQuiet (router_state r) = r.requests ≡ []
 pub record IsOfRouter (nodes : List Held) (id : RequestId) : Type 0 where
   pub router : Router
   pub kept : List Kept
-  pub here : slice_get nodes id.router ≡ Some (record { state = router_state router; kept = kept })
+  pub steps : ℕ
+  pub here : slice_get nodes id.router ≡ Some (record { state = router_state router; kept = kept; steps = steps })
   pub life : id.life ≡ router.life
 
 -- the requests that were taken since the first world
@@ -35,17 +36,17 @@ asked_since first w = drop (length first.asked) w.asked
 abbrev pub IsAnswered : List Answered → Asked → Type 0
 IsAnswered answered a = IsIn a.id (ids_told answered)
 
--- the outcomes of its statements, or of those up to the error that ends it, are those of entries that are stored
+-- the outcomes of its statements, or of those up to the error that ends it, are those of entries that are stored, or say that a statement was given up
 pub record HasToldAll (account : Account) (a : Asked) (write : WriteCommand) : Type 0 where
   pub answer : Answered
   pub told : IsIn answer account.answered
   pub own : answer.id ≡ a.id
   pub dones : List Done
-  pub tells : AreTold account answer write 0 write.operations dones
+  pub tells : AreTold account a answer write 0 write.operations dones
 
--- Of each write the outcomes of the statements are those of entries that are stored, under their numbers or of a greater transaction. Of a write without a
--- client's number each stored entry is one of these, and no other is stored of it: so the entries of all statements are, up to the error that ends an ordered
--- one. Both also where no reply is put.
+-- Of each write the outcomes of the statements are those of entries that are stored, under their numbers or of a greater transaction, or say that a statement was
+-- given up. Of a write without a client's number each stored entry is of one of these statements, and no other is stored of it: so the entries of all statements
+-- that were not given up are, up to the error that ends an ordered one. Both also where no reply is put.
 pub record IsServedAs (account : Account) (a : Asked) (write : WriteCommand) : Type 0 where
   pub tells : HasToldAll account a write
   pub whole : write.number ≡ None → IsWhole account.history a.id write tells.dones

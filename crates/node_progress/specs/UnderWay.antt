@@ -8,9 +8,10 @@ use Rattle.chunk_model.specs.Tables.{first_shard}
 use Rattle.history_model.specs.History.{IsIn}
 use Rattle.reply_model.specs.Exchanges.{Asked}
 use Rattle.node_model.specs.Journal.{Kept}
-use Rattle.node_model.specs.Letters.{At, no_time, at_time, Body, table_ask, table_told, split_ask, split_done, write_ask, write_done, read_ask, half_ask, read_rows, stale, time_ask, time_told, Letter}
+use Rattle.node_model.specs.Letters.{At, no_time, at_time, Body, table_ask, table_told, split_ask, split_done, write_ask, write_done, read_ask, half_ask, read_rows, refused, of_request, of_table, is_stale, is_lack, time_ask, time_told, Letter}
 use Rattle.node_model.specs.States.{Target, Run, Shard, Router, Wait, for_time, for_catalogue, for_shards, Work, writing, reading, sharding, splitting, Open, router_state, shard_state}
 use Rattle.node_model.specs.ShardRows.{Ask, ask_in}
+pub use Rattle.node_model.specs.RouterRequests.{first_index}
 use Rattle.node_model.specs.RouterRequests.{id_of, shards_of, untold}
 use Rattle.node_model.specs.RouterNext.{awaited}
 use Rattle.node_model.specs.World.{World, Event, deliver_event}
@@ -37,10 +38,6 @@ thing_there id node namespace (writing kind ordered statements c) = a_table node
 thing_there id node namespace (reading named at stages telling) = a_table node namespace false (at_time at)
 thing_there id node namespace sharding = a_table node namespace true no_time
 thing_there id node namespace (splitting middle) = a_split id
-
-abbrev pub first_index : List ℕ → ℕ
-first_index [] = 0
-first_index (index ∷ indices) = index
 
 -- the runs of a write that are under way
 abbrev pub runs_of : Work → List Run
@@ -87,7 +84,7 @@ Brings t from to (write_done id (d ∷ dones)) = (t ≡ a_run id d.index) × (to
 Brings t from to (read_ask id turn namespace at half sent) = (t ≡ a_part id to turn) × (to ≡ first_shard)
 Brings t from to (half_ask id turn namespace at half documents) = (t ≡ a_part id to turn) × (to ≡ first_shard)
 Brings t from to (read_rows id turn rows) = (t ≡ a_part id from turn) × (to ≡ id.router)
-Brings t from to (stale id turn met) = ⊥
+Brings t from to (refused what cause) = ⊥
 
 abbrev pub IsFor : Thing → Letter → Type 0
 IsFor t m = Brings t m.sender m.receiver m.body
@@ -111,8 +108,9 @@ pub record IsParked (left : ℕ → Type 0) (w : World) (t : Thing) : Type 0 whe
   pub at : ℕ
   pub shard : Shard
   pub kept : List Kept
+  pub steps : ℕ
   pub letter : Letter
-  pub here : slice_get w.nodes at ≡ Some (record { state = shard_state shard; kept = kept })
+  pub here : slice_get w.nodes at ≡ Some (record { state = shard_state shard; kept = kept; steps = steps })
   pub parked : IsIn letter shard.parked
   pub brings : IsFor t letter
   pub fetched : IsFetched left w.sent shard letter
@@ -131,8 +129,9 @@ pub record AreComing (left : ℕ → Type 0) (w : World) (things : List Thing) :
 pub record IsServedNext (left : ℕ → Type 0) (w : World) (a : Asked) : Type 0 where
   pub router : Router
   pub kept : List Kept
+  pub steps : ℕ
   pub request : Open
-  pub here : slice_get w.nodes a.id.router ≡ Some (record { state = router_state router; kept = kept })
+  pub here : slice_get w.nodes a.id.router ≡ Some (record { state = router_state router; kept = kept; steps = steps })
   pub there : IsIn request router.requests
   pub own : a.id ≡ id_of router request.count
   pub coming : AreComing left w (things_of router request)
@@ -141,9 +140,11 @@ pub record IsServedNext (left : ℕ → Type 0) (w : World) (a : Asked) : Type 0
 -- for is under way; all that any open request waits for is, and so is the table of each request that is parked.
 pub record IsUnderWay (first : World) (left : ℕ → Type 0) (w : World) : Type 0 where
   pub taken : AllByRecursion (λ (a : Asked). IsAnswered w.answered a ⊎ IsServedNext left w a) (asked_since first w)
-  pub waiting : (at : ℕ) (r : Router) (kept : List Kept) (q : Open) → slice_get w.nodes at ≡ Some (record { state = router_state r; kept = kept })
+  pub waiting : (at : ℕ) (r : Router) (kept : List Kept) (steps : ℕ) (q : Open)
+      → slice_get w.nodes at ≡ Some (record { state = router_state r; kept = kept; steps = steps })
       → IsIn q r.requests → AreComing left w (things_of r q)
-  pub parked : (at : ℕ) (s : Shard) (kept : List Kept) (p : Letter) → slice_get w.nodes at ≡ Some (record { state = shard_state s; kept = kept })
+  pub parked : (at : ℕ) (s : Shard) (kept : List Kept) (steps : ℕ) (p : Letter)
+      → slice_get w.nodes at ≡ Some (record { state = shard_state s; kept = kept; steps = steps })
       → IsIn p s.parked → IsFetched left w.sent s p
 
 -- no event delivers the message at a place
@@ -157,7 +158,9 @@ IsDelivered events place = (at : ℕ) × IsIn (deliver_event at place) events
 
 -- the message sends no request back as one that was sent with an older table than the shard's
 abbrev pub IsNotStale : Body → Type 0
-IsNotStale (stale id turn met) = ⊥
+IsNotStale (refused (of_request id turn first) (is_stale met)) = ⊥
+IsNotStale (refused (of_request id turn first) (is_lack node lack)) = Unit {0}
+IsNotStale (refused (of_table namespace create at) cause) = Unit {0}
 IsNotStale (table_ask namespace create at) = Unit {0}
 IsNotStale (table_told namespace create at table) = Unit {0}
 IsNotStale (split_ask id namespace middle) = Unit {0}

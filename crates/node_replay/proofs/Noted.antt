@@ -1,5 +1,5 @@
 -- The outcomes that a router notes: those of an ordered write have their turn.
-use Rattle.std.proofs.Common.{◌≡◌, ℕ, zero, suc, ◌+◌, List, [], ◌∷◌, refl, sym, subst, arith, Bool}
+use Rattle.std.proofs.Common.{◌≡◌, ℕ, zero, suc, ◌+◌, ◌<◌, List, [], ◌∷◌, refl, sym, subst, arith, Bool}
 use Rattle.std.specs.Prelude.{length, Option, Some, None, is_some, true, false, not, ◌&&◌, ◌||◌, if◌then◌else◌}
 use Rattle.std.specs.List.{AllByRecursion}
 use Rattle.history_model.specs.History.{Operation}
@@ -26,15 +26,18 @@ by_noted P ordered d answers with_it without_it = by_test (not ordered || has_be
     by_test true h = with_it h
     by_test false h = without_it
 
-with_all : (P : Done → Type 0) (first index : ℕ) (x : StatementOutcome) (answers : Answers) → P (record { index = first + index; answer = x })
-    → AllByRecursion P (dones_from first answers) → AllByRecursion P (dones_from first (with_outcome index x answers))
+pub with_all : (P : Done → Type 0) (first index : ℕ) (x : StatementOutcome) (answers : Answers)
+    → (index < length answers → P (record { index = first + index; answer = x })) → AllByRecursion P (dones_from first answers)
+    → AllByRecursion P (dones_from first (with_outcome index x answers))
 with_all P first index x [] new all = tt
-with_all P first zero x (None ∷ answers) new all = (subst (λ n. P (record { index = n; answer = x })) (omega arith) new, all)
+with_all P first zero x (None ∷ answers) new all = (subst (λ n. P (record { index = n; answer = x })) (omega arith) (new (omega arith)), all)
 with_all P first zero x (Some y ∷ answers) new all = all
 with_all P first (suc index) x (None ∷ answers) new all =
-    with_all P (first + 1) index x answers (subst (λ n. P (record { index = n; answer = x })) (omega arith) new) all
-with_all P first (suc index) x (Some y ∷ answers) new all =
-    (all.0, with_all P (first + 1) index x answers (subst (λ n. P (record { index = n; answer = x })) (omega arith) new) all.1)
+    with_all P (first + 1) index x answers (λ less. subst (λ n. P (record { index = n; answer = x })) (omega arith) (new (omega (arith, less)))) all
+with_all P first (suc index) x (Some y ∷ answers) new all = (
+  all.0,
+  with_all P (first + 1) index x answers (λ less. subst (λ n. P (record { index = n; answer = x })) (omega arith) (new (omega (arith, less)))) all.1,
+)
 
 pub all_noted : (P : Done → Type 0) (ordered : Bool) (answers : Answers) (dones : List Done) → AllByRecursion P (dones_from 0 answers) → AllByRecursion P dones
     → AllByRecursion P (dones_from 0 (noted ordered answers dones))
@@ -42,14 +45,14 @@ all_noted P ordered answers [] old new = old
 all_noted P ordered answers (d ∷ dones) old new =
     all_noted P ordered (with_done ordered d answers) dones
     (by_noted (λ a. AllByRecursion P (dones_from 0 a)) ordered d answers
-    (λ h. with_all P 0 d.index d.answer answers (subst (λ n. P (record { index = n; answer = d.answer })) (omega arith) new.0) old) old) new.1
+    (λ h. with_all P 0 d.index d.answer answers (λ less. subst (λ n. P (record { index = n; answer = d.answer })) (omega arith) new.0) old) old) new.1
 
 none_before : (answers : Answers) → AreNone answers → IsPrefix answers
 none_before [] none = tt
 none_before (None ∷ answers) none = none
 none_before (Some x ∷ answers) none = absurd none
 
-with_prefix : (index : ℕ) (x : StatementOutcome) (answers : Answers) → IsPrefix answers → has_before index answers ≡ true
+pub with_prefix : (index : ℕ) (x : StatementOutcome) (answers : Answers) → IsPrefix answers → has_before index answers ≡ true
     → IsPrefix (with_outcome index x answers)
 with_prefix index x [] all before = tt
 with_prefix zero x (None ∷ answers) all before = none_before answers all

@@ -1,5 +1,5 @@
 -- No request is answered twice: over runs with stops.
-use Rattle.std.proofs.Common.{◌≡◌, ◌≢◌, ℕ, ◌+◌, List, [], ◌∷◌, ◌++◌, refl, sym, ap, subst, ◌∙◌, arith, append-nil}
+use Rattle.std.proofs.Common.{◌≡◌, ◌≢◌, inl, inr, ℕ, ◌+◌, List, [], ◌∷◌, ◌++◌, refl, sym, ap, subst, ◌∙◌, arith, append-nil}
 use Rattle.std.specs.Prelude.{Option, Some, None}
 use Rattle.std.specs.List.{AllByRecursion, slice_get, slice_set}
 use Rattle.std.specs.Option.{option_map}
@@ -12,10 +12,10 @@ use Rattle.node_model.specs.CatalogueRows.{CatalogueRow, catalogue_create, catal
 use Rattle.node_model.specs.Journal.{Kept}
 use Rattle.node_model.specs.Letters.{Input, client_input, letter_input, moment_input, opened_input, Effect, nothing}
 use Rattle.node_model.specs.RouterRows.{begins}
-use Rattle.node_model.specs.ShardRows.{ShardRow, shard_write, shard_repeat, shard_empty, shard_park, shard_waits, shard_stale, shard_read, shard_read_above, shard_rows, shard_excess, shard_overflow, shard_time, shard_learn, shard_known, shard_skip, shard_moment, shard_opened, shard_client}
+use Rattle.node_model.specs.ShardRows.{ShardRow, shard_write, shard_repeat, shard_empty, shard_park, shard_waits, shard_stale, shard_read, shard_read_above, shard_rows, shard_excess, shard_overflow, shard_time, shard_learn, shard_known, shard_no_table, shard_skip, shard_moment, shard_opened, shard_client}
 use Rattle.node_model.specs.States.{Catalogue, Shard, Open, Router, NodeState, catalogue_state, shard_state, router_state}
 use Rattle.node_model.specs.Steps.{Step, catalogue_step, shard_step, router_step, begin_step, other_step}
-use Rattle.node_model.specs.World.{Held, World, Moves, Event, Happens, comes, delivers, passes, begins as was_opened, start, history_of, asked_by, answered_by}
+use Rattle.node_model.specs.World.{Held, World, Moves, Misses, Meets, steps_after, Event, Happens, comes, delivers, passes, begins as was_opened, start, history_of, asked_by, answered_by}
 use Rattle.node_laws.proofs.Lists.{map_longer}
 use Rattle.node_laws.proofs.Places.{EachAt, each_get, each_set}
 use Rattle.node_replay.specs.Durable.{DurableState, durable_catalogue, durable_shard, durable_router}
@@ -47,6 +47,7 @@ shard_quiet _ _ _ _ (shard_overflow s m id turn namespace at half documents asks
 shard_quiet _ _ _ _ (shard_time s m id asks) = (refl, refl)
 shard_quiet _ _ _ _ (shard_learn s m namespace create at t tells news) = (refl, refl)
 shard_quiet _ _ _ _ (shard_known s m namespace create at table tells none) = (refl, refl)
+shard_quiet _ _ _ _ (shard_no_table s m namespace node lack none) = (refl, refl)
 shard_quiet _ _ _ _ (shard_skip s m none) = (refl, refl)
 shard_quiet _ _ _ _ (shard_moment s moment) = (refl, refl)
 shard_quiet _ _ _ _ (shard_opened s) = (refl, refl)
@@ -183,9 +184,9 @@ move_once : (w v : World) (at : ℕ) (i : Input) → WorldStays w → WorldOnce 
 move_once w v at i stay own m =
     subst (λ x. WorldOnce x) (sym m.then)
     (once_after w at m.old stay own m.here (asked_by w.now m.f.taken) (answered_by w.now m.f.replies)
-    (record { state = m.new; kept = m.old.kept ++ m.f.written }) (step_here w at m.old m.f m.new i stay own m.here m.step))
+    (record { state = m.new; kept = m.old.kept ++ m.f.written; steps = m.old.steps + 1 }) (step_here w at m.old m.f m.new i stay own m.here m.step))
 
--- a node that is started again answers nothing
+-- a node that is started again, or takes no step, answers nothing
 start_once : (w : World) (at : ℕ) (more : List Asked) (new : NodeState) → WorldOnce w → StateOnce w.answered new
     → NodeOnce (w.asked ++ more) w.answered [] at new
 start_once w at more new own node = record {
@@ -195,21 +196,34 @@ start_once w at more new own node = record {
   once = subst (λ l. AreDifferent (ids_told l)) (sym (append-nil w.answered)) own.once;
 }
 
+miss_once : (w v : World) (at : ℕ) (i : Input) → WorldStays w → WorldOnce w → Misses w at i v → WorldOnce v
+miss_once w v at i stay own m =
+    let same : Held = record { state = m.old.state; kept = m.old.kept; steps = steps_after m.lack m.old.steps } in
+    subst (λ x. WorldOnce x) (sym m.then)
+    (subst (λ l. ListsOnce (slice_set w.nodes at same) l w.answered) (append-nil w.asked)
+    (subst (λ l. ListsOnce (slice_set w.nodes at same) (w.asked ++ []) l) (append-nil w.answered)
+    (once_after w at m.old stay own m.here [] [] same (start_once w at [] m.old.state own (once_here w at m.old stay own m.here)))))
+
+meets_once : (w v : World) (at : ℕ) (i : Input) → WorldStays w → WorldOnce w → Meets w at i v → WorldOnce v
+meets_once w v at i stay own (inl m) = move_once w v at i stay own m
+meets_once w v at i stay own (inr m) = miss_once w v at i stay own m
+
 event_once : (w v : World) (e : Event) → WorldStays w → WorldOnce w → Happens w e v → WorldOnce v
-event_once _ _ _ stay own (comes w v at link number request is m) = move_once w v at (client_input link number request) stay own m
-event_once _ _ _ stay own (delivers w v at which l got to m) = move_once w v at (letter_input l) stay own m
-event_once _ _ _ stay own (passes w v at moment m) = move_once w v at (moment_input moment) stay own m
-event_once _ _ _ stay own (was_opened w v at m) = move_once w v at opened_input stay own m
+event_once _ _ _ stay own (comes w v at link number request is m) = meets_once w v at (client_input link number request) stay own m
+event_once _ _ _ stay own (delivers w v at which l got to m) = meets_once w v at (letter_input l) stay own m
+event_once _ _ _ stay own (passes w v at moment m) = meets_once w v at (moment_input moment) stay own m
+event_once _ _ _ stay own (was_opened w v at m) = meets_once w v at opened_input stay own m
 
 occurs_once : (w v : World) (e : EventOrStop) → WorldStays w → WorldOnce w → Occurs w e v → WorldOnce v
 occurs_once _ _ _ stay own (occurs w v e h) = event_once w v e stay own h
 occurs_once _ _ _ stay own (restarts w v at m) =
     subst (λ x. WorldOnce x) (sym m.then)
-    (once_after w at m.old stay own m.here [] [] (record { state = m.new; kept = m.old.kept ++ [] })
+    (once_after w at m.old stay own m.here [] [] (record { state = m.new; kept = m.old.kept ++ []; steps = m.steps })
     (start_once w at [] m.new own (started_once w.answered _ _ m.new m.opens)))
 occurs_once _ _ _ stay own (stops w v at e i gives m) =
     subst (λ x. WorldOnce x) (sym m.then)
-    (once_after w at m.old stay own m.here (asked_by w.now m.f.taken) [] (record { state = m.new; kept = m.old.kept ++ m.f.written })
+    (once_after w at m.old stay own m.here (asked_by w.now m.f.taken) []
+    (record { state = m.new; kept = m.old.kept ++ m.f.written; steps = m.old.steps + 1 })
     (start_once w at (asked_by w.now m.f.taken) m.new own (started_once w.answered _ _ m.new m.opens)))
 
 -- RUNS

@@ -1,21 +1,25 @@
 -- No request is answered twice, in whichever runs with stops.
 use Rattle.std.proofs.Common.{◌≡◌, ◌≢◌, ℕ, ◌+◌, List, [], ◌∷◌, ◌++◌, refl, sym, ap, subst, ◌∙◌, append-nil}
-use Rattle.std.specs.Prelude.{true, Some}
+use Rattle.std.specs.Prelude.{max, true, Some}
 use Rattle.std.specs.List.{AllByRecursion}
 use Rattle.base_model.specs.Identities.{RequestId}
+use Rattle.base_model.specs.Times.{time_of_moment}
+use Rattle.reply_model.specs.Outcomes.{lack_refusal}
+use Rattle.node_replay.specs.Acknowledged.{says_lacking}
+use Rattle.node_replay.proofs.GivenUp.{IsLaterTable, GoesOn, write_goes, read_goes, is_answered, StaysOrGoes, just_stays, goes_on as goes_on_so, refused_goes, table_refused_goes, moment_goes}
 use Rattle.history_model.proofs.Lists.{all_weaken, all_append, all_at, all_both, in_back, in_first}
 use Rattle.history_model.specs.History.{Entry, IsIn}
 use Rattle.reply_model.specs.Exchanges.{Asked, Answered}
 use Rattle.reply_model.specs.OneHistory.{ids_asked, ids_told, AreDifferent}
 use Rattle.node_model.specs.Letters.{Input, Effect, Taken, Reply}
 use Rattle.node_model.specs.RouterRequests.{heard, id_of, reached}
-use Rattle.node_model.specs.RouterNext.{noted, served_in_part, settled, write_on, begins_work, next_of, adopted, was_created, knows, Next, stays, is_told, stay_in, letters_in, replies_in, after_next}
-use Rattle.node_model.specs.RouterRows.{open_of, begins, takes, opened_request, taken_now, goes_on, RouterRow, router_begin, router_opened, router_plain, router_more, router_no_cursor, router_kill, router_take, router_learn, router_split, router_not_sharded, router_reach, router_hear, router_ahead, router_note, router_part, router_read, router_excess, router_overflow, router_late, router_skip, router_moment}
+use Rattle.node_model.specs.RouterNext.{noted, served_in_part, settled, write_on, begins_work, next_of, adopted, was_created, also_tried, table_refused, asks_again, at_moment, knows, Next, stays, is_told, stay_in, letters_in, replies_in, after_next}
+use Rattle.node_model.specs.RouterRows.{open_of, begins, takes, opened_request, taken_now, goes_on, RouterRow, router_begin, router_opened, router_plain, router_more, router_no_cursor, router_kill, router_take, router_learn, router_split, router_not_sharded, router_reach, router_hear, router_ahead, router_note, router_part, router_read, router_excess, router_overflow, router_late, router_skip, router_moment, router_refused, router_no_table}
 use Rattle.node_model.specs.States.{Open, Router, without, replaced}
 use Rattle.node_model.specs.World.{asked_by, answered_by}
 use Rattle.node_laws.proofs.Facts.{counts_of, AreDifferentCounts}
 use Rattle.node_laws.proofs.Lists.{all_mapped}
-use Rattle.node_laws.proofs.NextKeeps.{keeps_count, write_keeps, begins_keeps, next_keeps}
+use Rattle.node_laws.proofs.NextKeeps.{keeps_count, write_keeps, read_keeps, begins_keeps, next_keeps}
 use Rattle.node_laws.proofs.NextRequests.{KeepsCount, left_by, parted_next}
 use Rattle.node_laws.proofs.OpenRequests.{open_of_found, all_without, all_replaced, IsParted, parted_replaced, parted_without}
 use Rattle.node_laws.proofs.RouterAnswers.{as_answered}
@@ -70,6 +74,18 @@ left_silent r answered next keeps (q ∷ requests) all = by_next (next q) (keeps
         → AllByRecursion (λ (q : Open). IsSilent answered r.me r.life q.count) (stay_in n ++ left_by next requests)
     by_next (stays p letters) same rest = (subst (λ c. IsSilent answered r.me r.life c) (sym same) all.0, rest)
     by_next (is_told reply) same rest = rest
+
+-- work that is refused or given up
+goes_keep : (again : Type 0) (r : Router) (time : ℕ) (q : Open) (next : Next) → GoesOn again r time q next → KeepsCount r q next
+goes_keep again r time q _ (write_goes asks kind ordered statements c d is after) =
+    keeps_count r time q _ (write_keeps r time r.tables asks [] q kind ordered statements d)
+goes_keep again r time q _ (read_goes later met named at stages telling is waits) =
+    keeps_count r time (also_tried q met) _ (read_keeps r time r.tables true (also_tried q met) named at stages telling)
+goes_keep again r time q _ (is_answered answer plain) = refl
+
+stay_or_go : (r : Router) (time : ℕ) (q : Open) (mail next : Next) → KeepsCount r q mail → StaysOrGoes r time q mail next → KeepsCount r q next
+stay_or_go r time q mail _ same just_stays = same
+stay_or_go r time q mail _ same (goes_on_so next goes) = goes_keep ⊥ r time q next goes
 
 module _ (asked : List Asked) (history : List Entry) (answered : List Answered) (now at : ℕ) (r : Router) (mine : RouterStays asked history at r)
     (own : RouterOnce answered r) (told : AllByRecursion (λ (t : Answered). IsIn t.id (ids_asked asked)) answered)
@@ -255,7 +271,7 @@ module _ (asked : List Asked) (history : List Entry) (answered : List Answered) 
   -- of a request that comes
   comes : r.begun ≡ true → AreDifferent (ids_asked asked) → (taken : Taken) → taken.id ≡ id_of r (r.count + 1) → (p : Open) → p.count ≡ r.count + 1
       → (next : Next) → KeepsCount r p next
-      → StepOnce asked answered now at (record { written = []; mail = letters_in next; taken = taken ∷ []; replies = replies_in next }) (takes r (stay_in next))
+      → StepOnce asked answered now at (record { written = []; mail = letters_in next; taken = taken ∷ []; replies = replies_in next; away = [] }) (takes r (stay_in next))
   comes begun one taken own p count (stays y letters) same = opens begun one _ _ y refl (same ∙ count) refl refl refl
   comes begun one taken own p count (is_told x) same = answers begun one _ _ x _ refl own refl (same ∙ ap (λ n. id_of r n) count) refl refl refl
 
@@ -321,7 +337,20 @@ router_once asked history answered now at _ _ _ _ mine one own told once
     closes asked history answered now at r mine own told once _ _ _ q id found refl refl refl refl refl refl
 router_once asked history answered now at _ _ _ _ mine one own told once (router_late r m late) =
     none_told asked history answered now at r mine own told once _ _ refl refl refl refl own.different own.silent
+router_once asked history answered now at _ _ _ _ mine one own told once (router_refused r m id turn first cause q next tells found is) =
+    continues asked history answered now at r mine own told once q next id (heard r m) found
+    (goes_keep (IsLaterTable cause) r (heard r m) q next (refused_goes r (heard r m) q m.sender turn first cause next is))
+router_once asked history answered now at _ _ _ _ mine one own told once (router_no_table r m namespace create at_told node lack tells) =
+    let next : (q : Open) → Next = table_refused r (heard r m) namespace create at_told (lack_refusal node lack) in
+    let keeps : (q : Open) → KeepsCount r q (next q) = λ q. stay_or_go r (heard r m) q (stays q []) (next q) refl
+    (table_refused_goes r (heard r m) q namespace create at_told (lack_refusal node lack) (says_lacking node lack)) in
+    parted asked history answered now at r mine own told once _ _ refl refl refl (parted_next r now next keeps r.requests own.different)
+    (left_silent r answered next keeps r.requests own.silent)
 router_once asked history answered now at _ _ _ _ mine one own told once (router_skip r m none) =
     none_told asked history answered now at r mine own told once _ r refl refl refl refl own.different own.silent
 router_once asked history answered now at _ _ _ _ mine one own told once (router_moment r moment begun) =
-    none_told asked history answered now at r mine own told once _ _ refl refl refl refl own.different own.silent
+    let time : ℕ = max r.time (time_of_moment moment) in
+    let next : (q : Open) → Next = at_moment r time moment in
+    let keeps : (q : Open) → KeepsCount r q (next q) = λ q. stay_or_go r time q (stays q (asks_again r time q)) (next q) refl (moment_goes r time q moment) in
+    parted asked history answered now at r mine own told once _ _ refl refl refl (parted_next r now next keeps r.requests own.different)
+    (left_silent r answered next keeps r.requests own.silent)

@@ -1,6 +1,6 @@
 -- No message reads at a time that is later than itself, whatever stops.
-use Rattle.std.proofs.Common.{◌≡◌, ◌≢◌, ℕ, ◌+◌, ◌≤◌, List, [], ◌∷◌, ◌++◌, refl, sym, subst, arith, Bool}
-use Rattle.std.specs.Prelude.{max, map, filter, not, nat_lt, true, false, ◌&&◌, Option, Some, None, Result, if◌then◌else◌}
+use Rattle.std.proofs.Common.{◌≡◌, ◌≢◌, ℕ, ◌≤◌, List, [], ◌∷◌, ◌++◌, refl, sym, subst, arith, Bool}
+use Rattle.std.specs.Prelude.{max, map, nat_lt, true, false, ◌&&◌, Result, if◌then◌else◌}
 use Rattle.std.specs.List.{AllByRecursion, flat_map}
 use Rattle.std.specs.Str.{bytes_eq}
 use Rattle.std.proofs.lemmas.Bool.{ltb-false}
@@ -9,152 +9,36 @@ use Rattle.chunk_model.specs.Tables.{Table}
 use Rattle.command_model.specs.Writes.{WriteKind}
 use Rattle.pipeline_model.specs.Stages.{Stage}
 use Rattle.history_model.specs.History.{IsIn}
-use Rattle.history_model.proofs.Lists.{all_weaken, all_append, all_filter, all_at}
+use Rattle.reply_model.specs.Outcomes.{lack_refusal}
+use Rattle.history_model.proofs.Lists.{all_weaken, all_append, all_at}
 use Rattle.pipeline_model.specs.Halves.{Half, Rows}
 use Rattle.pipeline_model.specs.Split.{split}
-use Rattle.node_model.specs.CatalogueRows.{CatalogueRow, catalogue_create, catalogue_tell, catalogue_split, catalogue_bound, catalogue_none, catalogue_skip, catalogue_moment, catalogue_opened, catalogue_client}
-use Rattle.node_model.specs.Letters.{At, no_time, at_time, Statement, HalfFault, Body, table_ask, table_told, split_ask, split_done, write_ask, write_done, read_ask, half_ask, read_rows, stale, time_ask, time_told, Letter, Input, Effect, Reply}
-use Rattle.node_model.specs.ShardRows.{heard as heard_there, Ask, ask_in, wants_table, says as says_there, asks_table, asks_again as asks_tables, ShardRow, shard_write, shard_repeat, shard_empty, shard_park, shard_waits, shard_stale, shard_read, shard_read_above, shard_rows, shard_excess, shard_overflow, shard_time, shard_learn, shard_known, shard_skip, shard_moment, shard_opened, shard_client}
-use Rattle.node_model.specs.RouterRequests.{heard, id_of, says, asks_to_write, asks_to_read, asks_catalogue, targets_at, shards_of, untold, asks_times, reached}
-use Rattle.node_model.specs.RouterNext.{awaited, with_work, with_told, with_part, noted, left_of, served_in_part, settled, Next, stays, is_told, stay_in, letters_in, after_next, is_for_catalogue, write_on, read_on, begins_work, next_of, adopted, was_created, asks_again}
-use Rattle.node_model.specs.RouterRows.{opened_request, RouterRow, router_begin, router_opened, router_plain, router_more, router_no_cursor, router_kill, router_take, router_learn, router_split, router_not_sharded, router_reach, router_hear, router_ahead, router_note, router_part, router_read, router_excess, router_overflow, router_late, router_skip, router_moment, begins}
-use Rattle.node_model.specs.States.{Target, Run, Course, Telling, Work, writing, reading, sharding, splitting, Wait, for_time, for_catalogue, for_shards, Open, Router, Shard, Catalogue, NodeState, without, replaced}
+use Rattle.node_model.specs.Letters.{At, Statement, HalfFault, time_ask, Letter, Input, Effect, Reply}
+use Rattle.node_model.specs.RouterRequests.{heard, id_of, says, turn_after, with_runs, asks_to_write, asks_to_read, asks_catalogue, targets_at, shards_of, untold, asks_times, reached}
+use Rattle.node_model.specs.RouterNext.{awaited, with_work, with_told, with_part, noted, left_of, served_in_part, settled, Next, stays, is_told, stay_in, letters_in, after_next, is_for_catalogue, write_on, read_on, begins_work, next_of, adopted, was_created, asks_again, also_tried, table_refused, at_moment}
+use Rattle.node_model.specs.RouterRows.{opened_request, RouterRow, router_begin, router_opened, router_plain, router_more, router_no_cursor, router_kill, router_take, router_learn, router_split, router_not_sharded, router_reach, router_hear, router_ahead, router_note, router_part, router_read, router_excess, router_overflow, router_late, router_skip, router_moment, router_refused, router_no_table, begins}
+use Rattle.node_model.specs.States.{Target, Run, Course, Telling, Work, writing, reading, sharding, splitting, Wait, for_time, for_catalogue, for_shards, Open, Router, NodeState, without, replaced}
 use Rattle.node_model.specs.Steps.{Step, catalogue_step, shard_step, router_step, begin_step, other_step}
-use Rattle.node_laws.proofs.Lists.{all_mapped}
 use Rattle.node_laws.proofs.NextRequests.{NextIs, each_next}
 use Rattle.node_laws.proofs.NextCases.{more_of, work_after, asks_after, with_catalogue, by_write, by_read, by_next}
 use Rattle.node_laws.proofs.OpenRequests.{open_of_found, all_without, all_replaced}
-use Rattle.node_laws.proofs.ServedStatements.{serves_rises}
-use Rattle.node_replay.specs.ReadTimes.{IsNamedBy, ReadsBy, IsInTime, ComesInTime, WorksBy, WaitsBy, OpensBy, KeepsBy, ReadsInTime}
-
--- A LATER TIME
-
-named_later : (early late : ℕ) (at : At) → early ≤ late → IsNamedBy early at → IsNamedBy late at
-named_later early late no_time le by = tt
-named_later early late (at_time at) le by = omega (arith, le, by)
-
-reads_later : (early late : ℕ) (b : Body) → early ≤ late → ReadsBy early b → ReadsBy late b
-reads_later early late (read_ask id turn namespace at half sent) le by = omega (arith, le, by)
-reads_later early late (table_ask namespace create at) le by = named_later early late at le by
-reads_later early late (table_told namespace create at table) le by = tt
-reads_later early late (split_ask id namespace middle) le by = tt
-reads_later early late (split_done id found) le by = tt
-reads_later early late (write_ask id turn ordered namespace statements sent) le by = tt
-reads_later early late (write_done id dones) le by = tt
-reads_later early late (half_ask id turn namespace at half documents) le by = tt
-reads_later early late (read_rows id turn rows) le by = tt
-reads_later early late (stale id turn met) le by = tt
-reads_later early late (time_ask id) le by = tt
-reads_later early late (time_told id) le by = tt
-
-works_later : (early late : ℕ) (work : Work) → early ≤ late → WorksBy early work → WorksBy late work
-works_later early late (writing kind ordered statements c) le by = tt
-works_later early late (reading named at stages telling) le by = omega (arith, le, by)
-works_later early late sharding le by = tt
-works_later early late (splitting middle) le by = tt
-
-waits_later : (early late : ℕ) (wait : Wait) (work : Work) → early ≤ late → WaitsBy early wait work → WaitsBy late wait work
-waits_later early late for_time work le by = tt
-waits_later early late for_catalogue work le by = works_later early late work le by
-waits_later early late for_shards work le by = works_later early late work le by
-
-kept_later : (early late : ℕ) (parked : List Letter) → early ≤ late → AllByRecursion (KeepsBy early) parked → AllByRecursion (KeepsBy late) parked
-kept_later early late parked le all = all_weaken (KeepsBy early) (KeepsBy late) parked (λ p by. reads_later early late p.body le by) all
-
-open_later : (early late : ℕ) (requests : List Open) → early ≤ late → AllByRecursion (OpensBy early) requests → AllByRecursion (OpensBy late) requests
-open_later early late requests le all = all_weaken (OpensBy early) (OpensBy late) requests (λ q by. waits_later early late q.wait q.work le by) all
-
--- A SHARD
-
--- what a step shows: what is parked reads by the time of the shard, and what it sends by its own
-pub record ShardInTime (f : Effect) (t : Shard) : Type 0 where
-  pub parked : AllByRecursion (KeepsBy t.time) t.parked
-  pub letters : AllByRecursion IsInTime f.mail
-
-tables_in_time : (s : Shard) (time : ℕ) (parked : List Letter) → AllByRecursion IsInTime (asks_tables s time parked)
-tables_in_time s time [] = tt
-tables_in_time s time (m ∷ parked) = by_ask (ask_in m.body) (tables_in_time s time parked)
-  where
-    by_ask : (o : Option Ask) → AllByRecursion IsInTime (asks_tables s time parked)
-        → AllByRecursion IsInTime
-        (elim o as (λ (o : Option Ask). List Letter) [ None ↦ asks_tables s time parked | Some a ↦ asks_table s time a.namespace ∷ asks_tables s time parked ])
-    by_ask None rest = rest
-    by_ask (Some a) rest = (tt, rest)
-
-heard_later : (s : Shard) (m : Letter) → s.time ≤ heard_there s m
-heard_later s m = omega arith
-
-pub shard_in_time : (s t : Shard) (i : Input) (f : Effect) → AllByRecursion (KeepsBy s.time) s.parked → ComesInTime i → ShardRow s i f t → ShardInTime f t
-shard_in_time _ _ _ _ all input (shard_write s m id turn ordered namespace statements sent d dones made last asks agree serves) =
-    let later = (serves_rises s.me namespace ordered s.entries (heard_there s m) statements (d ∷ dones) made last serves).later in
-    record { parked = kept_later s.time last s.parked (omega (arith, later)) all; letters = (tt, tt) }
-shard_in_time _ _ _ _ all input (shard_repeat s m id turn ordered namespace statements sent d dones asks differ repeated) =
-    record { parked = kept_later s.time (heard_there s m) s.parked (heard_later s m) all; letters = (tt, tt) }
-shard_in_time _ _ _ _ all input (shard_empty s m id turn ordered namespace sent asks) =
-    record { parked = kept_later s.time (heard_there s m) s.parked (heard_later s m) all; letters = tt }
-shard_in_time _ _ _ _ all input (shard_park s m a asks unseen old waits) = record {
-  parked = all_append (KeepsBy (heard_there s m)) s.parked (m ∷ []) (kept_later s.time (heard_there s m) s.parked (heard_later s m) all)
-      (reads_later m.time (heard_there s m) m.body (omega arith) input, tt);
-  letters = (tt, tt);
-}
-shard_in_time _ _ _ _ all input (shard_waits s m a asks unseen old waits) =
-    record { parked = kept_later s.time (heard_there s m) s.parked (heard_later s m) all; letters = tt }
-shard_in_time _ _ _ _ all input (shard_stale s m a met asks unseen old) =
-    record { parked = kept_later s.time (heard_there s m) s.parked (heard_later s m) all; letters = (tt, tt) }
-shard_in_time _ _ _ _ all input (shard_read s m id turn namespace at half sent asks agree covered) =
-    record { parked = kept_later s.time (heard_there s m) s.parked (heard_later s m) all; letters = (tt, tt) }
-shard_in_time _ _ _ _ all input (shard_read_above s m id turn namespace at half sent asks agree above) =
-    record { parked = kept_later s.time (heard_there s m) s.parked (heard_later s m) all; letters = (tt, tt) }
-shard_in_time _ _ _ _ all input (shard_rows s m id turn namespace at half documents rows asks shows small) =
-    record { parked = kept_later s.time (heard_there s m) s.parked (heard_later s m) all; letters = (tt, tt) }
-shard_in_time _ _ _ _ all input (shard_excess s m id turn namespace at half documents rows length n asks shows much told) =
-    record { parked = kept_later s.time (heard_there s m) s.parked (heard_later s m) all; letters = (tt, tt) }
-shard_in_time _ _ _ _ all input (shard_overflow s m id turn namespace at half documents asks over) =
-    record { parked = kept_later s.time (heard_there s m) s.parked (heard_later s m) all; letters = (tt, tt) }
-shard_in_time _ _ _ _ all input (shard_time s m id asks) =
-    record { parked = kept_later s.time (heard_there s m) s.parked (heard_later s m) all; letters = (tt, tt) }
-shard_in_time _ _ _ _ all input (shard_learn s m namespace create at t tells news) =
-    let now : AllByRecursion (KeepsBy (heard_there s m)) s.parked = kept_later s.time (heard_there s m) s.parked (heard_later s m) all in
-    record {
-      parked = all_filter (KeepsBy (heard_there s m)) (λ p. not (wants_table t.namespace p)) s.parked now;
-      letters = all_mapped IsInTime (λ (p : Letter). says_there s s.me (heard_there s m) p.body) (filter (wants_table t.namespace) s.parked)
-          (all_filter (KeepsBy (heard_there s m)) (wants_table t.namespace) s.parked now);
-    }
-shard_in_time _ _ _ _ all input (shard_known s m namespace create at table tells none) =
-    record { parked = kept_later s.time (heard_there s m) s.parked (heard_later s m) all; letters = tt }
-shard_in_time _ _ _ _ all input (shard_skip s m none) = record { parked = all; letters = tt }
-shard_in_time _ _ _ _ all input (shard_moment s moment) = record {
-  parked = kept_later s.time (max s.time (time_of_moment moment)) s.parked (omega arith) all;
-  letters = tables_in_time s (max s.time (time_of_moment moment)) s.parked;
-}
-shard_in_time _ _ _ _ all input (shard_opened s) = record { parked = all; letters = tt }
-shard_in_time _ _ _ _ all input (shard_client s link number request) = record { parked = all; letters = tt }
-
--- THE CATALOGUE
-
-catalogue_in_time : (c d : Catalogue) (i : Input) (f : Effect) → CatalogueRow c i f d → AllByRecursion IsInTime f.mail
-catalogue_in_time _ _ _ _ (catalogue_create c m namespace at x asks answer) = (tt, tt)
-catalogue_in_time _ _ _ _ (catalogue_tell c m namespace create at asks known) = (tt, tt)
-catalogue_in_time _ _ _ _ (catalogue_split c m id namespace middle x asks answer) = (tt, tt)
-catalogue_in_time _ _ _ _ (catalogue_bound c m id namespace middle asks answer) = (tt, tt)
-catalogue_in_time _ _ _ _ (catalogue_none c m id namespace middle asks answer) = (tt, tt)
-catalogue_in_time _ _ _ _ (catalogue_skip c m none) = tt
-catalogue_in_time _ _ _ _ (catalogue_moment c moment) = tt
-catalogue_in_time _ _ _ _ (catalogue_opened c) = tt
-catalogue_in_time _ _ _ _ (catalogue_client c link number request) = tt
+use Rattle.node_replay.specs.Acknowledged.{says_lacking}
+use Rattle.node_replay.specs.ReadTimes.{IsInTime, ComesInTime, WorksBy, WaitsBy, OpensBy, ReadsInTime}
+use Rattle.node_replay.proofs.GivenUp.{IsLaterTable, GoesOn, write_goes, read_goes, is_answered, StaysOrGoes, just_stays, goes_on, refused_goes, table_refused_goes, moment_goes}
+use Rattle.node_replay.proofs.ShardTimes.{open_later, shard_in_time, catalogue_in_time}
 
 -- WHAT A ROUTER REQUESTS
 
 module _ (r : Router) (time count : ℕ) (namespace : List ℕ) where
-  write_in_time : (ordered : Bool) (statements : List Statement) (runs : List Run)
-      → AllByRecursion IsInTime (asks_to_write r time (id_of r count) namespace ordered statements runs)
-  write_in_time ordered statements [] = tt
-  write_in_time ordered statements (run ∷ runs) = (tt, write_in_time ordered statements runs)
+  write_in_time : (ordered : Bool) (statements : List Statement) (c : Course) (runs : List Run)
+      → AllByRecursion IsInTime (asks_to_write r time (id_of r count) namespace ordered statements c runs)
+  write_in_time ordered statements c [] = tt
+  write_in_time ordered statements c (run ∷ runs) = (tt, write_in_time ordered statements c runs)
 
-  read_in_time : (at : ℕ) (half : Half) (targets : List Target) → at ≤ time
-      → AllByRecursion IsInTime (asks_to_read r time (id_of r count) namespace at half targets)
-  read_in_time at half [] le = tt
-  read_in_time at half (t ∷ targets) le = (le, read_in_time at half targets le)
+  read_in_time : (turn at : ℕ) (half : Half) (targets : List Target) → at ≤ time
+      → AllByRecursion IsInTime (asks_to_read r time (id_of r count) namespace turn at half targets)
+  read_in_time turn at half [] le = tt
+  read_in_time turn at half (t ∷ targets) le = (le, read_in_time turn at half targets le)
 
   catalogue_asked : (work : Work) → WorksBy time work → IsInTime (asks_catalogue r time count namespace work)
   catalogue_asked (writing kind ordered statements c) by = tt
@@ -185,37 +69,32 @@ again_in_time r time q by = by_work q.work refl by
         → AllByRecursion IsInTime (elim wait as (λ (x : Wait). List Letter) [
           | for_time ↦ asks_times r time (id_of r q.count) q.told
           | for_catalogue ↦ asks_catalogue r time q.count q.namespace q.work ∷ []
-          | for_shards ↦ asks_to_read r time (id_of r q.count) q.namespace at half (awaited q.targets q.parts)
+          | for_shards ↦ asks_to_read r time (id_of r q.count) q.namespace (turn_after q.tries) at half (awaited q.targets q.parts)
         ])
     by_wait at half work is past for_time by = times_in_time r time q.count q.namespace q.told
     by_wait at half work is past for_catalogue by = (asked work is by, tt)
-    by_wait at half work is past for_shards by = read_in_time r time q.count q.namespace at half (awaited q.targets q.parts) (past by)
+    by_wait at half work is past for_shards by = read_in_time r time q.count q.namespace (turn_after q.tries) at half (awaited q.targets q.parts) (past by)
 
     by_work : (work : Work) → q.work ≡ work → OpensBy time q → AllByRecursion IsInTime (elim work as (λ (x : Work). List Letter) [
       | writing kind ordered statements c ↦
           if is_for_catalogue q.wait then asks_catalogue r time q.count q.namespace q.work
-          ∷ asks_to_write r time (id_of r q.count) q.namespace ordered statements c.runs
-          else asks_to_write r time (id_of r q.count) q.namespace ordered statements c.runs
+          ∷ asks_to_write r time (id_of r q.count) q.namespace ordered statements c c.runs
+          else asks_to_write r time (id_of r q.count) q.namespace ordered statements c c.runs
       | reading named at stages telling ↦ elim q.wait [
         | for_time ↦ asks_times r time (id_of r q.count) q.told
         | for_catalogue ↦ asks_catalogue r time q.count q.namespace q.work ∷ []
-        | for_shards ↦ asks_to_read r time (id_of r q.count) q.namespace at (split stages).0 (awaited q.targets q.parts)
+        | for_shards ↦ asks_to_read r time (id_of r q.count) q.namespace (turn_after q.tries) at (split stages).0 (awaited q.targets q.parts)
       ]
       | sharding ↦ asks_catalogue r time q.count q.namespace q.work ∷ []
       | splitting middle ↦ asks_catalogue r time q.count q.namespace q.work ∷ []
     ])
     by_work (writing kind ordered statements c) is by =
-        by_both (is_for_catalogue q.wait) (asks_to_write r time (id_of r q.count) q.namespace ordered statements c.runs)
-        (asked (writing kind ordered statements c) is tt) (write_in_time r time q.count q.namespace ordered statements c.runs)
+        by_both (is_for_catalogue q.wait) (asks_to_write r time (id_of r q.count) q.namespace ordered statements c c.runs)
+        (asked (writing kind ordered statements c) is tt) (write_in_time r time q.count q.namespace ordered statements c c.runs)
     by_work (reading named at stages telling) is by =
         by_wait at (split stages).0 (reading named at stages telling) is (λ past. past) q.wait (subst (λ x. WaitsBy time q.wait x) is by)
     by_work sharding is by = (asked sharding is tt, tt)
     by_work (splitting middle) is by = (asked (splitting middle) is tt, tt)
-
-each_again : (r : Router) (time : ℕ) (requests : List Open) → AllByRecursion (OpensBy time) requests
-    → AllByRecursion IsInTime (flat_map (λ q. asks_again r time q) requests)
-each_again r time [] all = tt
-each_again r time (q ∷ requests) all = all_append IsInTime (asks_again r time q) _ (again_in_time r time q all.0) (each_again r time requests all.1)
 
 -- WHAT BECOMES OF A REQUEST
 
@@ -247,14 +126,14 @@ module _ (r : Router) (time : ℕ) where
       ))
     where
       letters : AllByRecursion IsInTime (asks_after r time tables q ordered statements c again)
-      letters = write_in_time r time q.count q.namespace ordered statements (left_of c.answers again ++ more_of tables q ordered statements c)
+      letters = write_in_time r time q.count q.namespace ordered statements (with_runs c (more_of tables q ordered statements c)) (left_of c.answers again ++ more_of tables q ordered statements c)
 
   read_becomes : (tables : List Table) (asks : Bool) (q : Open) (named : Bool) (at : ℕ) (stages : List Stage) (telling : Telling) → at ≤ time
       → Becomes time (read_on r time tables asks q named at stages telling)
   read_becomes tables asks q named at stages telling le =
       by_read (Becomes time) r time tables q asks named at stages telling
       (λ none. (le, with_asks asks (asks_catalogue r time q.count q.namespace (reading named at stages telling)) [] le tt))
-      (λ t got. (le, read_in_time r time q.count q.namespace at (split stages).0 (targets_at t at stages) le))
+      (λ t got. (le, read_in_time r time q.count q.namespace (turn_after q.tries) at (split stages).0 (targets_at t at stages) le))
 
   begins_becomes : (q : Open) (work : Work) → Becomes time (begins_work r time q work)
   begins_becomes q (writing kind ordered statements c) = write_becomes r.tables true [] q kind ordered statements c
@@ -280,6 +159,17 @@ module _ (r : Router) (time : ℕ) where
         (λ e. (by, tt)),
         λ middle is. (by, tt),
       ))
+
+  -- work that is refused or given up
+  goes_in_time : (again : Type 0) (q : Open) (next : Next) → OpensBy time q → GoesOn again r time q next → Becomes time next
+  goes_in_time again q _ by (write_goes asks kind ordered statements c d is after) = write_becomes r.tables asks [] q kind ordered statements d
+  goes_in_time again q _ by (read_goes later met named at stages telling is waits) =
+      read_becomes r.tables true (also_tried q met) named at stages telling (subst (λ w. WorksBy time w) is (subst (λ w. WaitsBy time w q.work) waits by))
+  goes_in_time again q _ by (is_answered answer plain) = tt
+
+  stays_or_goes : (q : Open) (mail next : Next) → OpensBy time q → Becomes time mail → StaysOrGoes r time q mail next → Becomes time next
+  stays_or_goes q mail _ by same just_stays = same
+  stays_or_goes q mail _ by same (goes_on next goes) = goes_in_time ⊥ q next by goes
 
 -- A ROUTER
 
@@ -325,6 +215,14 @@ module _ (r : Router) (all : AllByRecursion (OpensBy r.time) r.requests) where
   one_more : (more : List Open) → AllByRecursion (OpensBy r.time) more → AllByRecursion (OpensBy r.time) (r.requests ++ more)
   one_more more opens = all_append (OpensBy r.time) r.requests more all opens
 
+-- what becomes of each
+each_goes : (r : Router) (time : ℕ) (next : Open → Next) → AllByRecursion (OpensBy time) r.requests → ((q : Open) → OpensBy time q → Becomes time (next q))
+    → AllByRecursion (OpensBy time) (flat_map (λ q. stay_in (next q)) r.requests) × AllByRecursion IsInTime (flat_map (λ q. letters_in (next q)) r.requests)
+each_goes r time next all goes =
+    let e = each_next (OpensBy time) IsInTime AnyReply next r.requests
+    (all_weaken (OpensBy time) (λ q. NextIs (OpensBy time) IsInTime AnyReply (next q)) r.requests goes all) in
+    (e.stay, e.ask)
+
 pub router_in_time : (r q : Router) (i : Input) (f : Effect) → AllByRecursion (OpensBy r.time) r.requests → RouterRow r i f q → RouterInTime f q
 router_in_time _ _ _ _ all (router_begin r not_begun) = record { requests = all; letters = tt }
 router_in_time _ _ _ _ all (router_opened r begun) = record { requests = all; letters = tt }
@@ -364,6 +262,15 @@ router_in_time _ _ _ _ all (router_note r m id dones q kind ordered statements c
     (write_becomes r (heard r m) r.tables ordered (served_in_part (noted ordered c.answers dones) c.runs) q kind ordered statements
     (settled c (noted ordered c.answers dones))) in
     record { requests = one_goes_on r all m q next becomes; letters = letters_go r all (heard r m) next becomes }
+router_in_time _ _ _ _ all (router_refused r m id turn first cause q next tells found is) =
+    let by : OpensBy (heard r m) q = all_at (OpensBy (heard r m)) q r.requests (now_open r all m) (open_of_found r id q found).stands in
+    let becomes : Becomes (heard r m) next = goes_in_time r (heard r m) (IsLaterTable cause) q next by (refused_goes r (heard r m) q m.sender turn first cause next is) in
+    record { requests = one_goes_on r all m q next becomes; letters = letters_go r all (heard r m) next becomes }
+router_in_time _ _ _ _ all (router_no_table r m namespace create at node lack tells) =
+    let e = each_goes r (heard r m) (table_refused r (heard r m) namespace create at (lack_refusal node lack)) (now_open r all m)
+    (λ q by. stays_or_goes r (heard r m) q (stays q []) _ by (by, tt)
+    (table_refused_goes r (heard r m) q namespace create at (lack_refusal node lack) (says_lacking node lack))) in
+    record { requests = e.0; letters = e.1 }
 router_in_time _ _ _ _ all (router_part r m id rows q named at stages telling tells found work target some) =
     record { requests = one_parted r all m q rows (open_of_found r id q found).stands; letters = tt }
 router_in_time _ _ _ _ all (router_read r m id rows q named at stages telling parts out answer f tells found work target whole got merges shown) =
@@ -377,7 +284,10 @@ router_in_time _ _ _ _ all (router_skip r m none) = record { requests = all; let
 router_in_time _ _ _ _ all (router_moment r moment begun) =
     let later : AllByRecursion (OpensBy (max r.time (time_of_moment moment))) r.requests =
     open_later r.time (max r.time (time_of_moment moment)) r.requests (omega arith) all in
-    record { requests = later; letters = each_again r (max r.time (time_of_moment moment)) r.requests later }
+    let e = each_goes r (max r.time (time_of_moment moment)) (at_moment r (max r.time (time_of_moment moment)) moment) later
+    (λ q by. stays_or_goes r (max r.time (time_of_moment moment)) q (stays q (asks_again r (max r.time (time_of_moment moment)) q)) _ by
+    (by, again_in_time r (max r.time (time_of_moment moment)) q by) (moment_goes r (max r.time (time_of_moment moment)) q moment)) in
+    record { requests = e.0; letters = e.1 }
 
 -- A STEP
 

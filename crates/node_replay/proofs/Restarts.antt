@@ -121,10 +121,10 @@ pub opened_is : (h : Held) (new : NodeState) → Replays h → opened_on h.state
 opened_is h new replays opens = some_is (became h) new (sym (node_opens h replays) ∙ opens)
 
 pub opened_replays : (h : Held) (new : NodeState) → NodeReplays h → opened_on h.state h.kept ≡ Some new
-    → NodeReplays (record { state = new; kept = h.kept }) × ReadsInTime new
+    → NodeReplays (record { state = new; kept = h.kept; steps = h.steps }) × ReadsInTime new
 opened_replays h new (replays, holds) opens =
     let same : became h ≡ new = opened_is h new replays opens in
-    subst (λ s. NodeReplays (record { state = s; kept = h.kept }) × ReadsInTime s) same (
+    subst (λ s. NodeReplays (record { state = s; kept = h.kept; steps = h.steps }) × ReadsInTime s) same (
       (
         subst (λ e. replayed (Some e) (records_of h.kept) ≡ Some (durable_of (greatest_kept h.kept) (became h)))
             (sym (opened_own (latest_time (records_of h.kept)) (greatest_kept h.kept) h.state))
@@ -141,9 +141,9 @@ restart_replays w v at all m =
     let old : NodeReplays m.old = all_got NodeReplays w.nodes at m.old all.nodes m.here in
     let now = opened_replays m.old m.new old m.opens in
     subst (λ (x : World). WorldReplays x) (sym m.then) (record {
-      nodes = all_set NodeReplays w.nodes at (record { state = m.new; kept = m.old.kept ++ [] }) all.nodes
-          (subst (λ k. NodeReplays (record { state = m.new; kept = k })) (sym (append-nil m.old.kept)) now.0);
-      reads = all_set NodeReads w.nodes at (record { state = m.new; kept = m.old.kept ++ [] }) all.reads now.1;
+      nodes = all_set NodeReplays w.nodes at (record { state = m.new; kept = m.old.kept ++ []; steps = m.steps }) all.nodes
+          (subst (λ k. NodeReplays (record { state = m.new; kept = k; steps = m.steps })) (sym (append-nil m.old.kept)) now.0);
+      reads = all_set NodeReads w.nodes at (record { state = m.new; kept = m.old.kept ++ []; steps = m.steps }) all.reads now.1;
       letters = subst (λ l. AllByRecursion IsInTime l) (sym (append-nil w.sent)) all.letters;
     })
 
@@ -154,10 +154,11 @@ stop_replays w v at i all input m =
     let kept : List Kept = m.old.kept ++ m.f.written in
     let opens : opened_on m.reached kept ≡ Some m.new =
     ap (λ e. option_map (opened (latest_time (records_of kept))) (replayed (Some e) (records_of kept))) s.follows.own ∙ m.opens in
-    let now = opened_replays (record { state = m.reached; kept = kept }) m.new (step_replays m.old m.reached i m.f old input s.follows) opens in
+    let now = opened_replays (record { state = m.reached; kept = kept; steps = m.old.steps + 1 }) m.new
+    (step_replays m.old m.reached i m.f (m.old.steps + 1) old input s.follows) opens in
     subst (λ (x : World). WorldReplays x) (sym m.then) (record {
-      nodes = all_set NodeReplays w.nodes at (record { state = m.new; kept = kept }) all.nodes now.0;
-      reads = all_set NodeReads w.nodes at (record { state = m.new; kept = kept }) all.reads now.1;
+      nodes = all_set NodeReplays w.nodes at (record { state = m.new; kept = kept; steps = m.old.steps + 1 }) all.nodes now.0;
+      reads = all_set NodeReads w.nodes at (record { state = m.new; kept = kept; steps = m.old.steps + 1 }) all.reads now.1;
       letters = subst (λ l. AllByRecursion IsInTime l) (sym (append-nil w.sent)) all.letters;
     })
 

@@ -8,12 +8,13 @@ use Rattle.base_model.specs.Identities.{RequestId, same_request}
 use Rattle.pipeline_model.specs.Runs.{Outcome}
 use Rattle.reply_model.specs.Answers.{Answer}
 use Rattle.reply_model.specs.Cursors.{Cursor}
+use Rattle.reply_model.specs.Outcomes.{lack_refusal}
 use Rattle.node_model.specs.Journal.{kept_block, kept_life}
 use Rattle.node_model.specs.Letters.{Input, Effect}
 use Rattle.node_model.specs.States.{Telling, Open, Router, open_with}
 use Rattle.node_model.specs.RouterRequests.{heard, id_of}
-use Rattle.node_model.specs.RouterNext.{next_of, stay_in, adopted, was_created}
-use Rattle.node_model.specs.RouterRows.{open_of, new_cursor, begins, Opened, block_size, Tells, tells_overflow, tells_excess, tells_number, tells_batch, tells_cursor, RouterRow, router_begin, router_opened, router_plain, router_more, router_no_cursor, router_kill, router_take, router_learn, router_split, router_not_sharded, router_reach, router_hear, router_ahead, router_note, router_part as router_parted, router_read, router_excess, router_overflow, router_late, router_skip, router_moment}
+use Rattle.node_model.specs.RouterNext.{next_of, stay_in, table_refused, adopted, was_created}
+use Rattle.node_model.specs.RouterRows.{open_of, new_cursor, begins, Opened, block_size, Tells, tells_overflow, tells_excess, tells_number, tells_batch, tells_cursor, RouterRow, router_begin, router_opened, router_plain, router_more, router_no_cursor, router_kill, router_take, router_learn, router_split, router_not_sharded, router_reach, router_hear, router_ahead, router_note, router_part as router_parted, router_read, router_excess, router_overflow, router_late, router_skip, router_moment, router_refused, router_no_table}
 use Rattle.node_replay.specs.Durable.{DurableRouter, durable_router, next_life, router_part}
 use Rattle.node_replay.specs.Replays.{replayed, records_of}
 
@@ -139,6 +140,12 @@ router_follows _ _ _ _ holds (router_ahead r m id q named at stages telling tell
     still r _ _ refl refl refl refl refl refl holds.0 (inl (in_life r id q holds.1 found))
 router_follows _ _ _ _ holds (router_note r m id dones q kind ordered statements c next tells found work news is) =
     still r _ _ refl refl refl refl refl refl holds.0 (inl (in_life r id q holds.1 found))
+router_follows _ _ _ _ holds (router_refused r m id turn first cause q next tells found is) =
+    still r _ _ refl refl refl refl refl refl holds.0 (inl (in_life r id q holds.1 found))
+router_follows _ _ _ _ holds (router_no_table r m namespace create at node lack tells) =
+    still r _ _ refl refl refl refl refl refl holds.0
+    (kept_none r.begun r.requests _ holds.1
+    (λ none. ap (λ (l : List Open). flat_map (λ q. stay_in (table_refused r (heard r m) namespace create at (lack_refusal node lack) q)) l) none))
 router_follows _ _ _ _ holds (router_parted r m id rows q named at stages telling tells found work target some) =
     still r _ _ refl refl refl refl refl refl holds.0 (inl (in_life r id q holds.1 found))
 router_follows _ _ _ _ holds (router_read r m id rows q named at stages telling parts out answer f tells found work target whole got merges shown) =

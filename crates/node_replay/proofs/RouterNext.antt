@@ -1,14 +1,11 @@
 -- Each transition of a router keeps the facts that stay: the rows.
 use Rattle.std.proofs.Common.{◌≡◌, ◌≢◌, inl, inr, ℕ, ℤ, ◌+◌, ◌≤◌, List, [], ◌∷◌, ◌++◌, refl, sym, ap, subst, ◌∙◌, arith, append-nil}
-use Rattle.std.specs.Prelude.{max, Bool, true, false, Some, Ok, Result}
+use Rattle.std.specs.Prelude.{Bool, true, false, Some, Ok, Result}
 use Rattle.std.specs.List.{AllByRecursion, flat_map}
-use Rattle.base_model.specs.Errors.{cursor_not_found, namespace_not_sharded, overflow}
 use Rattle.base_model.specs.Identities.{RequestId}
-use Rattle.base_model.specs.Refusals.{cursor_evidence, time_ahead, without_evidence}
-use Rattle.base_model.specs.Times.{time_of_moment}
-use Rattle.command_model.specs.Answers.{Answer, next_answer, killed_answer, changed_answer, refusal_answer, answer_document}
+use Rattle.command_model.specs.Answers.{Answer, answer_document}
 use Rattle.command_model.specs.Command.{write_command, command_of}
-use Rattle.command_model.specs.Writes.{WriteCommand, WriteKind}
+use Rattle.command_model.specs.Writes.{WriteKind}
 use Rattle.history_model.proofs.Lists.{all_weaken, all_append, all_at, in_back, in_first, in_prefix}
 use Rattle.pipeline_model.specs.Halves.{Rows}
 use Rattle.history_model.specs.History.{Entry}
@@ -18,24 +15,24 @@ use Rattle.bson_model.specs.Tree.{Datum}
 use Rattle.reply_model.specs.Exchanges.{Asked}
 use Rattle.reply_model.specs.OneHistory.{ids_asked, AreDifferent}
 use Rattle.reply_model.specs.Outcomes.{Done}
-use Rattle.node_model.specs.Letters.{Statement, HalfFault, Input, Effect}
-use Rattle.node_model.specs.RouterRequests.{heard, id_of, needs, at_once, needs_batch, needs_end, reached}
-use Rattle.node_model.specs.RouterNext.{noted, served_in_part, settled, begins_work, next_of, adopted, was_created, asks_again, Next, stays, is_told, stay_in, letters_in, replies_in, after_next, with_told, with_part}
-use Rattle.node_model.specs.RouterRows.{open_of, begins, takes, opened_request, taken_now, too_much, RouterRow, router_begin, router_opened, router_plain, router_more, router_no_cursor, router_kill, router_take, router_learn, router_split, router_not_sharded, router_reach, router_hear, router_ahead, router_note, router_part, router_read, router_excess, router_overflow, router_late, router_skip, router_moment}
+use Rattle.node_model.specs.Letters.{Statement, HalfFault, Effect}
+use Rattle.node_model.specs.RouterRequests.{id_of}
+use Rattle.node_model.specs.RouterNext.{noted, settled, begins_work, Next, stays, is_told, stay_in, letters_in, replies_in, after_next, with_told, with_part}
+use Rattle.node_model.specs.RouterRows.{open_of, begins, takes, go_on, opened_request, taken_now}
 use Rattle.node_model.specs.States.{Course, Telling, Work, writing, reading, splitting, Open, Router, without, replaced}
 use Rattle.node_model.specs.World.{asked_by}
 use Rattle.node_laws.proofs.Facts.{IsBy}
-use Rattle.node_laws.proofs.NextRequests.{NextIs, each_next}
+use Rattle.node_laws.proofs.NextRequests.{each_next}
 use Rattle.node_laws.proofs.OpenFacts.{by_weaken}
 use Rattle.node_laws.proofs.OpenRequests.{open_of_found, all_without, all_replaced}
 use Rattle.node_laws.proofs.RouterAnswers.{as_answered, same_write}
-use Rattle.node_laws.proofs.Outcomes.{noted_long}
+use Rattle.node_laws.proofs.Outcomes.{noted_long, noted_more}
 use Rattle.reply_facts.proofs.Requests.{one_asked}
 use Rattle.node_replay.specs.Acknowledged.{IsOutcomeAt, IsStored}
-use Rattle.node_replay.proofs.StayFacts.{AreDone, BodyStays, LetterStays, IsNoWrite, WorkStays, OpenStays, RouterStays, Grows, open_grows}
+use Rattle.node_replay.proofs.NextOnes.{one_later}
+use Rattle.node_replay.proofs.StayFacts.{AreDone, LetterStays, IsNoWrite, WorkStays, OpenStays, RouterStays, Grows, open_grows}
 use Rattle.node_replay.proofs.Noted.{IsPrefix, all_noted, noted_prefix}
-use Rattle.node_replay.proofs.ShardStays.{InputStays}
-use Rattle.node_replay.proofs.RouterStays.{planned, again_stays, IsOwn, IsTold, plain_told, split_no_write, Becomes, write_becomes, begins_becomes, next_stays}
+use Rattle.node_replay.proofs.RouterStays.{IsOwn, IsTold, split_no_write, Becomes, begins_becomes}
 
 -- what a step of a router has to show, for what was requested after it
 pub record RouterNext (asked : List Asked) (history : List Entry) (now at : ℕ) (f : Effect) (q : Router) : Type 0 where
@@ -50,12 +47,6 @@ pub record RouterSteps (asked : List Asked) (history : List Entry) (now at : ℕ
   pub here : AllByRecursion (λ (a : Asked). a.id.router ≡ at) (asked_by now f.taken)
 
 -- LISTS
-
-each_again : (asked : List Asked) (history : List Entry) (r : Router) (time : ℕ) (requests : List Open)
-    → AllByRecursion (IsOwn asked history 0 r) requests → AllByRecursion (LetterStays asked history) (flat_map (λ q. asks_again r time q) requests)
-each_again asked history r time [] all = tt
-each_again asked history r time (q ∷ requests) all =
-    all_append (LetterStays asked history) (asks_again r time q) _ (again_stays asked history 0 r time q all.0) (each_again asked history r time requests all.1)
 
 one_more : (asked : List Asked) (a : Asked) → AreDifferent (ids_asked asked) → AllByRecursion (λ (b : Asked). b.id ≢ a.id) asked
     → AreDifferent (ids_asked (asked ++ a ∷ []))
@@ -72,7 +63,7 @@ one_more (b ∷ asked) a different new = (joined asked different.0, one_more ask
 module _ (asked : List Asked) (history : List Entry) (now at : ℕ) (r : Router) (mine : RouterStays asked history at r)
     (one : AreDifferent (ids_asked asked)) where
   -- a step that takes no request
-  no_request : (f : Effect) (q : Router) → f.taken ≡ [] → RouterNext asked history now at f q → RouterSteps asked history now at f q
+  pub no_request : (f : Effect) (q : Router) → f.taken ≡ [] → RouterNext asked history now at f q → RouterSteps asked history now at f q
   no_request f q none next =
       let same : asked ≡ asked ++ asked_by now f.taken = sym (append-nil asked) ∙ ap (λ l. asked ++ asked_by now l) (sym none) in
       record {
@@ -95,21 +86,21 @@ module _ (asked : List Asked) (history : List Entry) (now at : ℕ) (r : Router)
         (subst (λ n. IsBy a.id.life r.life r.begun (a.id.count ≤ n)) (sym count) (c e)))) mine.counted;
   }
 
-  still : (f : Effect) (q : Router) → f.taken ≡ [] → q.me ≡ r.me → q.life ≡ r.life → q.begun ≡ r.begun → q.count ≡ r.count
+  pub still : (f : Effect) (q : Router) → f.taken ≡ [] → q.me ≡ r.me → q.life ≡ r.life → q.begun ≡ r.begun → q.count ≡ r.count
       → AllByRecursion (OpenStays asked history q.me q.life) q.requests → AllByRecursion (LetterStays asked history) f.mail
       → AllByRecursion (IsTold asked history now r) f.replies → RouterSteps asked history now at f q
   still f q none me life begun count requests letters told =
       no_request f q none (record { node = in_place q me life begun count requests; letters = letters; told = told })
 
   -- the open request with a number
-  found : (id : RequestId) (q : Open) → open_of r id ≡ Some q → IsOwn asked history now r q
+  pub found : (id : RequestId) (q : Open) → open_of r id ≡ Some q → IsOwn asked history now r q
   found id q opens_here = all_at (IsOwn asked history now r) q r.requests mine.requests (open_of_found r id q opens_here).stands
 
-  closed : (q : Open) → AllByRecursion (IsOwn asked history now r) (without q.count r.requests)
+  pub closed : (q : Open) → AllByRecursion (IsOwn asked history now r) (without q.count r.requests)
   closed q = all_without (IsOwn asked history now r) q.count r.requests mine.requests
 
   -- what becomes of it
-  becomes : (q : Open) (next : Next) → Becomes asked history now r next → AllByRecursion (IsOwn asked history now r) (after_next q next r.requests)
+  pub becomes : (q : Open) (next : Next) → Becomes asked history now r next → AllByRecursion (IsOwn asked history now r) (after_next q next r.requests)
       × AllByRecursion (LetterStays asked history) (letters_in next) × AllByRecursion (IsTold asked history now r) (replies_in next)
   becomes q (stays p letters) b = (
     all_replaced (IsOwn asked history now r) p r.requests b.0
@@ -119,8 +110,21 @@ module _ (asked : List Asked) (history : List Entry) (now at : ℕ) (r : Router)
   )
   becomes q (is_told reply) b = (closed q, tt, (b, tt))
 
+  -- what becomes of each
+  pub each_goes : (time : ℕ) (next : Open → Next) → ((q : Open) → IsOwn asked history now r q → Becomes asked history now r (next q)) → (s : Router) → s.me ≡ r.me
+      → s.life ≡ r.life → s.begun ≡ r.begun → s.count ≡ r.count → s.requests ≡ flat_map (λ q. stay_in (next q)) r.requests
+      → RouterSteps asked history now at (go_on next r.requests) s
+  each_goes time next goes s me life begun count requests =
+      let all : AllByRecursion (λ q. Becomes asked history now r (next q)) r.requests =
+      all_weaken (IsOwn asked history now r) (λ q. Becomes asked history now r (next q)) r.requests goes mine.requests in
+      let e = each_next (IsOwn asked history now r) (LetterStays asked history) (IsTold asked history now r) next r.requests all in
+      still (go_on next r.requests) s refl me life begun count
+      (subst (λ l. AllByRecursion (OpenStays asked history s.me s.life) l) (sym requests)
+      (subst (λ n. AllByRecursion (OpenStays asked history s.me n) (flat_map (λ q. stay_in (next q)) r.requests)) (sym life)
+      (subst (λ n. AllByRecursion (OpenStays asked history n r.life) (flat_map (λ q. stay_in (next q)) r.requests)) (sym me) e.stay))) e.ask e.tell
+
   -- it waits for the times of other shards
-  hears : (q : Open) (shard : ℕ) → IsOwn asked history now r q
+  pub hears : (q : Open) (shard : ℕ) → IsOwn asked history now r q
       → AllByRecursion (IsOwn asked history now r) (replaced (with_told q shard) r.requests)
   hears q shard o =
       all_replaced (IsOwn asked history now r) (with_told q shard) r.requests
@@ -128,7 +132,7 @@ module _ (asked : List Asked) (history : List Entry) (now at : ℕ) (r : Router)
       (all_weaken (IsOwn asked history now r) (λ (p : Open). p.count ≢ q.count → IsOwn asked history now r p) r.requests (λ p o apart. o) mine.requests)
 
   -- or for the parts of other shards
-  has_part : (q : Open) (shard : ℕ) (rows : Result Rows HalfFault) → IsOwn asked history now r q
+  pub has_part : (q : Open) (shard : ℕ) (rows : Result Rows HalfFault) → IsOwn asked history now r q
       → AllByRecursion (IsOwn asked history now r) (replaced (with_part q shard rows) r.requests)
   has_part q shard rows o =
       all_replaced (IsOwn asked history now r) (with_part q shard rows) r.requests
@@ -136,16 +140,16 @@ module _ (asked : List Asked) (history : List Entry) (now at : ℕ) (r : Router)
       (all_weaken (IsOwn asked history now r) (λ (p : Open). p.count ≢ q.count → IsOwn asked history now r p) r.requests (λ p o apart. o) mine.requests)
 
   -- a read goes on
-  read_no_write : (q : Open) (named : Bool) (time : ℕ) (stages : List Stage) (telling : Telling) → q.work ≡ reading named time stages telling
+  pub read_no_write : (q : Open) (named : Bool) (time : ℕ) (stages : List Stage) (telling : Telling) → q.work ≡ reading named time stages telling
       → IsOwn asked history now r q → IsNoWrite q.request
   read_no_write q named time stages telling is o = subst (λ w. WorkStays history (id_of r q.count) q.request q.namespace w) is o.work
 
-  split_none : (q : Open) (middle : Datum) → q.work ≡ splitting middle → IsOwn asked history now r q → IsNoWrite q.request
+  pub split_none : (q : Open) (middle : Datum) → q.work ≡ splitting middle → IsOwn asked history now r q → IsNoWrite q.request
   split_none q middle is o =
       split_no_write asked history now r q.request q.namespace middle (subst (λ w. WorkStays history (id_of r q.count) q.request q.namespace w) is o.work)
 
   -- outcomes that arrive are of the same write
-  news : (id : RequestId) (dones : List Done) (q : Open) (kind : WriteKind) (ordered : Bool) (statements : List Statement) (c : Course)
+  pub news : (id : RequestId) (dones : List Done) (q : Open) (kind : WriteKind) (ordered : Bool) (statements : List Statement) (c : Course)
       → open_of r id ≡ Some q → q.work ≡ writing kind ordered statements c → AreDone asked history id dones
       → WorkStays history (id_of r q.count) q.request q.namespace (writing kind ordered statements (settled c (noted ordered c.answers dones)))
   news id dones q kind ordered statements c opens_here is d =
@@ -170,7 +174,10 @@ module _ (asked : List Asked) (history : List Entry) (now at : ℕ) (r : Router)
                 (subst (λ x. AllByRecursion (IsOutcomeAt history x (id_of r q.count)) dones) write new),
             order,
             noted_long ordered c.answers dones ∙ long,
-            λ in_order. subst (λ b. IsPrefix (noted b c.answers dones)) (sym in_order) (noted_prefix c.answers dones (turns in_order)),
+            λ in_order. (
+              subst (λ b. IsPrefix (noted b c.answers dones)) (sym in_order) (noted_prefix c.answers dones (turns in_order).0),
+              one_later statements c.answers (noted ordered c.answers dones) c.runs (noted_more ordered c.answers dones) (turns in_order).1,
+            ),
           )
 
   -- a life begins: of a life that did not begin there is nothing
@@ -247,7 +254,7 @@ module _ (asked : List Asked) (history : List Entry) (now at : ℕ) (r : Router)
             ((λ e. inr (sym life, begun_same ∙ begun, omega (arith, count))), tt)
 
     -- it is answered at once
-    at_once_stays : (f : Effect) (q : Router) → f.taken ≡ taken_now r link number request ∷ [] → q.me ≡ r.me → q.life ≡ r.life → q.begun ≡ r.begun
+    pub at_once_stays : (f : Effect) (q : Router) → f.taken ≡ taken_now r link number request ∷ [] → q.me ≡ r.me → q.life ≡ r.life → q.begun ≡ r.begun
         → q.count ≡ r.count + 1 → q.requests ≡ r.requests ++ [] → f.mail ≡ [] → AllByRecursion (IsTold asked history now r) f.replies
         → RouterSteps asked history now at f q
     at_once_stays f q takes me life begun_same count requests none told =
@@ -271,23 +278,25 @@ module _ (asked : List Asked) (history : List Entry) (now at : ℕ) (r : Router)
           mail = letters_in next;
           taken = taken_now r link number request ∷ [];
           replies = replies_in next;
+          away = [];
         }) (takes r (stay_in next))
     taken_stays namespace work (stays q letters) b = took _ (takes r (q ∷ [])) (q ∷ []) refl refl refl refl refl refl (b.0, tt) b.1 tt
     taken_stays namespace work (is_told reply) b = took _ (takes r []) [] refl refl refl refl refl refl tt tt (b, tt)
 
-    take_stays : (namespace : List ℕ) (work : Work) → WorkStays history (id_of r (r.count + 1)) request namespace work
+    pub take_stays : (namespace : List ℕ) (work : Work) → WorkStays history (id_of r (r.count + 1)) request namespace work
         → RouterSteps asked history now at (record {
           written = [];
           mail = letters_in (begins_work r r.time (opened_request r link number request namespace work) work);
           taken = taken_now r link number request ∷ [];
           replies = replies_in (begins_work r r.time (opened_request r link number request namespace work) work);
+          away = [];
         }) (takes r (stay_in (begins_work r r.time (opened_request r link number request namespace work) work)))
     take_stays namespace work does =
         taken_stays namespace work (begins_work r r.time (opened_request r link number request namespace work) work)
         (begins_becomes (asked ++ Came ∷ []) history now r r.time (opened_request r link number request namespace work) work (opened namespace work does) does)
 
     -- a request that is no write is answered
-    no_write_told : (answer : Answer) → IsNoWrite request
+    pub no_write_told : (answer : Answer) → IsNoWrite request
         → IsTold asked history now r (record {
           id = id_of r (r.count + 1);
           link = link;
@@ -297,108 +306,3 @@ module _ (asked : List Asked) (history : List Entry) (now at : ℕ) (r : Router)
           document = answer_document answer;
         })
     no_write_told answer plain write asks = absurd (plain write asks)
-
--- ALL ROWS
-
-pub router_steps : (asked : List Asked) (history : List Entry) (now at : ℕ) (r q : Router) (i : Input) (f : Effect) → RouterStays asked history at r
-    → AreDifferent (ids_asked asked) → InputStays asked history i → RouterRow r i f q → RouterSteps asked history now at f q
-router_steps asked history now at _ _ _ _ mine one input (router_begin r not_begun) =
-    no_request asked history now at r mine one _ (begins r) refl
-    (record { node = begins_stays asked history now at r mine one not_begun; letters = tt; told = tt })
-router_steps asked history now at _ _ _ _ mine one input (router_opened r begun) =
-    still asked history now at r mine one _ r refl refl refl refl refl mine.requests tt tt
-router_steps asked history now at _ _ _ _ mine one input (router_plain r link number request answer begun plan) =
-    let plain = planned history r (id_of r (r.count + 1)) request request.more (at_once answer) plan in
-    at_once_stays asked history now at r mine one link number request begun _ (takes r []) refl refl refl refl refl refl refl
-    (no_write_told asked history now at r mine one link number request begun answer plain, tt)
-router_steps asked history now at _ _ _ _ mine one input (router_more r link number request more c batch next begun plan found shows) =
-    let plain = planned history r (id_of r (r.count + 1)) request request.more (needs_batch more) plan in
-    at_once_stays asked history now at r mine one link number request begun _ _ refl refl refl refl refl refl refl
-    (no_write_told asked history now at r mine one link number request begun (next_answer batch) plain, tt)
-router_steps asked history now at _ _ _ _ mine one input (router_no_cursor r link number request more begun plan none) =
-    let plain = planned history r (id_of r (r.count + 1)) request request.more (needs_batch more) plan in
-    at_once_stays asked history now at r mine one link number request begun _ (takes r []) refl refl refl refl refl refl refl (
-      no_write_told asked history now at r mine one link number request begun
-          (refusal_answer (record { error = cursor_not_found; evidence = cursor_evidence more.cursor })) plain,
-      tt,
-    )
-router_steps asked history now at _ _ _ _ mine one input (router_kill r link number request kill killed missing next begun plan ends) =
-    let plain = planned history r (id_of r (r.count + 1)) request request.more (needs_end kill) plan in
-    at_once_stays asked history now at r mine one link number request begun _ _ refl refl refl refl refl refl refl
-    (no_write_told asked history now at r mine one link number request begun (killed_answer killed missing) plain, tt)
-router_steps asked history now at _ _ _ _ mine one input (router_take r link number request namespace work begun plan) =
-    take_stays asked history now at r mine one link number request begun namespace work
-    (planned history r (id_of r (r.count + 1)) request request.more (needs namespace work) plan)
-router_steps asked history now at _ _ _ _ mine one input (router_learn r m namespace create told table tells) =
-    let next : (q : Open) → Next = λ q. next_of r (heard r m) (adopted table r.tables) namespace (was_created create table) told q in
-    let all : AllByRecursion (λ q. NextIs (IsOwn asked history now r) (LetterStays asked history) (IsTold asked history now r) (next q)) r.requests =
-    all_weaken (IsOwn asked history now r)
-    (λ q. NextIs (IsOwn asked history now r) (LetterStays asked history) (IsTold asked history now r) (next q)) r.requests
-    (λ q o. next_stays asked history now r (heard r m) (adopted table r.tables) namespace (was_created create table) told q o) mine.requests in
-    let e = each_next (IsOwn asked history now r) (LetterStays asked history) (IsTold asked history now r) next r.requests all in
-    still asked history now at r mine one _ _ refl refl refl refl refl e.stay e.ask e.tell
-router_steps asked history now at _ _ _ _ mine one input (router_split r m id q middle tells opens_here work) =
-    let o = found asked history now at r mine one id q opens_here in
-    still asked history now at r mine one _ _ refl refl refl refl refl (closed asked history now at r mine one q) tt
-    (plain_told asked history now r q (heard r m) (changed_answer (heard r m)) (split_none asked history now at r mine one q middle work o), tt)
-router_steps asked history now at _ _ _ _ mine one input (router_not_sharded r m id q middle tells opens_here work) =
-    let o = found asked history now at r mine one id q opens_here in
-    still asked history now at r mine one _ _ refl refl refl refl refl (closed asked history now at r mine one q) tt (
-      plain_told asked history now r q (heard r m) (refusal_answer (without_evidence namespace_not_sharded))
-          (split_none asked history now at r mine one q middle work o),
-      tt,
-    )
-router_steps asked history now at _ _ _ _ mine one input (router_reach r m id q named time stages telling tells opens_here work waits past) =
-    let o = found asked history now at r mine one id q opens_here in
-    let plain = read_no_write asked history now at r mine one q named time stages telling work o in
-    let does : WorkStays history (id_of r q.count) q.request q.namespace (reached (heard r m) q.work) =
-    subst (λ w. WorkStays history (id_of r q.count) q.request q.namespace (reached (heard r m) w)) (sym work) plain in
-    let p = becomes asked history now at r mine one q (begins_work r (heard r m) q (reached (heard r m) q.work))
-    (begins_becomes asked history now r (heard r m) q (reached (heard r m) q.work) o does) in
-    still asked history now at r mine one _ _ refl refl refl refl refl p.0 p.1 p.2
-router_steps asked history now at _ _ _ _ mine one input (router_hear r m id q named time stages telling tells opens_here work waits ahead some) =
-    still asked history now at r mine one _ _ refl refl refl refl refl
-    (hears asked history now at r mine one q m.sender (found asked history now at r mine one id q opens_here)) tt tt
-router_steps asked history now at _ _ _ _ mine one input (router_ahead r m id q named time stages telling tells opens_here work waits ahead all) =
-    let o = found asked history now at r mine one id q opens_here in
-    still asked history now at r mine one _ _ refl refl refl refl refl (closed asked history now at r mine one q) tt (
-      plain_told asked history now r q (heard r m) (refusal_answer (time_ahead (heard r m)))
-          (read_no_write asked history now at r mine one q named time stages telling work o),
-      tt,
-    )
-router_steps asked history now at _ _ _ _ mine one input (router_note r m id dones q kind ordered statements c next tells opens_here work news_come is) =
-    let does = news asked history now at r mine one id dones q kind ordered statements c opens_here work
-    (subst (λ b. BodyStays asked history b) tells input) in
-    let p = becomes asked history now at r mine one q next (subst (λ x. Becomes asked history now r x) (sym is)
-    (write_becomes asked history now r (heard r m) r.tables ordered (served_in_part (noted ordered c.answers dones) c.runs) q kind ordered statements
-    (settled c (noted ordered c.answers dones)) (found asked history now at r mine one id q opens_here) does)) in
-    still asked history now at r mine one _ _ refl refl refl refl refl p.0 p.1 p.2
-router_steps asked history now at _ _ _ _ mine one input (router_part r m id rows q named time stages telling tells opens_here work target some) =
-    still asked history now at r mine one _ _ refl refl refl refl refl
-    (has_part asked history now at r mine one q m.sender rows (found asked history now at r mine one id q opens_here)) tt tt
-router_steps asked history now at _ _ _ _ mine one input
-    (router_read r m id rows q named time stages telling all out answer f tells opens_here work target whole got merges shown) =
-    let o = found asked history now at r mine one id q opens_here in
-    still asked history now at r mine one _ _ refl refl refl refl refl (closed asked history now at r mine one q) tt
-    (plain_told asked history now r q (heard r m) answer (read_no_write asked history now at r mine one q named time stages telling work o), tt)
-router_steps asked history now at _ _ _ _ mine one input (router_excess r m id rows n q named time stages telling tells opens_here work target whole got) =
-    let o = found asked history now at r mine one id q opens_here in
-    still asked history now at r mine one _ _ refl refl refl refl refl (closed asked history now at r mine one q) tt (
-      plain_told asked history now r q (heard r m) (refusal_answer (too_much n))
-          (read_no_write asked history now at r mine one q named time stages telling work o),
-      tt,
-    )
-router_steps asked history now at _ _ _ _ mine one input (router_overflow r m id rows q named time stages telling tells opens_here work target whole got) =
-    let o = found asked history now at r mine one id q opens_here in
-    still asked history now at r mine one _ _ refl refl refl refl refl (closed asked history now at r mine one q) tt (
-      plain_told asked history now r q (heard r m) (refusal_answer (without_evidence overflow))
-          (read_no_write asked history now at r mine one q named time stages telling work o),
-      tt,
-    )
-router_steps asked history now at _ _ _ _ mine one input (router_late r m late) =
-    still asked history now at r mine one _ _ refl refl refl refl refl mine.requests tt tt
-router_steps asked history now at _ _ _ _ mine one input (router_skip r m none) =
-    still asked history now at r mine one _ r refl refl refl refl refl mine.requests tt tt
-router_steps asked history now at _ _ _ _ mine one input (router_moment r moment begun) =
-    still asked history now at r mine one _ _ refl refl refl refl refl mine.requests
-    (each_again asked history r (max r.time (time_of_moment moment)) r.requests mine.requests) tt

@@ -5,7 +5,7 @@ use Rattle.std.specs.List.{AllByRecursion}
 use Rattle.base_model.specs.Identities.{RequestId}
 use Rattle.base_model.specs.Refusals.{Refusal}
 use Rattle.bson_model.specs.Tree.{Datum}
-use Rattle.chunk_model.specs.Tables.{Table}
+use Rattle.chunk_model.specs.Tables.{Table, table_of}
 use Rattle.command_model.specs.Answers.{Answer, sharded_answer, answer_document}
 use Rattle.command_model.specs.Command.{Command, hello_command, legacy_command, ping_command, end_sessions_command, write_command, find_command, count_command, more_command, kill_command, shard_collection_command, split_command, command_of}
 use Rattle.command_model.specs.Writes.{WriteCommand, WriteKind}
@@ -19,7 +19,7 @@ use Rattle.pipeline_model.specs.Stages.{Stage}
 use Rattle.reply_model.specs.Exchanges.{Asked}
 use Rattle.reply_model.specs.Outcomes.{dones_from, answer_of}
 use Rattle.node_model.specs.Letters.{At, Statement, time_ask, Letter, Reply}
-use Rattle.node_model.specs.RouterRequests.{says, id_of, RequestPlan, at_once, needs, needs_batch, needs_end, plan_of, statements_from, has_index, with_runs, asks_to_write, asks_to_read, asks_catalogue, targets_at, shards_of, untold, asks_times}
+use Rattle.node_model.specs.RouterRequests.{says, id_of, RequestPlan, at_once, needs, needs_batch, needs_end, plan_of, statements_from, has_index, turn_after, runs_by, with_runs, asks_to_write, asks_to_read, asks_catalogue, targets_at, shards_of, untold, asks_times}
 use Rattle.node_model.specs.RouterNext.{reply_to, is_answered, left_of, awaited, Next, stays, empty_answer, is_for_catalogue, write_on, read_on, begins_work, next_of, asks_again, with_work}
 use Rattle.node_model.specs.States.{Target, Run, Course, Telling, Work, writing, reading, sharding, splitting, Wait, for_time, for_catalogue, for_shards, Open, Router}
 use Rattle.node_laws.proofs.RouterAnswers.{as_answered, same_write}
@@ -27,6 +27,7 @@ use Rattle.node_laws.proofs.Outcomes.{none_long, statements_long}
 use Rattle.node_laws.proofs.NextCases.{more_of, work_after, asks_after, with_catalogue, by_write, by_read, by_next}
 use Rattle.node_laws.proofs.NextRequests.{NextIs}
 use Rattle.node_replay.specs.Acknowledged.{AreInTurn, are_all, IsOutcomeAt, IsStored}
+use Rattle.node_replay.proofs.NextOnes.{OneNext, one_more}
 use Rattle.node_replay.proofs.Noted.{IsPrefix, prefix_turns, full_turns, all_done, nothing_noted, nothing_before}
 use Rattle.node_replay.proofs.StayFacts.{AreSent, LetterStays, IsNoWrite, WorkStays, OpenStays}
 
@@ -66,7 +67,7 @@ module _ (history : List Entry) (r : Router) (id : RequestId) (request : Request
     nothing_noted (IsOutcomeAt history write id) 0 (statements_from write.number id 0 write.operations),
     refl,
     none_long (statements_from write.number id 0 write.operations),
-    λ ordered. nothing_before (statements_from write.number id 0 write.operations),
+    λ ordered. (nothing_before (statements_from write.number id 0 write.operations), tt),
   )
   plan_stays (Ok (find_command find)) is =
       plan_read_stays (other_command _ is (λ write e. cc)) find.reading.namespace find.reading.at _ find.reading.stages _
@@ -95,10 +96,10 @@ module _ (asked : List Asked) (history : List Entry) (r : Router) (time count : 
   Stay letters = AllByRecursion (LetterStays asked history) letters
 
   -- of a write each statement is its own
-  write_stays : (ordered : Bool) (statements : List Statement) (runs : List Run) → AreSent asked (id_of r count) namespace statements
-      → Stay (asks_to_write r time (id_of r count) namespace ordered statements runs)
-  write_stays ordered statements [] sent = tt
-  write_stays ordered statements (run ∷ runs) sent = (
+  write_stays : (ordered : Bool) (statements : List Statement) (c : Course) (runs : List Run) → AreSent asked (id_of r count) namespace statements
+      → Stay (asks_to_write r time (id_of r count) namespace ordered statements c runs)
+  write_stays ordered statements c [] sent = tt
+  write_stays ordered statements c (run ∷ runs) sent = (
     record {
       request = sent.request;
       write = sent.write;
@@ -109,12 +110,12 @@ module _ (asked : List Asked) (history : List Entry) (r : Router) (time count : 
       each = all_filter (λ x. IsIn x (statements_from sent.write.number (id_of r count) 0 sent.write.operations))
           (λ (x : Statement). has_index run.indices x.number.index) statements sent.each;
     },
-    write_stays ordered statements runs sent,
+    write_stays ordered statements c runs sent,
   )
 
-  pub read_stays : (at : ℕ) (half : Half) (targets : List Target) → Stay (asks_to_read r time (id_of r count) namespace at half targets)
-  read_stays at half [] = tt
-  read_stays at half (t ∷ targets) = (tt, read_stays at half targets)
+  pub read_stays : (turn at : ℕ) (half : Half) (targets : List Target) → Stay (asks_to_read r time (id_of r count) namespace turn at half targets)
+  read_stays turn at half [] = tt
+  read_stays turn at half (t ∷ targets) = (tt, read_stays turn at half targets)
 
   -- its statements
   all_sent : (kind : WriteKind) (ordered : Bool) (statements : List Statement) (c : Course)
@@ -134,8 +135,8 @@ module _ (asked : List Asked) (history : List Entry) (r : Router) (time count : 
 
   pub runs_stay : (kind : WriteKind) (ordered : Bool) (statements : List Statement) (c : Course) (runs : List Run)
       → IsWorking asked history (id_of r count) namespace (writing kind ordered statements c)
-      → Stay (asks_to_write r time (id_of r count) namespace ordered statements runs)
-  runs_stay kind ordered statements c runs w = write_stays ordered statements runs (all_sent kind ordered statements c w)
+      → Stay (asks_to_write r time (id_of r count) namespace ordered statements c runs)
+  runs_stay kind ordered statements c runs w = write_stays ordered statements c runs (all_sent kind ordered statements c w)
 
   pub catalogue_stays : (work : Work) → IsWorking asked history (id_of r count) namespace work
       → LetterStays asked history (asks_catalogue r time count namespace work)
@@ -196,11 +197,11 @@ module _ (asked : List Asked) (history : List Entry) (now : ℕ) (r : Router) wh
       by_wait : (at : ℕ) (half : Half) (wait : Wait) → AllByRecursion (LetterStays asked history) (elim wait as (λ (x : Wait). List Letter) [
         | for_time ↦ asks_times r time (id_of r q.count) q.told
         | for_catalogue ↦ asks_catalogue r time q.count q.namespace q.work ∷ []
-        | for_shards ↦ asks_to_read r time (id_of r q.count) q.namespace at half (awaited q.targets q.parts)
+        | for_shards ↦ asks_to_read r time (id_of r q.count) q.namespace (turn_after q.tries) at half (awaited q.targets q.parts)
       ])
       by_wait at half for_time = times_stay asked history r time q.count q.namespace q.told
       by_wait at half for_catalogue = (catalogue_stays asked history r time q.count q.namespace q.work (working q o), tt)
-      by_wait at half for_shards = read_stays asked history r time q.count q.namespace at half (awaited q.targets q.parts)
+      by_wait at half for_shards = read_stays asked history r time q.count q.namespace (turn_after q.tries) at half (awaited q.targets q.parts)
 
       by_both : (b : Bool) (letters : List Letter) → AllByRecursion (LetterStays asked history) letters
           → AllByRecursion (LetterStays asked history) (if b then asks_catalogue r time q.count q.namespace q.work ∷ letters else letters)
@@ -210,18 +211,18 @@ module _ (asked : List Asked) (history : List Entry) (now : ℕ) (r : Router) wh
       by_work : (work : Work) → q.work ≡ work → AllByRecursion (LetterStays asked history) (elim work as (λ (x : Work). List Letter) [
         | writing kind ordered statements c ↦
             if is_for_catalogue q.wait then asks_catalogue r time q.count q.namespace q.work
-            ∷ asks_to_write r time (id_of r q.count) q.namespace ordered statements c.runs
-            else asks_to_write r time (id_of r q.count) q.namespace ordered statements c.runs
+            ∷ asks_to_write r time (id_of r q.count) q.namespace ordered statements c c.runs
+            else asks_to_write r time (id_of r q.count) q.namespace ordered statements c c.runs
         | reading named at stages telling ↦ elim q.wait [
           | for_time ↦ asks_times r time (id_of r q.count) q.told
           | for_catalogue ↦ asks_catalogue r time q.count q.namespace q.work ∷ []
-          | for_shards ↦ asks_to_read r time (id_of r q.count) q.namespace at (split stages).0 (awaited q.targets q.parts)
+          | for_shards ↦ asks_to_read r time (id_of r q.count) q.namespace (turn_after q.tries) at (split stages).0 (awaited q.targets q.parts)
         ]
         | sharding ↦ asks_catalogue r time q.count q.namespace q.work ∷ []
         | splitting middle ↦ asks_catalogue r time q.count q.namespace q.work ∷ []
       ])
       by_work (writing kind ordered statements c) is =
-          by_both (is_for_catalogue q.wait) (asks_to_write r time (id_of r q.count) q.namespace ordered statements c.runs)
+          by_both (is_for_catalogue q.wait) (asks_to_write r time (id_of r q.count) q.namespace ordered statements c c.runs)
           (runs_stay asked history r time q.count q.namespace kind ordered statements c c.runs (w (writing kind ordered statements c) is))
       by_work (reading named at stages telling) is = by_wait at (split stages).0 q.wait
       by_work sharding is = (catalogue_stays asked history r time q.count q.namespace q.work (working q o), tt)
@@ -246,9 +247,9 @@ module _ (asked : List Asked) (history : List Entry) (now : ℕ) (r : Router) wh
         stored = subst (λ w. AllByRecursion (IsOutcomeAt history w (id_of r q.count)) (dones_from 0 c.answers)) one each;
       }
     where
-      by_order : (b : Bool) → ordered ≡ b → (ordered ≡ true → IsPrefix c.answers) → is_answered ordered c.answers ≡ true
+      by_order : (b : Bool) → ordered ≡ b → (ordered ≡ true → IsPrefix c.answers × OneNext statements c.answers c.runs) → is_answered ordered c.answers ≡ true
           → AreInTurn 0 (dones_from 0 c.answers)
-      by_order true h turns whole = prefix_turns 0 c.answers (turns h)
+      by_order true h turns whole = prefix_turns 0 c.answers (turns h).0
       by_order false h turns whole = full_turns 0 c.answers (subst (λ b. is_answered b c.answers ≡ true) h whole)
 
   -- WHAT BECOMES OF A REQUEST
@@ -270,7 +271,12 @@ module _ (asked : List Asked) (history : List Entry) (now : ℕ) (r : Router) wh
       After = work_after tables q kind ordered statements c
 
       does : WorkStays history (id_of r q.count) q.request q.namespace (work_after tables q kind ordered statements c)
-      does = (own, is, same, name, all, each, order, long, turns)
+      does = (own, is, same, name, all, each, order, long, λ h. ((turns h).0, one h))
+        where
+          one : ordered ≡ true → OneNext statements c.answers (c.runs ++ more_of tables q ordered statements c)
+          one h =
+              subst (λ b. OneNext statements c.answers (c.runs ++ runs_by b (table_of q.namespace tables) statements c)) (sym h)
+              (one_more (table_of q.namespace tables) statements c (turns h).1)
 
       w : IsWorking asked history (id_of r q.count) q.namespace (work_after tables q kind ordered statements c)
       w = record {
@@ -297,7 +303,7 @@ module _ (asked : List Asked) (history : List Entry) (now : ℕ) (r : Router) wh
       (λ none. (goes_on q for_catalogue [] (reading named at stages telling) o plain, with_asks asks))
       (λ t got. (
         goes_on q for_shards (targets_at t at stages) (reading named at stages telling) o plain,
-        read_stays asked history r time q.count q.namespace at (split stages).0 (targets_at t at stages),
+        read_stays asked history r time q.count q.namespace (turn_after q.tries) at (split stages).0 (targets_at t at stages),
       ))
     where
       with_asks : (b : Bool) → AllByRecursion (LetterStays asked history)

@@ -1,18 +1,20 @@
 -- In every run, also one in which nodes stop and are started again, the journal of each node replays to its durable part.
-use Rattle.std.proofs.Common.{◌≡◌, inr, ℕ, zero, suc, List, [], ◌∷◌, ◌++◌, refl, sym, ap, subst, ◌∙◌, arith}
+use Rattle.std.proofs.Common.{◌≡◌, inl, inr, ℕ, ◌+◌, zero, suc, List, [], ◌∷◌, ◌++◌, refl, sym, ap, subst, ◌∙◌, arith}
 use Rattle.std.specs.Prelude.{Some}
 use Rattle.std.specs.List.{AllByRecursion, slice_get, slice_set}
-use Rattle.history_model.proofs.Lists.{all_append}
+use Rattle.history_model.proofs.Lists.{all_append, all_weaken}
 use Rattle.node_model.specs.Journal.{greatest_kept}
-use Rattle.node_model.specs.Letters.{Input, client_input, letter_input, moment_input, opened_input, Effect}
+use Rattle.node_model.specs.Letters.{Letter, Input, client_input, letter_input, moment_input, opened_input, Effect}
 use Rattle.node_model.specs.States.{NodeState}
+use Rattle.node_model.specs.Lacks.{misses}
 use Rattle.node_model.specs.Steps.{Step}
-use Rattle.node_model.specs.World.{Held, World, Moves, Event, Happens, comes, delivers, passes, begins, Run, stands, goes, start}
+use Rattle.node_model.specs.World.{Held, World, Moves, Misses, Meets, steps_after, Event, Happens, comes, delivers, passes, begins, Run, stands, goes, start}
 use Rattle.node_replay.specs.Durable.{durable_of, empty_of}
 use Rattle.node_replay.specs.Replays.{replayed, records_of}
 use Rattle.node_laws.proofs.GreatestTimes.{greatest_both}
 use Rattle.node_replay.specs.Holds.{Holds, HoldsOwn, Replays}
-use Rattle.node_replay.specs.ReadTimes.{IsInTime, ComesInTime, ReadsInTime}
+use Rattle.node_replay.specs.ReadTimes.{ReadsBy, IsInTime, ComesInTime, ReadsInTime}
+use Rattle.node_replay.proofs.Missed.{IsRefusal, misses_refuse}
 use Rattle.node_replay.proofs.Replay.{replayed_then}
 use Rattle.node_replay.proofs.ReadTimes.{StepInTime, step_in_time}
 use Rattle.node_replay.proofs.CatalogueFollows.{stored_with}
@@ -46,10 +48,10 @@ all_set P (y ∷ xs) (suc at) x all p = (all.0, all_set P xs at x all.1 p)
 
 -- STEPS
 
-pub step_replays : (old : Held) (new : NodeState) (i : Input) (f : Effect) → NodeReplays old → ComesInTime i
+pub step_replays : (old : Held) (new : NodeState) (i : Input) (f : Effect) (steps : ℕ) → NodeReplays old → ComesInTime i
     → StepFollows (greatest_kept old.kept) old.state i f new
-    → NodeReplays (record { state = new; kept = old.kept ++ f.written })
-step_replays old new i f (replays, holds) input s =
+    → NodeReplays (record { state = new; kept = old.kept ++ f.written; steps = steps })
+step_replays old new i f steps (replays, holds) input s =
     let stored : stored_with (greatest_kept old.kept) f ≡ greatest_kept (old.kept ++ f.written) = sym (greatest_both old.kept f.written) in (
       subst (λ e. replayed (Some e) (records_of (old.kept ++ f.written)) ≡ Some (durable_of (greatest_kept (old.kept ++ f.written)) new)) (sym s.own)
           (replayed_then (Some (empty_of old.state)) old.kept f.written (durable_of (greatest_kept old.kept) old.state)
@@ -77,18 +79,38 @@ move_replays w v at i all input m =
     let old : NodeReplays m.old = all_got NodeReplays w.nodes at m.old all.nodes m.here in
     let s : MoveShows m.old i m.f m.new = move_shows w at m.old m.new i m.f all input m.here m.step in
     subst (λ (x : World). WorldReplays x) (sym m.then) (record {
-      nodes = all_set NodeReplays w.nodes at (record { state = m.new; kept = m.old.kept ++ m.f.written }) all.nodes
-          (step_replays m.old m.new i m.f old input s.follows);
-      reads = all_set NodeReads w.nodes at (record { state = m.new; kept = m.old.kept ++ m.f.written }) all.reads s.in_time.state;
+      nodes = all_set NodeReplays w.nodes at (record { state = m.new; kept = m.old.kept ++ m.f.written; steps = m.old.steps + 1 }) all.nodes
+          (step_replays m.old m.new i m.f (m.old.steps + 1) old input s.follows);
+      reads = all_set NodeReads w.nodes at (record { state = m.new; kept = m.old.kept ++ m.f.written; steps = m.old.steps + 1 }) all.reads s.in_time.state;
       letters = all_append IsInTime w.sent m.f.mail all.letters s.in_time.letters;
     })
 
+-- what a node returns where it takes no step reads at no time
+refusal_in_time : (m : Letter) → IsRefusal m → IsInTime m
+refusal_in_time m (what, cause, is) = subst (λ b. ReadsBy m.time b) (sym is) tt
+
+miss_replays : (w v : World) (at : ℕ) (i : Input) → WorldReplays w → Misses w at i v → WorldReplays v
+miss_replays w v at i all m =
+    let steps : ℕ = steps_after m.lack m.old.steps in
+    subst (λ (x : World). WorldReplays x) (sym m.then) (record {
+      nodes = all_set NodeReplays w.nodes at (record { state = m.old.state; kept = m.old.kept; steps = steps }) all.nodes
+          (all_got NodeReplays w.nodes at m.old all.nodes m.here);
+      reads = all_set NodeReads w.nodes at (record { state = m.old.state; kept = m.old.kept; steps = steps }) all.reads
+          (all_got NodeReads w.nodes at m.old all.reads m.here);
+      letters = all_append IsInTime w.sent (misses m.old.state m.lack i).mail all.letters
+          (all_weaken IsRefusal IsInTime (misses m.old.state m.lack i).mail refusal_in_time (misses_refuse m.old.state m.lack i));
+    })
+
+meets_replays : (w v : World) (at : ℕ) (i : Input) → WorldReplays w → ComesInTime i → Meets w at i v → WorldReplays v
+meets_replays w v at i all input (inl m) = move_replays w v at i all input m
+meets_replays w v at i all input (inr m) = miss_replays w v at i all m
+
 pub event_replays : (w v : World) (e : Event) → WorldReplays w → Happens w e v → WorldReplays v
-event_replays _ _ _ all (comes w v at link number request is m) = move_replays w v at (client_input link number request) all tt m
+event_replays _ _ _ all (comes w v at link number request is m) = meets_replays w v at (client_input link number request) all tt m
 event_replays _ _ _ all (delivers w v at which l got to m) =
-    move_replays w v at (letter_input l) all (all_got IsInTime w.sent which l all.letters got) m
-event_replays _ _ _ all (passes w v at moment m) = move_replays w v at (moment_input moment) all tt m
-event_replays _ _ _ all (begins w v at m) = move_replays w v at opened_input all tt m
+    meets_replays w v at (letter_input l) all (all_got IsInTime w.sent which l all.letters got) m
+event_replays _ _ _ all (passes w v at moment m) = meets_replays w v at (moment_input moment) all tt m
+event_replays _ _ _ all (begins w v at m) = meets_replays w v at opened_input all tt m
 
 -- RUNS
 

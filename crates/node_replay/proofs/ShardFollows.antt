@@ -1,6 +1,6 @@
 -- The records of each transition of a shard may follow, and lead to the durable part of the shard after it.
 use Rattle.std.proofs.Common.{◌≡◌, ℕ, ◌+◌, ◌<◌, ◌≤◌, List, [], ◌∷◌, ◌++◌, map, refl, sym, ap, subst, ◌∙◌, arith, append_assoc, append-nil}
-use Rattle.std.specs.Prelude.{max, Bool, true, ◌&&◌, Option, Some, None, is_some, is_none, nat_lt, if◌then◌else◌}
+use Rattle.std.specs.Prelude.{max, Bool, true, ◌&&◌, Option, Some, None, is_some, is_none, filter, not, nat_lt, if◌then◌else◌}
 use Rattle.std.specs.Option.{option_map}
 use Rattle.std.proofs.lemmas.Bool.{and_from, lt-ltb}
 use Rattle.base_model.specs.Times.{time_of_moment}
@@ -12,7 +12,7 @@ use Rattle.reply_model.specs.Outcomes.{Done}
 use Rattle.node_model.specs.Journal.{kept_table, kept_entry, kept_ceiling}
 use Rattle.node_model.specs.Letters.{Statement, Letter, Input, Effect}
 use Rattle.node_model.specs.Service.{seen_before, entry_for, Serves, serves_no_more, serves_again, serves_new, ends_again, ends_new}
-use Rattle.node_model.specs.ShardRows.{is_news, heard, top, greatest_entry, ShardRow, shard_write, shard_repeat, shard_empty, shard_park, shard_waits, shard_stale, shard_read, shard_read_above, shard_rows, shard_excess, shard_overflow, shard_time, shard_learn, shard_known, shard_skip, shard_moment, shard_opened, shard_client}
+use Rattle.node_model.specs.ShardRows.{is_news, heard, top, greatest_entry, wants_table, ShardRow, shard_write, shard_repeat, shard_empty, shard_park, shard_waits, shard_stale, shard_read, shard_read_above, shard_rows, shard_excess, shard_overflow, shard_time, shard_learn, shard_known, shard_no_table, shard_skip, shard_moment, shard_opened, shard_client}
 use Rattle.node_model.specs.States.{Shard}
 use Rattle.node_replay.specs.SameData.{same_words}
 use Rattle.node_replay.specs.Durable.{DurableShard, durable_shard, shard_part}
@@ -176,6 +176,8 @@ shard_follows _ _ _ _ past (shard_learn s m namespace create at t tells news) = 
   holds = λ input. omega (arith, past);
 }
 shard_follows _ _ _ _ past (shard_known s m namespace create at table tells none) = still s _ _ (heard s m) s.parked refl (heard_later s m) past
+shard_follows _ _ _ _ past (shard_no_table s m namespace node lack none) =
+    still s _ _ (heard s m) (filter (λ p. not (wants_table namespace p)) s.parked) refl (heard_later s m) past
 shard_follows _ _ _ _ past (shard_skip s m none) = still s _ _ s.time s.parked refl (omega arith) past
 shard_follows _ _ _ _ past (shard_moment s moment) = still s _ _ (max s.time (time_of_moment moment)) s.parked refl (omega arith) past
 shard_follows _ _ _ _ past (shard_opened s) = still s _ _ s.time s.parked refl (omega arith) past

@@ -1,20 +1,21 @@
 -- Each transition of a shard keeps the facts that stay.
 use Rattle.std.proofs.Common.{◌≡◌, ℕ, ◌≤◌, List, [], ◌∷◌, ◌++◌, refl, sym, ap, subst, ◌∙◌, arith, append-nil}
 use Rattle.std.specs.Prelude.{max, map, filter, not, Bool, Option, Some, None}
-use Rattle.std.specs.List.{AllByRecursion}
+use Rattle.std.specs.List.{AllByRecursion, flat_map}
 use Rattle.base_model.specs.Identities.{RequestId}
 use Rattle.base_model.specs.Times.{time_of_moment}
 use Rattle.chunk_model.specs.Tables.{Table, with_table}
 use Rattle.command_model.specs.Writes.{WriteCommand}
 use Rattle.history_model.proofs.Lists.{all_weaken, all_append, all_at, all_filter}
 use Rattle.history_model.specs.History.{StatementNumber, Entry, IsIn}
+use Rattle.reply_model.specs.Accounts.{Lack}
 use Rattle.reply_model.specs.Exchanges.{Asked, number_for}
 use Rattle.reply_model.specs.Outcomes.{StatementOutcome, Done}
 use Rattle.node_model.specs.Journal.{Kept, kept_table, kept_entry, kept_ceiling, entries_kept}
-use Rattle.node_model.specs.Letters.{Statement, write_done, Letter, Input, client_input, letter_input, moment_input, opened_input, Effect, sends, writes}
+use Rattle.node_model.specs.Letters.{Statement, write_done, refused, of_request, is_lack, Letter, Input, client_input, letter_input, moment_input, opened_input, Effect, sends, writes}
 use Rattle.node_model.specs.RouterRequests.{statements_from}
 use Rattle.node_model.specs.Service.{Serves, Repeats}
-use Rattle.node_model.specs.ShardRows.{heard, greatest_entry, at_later, under, Ask, ask_in, wants_table, says, asks_table, tries, asks_again, ShardRow, shard_write, shard_repeat, shard_empty, shard_park, shard_waits, shard_stale, shard_read, shard_read_above, shard_rows, shard_excess, shard_overflow, shard_time, shard_learn, shard_known, shard_skip, shard_moment, shard_opened, shard_client}
+use Rattle.node_model.specs.ShardRows.{heard, greatest_entry, at_later, under, Ask, ask_in, index_shown, wants_table, says, asks_table, tries, asks_again, refuses, ShardRow, shard_write, shard_repeat, shard_empty, shard_park, shard_waits, shard_stale, shard_read, shard_read_above, shard_rows, shard_excess, shard_overflow, shard_time, shard_learn, shard_known, shard_no_table, shard_skip, shard_moment, shard_opened, shard_client}
 use Rattle.node_model.specs.States.{Shard}
 use Rattle.node_laws.proofs.Dates.{IsNoChange}
 use Rattle.node_laws.proofs.Lists.{all_mapped}
@@ -88,6 +89,20 @@ asks_again_stay asked history s time (m ∷ parked) = by_ask (ask_in m.body) (as
         ])
     by_ask None rest = rest
     by_ask (Some a) rest = (tt, rest)
+
+refused_stay : (asked : List Asked) (history : List Entry) (s : Shard) (time node : ℕ) (lack : Lack) (parked : List Letter)
+    → AllByRecursion (LetterStays asked history) (flat_map (refuses s time node lack) parked)
+refused_stay asked history s time node lack [] = tt
+refused_stay asked history s time node lack (m ∷ parked) =
+    all_append (LetterStays asked history) (refuses s time node lack m) (flat_map (refuses s time node lack) parked) (by_ask (ask_in m.body))
+    (refused_stay asked history s time node lack parked)
+  where
+    by_ask : (o : Option Ask) → AllByRecursion (LetterStays asked history) (elim o as (λ (o : Option Ask). List Letter) [
+      | None ↦ []
+      | Some a ↦ says s a.id.router time (refused (of_request a.id a.turn (index_shown a.first)) (is_lack node lack)) ∷ []
+    ])
+    by_ask None = tt
+    by_ask (Some a) = (tt, tt)
 
 -- TRANSITIONS
 
@@ -252,6 +267,10 @@ shard_stays asked more history longer g at kept _ _ _ _ here mine past input (sh
     (all_filter (LetterStays more longer) (λ p. not (wants_table t.namespace p)) s.parked parked)
 shard_stays asked more history longer g at kept _ _ _ _ here mine past input (shard_known s m namespace create told table tells none) =
     says_one asked more history longer g at kept s mine past _ (heard s m) refl refl refl tt
+shard_stays asked more history longer g at kept _ _ _ _ here mine past input (shard_no_table s m namespace node lack none) =
+    quiet asked more history longer g at kept s mine past _ (heard s m) (filter (λ p. not (wants_table namespace p)) s.parked) refl refl refl
+    (all_filter (LetterStays more longer) (λ p. not (wants_table namespace p)) s.parked (parked_stay asked more history longer g at kept s mine past))
+    (refused_stay more longer s (heard s m) node lack (filter (wants_table namespace) s.parked))
 shard_stays asked more history longer g at kept _ _ _ _ here mine past input (shard_skip s m none) =
     says_one asked more history longer g at kept s mine past _ s.time refl refl refl tt
 shard_stays asked more history longer g at kept _ _ _ _ here mine past input (shard_moment s moment) =

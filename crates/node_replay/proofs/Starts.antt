@@ -7,13 +7,13 @@ use Rattle.node_model.specs.World.{Held, shards_from, routers_from, start}
 use Rattle.node_laws.proofs.Places.{EachAt}
 
 abbrev pub first_held : Held
-first_held = record { state = catalogue_state (new_catalogue 0); kept = [] }
+first_held = record { state = catalogue_state (new_catalogue 0); kept = []; steps = 0 }
 
 abbrev pub shard_held : ℕ → Held
-shard_held at = record { state = shard_state (new_shard at); kept = [] }
+shard_held at = record { state = shard_state (new_shard at); kept = []; steps = 0 }
 
 abbrev pub router_held : (at shards : ℕ) → Held
-router_held at shards = record { state = router_state (new_router at shards); kept = [] }
+router_held at shards = record { state = router_state (new_router at shards); kept = []; steps = 0 }
 
 routers_each : (P : ℕ → Held → Type 0) (at shards n : ℕ) → ((j : ℕ) → at ≤ j → P j (router_held j shards)) → EachAt P at (routers_from at shards n)
 routers_each P at shards zero router = tt

@@ -14,7 +14,7 @@ use Rattle.reply_model.specs.Exchanges.{Asked, Answered, number_for}
 use Rattle.reply_model.specs.Outcomes.{StatementOutcome, Done, dones_from}
 use Rattle.reply_model.specs.Requests.{Request}
 use Rattle.node_model.specs.Journal.{Kept, entries_kept, changes_kept}
-use Rattle.node_model.specs.Letters.{Statement, Body, table_ask, table_told, split_ask, split_done, write_ask, write_done, read_ask, half_ask, read_rows, stale, time_ask, time_told, Letter}
+use Rattle.node_model.specs.Letters.{Statement, Body, table_ask, table_told, split_ask, split_done, write_ask, write_done, read_ask, half_ask, read_rows, refused, time_ask, time_told, Letter}
 use Rattle.node_model.specs.RouterRequests.{statements_from}
 use Rattle.node_model.specs.States.{Catalogue, Shard, Router, Work, writing, reading, sharding, splitting, Open, NodeState, catalogue_state, shard_state, router_state}
 use Rattle.node_model.specs.World.{Held}
@@ -22,7 +22,8 @@ use Rattle.node_laws.proofs.Facts.{IsBy}
 use Rattle.node_replay.specs.Histories.{HasKey}
 use Rattle.node_replay.specs.Replays.{records_of}
 use Rattle.node_replay.proofs.Noted.{IsPrefix}
-use Rattle.node_replay.specs.Acknowledged.{IsOutcomeOf, of_entry, of_greater, IsOutcomeAt, IsAcknowledged, IsStored}
+use Rattle.node_replay.proofs.NextOnes.{OneNext}
+use Rattle.node_replay.specs.Acknowledged.{IsOutcomeOf, of_entry, of_greater, of_none, IsOutcomeAt, IsAcknowledged, IsStored}
 
 -- STATEMENTS AND OUTCOMES
 
@@ -57,7 +58,7 @@ BodyStays asked history (split_done id found) = Unit {0}
 BodyStays asked history (read_ask id turn namespace at half sent) = Unit {0}
 BodyStays asked history (half_ask id turn namespace at half documents) = Unit {0}
 BodyStays asked history (read_rows id turn rows) = Unit {0}
-BodyStays asked history (stale id turn met) = Unit {0}
+BodyStays asked history (refused what cause) = Unit {0}
 BodyStays asked history (time_ask id) = Unit {0}
 BodyStays asked history (time_told id) = Unit {0}
 
@@ -70,12 +71,13 @@ LetterStays asked history m = BodyStays asked history m.body
 abbrev pub IsNoWrite : Request → Type 0
 IsNoWrite request = (write : WriteCommand) → command_of request ≡ Ok (write_command write) → ⊥
 
--- what an open request has to do is what it asks for, and the outcomes that arrived are stored
+-- What an open request has to do is what it asks for, and the outcomes that arrived are stored; of an ordered write the first statements have outcomes, and the
+-- next ones are under way.
 abbrev pub WorkStays : List Entry → RequestId → Request → (namespace : List ℕ) → Work → Type 0
 WorkStays history id request namespace (writing kind ordered statements c) =
     (write : WriteCommand) × (command_of request ≡ Ok (write_command write)) × (kind ≡ write.kind) × (namespace ≡ write.namespace)
     × (statements ≡ statements_from write.number id 0 write.operations) × AllByRecursion (IsOutcomeAt history write id) (dones_from 0 c.answers)
-    × (ordered ≡ write.ordered) × (length c.answers ≡ length statements) × (ordered ≡ true → IsPrefix c.answers)
+    × (ordered ≡ write.ordered) × (length c.answers ≡ length statements) × (ordered ≡ true → IsPrefix c.answers × OneNext statements c.answers c.runs)
 WorkStays history id request namespace (reading named at stages telling) = IsNoWrite request
 WorkStays history id request namespace sharding = IsNoWrite request
 WorkStays history id request namespace (splitting middle) = command_of request ≡ Ok (split_command (record { namespace = namespace; middle = middle }))
@@ -126,6 +128,7 @@ module _ (asked more : List Asked) (history longer : List Entry) (g : Grows aske
   outcome_grows : (number : StatementNumber) (answer : StatementOutcome) → IsOutcomeOf history number answer → IsOutcomeOf longer number answer
   outcome_grows number _ (of_entry e i same) = of_entry e (g.stored e i) same
   outcome_grows number _ (of_greater e i session less) = of_greater e (g.stored e i) session less
+  outcome_grows number _ (of_none refusal says) = of_none refusal says
 
   pub outcomes_grow : (write : WriteCommand) (id : RequestId) (dones : List Done) → AllByRecursion (IsOutcomeAt history write id) dones
       → AllByRecursion (IsOutcomeAt longer write id) dones
@@ -150,7 +153,7 @@ module _ (asked more : List Asked) (history longer : List Entry) (g : Grows aske
   body_grows (read_ask id turn namespace at half sent) s = tt
   body_grows (half_ask id turn namespace at half documents) s = tt
   body_grows (read_rows id turn rows) s = tt
-  body_grows (stale id turn met) s = tt
+  body_grows (refused what cause) s = tt
   body_grows (time_ask id) s = tt
   body_grows (time_told id) s = tt
 

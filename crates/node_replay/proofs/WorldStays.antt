@@ -24,7 +24,8 @@ use Rattle.node_replay.proofs.StoredEntries.{of_history, in_first_journal, in_la
 use Rattle.node_replay.proofs.StayFacts.{LetterStays, StateStays, HeldStays, CatalogueStays, RouterStays, OpenStays, Grows, body_grows, letters_grow, open_grows, stored_grows}
 use Rattle.node_replay.proofs.CatalogueStays.{catalogue_stays}
 use Rattle.node_replay.proofs.ShardStays.{InputStays, shard_stays}
-use Rattle.node_replay.proofs.RouterNext.{begins_stays, RouterSteps, router_steps}
+use Rattle.node_replay.proofs.RouterNext.{begins_stays, RouterSteps}
+use Rattle.node_replay.proofs.RouterRows.{router_steps}
 use Rattle.node_laws.proofs.Facts.{IsBy}
 
 -- what a step of a node shows, for what is requested and stored after it
@@ -155,14 +156,14 @@ abbrev pub WorldStays : World → Type 0
 WorldStays w = ListsStay w.nodes w.sent w.asked w.answered w.changed
 
 -- the nodes after a step
-abbrev pub with_step : List Held → ℕ → Held → List Kept → NodeState → List Held
-with_step nodes at old written new = slice_set nodes at (record { state = new; kept = old.kept ++ written })
+abbrev pub with_step : List Held → ℕ → Held → List Kept → (steps : ℕ) → NodeState → List Held
+with_step nodes at old written steps new = slice_set nodes at (record { state = new; kept = old.kept ++ written; steps = steps })
 
 -- no entry of another journal is lost
-pub stored_stays : (nodes : List Held) (at : ℕ) (old : Held) (written : List Kept) (new : NodeState) → slice_get nodes at ≡ Some old → (e : Entry)
-    → IsIn e (history_of nodes) → IsIn e (history_of (with_step nodes at old written new))
-stored_stays [] at old written new here e i = absurd (cc)
-stored_stays (h ∷ nodes) zero old written new here e i = by_part (of_history e h nodes i)
+pub stored_stays : (nodes : List Held) (at : ℕ) (old : Held) (written : List Kept) (steps : ℕ) (new : NodeState) → slice_get nodes at ≡ Some old → (e : Entry)
+    → IsIn e (history_of nodes) → IsIn e (history_of (with_step nodes at old written steps new))
+stored_stays [] at old written steps new here e i = absurd (cc)
+stored_stays (h ∷ nodes) zero old written steps new here e i = by_part (of_history e h nodes i)
   where
     same : old ≡ h
     same = cc
@@ -170,45 +171,45 @@ stored_stays (h ∷ nodes) zero old written new here e i = by_part (of_history e
     longer : entries_kept (old.kept ++ written) ≡ entries_kept h.kept ++ entries_kept written
     longer = entries_longer old.kept written ∙ ap (λ (x : Held). entries_kept x.kept ++ entries_kept written) same
 
-    by_part : IsIn e (entries_kept h.kept) ⊎ IsIn e (history_of nodes) → IsIn e (history_of (record { state = new; kept = old.kept ++ written } ∷ nodes))
+    by_part : IsIn e (entries_kept h.kept) ⊎ IsIn e (history_of nodes) → IsIn e (history_of (record { state = new; kept = old.kept ++ written; steps = steps } ∷ nodes))
     by_part (inl own) =
-        in_first_journal e (record { state = new; kept = old.kept ++ written }) nodes
+        in_first_journal e (record { state = new; kept = old.kept ++ written; steps = steps }) nodes
         (subst (λ l. IsIn e l) (sym longer) (in_prefix e (entries_kept h.kept) (entries_kept written) own))
-    by_part (inr other) = in_later_journals e (record { state = new; kept = old.kept ++ written }) nodes other
-stored_stays (h ∷ nodes) (suc at) old written new here e i =
-    by_part (of_history e h nodes i) (λ other. stored_stays nodes at old written new here e other)
+    by_part (inr other) = in_later_journals e (record { state = new; kept = old.kept ++ written; steps = steps }) nodes other
+stored_stays (h ∷ nodes) (suc at) old written steps new here e i =
+    by_part (of_history e h nodes i) (λ other. stored_stays nodes at old written steps new here e other)
   where
     by_part : IsIn e (entries_kept h.kept) ⊎ IsIn e (history_of nodes)
-        → (IsIn e (history_of nodes) → IsIn e (history_of (with_step nodes at old written new)))
-        → IsIn e (history_of (h ∷ with_step nodes at old written new))
-    by_part (inl own) later = in_first_journal e h (with_step nodes at old written new) own
-    by_part (inr other) later = in_later_journals e h (with_step nodes at old written new) (later other)
+        → (IsIn e (history_of nodes) → IsIn e (history_of (with_step nodes at old written steps new)))
+        → IsIn e (history_of (h ∷ with_step nodes at old written steps new))
+    by_part (inl own) later = in_first_journal e h (with_step nodes at old written steps new) own
+    by_part (inr other) later = in_later_journals e h (with_step nodes at old written steps new) (later other)
 
 -- the entries of a journal are stored
-pub stored_here : (nodes : List Held) (at : ℕ) (old : Held) (written : List Kept) (new : NodeState) → slice_get nodes at ≡ Some old → (e : Entry)
-    → IsIn e (entries_kept (old.kept ++ written)) → IsIn e (history_of (with_step nodes at old written new))
-stored_here [] at old written new here e i = absurd (cc)
-stored_here (h ∷ nodes) zero old written new here e i = in_first_journal e (record { state = new; kept = old.kept ++ written }) nodes i
-stored_here (h ∷ nodes) (suc at) old written new here e i =
-    in_later_journals e h (with_step nodes at old written new) (stored_here nodes at old written new here e i)
+pub stored_here : (nodes : List Held) (at : ℕ) (old : Held) (written : List Kept) (steps : ℕ) (new : NodeState) → slice_get nodes at ≡ Some old → (e : Entry)
+    → IsIn e (entries_kept (old.kept ++ written)) → IsIn e (history_of (with_step nodes at old written steps new))
+stored_here [] at old written steps new here e i = absurd (cc)
+stored_here (h ∷ nodes) zero old written steps new here e i = in_first_journal e (record { state = new; kept = old.kept ++ written; steps = steps }) nodes i
+stored_here (h ∷ nodes) (suc at) old written steps new here e i =
+    in_later_journals e h (with_step nodes at old written steps new) (stored_here nodes at old written steps new here e i)
 
 -- what the world has after a step
-module _ (w : World) (at : ℕ) (old : Held) (f : Effect) (new : NodeState) (stay : WorldStays w) (here : slice_get w.nodes at ≡ Some old) where
+module _ (w : World) (at : ℕ) (old : Held) (f : Effect) (steps : ℕ) (new : NodeState) (stay : WorldStays w) (here : slice_get w.nodes at ≡ Some old) where
   abbrev More : List Asked
   More = asked_by w.now f.taken
 
   abbrev Next : List Held
-  Next = with_step w.nodes at old f.written new
+  Next = with_step w.nodes at old f.written steps new
 
   grown : Grows w.asked (w.asked ++ More) (history_of w.nodes) (history_of Next)
-  grown = record { taken = λ a i. in_prefix a w.asked More i; stored = stored_stays w.nodes at old f.written new here }
+  grown = record { taken = λ a i. in_prefix a w.asked More i; stored = stored_stays w.nodes at old f.written steps new here }
 
   nodes_after : StateStays (w.asked ++ More) (history_of Next) at (old.kept ++ f.written) new → AllByRecursion (λ (a : Asked). a.id.router ≡ at) More
       → EachAt (HeldStays (w.asked ++ More) (history_of Next)) 0 Next
   nodes_after node own =
       let zero_at : 0 + at ≡ at = omega arith in
       each_set (HeldStays w.asked (history_of w.nodes)) (HeldStays (w.asked ++ More) (history_of Next)) 0 at w.nodes
-      (record { state = new; kept = old.kept ++ f.written })
+      (record { state = new; kept = old.kept ++ f.written; steps = steps })
       (λ j y apart s. state_grows w.asked More (history_of w.nodes) (history_of Next) grown j y.kept y.state
       (all_weaken (λ (a : Asked). a.id.router ≡ at) (λ (a : Asked). a.id.router ≢ j) More (λ a is e. apart (sym e ∙ is ∙ sym zero_at)) own) s)
       (subst (λ n. StateStays (w.asked ++ More) (history_of Next) n (old.kept ++ f.written) new) (sym zero_at) node) stay.each
@@ -226,5 +227,5 @@ module _ (w : World) (at : ℕ) (old : Held) (f : Effect) (new : NodeState) (sta
         (all_weaken (IsStored (history_of w.nodes)) (IsStored (history_of Next)) w.answered
         (λ t s. stored_grows w.asked (w.asked ++ More) (history_of w.nodes) (history_of Next) grown t s) stay.told) told;
     one = one;
-    dated = dated_same w.now w.nodes at old f.written new w.changed here stay.dated changes;
+    dated = dated_same w.now w.nodes at old f.written new steps w.changed here stay.dated changes;
   }

@@ -6,21 +6,30 @@ use Rattle.command_model.specs.Answers.{answer_document}
 use Rattle.command_model.specs.Command.{write_command, command_of}
 use Rattle.command_model.specs.Writes.{WriteCommand}
 use Rattle.base_model.specs.Identities.{RequestId}
+use Rattle.base_model.specs.Refusals.{Refusal}
 use Rattle.chunk_model.specs.Placement.{AreFitting}
 use Rattle.history_model.specs.History.{StatementNumber, Operation, Entry, Legal, IsIn}
 use Rattle.reply_model.specs.Exchanges.{Asked, Answered, number_for}
-use Rattle.reply_model.specs.Accounts.{changes_in}
+use Rattle.reply_model.specs.Accounts.{Lack, changes_in}
 use Rattle.reply_model.specs.OneHistory.{AreNumbered, ids_asked, AreDifferent}
-use Rattle.reply_model.specs.Outcomes.{StatementOutcome, is_older, Done, answer_by, answer_of}
+use Rattle.reply_model.specs.Outcomes.{Try, stale_refusal, expired_refusal, lack_refusal, StatementOutcome, was_refused, is_older, Done, answer_by, answer_of}
 use Rattle.reply_model.specs.Right.{ends, Sends}
 use Rattle.node_model.specs.Journal.{Kept, changes_kept}
 use Rattle.node_model.specs.World.{World, journal_at, history_of}
 
--- the outcome is that of a stored entry under the number, or says that a stored entry has a greater transaction of its session
+-- why a statement is given up: each of its tries met a later table, its time limit has passed, or a node was out of memory or at its last step
+pub data SaysGivenUp : Refusal → Type 0 where
+  says_stale : (tries : List Try) → SaysGivenUp (stale_refusal tries)
+  says_late : (arrived now : ℕ) → SaysGivenUp (expired_refusal arrived now)
+  says_lacking : (node : ℕ) (lack : Lack) → SaysGivenUp (lack_refusal node lack)
+
+-- the outcome is that of a stored entry under the number, or says that a stored entry has a greater transaction of its session, or that the statement was given
+-- up, which is not acknowledged: it may be stored or not
 pub data IsOutcomeOf (history : List Entry) (number : StatementNumber) : StatementOutcome → Type 0 where
   of_entry : (e : Entry) → IsIn e history → e.number ≡ number → IsOutcomeOf history number (answer_by e)
   of_greater : (e : Entry) → IsIn e history → e.number.session ≡ number.session → int_lt number.transaction e.number.transaction ≡ true
       → IsOutcomeOf history number (is_older e.number.transaction)
+  of_none : (refusal : Refusal) → SaysGivenUp refusal → IsOutcomeOf history number (was_refused refusal)
 
 -- of a statement of a write
 pub record IsOutcomeAt (history : List Entry) (write : WriteCommand) (id : RequestId) (d : Done) : Type 0 where
@@ -38,7 +47,8 @@ are_all ordered [] dones = true
 are_all ordered (operation ∷ operations) [] = false
 are_all ordered (operation ∷ operations) (d ∷ dones) = if ends ordered d then true else are_all ordered operations dones
 
--- the reply to a write returns the outcomes of all its statements, or of those up to the error that ends an ordered one, and each of these is stored
+-- the reply to a write returns the outcomes of all its statements, or of those up to the error that ends an ordered one, and each of these is stored, unless its
+-- statement was given up
 pub record IsAcknowledged (history : List Entry) (write : WriteCommand) (t : Answered) : Type 0 where
   pub dones : List Done
   pub turns : AreInTurn 0 dones

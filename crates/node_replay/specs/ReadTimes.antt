@@ -1,7 +1,7 @@
 -- The times that messages read at: none is later than the message that has it, nor than the node that keeps the message or the request (own).
 use Rattle.std.specs.Prelude.{◌≤◌, ℕ}
 use Rattle.std.specs.List.{AllByRecursion}
-use Rattle.node_model.specs.Letters.{At, no_time, at_time, Body, table_ask, table_told, split_ask, split_done, write_ask, write_done, read_ask, half_ask, read_rows, stale, time_ask, time_told, Letter, Input, client_input, letter_input, moment_input, opened_input}
+use Rattle.node_model.specs.Letters.{At, no_time, at_time, Body, table_ask, table_told, split_ask, split_done, write_ask, write_done, read_ask, half_ask, read_rows, refused, time_ask, time_told, Letter, Input, client_input, letter_input, moment_input, opened_input}
 use Rattle.node_model.specs.States.{Work, writing, reading, sharding, splitting, Wait, for_time, for_catalogue, for_shards, Open, NodeState, catalogue_state, shard_state, router_state}
 
 -- MESSAGES
@@ -21,7 +21,7 @@ ReadsBy time (write_ask id turn ordered namespace statements sent) = Unit {0}
 ReadsBy time (write_done id dones) = Unit {0}
 ReadsBy time (half_ask id turn namespace at half documents) = Unit {0}
 ReadsBy time (read_rows id turn rows) = Unit {0}
-ReadsBy time (stale id turn met) = Unit {0}
+ReadsBy time (refused what cause) = Unit {0}
 ReadsBy time (time_ask id) = Unit {0}
 ReadsBy time (time_told id) = Unit {0}
 

@@ -1,6 +1,8 @@
 pub mod Requests
 pub mod RightAnswers
 pub mod Statements
+pub mod Grown
+pub mod GivenUp
 pub mod ReadTimes
 pub mod Freshness
 pub mod ToldRefusals

@@ -13,12 +13,12 @@ use Rattle.command_model.specs.Answers.{first_answer, count_answer, refusal_answ
 use Rattle.command_model.proofs.AnswerTimes.{time_refused}
 use Rattle.reply_facts.proofs.ToldRefusals.{never_ahead}
 use Rattle.reply_model.specs.Exchanges.{Asked, Answered}
-use Rattle.reply_model.specs.Accounts.{Account}
-use Rattle.reply_model.specs.Outcomes.{Done, answer_of}
+use Rattle.reply_model.specs.Accounts.{Lack, no_memory, no_steps, Account}
+use Rattle.reply_model.specs.Outcomes.{stale_refusal, lack_refusal, Done, answer_of}
 use Rattle.reply_model.specs.Cursors.{Cursor}
 use Rattle.reply_model.specs.Reads.{IsTimeRead, named_time, own_time, later_time, IfReached, IsAhead, time_wanted}
-use Rattle.reply_model.specs.Right.{Reads, find_reads, count_reads, IsReadRefused, refused_overflow, refused_excess, refused_ahead, IsRight}
-use Rattle.reply_facts.proofs.RightAnswers.{RightBy, right_by}
+use Rattle.reply_model.specs.Right.{IsGivenUp, given_up_late, given_up_lacking, Reads, find_reads, count_reads, IsReadRefused, refused_overflow, refused_excess, refused_ahead, IsRight}
+use Rattle.reply_facts.proofs.RightAnswers.{TellsGivenUp, IsNotRead, not_read, not_tried, not_finished, RightBy, right_by}
 
 -- a read that names no time is of none before its router's
 pub not_before : (a : Asked) (t : Answered) (reading : Reading) (time : ℕ) → IsTimeRead a t reading time → reading.at ≡ None → a.time ≤ time
@@ -50,6 +50,13 @@ module _ (account : Account) (cursors : List Cursor) (a : Asked)
   timeless reading now (refused_ahead ahead says) shown =
       let both : None ≡ Some now = sym (time_refused (time_ahead t.time)) ∙ ap (λ (d : Fields). operation_time (Some d)) (sym says) ∙ shown in cc
 
+  untimed : (reading : Reading) (now : ℕ) → IsNotRead account cursors a t reading → operation_time (Some t.document) ≡ Some now → ⊥
+  untimed reading now (not_read refused) shown = timeless reading now refused shown
+  untimed reading now (not_tried stale) shown =
+      let both : None ≡ Some now = sym (time_refused (stale_refusal stale.tries)) ∙ ap (λ (d : Fields). operation_time (Some d)) (sym stale.says) ∙ shown in cc
+  untimed reading now (not_finished tells) shown =
+      let both : None ≡ Some now = sym (time_refused tells.refusal) ∙ ap (λ (d : Fields). operation_time (Some d)) (sym tells.says) ∙ shown in cc
+
   shown_by : (r : Result Command Refusal) (next : List Cursor) (reading : Reading) (now : ℕ) → Reads r reading
       → RightBy account cursors a t r next
       → operation_time (Some t.document) ≡ Some now → IsTimeRead a t reading now
@@ -57,12 +64,12 @@ module _ (account : Account) (cursors : List Cursor) (a : Asked)
       let both : Some first.batch.time ≡ Some now = ap (λ (d : Fields). operation_time (Some d)) (sym first.says) ∙ shown in
       let same : first.batch.time ≡ now = cc in
       subst (λ n. IsTimeRead a t find.reading n) same first.time
-  shown_by r next reading now (find_reads find) (inr refused) shown = absurd (timeless find.reading now refused.0 shown)
-  shown_by r next reading now (count_reads other) (inl counted) shown =
-      let both : Some counted.0.time ≡ Some now = ap (λ (d : Fields). operation_time (Some d)) (sym counted.0.says) ∙ shown in
-      let same : counted.0.time ≡ now = cc in
-      subst (λ n. IsTimeRead a t other n) same counted.0.read
-  shown_by r next reading now (count_reads other) (inr refused) shown = absurd (timeless other now refused.0 shown)
+  shown_by r next reading now (find_reads find) (inr refused) shown = absurd (untimed find.reading now refused.0 shown)
+  shown_by r next reading now (count_reads other) (inl counted, same) shown =
+      let both : Some counted.time ≡ Some now = ap (λ (d : Fields). operation_time (Some d)) (sym counted.says) ∙ shown in
+      let one : counted.time ≡ now = cc in
+      subst (λ n. IsTimeRead a t other n) one counted.read
+  shown_by r next reading now (count_reads other) (inr refused, same) shown = absurd (untimed other now refused shown)
 
   -- the time that an answer to a read shows is one that the read may be of
   pub shown_time : (next : List Cursor) (reading : Reading) (now : ℕ) → Reads (command_of a.request) reading
@@ -87,6 +94,25 @@ module _ (account : Account) (cursors : List Cursor) (a : Asked)
   refused_so reading s (refused_ahead ahead says) told =
       (let e : answer_document (refusal_answer (time_ahead t.time)) ≡ answer_document (refusal_answer (time_ahead s)) = sym says ∙ told in cc, ahead)
 
+  lack_not_ahead : (node : ℕ) (lack : Lack) (s : ℕ) → answer_document (refusal_answer (lack_refusal node lack))
+      ≡ answer_document (refusal_answer (time_ahead s)) → ⊥
+  lack_not_ahead node no_memory s same = cc
+  lack_not_ahead node (no_steps steps) s same = cc
+
+  given_up_not_ahead : (refusal : Refusal) (s : ℕ) → IsGivenUp account a t refusal → answer_document (refusal_answer refusal)
+      ≡ answer_document (refusal_answer (time_ahead s)) → ⊥
+  given_up_not_ahead _ s (given_up_late now is) same = cc
+  given_up_not_ahead _ s (given_up_lacking node lack was) same = lack_not_ahead node lack s same
+
+  not_ahead : (tells : TellsGivenUp account cursors a t) (s : ℕ) → t.document ≡ answer_document (refusal_answer (time_ahead s)) → ⊥
+  not_ahead tells s told = given_up_not_ahead tells.refusal s tells.why (sym tells.says ∙ told)
+
+  unread_so : (reading : Reading) (s : ℕ) → IsNotRead account cursors a t reading → t.document ≡ answer_document (refusal_answer (time_ahead s))
+      → (s ≡ t.time) × IsAhead account a t reading
+  unread_so reading s (not_read refused) told = refused_so reading s refused told
+  unread_so reading s (not_tried stale) told = absurd (let e = sym stale.says ∙ told in cc)
+  unread_so reading s (not_finished tells) told = absurd (not_ahead tells s told)
+
   first_not_ahead : (batch : Batch) (s : ℕ) → answer_document (first_answer batch) ≡ answer_document (refusal_answer (time_ahead s)) → ⊥
   first_not_ahead batch s same = cc
 
@@ -101,15 +127,17 @@ module _ (account : Account) (cursors : List Cursor) (a : Asked)
   ahead_by (Ok end_sessions_command) next s asks right told = absurd (let e = sym right.0 ∙ told in cc)
   ahead_by (Ok (write_command write)) next s asks right told = absurd (write_not_ahead write.kind right.0.dones s (sym right.0.says ∙ told))
   ahead_by (Ok (find_command find)) next s asks (inl first) told = absurd (first_not_ahead first.batch s (sym first.says ∙ told))
-  ahead_by (Ok (find_command find)) next s asks (inr refused) told = (refused_so find.reading s refused.0 told).0
-  ahead_by (Ok (count_command reading)) next s asks (inl counted) told = absurd (count_not_ahead counted.0.number counted.0.time s (sym counted.0.says ∙ told))
-  ahead_by (Ok (count_command reading)) next s asks (inr refused) told = (refused_so reading s refused.0 told).0
+  ahead_by (Ok (find_command find)) next s asks (inr refused) told = (unread_so find.reading s refused.0 told).0
+  ahead_by (Ok (count_command reading)) next s asks (inl counted, same) told = absurd (count_not_ahead counted.number counted.time s (sym counted.says ∙ told))
+  ahead_by (Ok (count_command reading)) next s asks (inr refused, same) told = (unread_so reading s refused told).0
   ahead_by (Ok (more_command more)) next s asks (inl shown) told = absurd (let e = sym shown.says ∙ told in cc)
   ahead_by (Ok (more_command more)) next s asks (inr none) told = absurd (let e = sym none.0.says ∙ told in cc)
   ahead_by (Ok (kill_command kill)) next s asks right told = absurd (let e = sym right.says ∙ told in cc)
-  ahead_by (Ok (shard_collection_command namespace)) next s asks right told = absurd (let e = sym right.0.says ∙ told in cc)
+  ahead_by (Ok (shard_collection_command namespace)) next s asks (inl sharded, same) told = absurd (let e = sym sharded.says ∙ told in cc)
+  ahead_by (Ok (shard_collection_command namespace)) next s asks (inr tells, same) told = absurd (not_ahead tells s told)
   ahead_by (Ok (split_command split)) next s asks (inl changed, same) told = absurd (let e = sym changed.says ∙ told in cc)
-  ahead_by (Ok (split_command split)) next s asks (inr none, same) told = absurd (let e = sym none ∙ told in cc)
+  ahead_by (Ok (split_command split)) next s asks (inr (inl none), same) told = absurd (let e = sym none ∙ told in cc)
+  ahead_by (Ok (split_command split)) next s asks (inr (inr tells), same) told = absurd (not_ahead tells s told)
   ahead_by (Err refusal) next s asks right told = absurd (never_ahead a.request refusal s asks (sym right.0 ∙ told))
 
   -- a greatest time that is returned is the router's
@@ -122,10 +150,9 @@ module _ (account : Account) (cursors : List Cursor) (a : Asked)
       → RightBy account cursors a t r next
       → t.document ≡ answer_document (refusal_answer (time_ahead s)) → IsAhead account a t reading
   read_ahead_by r next reading s (find_reads find) (inl first) told = absurd (first_not_ahead first.batch s (sym first.says ∙ told))
-  read_ahead_by r next reading s (find_reads find) (inr refused) told = (refused_so find.reading s refused.0 told).1
-  read_ahead_by r next reading s (count_reads other) (inl counted) told = absurd
-      (count_not_ahead counted.0.number counted.0.time s (sym counted.0.says ∙ told))
-  read_ahead_by r next reading s (count_reads other) (inr refused) told = (refused_so other s refused.0 told).1
+  read_ahead_by r next reading s (find_reads find) (inr refused) told = (unread_so find.reading s refused.0 told).1
+  read_ahead_by r next reading s (count_reads other) (inl counted, same) told = absurd (count_not_ahead counted.number counted.time s (sym counted.says ∙ told))
+  read_ahead_by r next reading s (count_reads other) (inr refused, same) told = (unread_so other s refused told).1
 
   -- a read that returns one is ahead
   pub is_ahead : (next : List Cursor) (reading : Reading) (s : ℕ) → Reads (command_of a.request) reading

@@ -21,21 +21,21 @@ use Rattle.pipeline_model.specs.Runs.{listed, count_documents}
 use Rattle.pipeline_model.specs.Lengths.{excess_of_answer}
 use Rattle.history_model.specs.History.{IsIn, Outcome}
 use Rattle.history_model.proofs.Lists.{in_cons, in_none}
-use Rattle.base_model.specs.Identities.{RequestId}
 use Rattle.reply_model.specs.Exchanges.{Asked, Answered}
 use Rattle.reply_model.specs.Accounts.{Account}
-use Rattle.reply_model.specs.Outcomes.{StatementOutcome, was_done, was_refused, Done, later, summary_of, time_of, answer_of}
+use Rattle.reply_model.specs.Outcomes.{Try, stale_refusal, StatementOutcome, was_done, was_refused, Done, AnyDone, later, summary_of, time_of, answer_of}
 use Rattle.reply_model.specs.Cursors.{Cursor, open_cursor, ShowsFirst, ShowsNext, Kills}
 use Rattle.reply_model.specs.Reads.{IsTimeRead, MayGive}
-use Rattle.reply_model.specs.Right.{AreTold, IsWhole, usual_size, asks_for_one, unless_silent, Reads, find_reads, count_reads, IsReadRefused, WasCreated, WasSplit, not_sharded, IsRight, right_write, right_find, right_count, right_refused_read, right_more, right_no_cursor, right_kill, right_shard, right_split, right_not_sharded, right_hello, right_legacy, right_ping, right_end_sessions, right_refusal}
+use Rattle.reply_model.specs.Right.{IsGivenUp, WereStale, AreTold, IsWhole, IsOneTask, usual_size, asks_for_one, unless_silent, Reads, find_reads, count_reads, IsReadRefused, WasCreated, WasSplit, not_sharded, IsRight, right_write, right_find, right_count, right_refused_read, right_stale, right_given_up, right_more, right_no_cursor, right_kill, right_shard, right_split, right_not_sharded, right_hello, right_legacy, right_ping, right_end_sessions, right_refusal}
 
 -- BY THE COMMAND
 
--- what is right of a write, by its request's number
-pub record TellsWrite (account : Account) (id : RequestId) (t : Answered) (write : WriteCommand) : Type 0 where
+-- what is right of a write
+pub record TellsWrite (account : Account) (a : Asked) (t : Answered) (write : WriteCommand) : Type 0 where
   pub dones : List Done
-  pub tells : AreTold account t write 0 write.operations dones
-  pub whole : write.number ≡ None → IsWhole account.history id write dones
+  pub tells : AreTold account a t write 0 write.operations dones
+  pub whole : write.number ≡ None → IsWhole account.history a.id write dones
+  pub created : AnyDone dones → WasCreated account.changes write.namespace t.time
   pub says : t.document ≡ answer_document (answer_of write.kind t.time dones)
 
 module _ (account : Account) (cursors : List Cursor) (a : Asked)
@@ -84,8 +84,22 @@ module _ (account : Account) (cursors : List Cursor) (a : Asked)
     pub begins : WasSplit account.changes split.namespace split.middle t.time
     pub says : t.document ≡ answer_document (changed_answer t.time)
 
-  abbrev IsReadRefusedHere : Reading → List Cursor → Type 0
-  IsReadRefusedHere reading next = IsReadRefused account a t reading × (next ≡ cursors)
+  -- the work is given up
+  pub record TellsGivenUp : Type 0 where
+    pub refusal : Refusal
+    pub why : IsGivenUp account a t refusal
+    pub says : t.document ≡ answer_document (refusal_answer refusal)
+
+  pub record TellsStale (reading : Reading) : Type 0 where
+    pub tries : List Try
+    pub were : WereStale account a reading.namespace tries
+    pub says : t.document ≡ answer_document (refusal_answer (stale_refusal tries))
+
+  -- why a read has no result
+  pub data IsNotRead (reading : Reading) : Type 0 where
+    not_read : IsReadRefused account a t reading → IsNotRead reading
+    not_tried : TellsStale reading → IsNotRead reading
+    not_finished : TellsGivenUp → IsNotRead reading
 
   -- what is right of a request that is read as this
   abbrev pub RightBy : Result Command Refusal → List Cursor → Type 0
@@ -93,23 +107,37 @@ module _ (account : Account) (cursors : List Cursor) (a : Asked)
   RightBy (Ok (legacy_command legacy)) next = (t.document ≡ answer_document (legacy_answer a.moment legacy.shows_hello_ok)) × (next ≡ cursors)
   RightBy (Ok ping_command) next = (t.document ≡ answer_document done_answer) × (next ≡ cursors)
   RightBy (Ok end_sessions_command) next = (t.document ≡ answer_document done_answer) × (next ≡ cursors)
-  RightBy (Ok (write_command write)) next = TellsWrite account a.id t write × (next ≡ cursors)
-  RightBy (Ok (find_command find)) next = TellsFirst find next ⊎ IsReadRefusedHere find.reading next
-  RightBy (Ok (count_command reading)) next = (TellsCount reading × (next ≡ cursors)) ⊎ IsReadRefusedHere reading next
+  RightBy (Ok (write_command write)) next = TellsWrite account a t write × (next ≡ cursors)
+  RightBy (Ok (find_command find)) next = TellsFirst find next ⊎ (IsNotRead find.reading × (next ≡ cursors))
+  RightBy (Ok (count_command reading)) next = (TellsCount reading ⊎ IsNotRead reading) × (next ≡ cursors)
   RightBy (Ok (more_command more)) next = TellsNext more next ⊎ (TellsNoCursor more × (next ≡ cursors))
   RightBy (Ok (kill_command kill)) next = TellsKilled kill next
-  RightBy (Ok (shard_collection_command namespace)) next = TellsSharded namespace × (next ≡ cursors)
-  RightBy (Ok (split_command split)) next = (TellsSplit split ⊎ (t.document ≡ not_sharded)) × (next ≡ cursors)
+  RightBy (Ok (shard_collection_command namespace)) next = (TellsSharded namespace ⊎ TellsGivenUp) × (next ≡ cursors)
+  RightBy (Ok (split_command split)) next = (TellsSplit split ⊎ ((t.document ≡ not_sharded) ⊎ TellsGivenUp)) × (next ≡ cursors)
   RightBy (Err refusal) next = (t.document ≡ answer_document (refusal_answer refusal)) × (next ≡ cursors)
 
-  refused_by : (r : Result Command Refusal) (reading : Reading) → Reads r reading → IsReadRefused account a t reading → RightBy r cursors
-  refused_by r reading (find_reads find) refused = inr (refused, refl)
-  refused_by r reading (count_reads other) refused = inr (refused, refl)
+  not_read_by : (r : Result Command Refusal) (reading : Reading) → Reads r reading → IsNotRead reading → RightBy r cursors
+  not_read_by r reading (find_reads find) not = inr (not, refl)
+  not_read_by r reading (count_reads other) not = (inr not, refl)
+
+  given_up_by : (r : Result Command Refusal) → IsOneTask r → TellsGivenUp → RightBy r cursors
+  given_up_by (Ok hello_command) task tells = absurd task
+  given_up_by (Ok (legacy_command legacy)) task tells = absurd task
+  given_up_by (Ok ping_command) task tells = absurd task
+  given_up_by (Ok end_sessions_command) task tells = absurd task
+  given_up_by (Ok (write_command write)) task tells = absurd task
+  given_up_by (Ok (find_command find)) task tells = inr (not_finished tells, refl)
+  given_up_by (Ok (count_command reading)) task tells = (inr (not_finished tells), refl)
+  given_up_by (Ok (more_command more)) task tells = absurd task
+  given_up_by (Ok (kill_command kill)) task tells = absurd task
+  given_up_by (Ok (shard_collection_command namespace)) task tells = (inr tells, refl)
+  given_up_by (Ok (split_command split)) task tells = (inr (inr tells), refl)
+  given_up_by (Err refusal) task tells = absurd task
 
   -- a reply is right by what its request is
   pub right_by : (next : List Cursor) → IsRight account cursors a t next → RightBy (command_of a.request) next
-  right_by next (right_write write dones c wants tells whole begun name at says) =
-      subst (λ r. RightBy r cursors) (sym wants) (record { dones = dones; tells = tells; whole = whole; says = says }, refl)
+  right_by next (right_write write dones wants tells whole created says) =
+      subst (λ r. RightBy r cursors) (sym wants) (record { dones = dones; tells = tells; whole = whole; created = created; says = says }, refl)
   right_by next (right_find find time documents batch after wants read gives small name at shows says) =
       subst (λ r. RightBy r after) (sym wants)
       (inl (record {
@@ -123,8 +151,11 @@ module _ (account : Account) (cursors : List Cursor) (a : Asked)
         says = says;
       }))
   right_by next (right_count reading time n wants read gives says) =
-      subst (λ r. RightBy r cursors) (sym wants) (inl (record { time = time; number = n; read = read; gives = gives; says = says }, refl))
-  right_by next (right_refused_read reading wants refused) = refused_by (command_of a.request) reading wants refused
+      subst (λ r. RightBy r cursors) (sym wants) (inl (record { time = time; number = n; read = read; gives = gives; says = says }), refl)
+  right_by next (right_refused_read reading wants refused) = not_read_by (command_of a.request) reading wants (not_read refused)
+  right_by next (right_stale reading tries wants were says) =
+      not_read_by (command_of a.request) reading wants (not_tried (record { tries = tries; were = were; says = says }))
+  right_by next (right_given_up refusal task why says) = given_up_by (command_of a.request) task (record { refusal = refusal; why = why; says = says })
   right_by next (right_more more c batch shown wants found shows says) =
       subst (λ r. RightBy r (unless_silent a.request cursors shown)) (sym wants)
       (inl (record { cursor = c; batch = batch; shown = shown; found = found; shows = shows; then = refl; says = says }))
@@ -132,9 +163,9 @@ module _ (account : Account) (cursors : List Cursor) (a : Asked)
   right_by next (right_kill kill killed missing after wants kills says) =
       subst (λ r. RightBy r after) (sym wants) (record { killed = killed; missing = missing; kills = kills; says = says })
   right_by next (right_shard namespace wants created says) =
-      subst (λ r. RightBy r cursors) (sym wants) (record { created = created; says = says }, refl)
+      subst (λ r. RightBy r cursors) (sym wants) (inl (record { created = created; says = says }), refl)
   right_by next (right_split split wants begins says) = subst (λ r. RightBy r cursors) (sym wants) (inl (record { begins = begins; says = says }), refl)
-  right_by next (right_not_sharded split wants says) = subst (λ r. RightBy r cursors) (sym wants) (inr says, refl)
+  right_by next (right_not_sharded split wants says) = subst (λ r. RightBy r cursors) (sym wants) (inr (inl says), refl)
   right_by next (right_hello wants says) = subst (λ r. RightBy r cursors) (sym wants) (says, refl)
   right_by next (right_legacy legacy wants says) = subst (λ r. RightBy r cursors) (sym wants) (says, refl)
   right_by next (right_ping wants says) = subst (λ r. RightBy r cursors) (sym wants) (says, refl)

@@ -15,35 +15,36 @@ use Rattle.history_model.proofs.Lists.{all_at, in_first}
 use Rattle.reply_model.specs.Exchanges.{Asked, Answered}
 use Rattle.reply_model.specs.Accounts.{Dated, Account}
 use Rattle.reply_model.specs.Right.{WasCreated, WasSplit, not_sharded}
-use Rattle.reply_model.specs.OneHistory.{IsCaused, WasAbsent, changes_by}
+use Rattle.reply_model.specs.OneHistory.{Shows, IsCausedWrite, IsCaused, WasAbsent, changes_by}
 use Rattle.reply_laws.specs.SampleExchanges.{created}
 
 -- what a reply to a request with this command says was so by its step
-pub record IsCausedFor (dated : List Dated) (came : ℕ) (t : Answered) (command : Result Command Refusal) : Type 0 where
-  pub written : (write : WriteCommand) → command ≡ Ok (write_command write) → WasCreated (changes_by dated t) write.namespace t.time
-  pub created : (namespace : List ℕ) → command ≡ Ok (shard_collection_command namespace) → WasCreated (changes_by dated t) namespace t.time
+pub record IsCausedFor (account : Account) (a : Asked) (t : Answered) (command : Result Command Refusal) : Type 0 where
+  pub written : (write : WriteCommand) → command ≡ Ok (write_command write) → a.id ≡ t.id → IsCausedWrite account a t write
+  pub created : (namespace : List ℕ) → command ≡ Ok (shard_collection_command namespace) → WasCreated (changes_by account.dated t) namespace t.time
   pub begins : (split : SplitCommand) → command ≡ Ok (split_command split) → t.document ≡ answer_document (changed_answer t.time)
-      → WasSplit (changes_by dated t) split.namespace split.middle t.time
-  pub absent : (split : SplitCommand) → command ≡ Ok (split_command split) → t.document ≡ not_sharded → WasAbsent dated split.namespace came t.step
+      → WasSplit (changes_by account.dated t) split.namespace split.middle t.time
+  pub absent : (split : SplitCommand) → command ≡ Ok (split_command split) → t.document ≡ not_sharded
+      → WasAbsent account.dated split.namespace a.came t.step
 
 -- of each of these requests
 pub caused_by : (account : Account) (t : Answered)
-    → AllByRecursion (λ (a : Asked). IsCausedFor account.dated a.came t (command_of a.request)) account.asked → IsCaused account t
+    → AllByRecursion (λ (a : Asked). IsCausedFor account a t (command_of a.request)) account.asked → IsCaused account t
 caused_by account t all = record {
-  written = λ a write to. (of_request a to.taken).written write to.asks;
+  written = λ a write to. (of_request a to.taken).written write to.asks to.own;
   created = λ a namespace to says. (of_request a to.taken).created namespace to.asks;
   begins = λ a split to says. (of_request a to.taken).begins split to.asks says;
   absent = λ a split to says. (of_request a to.taken).absent split to.asks says;
 }
   where
-    of_request : (a : Asked) → IsIn a account.asked → IsCausedFor account.dated a.came t (command_of a.request)
-    of_request a i = all_at (λ (b : Asked). IsCausedFor account.dated b.came t (command_of b.request)) a account.asked all i
+    of_request : (a : Asked) → IsIn a account.asked → IsCausedFor account a t (command_of a.request)
+    of_request a i = all_at (λ (b : Asked). IsCausedFor account b t (command_of b.request)) a account.asked all i
 
 -- BY THE COMMAND
 
-module _ (dated : List Dated) (came : ℕ) (t : Answered) where
+module _ (account : Account) (a : Asked) (t : Answered) where
   abbrev For : Command → Type 0
-  For command = IsCausedFor dated came t (Ok command)
+  For command = IsCausedFor account a t (Ok command)
 
   one_write : (write other : WriteCommand) → Path (Result Command Refusal) (Ok (write_command write)) (Ok (write_command other)) → write ≡ other
   one_write write other same = cc
@@ -55,9 +56,11 @@ module _ (dated : List Dated) (came : ℕ) (t : Answered) where
   one_split : (split other : SplitCommand) → Path (Result Command Refusal) (Ok (split_command split)) (Ok (split_command other)) → split ≡ other
   one_split split other same = cc
 
-  pub by_write : (write : WriteCommand) → WasCreated (changes_by dated t) write.namespace t.time → For (write_command write)
-  by_write write was = record {
-    written = λ other same. subst (λ (w : WriteCommand). WasCreated (changes_by dated t) w.namespace t.time) (one_write write other same) was;
+  pub by_write : (write : WriteCommand) → (a.id ≡ t.id → Shows account a t write) → WasCreated (changes_by account.dated t) write.namespace t.time
+      → For (write_command write)
+  by_write write shows was = record {
+    written = λ other same own. subst (λ (w : WriteCommand). IsCausedWrite account a t w) (one_write write other same)
+        (record { shown = shows own; created = λ any. was });
     created = λ namespace same. absurd (cc);
     begins = λ split same says. absurd (cc);
     absent = λ split same says. absurd (cc);
@@ -65,29 +68,29 @@ module _ (dated : List Dated) (came : ℕ) (t : Answered) where
 
   pub by_find : (find : Find) → For (find_command find)
   by_find find = record {
-    written = λ write same. absurd (cc);
+    written = λ write same own. absurd (cc);
     created = λ namespace same. absurd (cc);
     begins = λ split same says. absurd (cc);
     absent = λ split same says. absurd (cc);
   }
 
-  pub by_shard : (namespace : List ℕ) → WasCreated (changes_by dated t) namespace t.time → For (shard_collection_command namespace)
+  pub by_shard : (namespace : List ℕ) → WasCreated (changes_by account.dated t) namespace t.time → For (shard_collection_command namespace)
   by_shard namespace was = record {
-    written = λ write same. absurd (cc);
-    created = λ other same. subst (λ (n : List ℕ). WasCreated (changes_by dated t) n t.time) (one_name namespace other same) was;
+    written = λ write same own. absurd (cc);
+    created = λ other same. subst (λ (n : List ℕ). WasCreated (changes_by account.dated t) n t.time) (one_name namespace other same) was;
     begins = λ split same says. absurd (cc);
     absent = λ split same says. absurd (cc);
   }
 
   pub by_split : (split : SplitCommand)
-      → (t.document ≡ answer_document (changed_answer t.time) → WasSplit (changes_by dated t) split.namespace split.middle t.time)
-      → (t.document ≡ not_sharded → WasAbsent dated split.namespace came t.step) → For (split_command split)
+      → (t.document ≡ answer_document (changed_answer t.time) → WasSplit (changes_by account.dated t) split.namespace split.middle t.time)
+      → (t.document ≡ not_sharded → WasAbsent account.dated split.namespace a.came t.step) → For (split_command split)
   by_split split was none = record {
-    written = λ write same. absurd (cc);
+    written = λ write same own. absurd (cc);
     created = λ namespace same. absurd (cc);
     begins = λ other same says.
-        subst (λ (s : SplitCommand). WasSplit (changes_by dated t) s.namespace s.middle t.time) (one_split split other same) (was says);
-    absent = λ other same says. subst (λ (s : SplitCommand). WasAbsent dated s.namespace came t.step) (one_split split other same) (none says);
+        subst (λ (s : SplitCommand). WasSplit (changes_by account.dated t) s.namespace s.middle t.time) (one_split split other same) (was says);
+    absent = λ other same says. subst (λ (s : SplitCommand). WasAbsent account.dated s.namespace a.came t.step) (one_split split other same) (none says);
   }
 
 -- d.c was created, by the one change that was made by the step

@@ -17,7 +17,8 @@ use Rattle.reply_model.specs.Exchanges.{Answered}
 use Rattle.reply_laws.specs.SampleExchanges.{account_with}
 use Rattle.reply_model.specs.Cursors.{Cursor}
 use Rattle.reply_model.specs.Right.{WasSplit, IsRight, not_sharded}
-use Rattle.reply_facts.proofs.RightAnswers.{TellsSplit, right_of}
+use Rattle.reply_facts.proofs.RightAnswers.{TellsSharded, TellsSplit, TellsGivenUp, right_of}
+use Rattle.reply_laws.proofs.Quiet.{never_given_up}
 use Rattle.reply_laws.specs.SampleChunks.{sharding, splitting}
 
 -- the change creates d.c, by this time
@@ -29,9 +30,13 @@ Creates time (commit_change c) = ⊥
 pub wrongly_sharded : (changes : List Change) (t : Answered) (next : List Cursor) → AllByRecursion (λ (x : Change). Creates t.time x → ⊥) changes
     → IsRight (account_with changes [] [] []) [] sharding t next → ⊥
 wrongly_sharded changes t next none right =
-    let told = (right_of (account_with changes [] [] []) [] sharding t (Ok (shard_collection_command (codes "d.c"))) next refl right).0 in
-    all_at (λ (x : Change). Creates t.time x → ⊥) (create_change told.created.creation) changes none told.created.begun
-    (told.created.name, told.created.before)
+    by_told (right_of (account_with changes [] [] []) [] sharding t (Ok (shard_collection_command (codes "d.c"))) next refl right).0
+  where
+    by_told : TellsSharded (account_with changes [] [] []) [] sharding t (codes "d.c") ⊎ TellsGivenUp (account_with changes [] [] []) [] sharding t → ⊥
+    by_told (inl told) =
+        all_at (λ (x : Change). Creates t.time x → ⊥) (create_change told.created.creation) changes none told.created.begun
+        (told.created.name, told.created.before)
+    by_told (inr tells) = never_given_up (account_with changes [] [] []) sharding t refl refl tells.refusal tells.why
 
 -- a chunk of the table begins at 5
 abbrev pub begins_in : Option Table → Bool
@@ -66,9 +71,11 @@ module _ (changes : List Change) (t : Answered) (never : NeverBegins t.time chan
       by_told (right_of (account_with changes [] [] []) [] splitting t (Ok (split_command (record { namespace = codes "d.c"; middle = five }))) next refl
       right).0
     where
-      by_told : TellsSplit (account_with changes [] [] []) [] splitting t (record { namespace = codes "d.c"; middle = five }) ⊎ (t.document ≡ not_sharded) → ⊥
+      by_told : TellsSplit (account_with changes [] [] []) [] splitting t (record { namespace = codes "d.c"; middle = five })
+          ⊎ ((t.document ≡ not_sharded) ⊎ TellsGivenUp (account_with changes [] [] []) [] splitting t) → ⊥
       by_told (inl changed) = unsplit changed.begins
-      by_told (inr none) = told none
+      by_told (inr (inl none)) = told none
+      by_told (inr (inr tells)) = never_given_up (account_with changes [] [] []) splitting t refl refl tells.refusal tells.why
 
 -- WHICH REPLY IT IS
 

@@ -20,9 +20,10 @@ use Rattle.reply_model.specs.Exchanges.{Asked, Answered}
 use Rattle.reply_model.specs.Accounts.{Account}
 use Rattle.reply_model.specs.Cursors.{Cursor, has_number, open_cursor, with_remaining, IsNewNumber, Opens, opens_none, opens_one, ShowsFirst, ShowsNext, number_left}
 use Rattle.reply_model.specs.Reads.{MayGive}
-use Rattle.reply_model.specs.Right.{asks_for_one, usual_size, IsReadRefused, refused_overflow, refused_excess, refused_ahead, unless_silent}
+use Rattle.reply_model.specs.Right.{asks_for_one, usual_size, unless_silent}
 use Rattle.reply_model.specs.OneHistory.{IsRightOf, AreRight, nothing_told, then_told}
 use Rattle.reply_laws.specs.CursorReplies.{OpensCursor, AsksMore, AsksToClose, Shows, shows_nothing, shows_batch, shows_other, EndsCursor, shows_last, closes}
+use Rattle.reply_laws.proofs.Quiet.{never_batch}
 use Rattle.reply_facts.proofs.RightAnswers.{RightBy, right_by, right_of, TellsNext, same_first, same_next}
 use Rattle.reply_laws.proofs.StandingCursors.{Stands, StandsStill, IsNamed, cursor_with, found_open, number_found, found_standing, none_found, itself, named, set_own, set_other, opens_stays, found_still, kills_still, kills_leave, kills_end}
 
@@ -113,12 +114,7 @@ module _ (account : Account) where
 
     first_of : (a : Asked) (cursors next : List Cursor) → a.id ≡ s.id → OpensCursor s find first
         → RightBy account cursors a s (Ok (find_command find)) next → IsOpened cursors next
-    first_of a cursors next own opens (inr refused) = absurd (not_refused refused.0)
-      where
-        not_refused : IsReadRefused account a s find.reading → ⊥
-        not_refused (refused_overflow time read gives says) = let e = sym says ∙ opens.told in cc
-        not_refused (refused_excess time n read excess says) = let e = sym says ∙ opens.told in cc
-        not_refused (refused_ahead ahead says) = let e = sym says ∙ opens.told in cc
+    first_of a cursors next own opens (inr refused) = absurd (never_batch account cursors a s find.reading first opens.told refused.0)
     first_of a cursors next own opens (inl told) =
         let same : told.batch ≡ first = same_first told.batch first (sym told.says ∙ opens.told) in
         let shows = subst (λ (b : Batch). ShowsFirst a.id (unwrap_or find.batches.size usual_size)
@@ -178,8 +174,7 @@ module _ (account : Account) where
       stays_ended = λ none. none;
     }
     still_by (Ok (find_command other)) a t cursors next remaining (inr refused) there = same_still remaining cursors next refused.1 there
-    still_by (Ok (count_command reading)) a t cursors next remaining (inl counted) there = same_still remaining cursors next counted.1 there
-    still_by (Ok (count_command reading)) a t cursors next remaining (inr refused) there = same_still remaining cursors next refused.1 there
+    still_by (Ok (count_command reading)) a t cursors next remaining right there = same_still remaining cursors next right.1 there
     still_by (Ok (more_command more)) a t cursors next remaining (inl told) there = shown_still a t more cursors next remaining told a.request.more refl there
     still_by (Ok (more_command more)) a t cursors next remaining (inr none) there = same_still remaining cursors next none.1 there
     still_by (Ok (kill_command kill)) a t cursors next remaining right there =
@@ -254,10 +249,8 @@ module _ (account : Account) where
         (drop (length told.batch.documents) told.documents) told.batch.cursor next remaining told.shows.opens there
     leaves_by (Ok (find_command other)) a t cursors next remaining own same asks never closed (inr refused) there =
         same_there remaining cursors next refused.1 there
-    leaves_by (Ok (count_command reading)) a t cursors next remaining own same asks never closed (inl counted) there =
-        same_there remaining cursors next counted.1 there
-    leaves_by (Ok (count_command reading)) a t cursors next remaining own same asks never closed (inr refused) there =
-        same_there remaining cursors next refused.1 there
+    leaves_by (Ok (count_command reading)) a t cursors next remaining own same asks never closed right there =
+        same_there remaining cursors next right.1 there
     leaves_by (Ok (more_command more)) a t cursors next remaining own same asks never closed (inl told) there =
         leaves_shown a t more cursors next remaining own same asks never told a.request.more refl there
     leaves_by (Ok (more_command more)) a t cursors next remaining own same asks never closed (inr none) there = same_there remaining cursors next none.1 there

@@ -23,9 +23,10 @@ use Rattle.base_model.specs.Identities.{RequestId}
 use Rattle.reply_model.specs.Exchanges.{Asked, Answered}
 use Rattle.reply_model.specs.Cursors.{Cursor, IsNewNumber, Opens, opens_none, opens_one, ShowsFirst}
 use Rattle.reply_model.specs.Reads.{IsTimeRead, MayGive}
-use Rattle.reply_model.specs.Right.{asks_for_one, usual_size, IsReadRefused, refused_overflow, refused_excess, refused_ahead, IsRight, right_find}
+use Rattle.reply_model.specs.Right.{asks_for_one, usual_size, IsRight, right_find}
 use Rattle.reply_facts.specs.Earlier.{found}
 use Rattle.reply_laws.specs.SampleExchanges.{IsToldRightly, id_is, find_of, account_of}
+use Rattle.reply_laws.proofs.Quiet.{never_batch}
 use Rattle.reply_facts.proofs.RightAnswers.{RightBy, right_of, same_first}
 use Rattle.reply_laws.proofs.SpanReads.{runs_of_key}
 
@@ -116,11 +117,6 @@ pub tells_key : (history : List Entry) (a : Asked) (t : Answered) (next : List C
 tells_key history a t next key at documents time right asks own loud says =
     by_told (right_of (account_of history [] []) [] a t (Ok (find_command (find_of key at))) next asks right)
   where
-    not_refused : IsReadRefused (account_of history [] []) a t (find_of key at).reading → ⊥
-    not_refused (refused_overflow when read gives told) = let e = sym told ∙ says in cc
-    not_refused (refused_excess when n read excess told) = let e = sym told ∙ says in cc
-    not_refused (refused_ahead ahead told) = let e = sym told ∙ says in cc
-
     of_whole : (shown whole : List Fields) → shown ≡ take (length shown) whole → drop (length shown) whole ≡ [] → whole ≡ shown
     of_whole [] whole front none = none
     of_whole (d ∷ shown) [] front none = absurd (cc)
@@ -131,7 +127,8 @@ tells_key history a t next key at documents time right asks own loud says =
         cc
 
     by_told : RightBy (account_of history [] []) [] a t (Ok (find_command (find_of key at))) next → TellsKey history a t key at documents time
-    by_told (inr refused) = absurd (not_refused refused.0)
+    by_told (inr refused) =
+        absurd (never_batch (account_of history [] []) [] a t (find_of key at).reading (told_of documents time) says refused.0)
     by_told (inl told) =
         let same : told.batch ≡ told_of documents time = same_first told.batch (told_of documents time) (sym told.says ∙ says) in
         let shows = subst (λ (b : Batch). ShowsFirst a.id (unwrap_or (find_of key at).batches.size usual_size)

@@ -1,3 +1,4 @@
+pub mod Quiet
 pub mod FilteredOrders
 pub mod SpanDocuments
 pub mod FoundDocuments

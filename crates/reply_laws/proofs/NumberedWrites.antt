@@ -5,7 +5,7 @@ use Rattle.std.specs.List.{AllByRecursion}
 use Rattle.bson_model.specs.Tree.{Fields}
 use Rattle.command_model.specs.Writes.{ClientNumber, WriteCommand, WriteKind}
 use Rattle.command_model.specs.Answers.{answer_document}
-use Rattle.command_model.specs.Command.{command_of, write_command}
+use Rattle.command_model.specs.Command.{command_of, time_limit, write_command}
 use Rattle.base_model.specs.Times.{timestamp}
 use Rattle.chunk_model.specs.SampleCollections.{creation}
 use Rattle.chunk_model.specs.Changes.{create_change}
@@ -14,10 +14,11 @@ use Rattle.history_model.proofs.Lists.{all_at, in_first}
 use Rattle.reply_model.specs.Exchanges.{Asked, Answered, number_for}
 use Rattle.reply_model.specs.Accounts.{Account}
 use Rattle.reply_model.specs.Outcomes.{StatementOutcome, is_older, Done, answer_by, fails, answer_of}
-use Rattle.reply_model.specs.Right.{IsStatement, HadSent, MayBeTold, told_own, told_other, told_older, AreTold, right_write}
+use Rattle.reply_model.specs.Right.{IsStatement, HadSent, MayBeTold, told_own, told_other, told_older, told_stale, told_given_up, AreTold, right_write}
 use Rattle.reply_laws.specs.SampleExchanges.{tells, account_of}
 use Rattle.reply_laws.specs.SampleRetries.{IsToldJust, IsUntold}
 use Rattle.reply_facts.proofs.RightAnswers.{right_of}
+use Rattle.reply_laws.proofs.Quiet.{IsQuiet, quiet}
 use Rattle.reply_facts.proofs.Statements.{UnlessEnded}
 
 -- the outcomes from this index on
@@ -34,16 +35,18 @@ pub record Gives (asked : List Asked) (t : Answered) (number : StatementNumber) 
   pub other : e.number ≡ number → e.time ≤ t.time → HadSent asked e t → P (answer_by e)
   pub older : e.number.session ≡ number.session → int_lt number.transaction e.number.transaction ≡ true → HadSent asked e t → P (is_older e.number.transaction)
 
-pub told_by_entries : (account : Account) (t : Answered) (given : Option ClientNumber) (number : StatementNumber) (namespace : List ℕ)
+pub told_by_entries : (account : Account) (a : Asked) (t : Answered) (quiet : IsQuiet account a t) (given : Option ClientNumber) (number : StatementNumber) (namespace : List ℕ)
     (operation : Operation)
     (P : StatementOutcome → Type 0) (answer : StatementOutcome) → AllByRecursion (Gives account.asked t number namespace operation P) account.history
-    → MayBeTold account t given number namespace operation answer → P answer
-told_by_entries account t given number namespace operation P answer all (told_own e i is early) =
+    → MayBeTold account a t given number namespace operation answer → P answer
+told_by_entries account a t quiet given number namespace operation P answer all (told_own e i is early) =
     (all_at (Gives account.asked t number namespace operation P) e account.history all i).own is early
-told_by_entries account t given number namespace operation P answer all (told_other e by i some is early had) =
+told_by_entries account a t quiet given number namespace operation P answer all (told_other e by i some is early had) =
     (all_at (Gives account.asked t number namespace operation P) e account.history all i).other is early had
-told_by_entries account t given number namespace operation P answer all (told_older e by i some session less early had) =
+told_by_entries account a t quiet given number namespace operation P answer all (told_older e by i some session less early had) =
     (all_at (Gives account.asked t number namespace operation P) e account.history all i).older session less had
+told_by_entries account a t quiet given number namespace operation P answer all (told_stale tries were) = absurd (quiet.0 namespace tries were)
+told_by_entries account a t quiet given number namespace operation P answer all (told_given_up refusal is) = absurd (quiet.1 refusal is)
 
 module _ (asked : List Asked) (t : Answered) (number : StatementNumber) where
   -- another session's gives none
@@ -97,7 +100,8 @@ module _ (asked : List Asked) (t : Answered) (number : StatementNumber) where
 
 -- WHICH OUTCOMES A COMMAND MAY HAVE
 
-module _ (history : List Entry) (asked : List Asked) (a : Asked) (step counter : ℕ) (kind : WriteKind) (ordered : Bool) (by : ClientNumber) where
+module _ (history : List Entry) (asked : List Asked) (a : Asked) (step counter : ℕ) (kind : WriteKind) (ordered : Bool) (by : ClientNumber)
+    (free : time_limit a.request ≡ 0) where
   abbrev pub command_with : List Operation → WriteCommand
   command_with operations = record { kind = kind; namespace = codes "d.c"; operations = operations; ordered = ordered; number = Some by }
 
@@ -106,7 +110,7 @@ module _ (history : List Entry) (asked : List Asked) (a : Asked) (step counter :
   AreJust index [] answers = answers ≡ []
   AreJust index (operation ∷ operations) [] = ⊥
   AreJust index (operation ∷ operations) (answer ∷ answers) =
-      ((document : Fields) → MayBeTold (account_of history asked []) (tells a step counter document) (Some by) (number_for (Some by) a.id index)
+      ((document : Fields) → MayBeTold (account_of history asked []) a (tells a step counter document) (Some by) (number_for (Some by) a.id index)
       (codes "d.c") operation answer)
       × ((document : Fields) → AllByRecursion
       (Gives asked (tells a step counter document) (number_for (Some by) a.id index) (codes "d.c") operation (λ x. x ≡ answer)) history)
@@ -114,7 +118,7 @@ module _ (history : List Entry) (asked : List Asked) (a : Asked) (step counter :
 
   module _ (operations : List Operation) (document : Fields) where
     abbrev Told : ℕ → List Operation → List Done → Type 0
-    Told index rest dones = AreTold (account_of history asked []) (tells a step counter document) (command_with operations) index rest dones
+    Told index rest dones = AreTold (account_of history asked []) a (tells a step counter document) (command_with operations) index rest dones
 
     just_told : (index : ℕ) (rest : List Operation) (answers : List StatementOutcome) → AreJust index rest answers → Told index rest (dones_from index answers)
     just_told index [] answers just = ap (λ (xs : List StatementOutcome). dones_from index xs) just
@@ -145,7 +149,7 @@ module _ (history : List Entry) (asked : List Asked) (a : Asked) (step counter :
         same : d ≡ record { index = index; answer = answer }
         same =
             let says : d.answer ≡ answer =
-            told_by_entries (account_of history asked []) (tells a step counter document) (Some by) (number_for (Some by) a.id index) (codes "d.c") operation
+            told_by_entries (account_of history asked []) a (tells a step counter document) (quiet history asked [] a (tells a step counter document) free) (Some by) (number_for (Some by) a.id index) (codes "d.c") operation
             (λ x. x ≡ answer) d.answer
             (just.1 document) told.1 in
             λ i. record { index = told.0 i; answer = says i }
@@ -160,8 +164,8 @@ module _ (history : List Entry) (asked : List Asked) (a : Asked) (step counter :
       → AreJust 0 operations answers → creation.at ≤ timestamp 1000 counter
       → document ≡ answer_document (answer_of kind (timestamp 1000 counter) (dones_from 0 answers)) → IsToldJust history asked a step counter document
   told_just operations answers document asks just begun says = (
-    right_write (command_with operations) (dones_from 0 answers) creation asks (just_told operations document 0 operations answers just) (λ none. absurd (cc))
-        (in_first (create_change creation) []) refl begun says,
+    right_write (command_with operations) (dones_from 0 answers) asks (just_told operations document 0 operations answers just) (λ none. absurd (cc))
+        (λ any. record { creation = creation; begun = in_first (create_change creation) []; name = refl; before = begun }) says,
     λ other next right.
         let told = (right_of (account_of history asked []) [] a (tells a step counter other)
         (Ok (write_command (command_with operations))) next asks right).0 in
@@ -182,9 +186,9 @@ module _ (history : List Entry) (asked : List Asked) (a : Asked) (step counter :
       no_first told.dones told.tells
     where
       no_first : (dones : List Done)
-          → AreTold (account_of history asked []) (tells a step counter other) (command_with (operation ∷ rest)) 0 (operation ∷ rest) dones → ⊥
+          → AreTold (account_of history asked []) a (tells a step counter other) (command_with (operation ∷ rest)) 0 (operation ∷ rest) dones → ⊥
       no_first [] told = told
       no_first (d ∷ dones) told =
-          told_by_entries (account_of history asked []) (tells a step counter other) (Some by) (number_for (Some by) a.id 0) (codes "d.c") operation
+          told_by_entries (account_of history asked []) a (tells a step counter other) (quiet history asked [] a (tells a step counter other) free) (Some by) (number_for (Some by) a.id 0) (codes "d.c") operation
           (λ x. ⊥) d.answer
           (none other) told.1

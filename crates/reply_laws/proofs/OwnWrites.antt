@@ -8,7 +8,7 @@ use Rattle.base_model.specs.Refusals.{Refusal}
 use Rattle.bson_model.specs.Tree.{Fields}
 use Rattle.command_model.specs.Writes.{ClientNumber, WriteCommand, WriteKind}
 use Rattle.command_model.specs.Answers.{answer_document}
-use Rattle.command_model.specs.Command.{Command, command_of, write_command}
+use Rattle.command_model.specs.Command.{Command, command_of, time_limit, write_command}
 use Rattle.chunk_model.specs.SampleCollections.{creation}
 use Rattle.chunk_model.specs.Tables.{first_shard}
 use Rattle.chunk_model.specs.Changes.{create_change}
@@ -18,10 +18,12 @@ use Rattle.base_model.specs.Identities.{RequestId}
 use Rattle.reply_model.specs.Exchanges.{Asked, Answered, number_for, is_session_of, entries_by}
 use Rattle.reply_laws.specs.SampleExchanges.{tells, account_of}
 use Rattle.reply_laws.specs.SampleRetries.{IsUntold}
+use Rattle.reply_laws.proofs.Quiet.{IsQuiet, quiet}
 use Rattle.reply_laws.proofs.NumberedWrites.{Gives, told_by_entries}
-use Rattle.reply_model.specs.Outcomes.{Done, answer_by, done_of, answer_of}
+use Rattle.reply_model.specs.Outcomes.{StatementOutcome, WasDone, Done, answer_by, done_of, answer_of}
+use Rattle.reply_model.specs.Accounts.{Account}
 use Rattle.reply_model.specs.Cursors.{Cursor}
-use Rattle.reply_model.specs.Right.{MayBeTold, told_own, AreTold, AreStatements, AreSingle, IsPart, IsShown, IsWhole, told_by, ends, IsRight, right_write}
+use Rattle.reply_model.specs.Right.{MayBeTold, told_own, told_other, told_older, told_stale, told_given_up, AreTold, AreStatements, AreSingle, IsPart, IsShown, IsWhole, told_by, ends, IsRight, right_write}
 use Rattle.reply_model.specs.OneHistory.{AreNumbered, EndsBefore, Shows}
 use Rattle.reply_facts.proofs.Requests.{by_in, entry_by, own_session}
 use Rattle.reply_facts.proofs.RightAnswers.{TellsWrite, right_of}
@@ -105,16 +107,25 @@ all_shown (e ∷ entries) = (
       (all_shown entries),
 )
 
-module _ (history : List Entry) (asked : List Asked) (t : Answered) (write : WriteCommand) (none : write.number ≡ None) (answered : List Answered) where
+-- where nothing is given up each statement was applied
+pub was_done_own : (account : Account) (a : Asked) (t : Answered) → IsQuiet account a t → (number : StatementNumber) (namespace : List ℕ)
+    (operation : Operation) (answer : StatementOutcome) → MayBeTold account a t None number namespace operation answer → WasDone answer
+was_done_own account a t quiet number namespace operation answer (told_own e i is at) = tt
+was_done_own account a t quiet number namespace operation answer (told_other e by i some is at had) = absurd (cc)
+was_done_own account a t quiet number namespace operation answer (told_older e by i some is less at had) = absurd (cc)
+was_done_own account a t quiet number namespace operation answer (told_stale tries were) = absurd (quiet.0 namespace tries were)
+was_done_own account a t quiet number namespace operation answer (told_given_up refusal is) = absurd (quiet.1 refusal is)
+
+module _ (history : List Entry) (asked : List Asked) (a : Asked) (t : Answered) (write : WriteCommand) (none : write.number ≡ None) (answered : List Answered) where
   -- it may have the outcomes of its entries
   own_told : (index : ℕ) (operations : List Operation) (entries : List Entry) → AreStatements t.id write.namespace write.ordered index operations entries
       → AreAll write.ordered operations (map done_of entries) → ((e : Entry) → IsIn e entries → IsIn e history × (e.time ≤ t.time))
-      → AreTold (account_of history asked answered) t write index operations (map done_of entries)
+      → AreTold (account_of history asked answered) a t write index operations (map done_of entries)
   own_told index [] entries are all stand = all
   own_told index (operation ∷ operations) [] are all stand = absurd all
   own_told index (operation ∷ operations) (e ∷ entries) are all stand = (
     ap (λ (n : StatementNumber). n.index) are.0.same_number,
-    subst (λ (given : Option ClientNumber). MayBeTold (account_of history asked answered) t given (number_for given t.id index) write.namespace operation
+    subst (λ (given : Option ClientNumber). MayBeTold (account_of history asked answered) a t given (number_for given t.id index) write.namespace operation
         (answer_by e)) (sym none)
         (told_own e here.0 are.0 here.1),
     by_end (ends write.ordered (done_of e)) all (λ every. own_told (index + 1) operations entries are.2 every (λ x i. stand x (in_later x e entries i))),
@@ -125,69 +136,87 @@ module _ (history : List Entry) (asked : List Asked) (t : Answered) (write : Wri
 
       by_end : (b : Bool) → UnlessEnded b (map done_of entries) (AreAll write.ordered operations (map done_of entries))
           → (AreAll write.ordered operations (map done_of entries)
-          → AreTold (account_of history asked answered) t write (index + 1) operations (map done_of entries))
-          → UnlessEnded b (map done_of entries) (AreTold (account_of history asked answered) t write (index + 1) operations (map done_of entries))
+          → AreTold (account_of history asked answered) a t write (index + 1) operations (map done_of entries))
+          → UnlessEnded b (map done_of entries) (AreTold (account_of history asked answered) a t write (index + 1) operations (map done_of entries))
       by_end true nothing more = nothing
       by_end false every more = more every
 
   pub own_tells : IsDone history t.id write → AllByRecursion (λ (e : Entry). e.time ≤ t.time) (entries_by t.id history)
-      → AreTold (account_of history asked answered) t write 0 write.operations (told_by t.id history)
+      → AreTold (account_of history asked answered) a t write 0 write.operations (told_by t.id history)
   own_tells done early =
       own_told 0 write.operations (entries_by t.id history) done.part done.all
       (λ e i. ((by_in t.id history e i).0, all_at (λ (d : Entry). d.time ≤ t.time) e (entries_by t.id history) early i))
 
   -- with these answers beside it
-  pub own_right : (a : Asked) → a.id ≡ t.id → command_of a.request ≡ Ok (write_command write) → IsDone history t.id write
+  pub own_right : a.id ≡ t.id → command_of a.request ≡ Ok (write_command write) → IsDone history t.id write
       → AllByRecursion (λ (e : Entry). e.time ≤ t.time) (entries_by t.id history) → creation.namespace ≡ write.namespace → creation.at ≤ t.time
       → t.document ≡ answer_document (answer_of write.kind t.time (told_by t.id history)) → IsRight (account_of history asked answered) [] a t []
-  own_right a own asks done early name began says =
-      right_write write (told_by t.id history) creation asks (own_tells done early)
+  own_right own asks done early name began says =
+      right_write write (told_by t.id history) asks (own_tells done early)
       (λ given. subst (λ (id : RequestId). IsWhole history id write (told_by t.id history)) (sym own) (record {
         part = stored_part t.id write history done.part;
         shown = all_shown (entries_by t.id history);
       }))
-      (in_first (create_change creation) []) name began says
+      (λ any. record { creation = creation; begun = in_first (create_change creation) []; name = name; before = began }) says
 
-  pub own_shown : (a : Asked) → IsDone history t.id write → AllByRecursion (λ (e : Entry). e.time ≤ t.time) (entries_by t.id history)
+  pub own_shown : IsDone history t.id write → AllByRecursion (λ (e : Entry). e.time ≤ t.time) (entries_by t.id history)
       → t.document ≡ answer_document (answer_of write.kind t.time (told_by t.id history)) → Shows (account_of history asked answered) a t write
-  own_shown a done early says = record { dones = told_by t.id history; told = own_tells done early; same = says }
+  own_shown done early says = record { dones = told_by t.id history; told = own_tells done early; same = says }
 
   -- WHAT A RIGHT ANSWER SAYS
 
+  all_done : IsQuiet (account_of history asked answered) a t → (index : ℕ) (operations : List Operation) (dones : List Done)
+      → AreTold (account_of history asked answered) a t write index operations dones → AllByRecursion (λ (d : Done). WasDone d.answer) dones
+  all_done quiet index operations [] told = tt
+  all_done quiet index [] (d ∷ dones) told = absurd (cc)
+  all_done quiet index (operation ∷ operations) (d ∷ dones) told = (
+    was_done_own (account_of history asked answered) a t quiet (number_for None t.id index) write.namespace operation d.answer
+        (subst (λ (given : Option ClientNumber). MayBeTold (account_of history asked answered) a t given (number_for given t.id index) write.namespace operation
+        d.answer) none told.1),
+    by_end (ends write.ordered d) told.2 (λ rest. all_done quiet (index + 1) operations dones rest),
+  )
+    where
+      by_end : (b : Bool) → UnlessEnded b dones (AreTold (account_of history asked answered) a t write (index + 1) operations dones)
+          → (AreTold (account_of history asked answered) a t write (index + 1) operations dones → AllByRecursion (λ (x : Done). WasDone x.answer) dones)
+          → AllByRecursion (λ (x : Done). WasDone x.answer) dones
+      by_end true nothing more = subst (λ (l : List Done). AllByRecursion (λ (x : Done). WasDone x.answer) l) (sym nothing) tt
+      by_end false rest more = more rest
+
   pub own_says : AreNumbered history → AllByRecursion (λ (e : Entry). e.shard ≡ first_shard) history
-      → AreStatements t.id write.namespace write.ordered 0 write.operations (entries_by t.id history) → (a : Asked) (next : List Cursor)
-      → a.id ≡ t.id → command_of a.request ≡ Ok (write_command write) → IsRight (account_of history asked answered) [] a t next
+      → AreStatements t.id write.namespace write.ordered 0 write.operations (entries_by t.id history) → (next : List Cursor)
+      → a.id ≡ t.id → command_of a.request ≡ Ok (write_command write) → time_limit a.request ≡ 0 → IsRight (account_of history asked answered) [] a t next
       → t.document ≡ answer_document (answer_of write.kind t.time (told_by t.id history))
-  own_says numbered first are a next own asks right =
+  own_says numbered first are next own asks free right =
       told.says ∙ ap (λ (dones : List Done). answer_document (answer_of write.kind t.time dones)) same
     where
-      told : TellsWrite (account_of history asked answered) a.id t write
+      told : TellsWrite (account_of history asked answered) a t write
       told = (right_of (account_of history asked answered) [] a t (Ok (write_command write)) next asks right).0
 
       same : told.dones ≡ told_by t.id history
-      same = all_told (account_of history asked answered) t write none
+      same = all_told (account_of history asked answered) a t write none
           (one_number history numbered (λ e i. all_at (λ (d : Entry). d.shard ≡ first_shard) e history first i))
           0 write.operations told.dones (entries_by t.id history) told.tells are (λ e i. (by_in t.id history e i).0)
           (λ e n i le is. entry_by t.id e history i (ap (λ (k : StatementNumber). is_session_of t.id k.session) is ∙ own_session t.id))
+          (all_done (quiet history asked answered a t free) 0 write.operations told.dones told.tells)
 
 -- the first statement may have no outcome
 pub own_untold : (history : List Entry) (asked : List Asked) (a : Asked) (step counter : ℕ) (kind : WriteKind) (ordered : Bool) (operation : Operation)
     (rest : List Operation) → command_of a.request ≡ Ok (write_command (record
     { kind = kind; namespace = codes "d.c"; operations = operation ∷ rest; ordered = ordered; number = None }))
-    → ((document : Fields) → AllByRecursion
+    → time_limit a.request ≡ 0 → ((document : Fields) → AllByRecursion
     (Gives asked (tells a step counter document) (number_for None a.id 0) (codes "d.c") operation (λ x. ⊥)) history)
     → IsUntold history asked a step counter
-own_untold history asked a step counter kind ordered operation rest asks none other next right =
+own_untold history asked a step counter kind ordered operation rest asks free none other next right =
     let told = (right_of (account_of history asked []) [] a (tells a step counter other) (Ok (write_command asked_for)) next asks right).0 in
     no_first told.dones told.tells
   where
     asked_for : WriteCommand
     asked_for = record { kind = kind; namespace = codes "d.c"; operations = operation ∷ rest; ordered = ordered; number = None }
 
-    no_first : (dones : List Done) → AreTold (account_of history asked []) (tells a step counter other) asked_for 0 (operation ∷ rest) dones → ⊥
+    no_first : (dones : List Done) → AreTold (account_of history asked []) a (tells a step counter other) asked_for 0 (operation ∷ rest) dones → ⊥
     no_first [] told = told
     no_first (d ∷ dones) told =
-        told_by_entries (account_of history asked []) (tells a step counter other) None (number_for None a.id 0) (codes "d.c") operation (λ x. ⊥) d.answer
+        told_by_entries (account_of history asked []) a (tells a step counter other) (quiet history asked [] a (tells a step counter other) free) None (number_for None a.id 0) (codes "d.c") operation (λ x. ⊥) d.answer
         (none other) told.1
 
 -- a request is for one write

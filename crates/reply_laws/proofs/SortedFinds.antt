@@ -27,8 +27,9 @@ use Rattle.reply_model.specs.Exchanges.{Asked, Answered}
 use Rattle.reply_laws.specs.SampleExchanges.{account_of}
 use Rattle.reply_model.specs.Cursors.{Cursor, open_cursor, with_remaining, IsNewNumber, Opens, opens_none, opens_one, ShowsFirst, ShowsNext, Kills, kills_none, kills, misses}
 use Rattle.reply_model.specs.Reads.{IsTimeRead, named_time, own_time, later_time, MayGive}
-use Rattle.reply_model.specs.Right.{IsReadRefused, refused_overflow, refused_excess, refused_ahead, IsRight, right_find}
+use Rattle.reply_model.specs.Right.{IsRight, right_find}
 use Rattle.reply_laws.specs.SampleReads.{kept, all_three, by_id, reading_all, finds_sorted}
+use Rattle.reply_laws.proofs.Quiet.{never_batch}
 use Rattle.reply_facts.proofs.RightAnswers.{RightBy, right_of, same_first, same_next}
 use Rattle.reply_laws.proofs.SortedOrders.{one_rising}
 
@@ -102,14 +103,9 @@ module _ (asked : List Asked) (answered : List Answered) (cursors : List Cursor)
       right_find (finds_sorted size single) (timestamp 1000 4) all_three b next asks
       (subst (λ n. IsTimeRead a t reading_all n) time (own_time refl tt)) gives_three refl name when shows says
 
-  not_refused : IsReadRefused (account_of kept asked answered) a t reading_all → ⊥
-  not_refused (refused_overflow when read gives told) = let e = sym told ∙ says in cc
-  not_refused (refused_excess when n read excess told) = let e = sym told ∙ says in cc
-  not_refused (refused_ahead ahead told) = let e = sym told ∙ says in cc
-
   by_told : (next : List Cursor) → RightBy (account_of kept asked answered) cursors a t (Ok (find_command (finds_sorted size single))) next
       → ShowsFirst a.id size (single || a.request.more) cursors all_three b next
-  by_told next (inr refused) = absurd (not_refused refused.0)
+  by_told next (inr refused) = absurd (never_batch (account_of kept asked answered) cursors a t reading_all b says refused.0)
   by_told next (inl told) =
       let same : told.batch ≡ b = same_first told.batch b (sym told.says ∙ says) in
       let when : told.batch.time ≡ timestamp 1000 4 = own_only a t told.batch.time told.time ∙ time in

@@ -14,11 +14,11 @@ use Rattle.command_model.specs.Reading.{Reading}
 use Rattle.history_model.specs.Documents.{documents_at}
 use Rattle.history_model.proofs.Lists.{in_back}
 use Rattle.reply_model.specs.Exchanges.{Asked, Answered}
-use Rattle.reply_facts.proofs.Statements.{told_stays}
+use Rattle.reply_facts.proofs.Grown.{Grows, created_still, stale_still, given_up_still, told_stays}
 use Rattle.reply_model.specs.Accounts.{Account}
 use Rattle.reply_model.specs.Cursors.{Cursor}
 use Rattle.reply_model.specs.Reads.{IsTimeRead, named_time, own_time, later_time, is_on, owned_by, IsExcess, excess_answer, excess_half}
-use Rattle.reply_model.specs.Right.{IsReadRefused, refused_overflow, refused_excess, refused_ahead, WasCreated, WasSplit, IsRight, right_write, right_find, right_count, right_refused_read, right_more, right_no_cursor, right_kill, right_shard, right_split, right_not_sharded, right_hello, right_legacy, right_ping, right_end_sessions, right_refusal}
+use Rattle.reply_model.specs.Right.{IsReadRefused, refused_overflow, refused_excess, refused_ahead, WasCreated, WasSplit, IsRight, right_write, right_find, right_count, right_refused_read, right_stale, right_given_up, right_more, right_no_cursor, right_kill, right_shard, right_split, right_not_sharded, right_hello, right_legacy, right_ping, right_end_sessions, right_refusal}
 
 -- WHAT WAS CREATED OR SPLIT
 
@@ -122,15 +122,30 @@ module _ (more : List Change) (account : Account) (cursors : List Cursor) (a : A
   refused_stays reading taken replied (refused_ahead ahead says) =
       refused_ahead (record { wanted = ahead.wanted; wants = ahead.wants; ahead = ahead.ahead; of_all = ahead.of_all }) says
 
+  grows : Grows account (after_more more account) a
+  grows = record {
+    stays = λ e i. i;
+    taken = λ b i. i;
+    given = λ x i. i;
+    missed = λ x i. i;
+    learned = λ x i before. i;
+    more = more;
+    changes = refl;
+  }
+
   stays : (next : List Cursor) → AllByRecursion (λ x. a.time < time_of x) more → AllByRecursion (λ x. t.time < time_of x) more
       → IsRight account cursors a t next → IsRight (after_more more account) cursors a t next
-  stays next taken replied (right_write write dones c wants tells whole begun name at says) =
-      right_write write dones c wants (told_stays account (after_more more account) t (λ e i. i) (λ b i. i) write 0 write.operations dones tells) whole
-      (in_back (create_change c) more account.changes begun) name at says
+  stays next taken replied (right_write write dones wants tells whole created says) =
+      right_write write dones wants (told_stays account (after_more more account) a t grows write 0 write.operations dones tells) whole
+      (λ any. created_still account (after_more more account) a t grows write.namespace t.time (created any)) says
   stays next taken replied (right_find find time documents batch after wants read gives small name at shows says) =
       right_find find time documents batch after wants read gives small name at shows says
   stays next taken replied (right_count reading time n wants read gives says) = right_count reading time n wants read gives says
   stays next taken replied (right_refused_read reading wants refused) = right_refused_read reading wants (refused_stays reading taken replied refused)
+  stays next taken replied (right_stale reading tries wants were says) =
+      right_stale reading tries wants (stale_still account (after_more more account) a t grows reading.namespace tries were) says
+  stays next taken replied (right_given_up refusal task why says) =
+      right_given_up refusal task (given_up_still account (after_more more account) a t grows refusal why) says
   stays next taken replied (right_more further c batch shown wants found shows says) = right_more further c batch shown wants found shows says
   stays next taken replied (right_no_cursor further wants closed says) = right_no_cursor further wants closed says
   stays next taken replied (right_kill kill killed missing after wants closes says) = right_kill kill killed missing after wants closes says

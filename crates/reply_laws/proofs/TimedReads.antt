@@ -21,10 +21,11 @@ use Rattle.history_model.proofs.Lists.{in_none}
 use Rattle.reply_model.specs.Exchanges.{Asked, Answered}
 use Rattle.reply_model.specs.Cursors.{Cursor, ShowsFirst, opens_none}
 use Rattle.reply_model.specs.Reads.{IsTimeRead, named_time, own_time, later_time, MayGive, time_wanted}
-use Rattle.reply_model.specs.Right.{Reads, find_reads, usual_size, IsReadRefused, refused_overflow, refused_excess, refused_ahead, IsRight, right_find, right_refused_read}
+use Rattle.reply_model.specs.Right.{Reads, find_reads, usual_size, refused_ahead, IsRight, right_find, right_refused_read}
 use Rattle.reply_laws.specs.SampleExchanges.{IsToldRightly, account_of}
 use Rattle.reply_laws.specs.SampleReads.{kept, all_three}
 use Rattle.reply_laws.specs.SampleTimes.{reading_of, find_in}
+use Rattle.reply_laws.proofs.Quiet.{never_batch, never_count}
 use Rattle.reply_facts.proofs.RightAnswers.{RightBy, right_of, same_first, TellsCount}
 use Rattle.reply_facts.proofs.ReadTimes.{shown_time, ahead_time, is_ahead}
 use Rattle.reply_laws.proofs.KeyFinds.{whole_batch, told_of, none_behind}
@@ -75,7 +76,7 @@ module _ (history : List Entry) (a : Asked) (t : Answered) (stages : List Stage)
       → IsToldRightly history a t
   ahead_right wanted wants ahead says =
       right_refused_read (reading_of stages at after) asks_read
-      (refused_ahead (record { wanted = wanted; wants = wants; ahead = ahead; of_all = λ s write index e i late asks j numbered shows. absurd (in_none s i) })
+      (refused_ahead (record { wanted = wanted; wants = wants; ahead = ahead; of_all = λ s write index e i late asks j numbered shows nothing. absurd (in_none s i) })
       says)
 
   pub ahead_of : (next : List Cursor) (wanted s : ℕ) → time_wanted (reading_of stages at after) ≡ Some wanted
@@ -87,11 +88,6 @@ module _ (history : List Entry) (a : Asked) (t : Answered) (stages : List Stage)
       let same : ahead.wanted ≡ wanted = cc in
       (ahead_time (account_of history [] []) [] a t next s right told, omega (arith, same, ahead.ahead))
 
-  not_refused : (b : Batch) → t.document ≡ answer_document (first_answer b) → IsReadRefused (account_of history [] []) a t (reading_of stages at after) → ⊥
-  not_refused b says (refused_overflow when read gives told) = let e = sym told ∙ says in cc
-  not_refused b says (refused_excess when n read excess told) = let e = sym told ∙ says in cc
-  not_refused b says (refused_ahead ahead told) = let e = sym told ∙ says in cc
-
   pub record Told (b : Batch) (next : List Cursor) : Type 0 where
     pub documents : List Fields
     pub gives : MayGive history (reading_of stages at after) b.time (listed documents)
@@ -99,7 +95,8 @@ module _ (history : List Entry) (a : Asked) (t : Answered) (stages : List Stage)
 
   by_told : (b : Batch) (next : List Cursor) → t.document ≡ answer_document (first_answer b)
       → RightBy (account_of history [] []) [] a t (Ok (find_command (find_in (reading_of stages at after)))) next → Told b next
-  by_told b next says (inr refused) = absurd (not_refused b says refused.0)
+  by_told b next says (inr refused) =
+      absurd (never_batch (account_of history [] []) [] a t (reading_of stages at after) b says refused.0)
   by_told b next says (inl told) =
       let same : told.batch ≡ b = same_first told.batch b (sym told.says ∙ says) in
       record {
@@ -117,15 +114,10 @@ module _ (history : List Entry) (a : Asked) (t : Answered) (stages : List Stage)
 -- COUNTS
 
 module _ (history : List Entry) (a : Asked) (t : Answered) (reading : Reading) (asks : command_of a.request ≡ Ok (count_command reading)) where
-  not_refused_count : (n time : ℕ) → t.document ≡ answer_document (count_answer n time) → IsReadRefused (account_of history [] []) a t reading → ⊥
-  not_refused_count n time says (refused_overflow when read gives told) = let e = sym told ∙ says in cc
-  not_refused_count n time says (refused_excess when m read excess told) = let e = sym told ∙ says in cc
-  not_refused_count n time says (refused_ahead ahead told) = let e = sym told ∙ says in cc
-
   by_count : (n time : ℕ) (next : List Cursor) → t.document ≡ answer_document (count_answer n time)
       → RightBy (account_of history [] []) [] a t (Ok (count_command reading)) next → TellsCount (account_of history [] []) [] a t reading
-  by_count n time next says (inl told) = told.0
-  by_count n time next says (inr refused) = absurd (not_refused_count n time says refused.0)
+  by_count n time next says (inl told, same) = told
+  by_count n time next says (inr refused, same) = absurd (never_count (account_of history [] []) [] a t reading n time says refused)
 
   pub told_count : (n time : ℕ) (next : List Cursor) → IsRight (account_of history [] []) [] a t next → t.document ≡ answer_document (count_answer n time)
       → TellsCount (account_of history [] []) [] a t reading
@@ -133,10 +125,8 @@ module _ (history : List Entry) (a : Asked) (t : Answered) (reading : Reading) (
 
   never_first : (b : Batch) (next : List Cursor) → t.document ≡ answer_document (first_answer b)
       → RightBy (account_of history [] []) [] a t (Ok (count_command reading)) next → ⊥
-  never_first b next says (inl told) = let e = sym told.0.says ∙ says in cc
-  never_first b next says (inr (refused_overflow when read gives told, same)) = let e = sym told ∙ says in cc
-  never_first b next says (inr (refused_excess when m read excess told, same)) = let e = sym told ∙ says in cc
-  never_first b next says (inr (refused_ahead ahead told, same)) = let e = sym told ∙ says in cc
+  never_first b next says (inl told, same) = let e = sym told.says ∙ says in cc
+  never_first b next says (inr refused, same) = never_batch (account_of history [] []) [] a t reading b says refused
 
   -- it is never returned as a batch
   pub no_batch : (b : Batch) (next : List Cursor) → IsRight (account_of history [] []) [] a t next → t.document ≡ answer_document (first_answer b) → ⊥

@@ -6,3 +6,4 @@ pub mod SampleTimes
 pub mod SampleLengths
 pub mod SampleSums
 pub mod SampleChunks
+pub mod UnfinishedReads

@@ -83,6 +83,9 @@ account_with changes history asked answered = record {
   asked = asked;
   answered = answered;
   given = moments;
+  learned = [];
+  missed = [];
+  away = [];
   stored = nothing_stored;
 }
 
@@ -95,6 +98,9 @@ account_by dated history asked answered = record {
   asked = asked;
   answered = answered;
   given = moments;
+  learned = [];
+  missed = [];
+  away = [];
   stored = nothing_stored;
 }
 

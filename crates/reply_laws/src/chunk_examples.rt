@@ -9,7 +9,7 @@ ghost use Rattle.chunk_model.specs.SampleCollections.{creation};
 ghost use Rattle.reply_model.specs.Exchanges.{Asked};
 ghost use Rattle.reply_model.specs.Accounts.{changes_in};
 ghost use Rattle.reply_model.specs.OneHistory.{IsCaused, WasWanted};
-ghost use Rattle.reply_laws.specs.SampleExchanges.{created, first, first_told, account_by};
+ghost use Rattle.reply_laws.specs.SampleExchanges.{created, first, first_entry, first_told, account_by};
 ghost use Rattle.reply_laws.specs.SampleChunks.{IsRightBy, IsWrongBy, created_in, created_other, sharding, split_in, split_of, split_once, splitting, told_none, told_sharded, told_split};
 
 /// The reply to shardCollection is right from the time on at which the collection was created, whoever created it; not before, and not where another
@@ -53,8 +53,8 @@ pub fn changes_come_first()
     ensures split { IsCaused (account_by (split_in 7) [] (splitting ∷ []) []) (told_split 3) }
     ensures split_later { IsCaused (account_by (split_in 8) [] (splitting ∷ []) []) (told_split 3) → ⊥ }
     ensures split_right { IsRightBy (changes_in (split_in 8)) splitting (told_split 3) }
-    ensures write { IsCaused (account_by (created_in 3) [] (first ∷ []) []) first_told }
-    ensures write_later { IsCaused (account_by (created_in 4) [] (first ∷ []) []) first_told → ⊥ }
+    ensures write { IsCaused (account_by (created_in 3) (first_entry ∷ []) (first ∷ []) []) first_told }
+    ensures write_later { IsCaused (account_by (created_in 4) (first_entry ∷ []) (first ∷ []) []) first_told → ⊥ }
 {}
 
 /// The changes that are made for a request: its collection is created, or a chunk is split at its key, as the client wrote it. None is made to move a chunk.

@@ -20,13 +20,14 @@ ghost use Rattle.history_model.specs.History.{Entry, IsIn, document_left, effect
 ghost use Rattle.reply_model.specs.Exchanges.{Asked, Answered, number_for};
 ghost use Rattle.reply_model.specs.Accounts.{Account};
 ghost use Rattle.reply_model.specs.Outcomes.{Done, answer_of, was_done};
-ghost use Rattle.reply_model.specs.Reads.{IsTimeRead, MayGive};
-ghost use Rattle.reply_model.specs.Right.{IsReadRefused, Reads, usual_size};
+ghost use Rattle.reply_model.specs.Reads.{GivesUpNothing, IsTimeRead, MayGive};
+ghost use Rattle.reply_model.specs.Right.{Reads, usual_size};
+ghost use Rattle.reply_laws.specs.UnfinishedReads.{IsUnfinished};
 ghost use Rattle.reply_facts.specs.Earlier.{IsTold, WasToldBefore, found, touches};
 ghost use Rattle.reply_model.specs.OneHistory.{OneHistory};
 
 /// A find or an aggregate returns a first batch, of no more documents than its size, of a list that it may return at a time that it may be
-/// of; or why it is refused.
+/// of; or why it has none.
 pub fn finds_are_answered()
     ensures { (account : Account) (a : Asked)
         (t : Answered) (find : Find) → OneHistory account → IsTold account.asked account.answered a t
@@ -35,17 +36,17 @@ pub fn finds_are_answered()
         × MayGive account.history find.reading batch.time (listed documents)
         × IsBatch (Some (unwrap_or find.batches.size usual_size)) documents batch.documents × (batch.namespace ≡ find.reading.namespace)
         × (t.document ≡ answer_document (first_answer batch)))
-        ⊎ IsReadRefused account a t find.reading }
+        ⊎ IsUnfinished account a t find.reading }
 {}
 
-/// A count returns the number of the documents at a time that it may be of; or why it is refused.
+/// A count returns the number of the documents at a time that it may be of; or why there is none.
 pub fn counts_are_answered()
     ensures { (account : Account) (a : Asked)
         (t : Answered) (reading : Reading) → OneHistory account → IsTold account.asked account.answered a t
         → command_of a.request ≡ Ok (count_command reading)
         → ((time n : ℕ) × IsTimeRead a t reading time × MayGive account.history reading time (listed (count_documents (codes "n") n))
         × (t.document ≡ answer_document (count_answer n time)))
-        ⊎ IsReadRefused account a t reading }
+        ⊎ IsUnfinished account a t reading }
 {}
 
 /// A read that names no time is of none before those that its router had returned, in that life, before its request came; nor before the
@@ -98,14 +99,15 @@ pub fn reads_stay()
         → MayGive account.history reading before out }
 {}
 
-/// A time that any router returned to a write with an entry of its own, before a request came, is not ahead of what the request reads.
+/// A time that any router returned to a write with an entry of its own, of which it gave no statement up, before a request came, is not ahead of what the
+/// request reads.
 pub fn told_times_are_never_ahead()
     ensures { (account : Account) (a : Asked)
         (s t : Answered) (write : WriteCommand) (index : ℕ) (e : Entry) (reading : Reading) (greatest : ℕ)
         → OneHistory account → IsTold account.asked account.answered a t
         → IsIn s account.answered → s.step < a.came → command_of s.request ≡ Ok (write_command write) → IsIn e account.history
         → e.number ≡ number_for write.number s.id index
-        → operation_time (Some s.document) ≡ Some e.time → Reads (command_of a.request) reading
+        → operation_time (Some s.document) ≡ Some e.time → GivesUpNothing s write → Reads (command_of a.request) reading
         → (reading.at ≡ Some e.time) ⊎ ((reading.at ≡ None) × (reading.after ≡ Some e.time))
         → t.document ≡ answer_document (refusal_answer (time_ahead greatest)) → ⊥ }
 {}

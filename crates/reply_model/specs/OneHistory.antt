@@ -13,11 +13,11 @@ use Rattle.chunk_model.specs.Placement.{AreFitting, owner}
 use Rattle.history_model.specs.History.{Entry, Legal, IsIn, key_written}
 use Rattle.base_model.specs.Identities.{RequestId}
 use Rattle.reply_model.specs.Exchanges.{Asked, Answered}
-use Rattle.reply_model.specs.Accounts.{Dated, changes_in, Given, nothing_stored, Account}
+use Rattle.reply_model.specs.Accounts.{Dated, changes_in, Given, Missed, TurnedAway, nothing_stored, Account}
 use Rattle.reply_model.specs.Cursors.{Cursor}
 use Rattle.reply_model.specs.Right.{IsPart, IsRight, Sends, AreTold, WasCreated, WasSplit, ends, not_sharded}
-use Rattle.reply_model.specs.Outcomes.{Done, is_too_old, answer_of}
-use Rattle.command_model.specs.Answers.{sharded_answer, changed_answer, answer_document}
+use Rattle.reply_model.specs.Outcomes.{Done, lack_refusal, AnyDone, is_too_old, answer_of}
+use Rattle.command_model.specs.Answers.{sharded_answer, changed_answer, refusal_answer, answer_document}
 
 -- the request is a write in the namespace
 pub record IsWriteIn (namespace : List ℕ) (a : Asked) : Type 0 where
@@ -28,7 +28,7 @@ pub record IsWriteIn (namespace : List ℕ) (a : Asked) : Type 0 where
 -- the outcomes that the reply to a write shows
 pub record Shows (account : Account) (a : Asked) (t : Answered) (write : WriteCommand) : Type 0 where
   pub dones : List Done
-  pub told : AreTold account t write 0 write.operations dones
+  pub told : AreTold account a t write 0 write.operations dones
   pub same : t.document ≡ answer_document (answer_of write.kind t.time dones)
 
 -- A reply ends with an error of a statement before this index, other than that of a greater transaction: a session that goes on to another transaction while
@@ -181,10 +181,24 @@ pub record IsReplyTo (asked : List Asked) (a : Asked) (command : Command) (t : A
 abbrev pub changes_by : List Dated → Answered → List Change
 changes_by dated t = changes_before (t.step + 1) dated
 
--- What a reply says of the catalogue was so by its step: the collection of a write was created, or the one that is to be created, and a chunk begins where one
--- is to be split. Where it says that there is no collection to split, there was none in a step after the request came, and not after the reply.
+-- a statement of the write was applied only in a collection that was created by the step of the reply
+pub record IsCausedWrite (account : Account) (a : Asked) (t : Answered) (write : WriteCommand) : Type 0 where
+  pub shown : Shows account a t write
+  pub created : AnyDone shown.dones → WasCreated (changes_by account.dated t) write.namespace t.time
+
+-- a request that was not taken is refused for a lack of its router in that step
+pub record IsTurnedAway (account : Account) (x : TurnedAway) : Type 0 where
+  pub missed : Missed
+  pub had : IsIn missed account.missed
+  pub own : missed.node ≡ x.router
+  pub during : missed.step ≡ x.step
+  pub same : x.document ≡ answer_document (refusal_answer (lack_refusal x.router missed.lack))
+
+-- What a reply says of the catalogue was so by its step: the collection of a write was created if a statement was applied, or the one that is to be created,
+-- and a chunk begins where one is to be split. Where it says that there is no collection to split, there was none in a step after the request came, and not
+-- after the reply.
 pub record IsCaused (account : Account) (t : Answered) : Type 0 where
-  pub written : (a : Asked) (write : WriteCommand) → IsReplyTo account.asked a (write_command write) t → WasCreated (changes_by account.dated t) write.namespace t.time
+  pub written : (a : Asked) (write : WriteCommand) → IsReplyTo account.asked a (write_command write) t → IsCausedWrite account a t write
   pub created : (a : Asked) (namespace : List ℕ) → IsReplyTo account.asked a (shard_collection_command namespace) t
       → t.document ≡ answer_document (sharded_answer namespace t.time) → WasCreated (changes_by account.dated t) namespace t.time
   pub begins : (a : Asked) (split : SplitCommand) → IsReplyTo account.asked a (split_command split) t → t.document ≡ answer_document (changed_answer t.time)
@@ -195,8 +209,8 @@ pub record IsCaused (account : Account) (t : Answered) : Type 0 where
 -- For all inputs: the entries are one legal history of an unsharded collection with each statement at most once; each belongs to a request that a router
 -- took, is on the shard that owns its key and is later than what its router knew; no shard uses a number again, nor applies an older transaction; each
 -- statement before a stored one was applied, where all requests that sent it are ordered; each change of the catalogue was made for a request, and follows
--- those before it; each request has at most one reply, a right one, and what this says of the catalogue was so by its step; and what its router knew then
--- is not before what it had returned and taken. Currently nothing is stored at the start.
+-- those before it; each request has at most one reply, a right one, and what this says of the catalogue was so by its step; a request that is not taken is
+-- refused for a lack of its router; and what its router knew then is not before what it had returned and taken. Currently nothing is stored at the start.
 pub record OneHistory (account : Account) : Type 0 where
   pub legal : Legal account.history
   pub sent : AllByRecursion (WasSent account) account.history
@@ -209,6 +223,7 @@ pub record OneHistory (account : Account) : Type 0 where
   pub steps : changes_in account.dated ≡ account.changes
   pub caused : AllByRecursion (IsCaused account) account.answered
   pub right : AreRight account [] account.answered
+  pub away : AllByRecursion (IsTurnedAway account) account.away
   pub one : AreDifferent (ids_asked account.asked)
   pub once : AreDifferent (ids_told account.answered)
   pub fresh : AllByRecursion (IsFresh account.answered) account.asked

@@ -1,11 +1,52 @@
--- The outcomes of statements, and their joint answer (MongoDB manual, "insert", "update", "delete", "ordered").
-use Rattle.std.specs.Prelude.{ℕ, ℤ, zero, suc, ◌+◌, List, [], ◌∷◌, map, Option, Some, None, Bool, true, false, ◌==◌, max, is_some}
+-- The outcomes of statements, and their joint answer (MongoDB manual, "insert", "update", "delete", "ordered", "Error Codes").
+use Rattle.std.specs.Prelude.{◌⊎◌, ℕ, ℤ, zero, suc, ◌+◌, List, [], ◌∷◌, map, Option, Some, None, Bool, false, ◌==◌, max, is_some, ◌||◌}
 use Rattle.std.specs.Option.{unwrap_or}
 use Rattle.history_model.specs.History.{Outcome, Entry}
-use Rattle.base_model.specs.Errors.{transaction_too_old}
-use Rattle.base_model.specs.Refusals.{Refusal, number_evidence, without_evidence}
+use Rattle.base_model.specs.Errors.{ErrorCode, transaction_too_old, stale_config, max_time_expired, exceeded_memory_limit, shutdown_in_progress}
+use Rattle.base_model.specs.Refusals.{Refusal, ShownVersion, ShownTry, moments_evidence, number_evidence, steps_evidence, tries_evidence, without_evidence}
+use Rattle.chunk_model.specs.Versions.{Version}
 use Rattle.command_model.specs.Writes.{Upserted, WriteError, WriteKind, WriteSummary}
 use Rattle.command_model.specs.Answers.{Answer, write_answer}
+use Rattle.reply_model.specs.Accounts.{Lack, no_memory, no_steps}
+
+-- WHY WORK IS GIVEN UP
+
+-- a try with an older table than the shard's: the versions of the collection by the router's table and by the shard's (MongoDB manual, "Sharded Cluster Query
+-- Routing")
+pub record Try : Type 0 where
+  pub sent : Version
+  pub met : Version
+
+-- so many tries are made (own)
+abbrev pub most_tries : ℕ
+most_tries = 10
+
+abbrev pub version_shown : Version → ShownVersion
+version_shown v = record { epoch = v.epoch; major = v.major }
+
+abbrev pub try_shown : Try → ShownTry
+try_shown x = record { sent = version_shown x.sent; met = version_shown x.met }
+
+-- every try met a later table (StaleConfig)
+abbrev pub stale_refusal : List Try → Refusal
+stale_refusal tries = record { error = stale_config; evidence = tries_evidence (map try_shown tries) }
+
+-- the time limit has passed (MaxTimeMSExpired): the last moment before the request was taken, and the moment now
+abbrev pub expired_refusal : (arrived now : ℕ) → Refusal
+expired_refusal arrived now = record { error = max_time_expired; evidence = moments_evidence arrived now }
+
+-- a node is out of memory (ExceededMemoryLimit), or at its last step (ShutdownInProgress)
+abbrev pub lack_refusal : (node : ℕ) → Lack → Refusal
+lack_refusal node no_memory = without_evidence exceeded_memory_limit
+lack_refusal node (no_steps steps) = record { error = shutdown_in_progress; evidence = steps_evidence node steps }
+
+-- an error that says that work was given up, though it may be done
+abbrev pub gives_up : ErrorCode → Bool
+gives_up error =
+    (error.number == stale_config.number)
+    || ((error.number == max_time_expired.number) || ((error.number == exceeded_memory_limit.number) || (error.number == shutdown_in_progress.number)))
+
+-- OUTCOMES
 
 -- The outcome of a statement: it was applied, at this time and with this result; or why it was not.
 pub data StatementOutcome : Type 0 where
@@ -78,6 +119,11 @@ is_too_old (was_refused refusal) = refusal.error.number == transaction_too_old.n
 -- the statement has an error
 abbrev pub fails : Done → Bool
 fails d = is_some (refusal_in d.answer)
+
+-- a statement was applied
+abbrev pub AnyDone : List Done → Type 0
+AnyDone [] = ⊥
+AnyDone (d ∷ dones) = WasDone d.answer ⊎ AnyDone dones
 
 -- how many documents were inserted, matched or deleted
 abbrev pub sum_of : List Done → ℕ

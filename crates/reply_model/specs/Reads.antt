@@ -9,13 +9,16 @@ use Rattle.pipeline_model.specs.Halves.{Rows, IsHalf}
 use Rattle.pipeline_model.specs.Split.{split}
 use Rattle.pipeline_model.specs.Lengths.{excess_of_answer, excess_of_half}
 use Rattle.base_model.specs.ReplyParts.{operation_time}
-use Rattle.command_model.specs.Writes.{WriteCommand}
+use Rattle.std.specs.List.{AllByRecursion}
+use Rattle.command_model.specs.Writes.{WriteCommand, WriteError, WriteSummary}
+use Rattle.command_model.specs.Answers.{write_answer, answer_document}
 use Rattle.command_model.specs.Command.{write_command, command_of}
 use Rattle.command_model.specs.Reading.{Reading}
 use Rattle.history_model.specs.History.{Entry, IsIn}
 use Rattle.history_model.specs.Documents.{documents_at}
 use Rattle.reply_model.specs.Exchanges.{Asked, Answered, number_for}
 use Rattle.reply_model.specs.Accounts.{Account}
+use Rattle.reply_model.specs.Outcomes.{gives_up}
 
 -- no time is to be reached, or this one is not before it
 abbrev pub IfReached : Option ℕ → ℕ → Type 0
@@ -57,12 +60,19 @@ pub data IsExcess (account : Account) (reading : Reading) (time n : ℕ) : Type 
 abbrev pub time_wanted : Reading → Option ℕ
 time_wanted reading = elim reading.at [ None ↦ reading.after | Some named ↦ Some named ]
 
+-- no error that the reply to a write shows says that a statement was given up
+pub record GivesUpNothing (t : Answered) (write : WriteCommand) : Type 0 where
+  pub told : WriteSummary
+  pub same : t.document ≡ answer_document (write_answer write.kind told)
+  pub each : AllByRecursion (λ (x : WriteError). gives_up x.refusal.error ≡ false) told.errors
+
 -- The time that a read requires is ahead of the router's, and of each operation time that a router returned to a write before the request came and that is
--- the time of an entry of that write.
+-- the time of an entry of that write, where the reply gave no statement up.
 pub record IsAhead (account : Account) (a : Asked) (t : Answered) (reading : Reading) : Type 0 where
   pub wanted : ℕ
   pub wants : time_wanted reading ≡ Some wanted
   pub ahead : t.time < wanted
   pub of_all : (s : Answered) (write : WriteCommand) (index : ℕ) (e : Entry) → IsIn s account.answered → s.step < a.came
       → command_of s.request ≡ Ok (write_command write)
-      → IsIn e account.history → e.number ≡ number_for write.number s.id index → operation_time (Some s.document) ≡ Some e.time → e.time < wanted
+      → IsIn e account.history → e.number ≡ number_for write.number s.id index → operation_time (Some s.document) ≡ Some e.time → GivesUpNothing s write
+      → e.time < wanted

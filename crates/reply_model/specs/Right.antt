@@ -1,5 +1,5 @@
 -- Which replies are right by one history, and by what their routers knew.
-use Rattle.std.specs.Prelude.{◌≡◌, ◌⊎◌, ℕ, ℤ, ◌+◌, ◌≤◌, List, [], ◌∷◌, ◌++◌, length, map, int_lt, Option, Some, None, Result, Ok, Err, Bool, true, false, ◌==◌, ◌&&◌, ◌||◌, codes, if◌then◌else◌}
+use Rattle.std.specs.Prelude.{◌≡◌, ◌⊎◌, ℕ, ℤ, ◌+◌, ◌<◌, ◌≤◌, List, [], ◌∷◌, ◌++◌, length, map, int_lt, Option, Some, None, Result, Ok, Err, Bool, true, false, ◌==◌, ◌&&◌, ◌||◌, codes, if◌then◌else◌}
 use Rattle.std.specs.List.{AllByRecursion}
 use Rattle.std.specs.Option.{unwrap_or}
 use Rattle.bson_model.specs.Tree.{Datum, Fields}
@@ -14,18 +14,19 @@ use Rattle.command_model.specs.GetMore.{GetMore}
 use Rattle.command_model.specs.KillCursors.{KillCursors}
 use Rattle.command_model.specs.IsMaster.{Legacy}
 use Rattle.command_model.specs.Split.{SplitCommand}
-use Rattle.command_model.specs.Command.{Command, hello_command, legacy_command, ping_command, end_sessions_command, write_command, find_command, count_command, more_command, kill_command, shard_collection_command, split_command, command_of}
+use Rattle.command_model.specs.Command.{Command, hello_command, legacy_command, ping_command, end_sessions_command, write_command, find_command, count_command, more_command, kill_command, shard_collection_command, split_command, command_of, time_limit}
 use Rattle.command_model.specs.Answers.{hello_answer, legacy_answer, done_answer, first_answer, next_answer, count_answer, killed_answer, sharded_answer, changed_answer, refusal_answer, answer_document}
 use Rattle.pipeline_model.specs.Runs.{listed, overflowed, count_documents}
 use Rattle.history_model.specs.History.{StatementNumber, Operation, Entry, IsIn}
 use Rattle.pipeline_model.specs.Lengths.{excess_of_answer}
 use Rattle.chunk_model.specs.Catalogue.{Creation}
 use Rattle.chunk_model.specs.Changes.{Change, create_change, time_of, known_table, begins_at}
-use Rattle.chunk_model.specs.Tables.{Table}
+use Rattle.chunk_model.specs.Tables.{Table, collection_version}
+use Rattle.chunk_model.specs.Versions.{Version, is_later}
 use Rattle.base_model.specs.Identities.{RequestId}
 use Rattle.reply_model.specs.Exchanges.{Asked, Answered, number_for, entries_by}
-use Rattle.reply_model.specs.Accounts.{Account}
-use Rattle.reply_model.specs.Outcomes.{StatementOutcome, WasRefused, is_older, Done, answer_by, done_of, fails, answer_of}
+use Rattle.reply_model.specs.Accounts.{Given, Learned, Lack, Missed, Account}
+use Rattle.reply_model.specs.Outcomes.{Try, most_tries, stale_refusal, expired_refusal, lack_refusal, StatementOutcome, was_refused, WasRefused, is_older, Done, answer_by, done_of, fails, AnyDone, answer_of}
 use Rattle.reply_model.specs.Cursors.{Cursor, open_cursor, ShowsFirst, ShowsNext, Kills}
 use Rattle.reply_model.specs.Reads.{IsTimeRead, MayGive, IsExcess, IsAhead}
 
@@ -64,28 +65,85 @@ pub record HadSent (asked : List Asked) (e : Entry) (t : Answered) : Type 0 wher
   pub sends : Sends request e
   pub came : request.came ≤ t.step
 
+-- WHY WORK IS GIVEN UP
+
+-- a node took no step, for this lack, not after the reply
+pub record WasMissed (account : Account) (t : Answered) (node : ℕ) (lack : Lack) : Type 0 where
+  pub missed : Missed
+  pub had : IsIn missed account.missed
+  pub own : missed.node ≡ node
+  pub same : missed.lack ≡ lack
+  pub before : missed.step ≤ t.step
+
+-- The reply was made at a moment that the request's router was given after it took the request, and the request's time limit, counted from the router's last
+-- moment before, had passed (MongoDB manual, "maxTimeMS"; that it counts moments is own).
+pub record IsExpired (account : Account) (a : Asked) (t : Answered) (now : ℕ) : Type 0 where
+  pub given : Given
+  pub had : IsIn given account.given
+  pub own : given.node ≡ a.id.router
+  pub moment : given.moment ≡ now
+  pub after : a.came < given.step
+  pub same : given.step ≡ t.step
+  pub limited : 0 < time_limit a.request
+  pub passed : a.moment + time_limit a.request ≤ now
+
+-- a reply may say so of any work
+pub data IsGivenUp (account : Account) (a : Asked) (t : Answered) : Refusal → Type 0 where
+  given_up_late : (now : ℕ) → IsExpired account a t now → IsGivenUp account a t (expired_refusal a.moment now)
+  given_up_lacking : (node : ℕ) (lack : Lack) → WasMissed account t node lack → IsGivenUp account a t (lack_refusal node lack)
+
+-- the catalogue had a table of the collection with this version
+pub record HadVersion (changes : List Change) (namespace : List ℕ) (version : Version) : Type 0 where
+  pub later : List Change
+  pub older : List Change
+  pub table : Table
+  pub all : changes ≡ later ++ older
+  pub known : known_table namespace older ≡ Some table
+  pub same : collection_version table ≡ version
+
+-- the first of the tries was not sent with an older version than this
+abbrev pub StartsWith : Version → List Try → Type 0
+StartsWith version [] = Unit {0}
+StartsWith version (x ∷ tries) = is_later version x.sent ≡ false
+
+-- each try met a later version than was sent, and the next was not sent with an older version than that
+abbrev pub AreTurns : List Try → Type 0
+AreTurns [] = Unit {0}
+AreTurns (x ∷ tries) = (is_later x.met x.sent ≡ true) × StartsWith x.met tries × AreTurns tries
+
+-- All tries for work of the request met a later table of the collection, and all versions are of tables that the catalogue had; the first was sent with one that
+-- is not older than any table that the router had received before the request came.
+pub record WereStale (account : Account) (a : Asked) (namespace : List ℕ) (tries : List Try) : Type 0 where
+  pub all : length tries ≡ most_tries
+  pub turns : AreTurns tries
+  pub had : AllByRecursion (λ (x : Try). HadVersion account.changes namespace x.sent × HadVersion account.changes namespace x.met) tries
+  pub first : (x : Learned) → IsIn x account.learned → x.node ≡ a.id.router → x.step < a.came → x.table.namespace ≡ namespace
+      → StartsWith (collection_version x.table) tries
+
 -- OUTCOMES OF STATEMENTS
 
 -- The right outcomes of a statement: that of its own entry; where a client gave the number, that of another entry under it; or that an entry of the client's
--- session has this greater transaction. The entry is not later than what the router knows as it replies.
-pub data MayBeTold (account : Account) (t : Answered) (given : Option ClientNumber) (number : StatementNumber) (namespace : List ℕ)
+-- session has this greater transaction. The entry is not later than what the router knows as it replies. Or it was given up, and may be applied or not.
+pub data MayBeTold (account : Account) (a : Asked) (t : Answered) (given : Option ClientNumber) (number : StatementNumber) (namespace : List ℕ)
     (operation : Operation) : StatementOutcome → Type 0 where
   told_own : (e : Entry) → IsIn e account.history → IsStatement number namespace operation e → e.time ≤ t.time
-      → MayBeTold account t given number namespace operation (answer_by e)
+      → MayBeTold account a t given number namespace operation (answer_by e)
   told_other : (e : Entry) (by : ClientNumber) → IsIn e account.history → given ≡ Some by → e.number ≡ number → e.time ≤ t.time → HadSent account.asked e t
-      → MayBeTold account t given number namespace operation (answer_by e)
+      → MayBeTold account a t given number namespace operation (answer_by e)
   told_older : (e : Entry) (by : ClientNumber) → IsIn e account.history → given ≡ Some by → e.number.session ≡ number.session
       → int_lt number.transaction e.number.transaction ≡ true → e.time ≤ t.time → HadSent account.asked e t
-      → MayBeTold account t given number namespace operation (is_older e.number.transaction)
+      → MayBeTold account a t given number namespace operation (is_older e.number.transaction)
+  told_stale : (tries : List Try) → WereStale account a namespace tries → MayBeTold account a t given number namespace operation (was_refused (stale_refusal tries))
+  told_given_up : (refusal : Refusal) → IsGivenUp account a t refusal → MayBeTold account a t given number namespace operation (was_refused refusal)
 
 -- these are right outcomes of the statements of a write from this index on, of all, or up to the error that ends an ordered command
-abbrev pub AreTold : Account → Answered → WriteCommand → ℕ → List Operation → List Done → Type 0
-AreTold account t write index [] dones = dones ≡ []
-AreTold account t write index (operation ∷ operations) [] = ⊥
-AreTold account t write index (operation ∷ operations) (d ∷ dones) =
+abbrev pub AreTold : Account → Asked → Answered → WriteCommand → ℕ → List Operation → List Done → Type 0
+AreTold account a t write index [] dones = dones ≡ []
+AreTold account a t write index (operation ∷ operations) [] = ⊥
+AreTold account a t write index (operation ∷ operations) (d ∷ dones) =
     (d.index ≡ index)
-    × MayBeTold account t write.number (number_for write.number t.id index) write.namespace operation d.answer
-    × elim (ends write.ordered d) [ true ↦ dones ≡ [] | false ↦ AreTold account t write (index + 1) operations dones ]
+    × MayBeTold account a t write.number (number_for write.number t.id index) write.namespace operation d.answer
+    × elim (ends write.ordered d) [ true ↦ dones ≡ [] | false ↦ AreTold account a t write (index + 1) operations dones ]
 
 -- THE STORED PART OF A WRITE THAT HAS NO NUMBER FROM ITS CLIENT
 
@@ -144,6 +202,14 @@ pub data Reads : Result Command Refusal → Reading → Type 0 where
   find_reads : (find : Find) → Reads (Ok (find_command find)) find.reading
   count_reads : (reading : Reading) → Reads (Ok (count_command reading)) reading
 
+-- the command is work on a collection that is done, or given up, as one
+abbrev pub IsOneTask : Result Command Refusal → Type 0
+IsOneTask (Ok (find_command find)) = Unit {0}
+IsOneTask (Ok (count_command reading)) = Unit {0}
+IsOneTask (Ok (shard_collection_command namespace)) = Unit {0}
+IsOneTask (Ok (split_command split)) = Unit {0}
+IsOneTask command = ⊥
+
 -- a request that gets no reply asks for no other batch
 abbrev pub asks_for_one : Batches → Request → Bool
 asks_for_one batches request = batches.single || request.more
@@ -186,13 +252,14 @@ abbrev pub not_sharded : Fields
 not_sharded = answer_document (refusal_answer (without_evidence namespace_not_sharded))
 
 -- The reply to the request is a right one, where the first cursors were open before it, and the next ones are after it: right outcomes of its statements, in
--- a collection that was created; or a batch of a result that the read may have at its time, or the number of documents, or why it is refused; or the next
--- batch of its cursor, or that this is not open; or which cursors are closed; or that a collection was created, or that a chunk
--- of it begins at a key, or that there is none (`OneHistory` says when); or a reply that needs no document; or its refusal.
+-- a collection that was created if one was applied; or a batch of a result that the read may have at its time, or the number of documents, or why it is
+-- refused; or that all its tries met later tables, or why it is given up; or the next batch of its cursor, or that this is not open; or which cursors are
+-- closed; or that a collection was created, or that a chunk of it begins at a key, or that there is none (`OneHistory` says when); or a reply that needs no
+-- document; or its refusal.
 pub data IsRight (account : Account) (cursors : List Cursor) (a : Asked) (t : Answered) : (next : List Cursor) → Type 0 where
-  right_write : (write : WriteCommand) (dones : List Done) (c : Creation) → command_of a.request ≡ Ok (write_command write)
-      → AreTold account t write 0 write.operations dones → (write.number ≡ None → IsWhole account.history a.id write dones)
-      → IsIn (create_change c) account.changes → c.namespace ≡ write.namespace → c.at ≤ t.time
+  right_write : (write : WriteCommand) (dones : List Done) → command_of a.request ≡ Ok (write_command write)
+      → AreTold account a t write 0 write.operations dones → (write.number ≡ None → IsWhole account.history a.id write dones)
+      → (AnyDone dones → WasCreated account.changes write.namespace t.time)
       → t.document ≡ answer_document (answer_of write.kind t.time dones) → IsRight account cursors a t cursors
   right_find : (find : Find) (time : ℕ) (documents : List Fields) (batch : Batch) (next : List Cursor) → command_of a.request ≡ Ok (find_command find)
       → IsTimeRead a t find.reading time → MayGive account.history find.reading time (listed documents) → excess_of_answer documents ≡ None
@@ -202,6 +269,10 @@ pub data IsRight (account : Account) (cursors : List Cursor) (a : Asked) (t : An
   right_count : (reading : Reading) (time n : ℕ) → command_of a.request ≡ Ok (count_command reading) → IsTimeRead a t reading time
       → MayGive account.history reading time (listed (count_documents (codes "n") n))
       → t.document ≡ answer_document (count_answer n time) → IsRight account cursors a t cursors
+  right_stale : (reading : Reading) (tries : List Try) → Reads (command_of a.request) reading → WereStale account a reading.namespace tries
+      → t.document ≡ answer_document (refusal_answer (stale_refusal tries)) → IsRight account cursors a t cursors
+  right_given_up : (refusal : Refusal) → IsOneTask (command_of a.request) → IsGivenUp account a t refusal
+      → t.document ≡ answer_document (refusal_answer refusal) → IsRight account cursors a t cursors
   right_refused_read : (reading : Reading) → Reads (command_of a.request) reading → IsReadRefused account a t reading
       → IsRight account cursors a t cursors
   right_more : (more : GetMore) (c : Cursor) (batch : Batch) (next : List Cursor) → command_of a.request ≡ Ok (more_command more)

@@ -8,7 +8,7 @@ use Rattle.history_model.proofs.Lists.{all_weaken, all_append}
 use Rattle.chunk_model.specs.Changes.{Change, time_of, known_table}
 use Rattle.chunk_model.specs.Tables.{Table}
 use Rattle.node_model.specs.CatalogueRows.{heard, CatalogueRow, catalogue_create, catalogue_tell, catalogue_split, catalogue_bound, catalogue_none, catalogue_skip, catalogue_moment, catalogue_opened, catalogue_client}
-use Rattle.node_model.specs.Letters.{Body, table_ask, table_told, split_ask, split_done, write_ask, write_done, read_ask, half_ask, read_rows, stale, time_ask, time_told, Letter, Input, Effect}
+use Rattle.node_model.specs.Letters.{Body, table_ask, table_told, split_ask, split_done, write_ask, write_done, read_ask, half_ask, read_rows, refused, time_ask, time_told, Letter, Input, Effect}
 use Rattle.node_model.specs.States.{Catalogue}
 use Rattle.node_laws.proofs.CatalogueAnswers.{created_is, splits}
 use Rattle.restart_laws.specs.Tables.{changes_up_to, SaysTableAt, SaysTableOfItsTime}
@@ -69,7 +69,7 @@ body_none changes now time (write_done id dones) none = tt
 body_none changes now time (read_ask id turn namespace at half sent) none = tt
 body_none changes now time (half_ask id turn namespace at half documents) none = tt
 body_none changes now time (read_rows id turn rows) none = tt
-body_none changes now time (stale id turn met) none = tt
+body_none changes now time (refused what cause) none = tt
 body_none changes now time (time_ask id) none = tt
 body_none changes now time (time_told id) none = tt
 
@@ -100,7 +100,7 @@ body_later changes more later now next time (write_done id dones) same above on 
 body_later changes more later now next time (read_ask id turn namespace at half sent) same above on is = tt
 body_later changes more later now next time (half_ask id turn namespace at half documents) same above on is = tt
 body_later changes more later now next time (read_rows id turn rows) same above on is = tt
-body_later changes more later now next time (stale id turn met) same above on is = tt
+body_later changes more later now next time (refused what cause) same above on is = tt
 body_later changes more later now next time (time_ask id) same above on is = tt
 body_later changes more later now next time (time_told id) same above on is = tt
 
@@ -116,7 +116,7 @@ body_says changes now time (write_done id dones) is = tt
 body_says changes now time (read_ask id turn namespace at half sent) is = tt
 body_says changes now time (half_ask id turn namespace at half documents) is = tt
 body_says changes now time (read_rows id turn rows) is = tt
-body_says changes now time (stale id turn met) is = tt
+body_says changes now time (refused what cause) is = tt
 body_says changes now time (time_ask id) is = tt
 body_says changes now time (time_told id) is = tt
 

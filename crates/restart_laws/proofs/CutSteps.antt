@@ -11,8 +11,8 @@ use Rattle.node_model.specs.Letters.{Input, Effect, nothing}
 use Rattle.node_model.specs.States.{NodeState, catalogue_state, shard_state, router_state}
 use Rattle.node_model.specs.Steps.{Step, catalogue_step, shard_step, router_step, begin_step, other_step}
 use Rattle.node_model.specs.World.{Held, World, answered_by, journal_at}
-use Rattle.node_laws.proofs.Views.{Book, View, view_of, changes_in, Later}
-use Rattle.node_laws.proofs.Facts.{HeldFits, AnswersFit, no_answer, SameKind, is_of, Good}
+use Rattle.node_laws.proofs.Views.{Book, Reach, View, view_of, changes_in, More, Later}
+use Rattle.node_laws.proofs.Facts.{NodeFits, node_of, AnswersFit, no_answer, SameKind, is_of, ReachFits, raises_of, Good}
 use Rattle.node_laws.proofs.Owes.{asked_after, answered_after, StaysHeard, OwesIn, Owes}
 use Rattle.node_laws.proofs.Places.{each_get}
 use Rattle.node_laws.proofs.TimeFacts.{HeardFits}
@@ -25,7 +25,7 @@ use Rattle.node_replay.specs.Openings.{opened}
 use Rattle.node_replay.specs.Replays.{replayed, records_of}
 use Rattle.node_replay.specs.Restarts.{cut_off}
 use Rattle.node_replay.proofs.Restarts.{became}
-use Rattle.restart_laws.proofs.Openings.{in_cursors, Stood, opened_fits}
+use Rattle.restart_laws.proofs.Openings.{in_notes, SameNotes, Stood, opened_fits}
 use Rattle.restart_laws.proofs.StoredTables.{StorePastTables, StoresOwn, past_of, tables_after}
 
 -- KINDS
@@ -56,11 +56,19 @@ kind_opened (router_state c) (shard_state d) time stored same = absurd same
 
 -- NO STEP
 
-later_by : (u v : View) (cursors : List Cursor) → Later u v → Later u (in_cursors cursors v)
-later_by u v cursors later = record { longer = later.longer; times = later.times; decided = later.decided }
+later_by : (u v : View) (cursors : List Cursor) (notes : List Reach) → More u.reached notes → Later u v → Later u (in_notes cursors notes v)
+later_by u v cursors notes more later = record {
+  longer = later.longer;
+  times = later.times;
+  decided = later.decided;
+  given = later.given;
+  missed = later.missed;
+  reached = more;
+}
 
 -- a node that does nothing owes what it owes
-pub nothing_owes : (w : World) (book : Book) (at : ℕ) (old : Held) → Good w book → slice_get w.nodes at ≡ Some old → Owes w book at old nothing old.state
+pub nothing_owes : (w : World) (book : Book) (at : ℕ) (old : Held) → Good w book → slice_get w.nodes at ≡ Some old
+    → Owes w book at (node_of old) nothing old.state
 nothing_owes w book at old good here =
     let one : AreDifferent (ids_asked (w.asked ++ [])) = subst (λ l. AreDifferent (ids_asked l)) (sym (append-nil w.asked)) good.one in
     record {
@@ -75,11 +83,12 @@ nothing_owes w book at old good here =
       news = [];
       chose = tt;
       cursors = book.cursors;
+      raised = each_get (λ j (h : Held). ReachFits book.reached h.state) 0 at w.nodes old good.reach here;
       elsewhere = λ router other. refl;
-      owed = λ v later apart journal bound chosen cursors.
+      owed = λ v later apart journal bound chosen cursors noted.
           (let decides : Decided (suc at) (view_of w.nodes book) v = record { news = []; same = chosen; theirs = tt } in
           record {
-            node = subst (λ k. HeldFits v (w.asked ++ []) (w.answered ++ []) w.given at (record { state = old.state; kept = k })) (sym (append-nil old.kept))
+            node = subst (λ k. NodeFits v (w.asked ++ []) (w.answered ++ []) w.given at (record { state = old.state; kept = k })) (sym (append-nil old.kept))
                 (other_fits (view_of w.nodes book) v w.asked [] w.answered [] w.given at (suc at) old (λ e. absurd (omega (arith, e))) later decides
                 (λ router other. ap (λ l. filter (is_of router) l) cursors) one tt tt (fits_here w book at old good here));
             letters = tt;
@@ -121,6 +130,20 @@ opened_heard v asked answered time stored (catalogue_state c) some = tt
 opened_heard v asked answered time stored (shard_state s) some = tt
 opened_heard v asked answered time stored (router_state r) some = record { some = some; requests = tt }
 
+-- HOW FAR STATEMENTS WERE SENT
+
+-- a node that is started has no open request
+opened_raised : (notes : List Reach) (time stored : ℕ) (s : NodeState) → ReachFits notes (opened time (durable_of stored s))
+opened_raised notes time stored (catalogue_state c) = tt
+opened_raised notes time stored (shard_state s) = tt
+opened_raised notes time stored (router_state r) = tt
+
+same_notes : (s : NodeState) (time stored : ℕ) (notes old : List Reach) → notes ≡ old ++ raises_of (opened time (durable_of stored s))
+    → SameNotes notes (old ++ raises_of s) s
+same_notes (catalogue_state c) time stored notes old same = tt
+same_notes (shard_state s) time stored notes old same = same
+same_notes (router_state r) time stored notes old same = tt
+
 -- A STEP
 
 -- what is known of a node that stops in a step, with these changes of the catalogue
@@ -128,33 +151,38 @@ pub record Halts (changes : List Change) (old : Held) (f : Effect) (reached : No
   pub early : ℕ
   pub late : ℕ
   pub leads : replayed (Some (durable_of early old.state)) (records_of f.written) ≡ Some (durable_of late reached)
-  pub replays : Replays (record { state = reached; kept = old.kept ++ f.written })
+  pub replays : Replays (record { state = reached; kept = old.kept ++ f.written; steps = 0 })
   pub holds : HoldsOwn
-      (record { state = became (record { state = reached; kept = old.kept ++ f.written }); kept = old.kept ++ f.written })
+      (record { state = became (record { state = reached; kept = old.kept ++ f.written; steps = 0 }); kept = old.kept ++ f.written; steps = 0 })
   pub tables : StorePastTables changes old.kept old.state
   pub own : StoresOwn f.written reached
   pub same : empty_of reached ≡ empty_of old.state
 
 -- what it is started as
 abbrev pub halted : Held → Effect → NodeState → NodeState
-halted old f reached = became (record { state = reached; kept = old.kept ++ f.written })
+halted old f reached = became (record { state = reached; kept = old.kept ++ f.written; steps = 0 })
 
 module _ (w : World) (book : Book) (at : ℕ) (old : Held) (f : Effect) (reached : NodeState) (good : Good w book) (here : slice_get w.nodes at ≡ Some old)
-    (owes : Owes w book at old f reached) (halts : Halts (changes_kept (journal_at w.nodes 0)) old f reached) where
+    (owes : Owes w book at (node_of old) f reached) (halts : Halts (changes_kept (journal_at w.nodes 0)) old f reached) where
+  -- the view in which the step was whole
+  abbrev InWhole : View → View
+  InWhole v = in_notes owes.cursors (book.reached ++ raises_of reached) v
+
   cut_owed : (v : View) → Later (view_of w.nodes book) v → ((p : ℕ) → p ≢ at → v.journal p ≡ journal_at w.nodes p) → v.journal at ≡ old.kept ++ f.written
-      → OwesIn (in_cursors owes.cursors v) w book at old f reached
-      → OwesIn (in_cursors book.cursors v) w book at old (cut_off f) (halted old f reached)
-  cut_owed v later apart journal owed =
+      → v.reached ≡ book.reached ++ raises_of (halted old f reached) → OwesIn (InWhole v) w book at (node_of old) f reached
+      → OwesIn (in_notes book.cursors v.reached v) w book at (node_of old) (cut_off f) (halted old f reached)
+  cut_owed v later apart journal noted owed =
       let news = more_changes (view_of w.nodes book) v later in
-      let stood : Stood (in_cursors owes.cursors v) book.cursors (asked_after w f) w.answered (answered_by w.now f.replies) w.given at old.state f.written
-      (record { state = reached; kept = old.kept ++ f.written }) =
+      let stood : Stood (InWhole v) book.cursors v.reached (asked_after w f) w.answered (answered_by w.now f.replies) w.given at old.state f.written
+      (record { state = reached; kept = old.kept ++ f.written; steps = 0 }) =
       record {
         fits = owed.node;
         replays = halts.replays;
         holds = halts.holds;
-        tables = tables_after (changes_kept (journal_at w.nodes 0)) (changes_in (in_cursors owes.cursors v)) news.more old.kept f.written old.state reached
+        tables = tables_after (changes_kept (journal_at w.nodes 0)) (changes_in v) news.more old.kept f.written old.state reached
             owes.kind news.same halts.tables halts.own
-            (past_of (in_cursors owes.cursors v) (asked_after w f) (answered_after w f) at (old.kept ++ f.written) reached owed.node.state);
+            (past_of (InWhole v) (asked_after w f) (answered_after w f) at (old.kept ++ f.written) reached owed.node.state);
+        noted = same_notes reached _ _ v.reached book.reached noted;
         kind = owes.kind;
         early = halts.early;
         late = halts.late;
@@ -162,9 +190,9 @@ module _ (w : World) (book : Book) (at : ℕ) (old : Held) (f : Effect) (reached
         cursors_fit = (fits_here w book at old good here).cursors;
       } in
       record {
-        node = subst (λ l. HeldFits (in_cursors book.cursors v) (asked_after w f) l w.given at
+        node = subst (λ l. NodeFits (in_notes book.cursors v.reached v) (asked_after w f) l w.given at
             (record { state = halted old f reached; kept = old.kept ++ f.written })) (sym (append-nil w.answered))
-            (opened_fits (in_cursors owes.cursors v) book.cursors (asked_after w f) w.answered (answered_by w.now f.replies) w.given at old.state reached
+            (opened_fits (InWhole v) book.cursors v.reached (asked_after w f) w.answered (answered_by w.now f.replies) w.given at old.state reached
             f.written (old.kept ++ f.written) stood);
         letters = tt;
         answers = no_answer book.cursors;
@@ -179,7 +207,7 @@ module _ (w : World) (book : Book) (at : ℕ) (old : Held) (f : Effect) (reached
       (some_heard (view_of w.nodes book) w.asked w.answered old.state
       (each_get (λ k (x : Held). HeardFits (view_of w.nodes book) w.asked w.answered x.state) 0 at w.nodes old good.heard here)))
 
-  pub cut_owes : Owes w book at old (cut_off f) (halted old f reached)
+  pub cut_owes : Owes w book at (node_of old) (cut_off f) (halted old f reached)
   cut_owes = record {
     kind = kind_opened old.state reached _ _ owes.kind;
     rises = owes.rises;
@@ -192,9 +220,12 @@ module _ (w : World) (book : Book) (at : ℕ) (old : Held) (f : Effect) (reached
     news = owes.news;
     chose = owes.chose;
     cursors = book.cursors;
+    raised = opened_raised book.reached _ _ reached;
     elsewhere = λ router other. refl;
-    owed = λ v later apart journal bound chosen cursors.
-        subst (λ l. OwesIn (in_cursors l v) w book at old (cut_off f) (halted old f reached)) (sym cursors)
-        (cut_owed v later apart journal
-        (owes.owed (in_cursors owes.cursors v) (later_by (view_of w.nodes book) v owes.cursors later) apart journal bound chosen refl));
+    owed = λ v later apart journal bound chosen cursors noted.
+        subst (λ l. OwesIn (in_notes l v.reached v) w book at (node_of old) (cut_off f) (halted old f reached)) (sym cursors)
+        (cut_owed v later apart journal noted.reached
+        (owes.owed (InWhole v)
+        (later_by (view_of w.nodes book) v owes.cursors (book.reached ++ raises_of reached) (record { news = raises_of reached; same = refl }) later)
+        apart journal bound chosen refl (record { given = noted.given; lacks = noted.lacks; reached = refl })));
   }

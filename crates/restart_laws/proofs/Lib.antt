@@ -3,6 +3,8 @@ pub mod TableTimes
 pub mod StoredTables
 pub mod TablesInTime
 pub mod Openings
+pub mod Kept
+pub mod BothSteps
 pub mod CutSteps
 pub mod StopSteps
 pub mod Givens

@@ -1,11 +1,13 @@
 -- A run goes on in the same way where more messages were sent before it; so calls, one after another, are one run.
-use Rattle.std.proofs.Common.{◌≡◌, ℕ, suc, ◌+◌, List, [], ◌∷◌, ◌++◌, sym, ap, subst, ◌∙◌, arith, append_assoc, append-nil}
+use Rattle.std.proofs.Common.{◌≡◌, inl, inr, ℕ, suc, ◌+◌, List, [], ◌∷◌, ◌++◌, sym, ap, subst, ◌∙◌, arith, append_assoc, append-nil}
 use Rattle.std.specs.Prelude.{length}
 use Rattle.std.specs.List.{slice_get, slice_set}
+use Rattle.reply_model.specs.Accounts.{Lack}
+use Rattle.node_model.specs.Lacks.{misses}
 use Rattle.node_model.specs.Letters.{Letter, Input, client_input, letter_input, moment_input, opened_input, Effect, nothing}
 use Rattle.node_model.specs.States.{NodeState}
-use Rattle.node_model.specs.World.{Held, World, asked_by, answered_by, dated_onto, after, is_given, tick, Moves, Event, client_event, deliver_event, moment_event, opened_event, Happens, comes, delivers, passes, begins}
-use Rattle.node_replay.specs.Restarts.{Restarts, Stops, cut_off, Gives, gives_request, gives_message, gives_moment, gives_opening, EventOrStop, whole_event, restart_event, stop_event, Occurs, occurs, restarts, stops, RunWithStops, stays, proceeds}
+use Rattle.node_model.specs.World.{Held, World, asked_by, answered_by, dated_onto, is_given, tick, Moves, steps_after, away_by, after_lack, Misses, Meets, Event, client_event, deliver_event, moment_event, opened_event, Happens, comes, delivers, passes, begins}
+use Rattle.node_replay.specs.Restarts.{after_start, Restarts, Stops, cut_off, Gives, gives_request, gives_message, gives_moment, gives_opening, EventOrStop, whole_event, restart_event, stop_event, Occurs, occurs, restarts, stops, RunWithStops, stays, proceeds}
 use Rattle.restart_laws.specs.Calls.{restarts_of, without_mail, with_mail, BeginsOn, Calls, this_call, next_call, IsOfRun}
 
 -- EVENTS
@@ -35,17 +37,37 @@ get_behind (m ∷ mail) sent which =
     ap (λ n. slice_get (m ∷ (mail ++ sent)) n) one_on ∙ get_behind mail sent which
 
 module _ (mail : List Letter) where
-  after_mail : (w : World) (at : ℕ) (old : Held) (f : Effect) (new : NodeState)
-      → with_mail mail (tick (after w at old f new)) ≡ tick (after (with_mail mail w) at old f new)
-  after_mail w at old f new =
+  after_mail : (w : World) (at : ℕ) (old : Held) (steps : ℕ) (f : Effect) (new : NodeState)
+      → with_mail mail (tick (after_start w at old steps f new)) ≡ tick (after_start (with_mail mail w) at old steps f new)
+  after_mail w at old steps f new =
       let more : mail ++ (w.sent ++ f.mail) ≡ (mail ++ w.sent) ++ f.mail = sym (append_assoc mail w.sent f.mail) in
       λ i. record {
-        nodes = slice_set w.nodes at (record { state = new; kept = old.kept ++ f.written });
+        nodes = slice_set w.nodes at (record { state = new; kept = old.kept ++ f.written; steps = steps });
         sent = more i;
         asked = w.asked ++ asked_by w.now f.taken;
         answered = w.answered ++ answered_by w.now f.replies;
         given = w.given;
+        learned = w.learned;
+        missed = w.missed;
+        away = w.away;
         changed = dated_onto w.now w.changed f.written;
+        now = w.now + 1;
+      }
+
+  lack_mail : (w : World) (at : ℕ) (old : Held) (lack : Lack) (f : Effect)
+      → with_mail mail (tick (after_lack w at old lack f)) ≡ tick (after_lack (with_mail mail w) at old lack f)
+  lack_mail w at old lack f =
+      let more : mail ++ (w.sent ++ f.mail) ≡ (mail ++ w.sent) ++ f.mail = sym (append_assoc mail w.sent f.mail) in
+      λ i. record {
+        nodes = slice_set w.nodes at (record { state = old.state; kept = old.kept; steps = steps_after lack old.steps });
+        sent = more i;
+        asked = w.asked;
+        answered = w.answered;
+        given = w.given;
+        learned = w.learned;
+        missed = w.missed ++ record { node = at; lack = lack; step = w.now } ∷ [];
+        away = w.away ++ away_by at w.now f.away;
+        changed = w.changed;
         now = w.now + 1;
       }
 
@@ -55,18 +77,32 @@ module _ (mail : List Letter) where
     f = m.f;
     new = m.new;
     here = m.here;
+    goes = m.goes;
     step = m.step;
-    then = ap (λ (x : World). with_mail mail x) m.then ∙ after_mail (is_given w at i) at m.old m.f m.new;
+    then = ap (λ (x : World). with_mail mail x) m.then ∙ after_mail (is_given w at i) at m.old (m.old.steps + 1) m.f m.new;
   }
+
+  mail_misses : (w v : World) (at : ℕ) (i : Input) → Misses w at i v → Misses (with_mail mail w) at i (with_mail mail v)
+  mail_misses w v at i m = record {
+    old = m.old;
+    lack = m.lack;
+    here = m.here;
+    may = m.may;
+    then = ap (λ (x : World). with_mail mail x) m.then ∙ lack_mail w at m.old m.lack (misses m.old.state m.lack i);
+  }
+
+  mail_meets : (w v : World) (at : ℕ) (i : Input) → Meets w at i v → Meets (with_mail mail w) at i (with_mail mail v)
+  mail_meets w v at i (inl m) = inl (mail_moves w v at i m)
+  mail_meets w v at i (inr m) = inr (mail_misses w v at i m)
 
   mail_happens : (w v : World) (e : Event) → Happens w e v → Happens (with_mail mail w) (later_event (length mail) e) (with_mail mail v)
   mail_happens _ _ _ (comes w v at link number request is m) =
-      comes (with_mail mail w) (with_mail mail v) at link number request is (mail_moves w v at (client_input link number request) m)
+      comes (with_mail mail w) (with_mail mail v) at link number request is (mail_meets w v at (client_input link number request) m)
   mail_happens _ _ _ (delivers w v at which l got to m) =
-      delivers (with_mail mail w) (with_mail mail v) at (length mail + which) l (get_behind mail w.sent which ∙ got) to (mail_moves w v at (letter_input l) m)
+      delivers (with_mail mail w) (with_mail mail v) at (length mail + which) l (get_behind mail w.sent which ∙ got) to (mail_meets w v at (letter_input l) m)
   mail_happens _ _ _ (passes w v at moment m) =
-      passes (with_mail mail w) (with_mail mail v) at moment (mail_moves w v at (moment_input moment) m)
-  mail_happens _ _ _ (begins w v at m) = begins (with_mail mail w) (with_mail mail v) at (mail_moves w v at opened_input m)
+      passes (with_mail mail w) (with_mail mail v) at moment (mail_meets w v at (moment_input moment) m)
+  mail_happens _ _ _ (begins w v at m) = begins (with_mail mail w) (with_mail mail v) at (mail_meets w v at opened_input m)
 
   pub mail_gives : (w : World) (e : Event) (at : ℕ) (i : Input) → Gives w e at i → Gives (with_mail mail w) (later_event (length mail) e) at i
   mail_gives w _ _ _ (gives_request at link number request is) = gives_request at link number request is
@@ -78,9 +114,11 @@ module _ (mail : List Letter) where
   mail_restarts w v at m = record {
     old = m.old;
     new = m.new;
+    steps = m.steps;
     here = m.here;
     opens = m.opens;
-    then = ap (λ (x : World). with_mail mail x) m.then ∙ after_mail (is_given w at (moment_input 0)) at m.old nothing m.new;
+    counts = m.counts;
+    then = ap (λ (x : World). with_mail mail x) m.then ∙ after_mail (is_given w at (moment_input 0)) at m.old m.steps nothing m.new;
   }
 
   mail_stops : (w v : World) (at : ℕ) (i : Input) → Stops w at i v → Stops (with_mail mail w) at i (with_mail mail v)
@@ -90,9 +128,11 @@ module _ (mail : List Letter) where
     reached = m.reached;
     new = m.new;
     here = m.here;
+    goes = m.goes;
     step = m.step;
     opens = m.opens;
-    then = ap (λ (x : World). with_mail mail x) m.then ∙ after_mail (is_given (is_given w at i) at (moment_input 0)) at m.old (cut_off m.f) m.new;
+    then = ap (λ (x : World). with_mail mail x) m.then
+        ∙ after_mail (is_given (is_given w at i) at (moment_input 0)) at m.old (m.old.steps + 1) (cut_off m.f) m.new;
   }
 
   mail_occurs : (w v : World) (e : EventOrStop) → Occurs w e v → Occurs (with_mail mail w) (later (length mail) e) (with_mail mail v)
@@ -121,6 +161,9 @@ no_mail w = λ i. record {
   asked = w.asked;
   answered = w.answered;
   given = w.given;
+  learned = w.learned;
+  missed = w.missed;
+  away = w.away;
   changed = w.changed;
   now = w.now;
 }
@@ -136,6 +179,9 @@ mail_before mail started first same =
       asked = started.asked;
       answered = started.answered;
       given = started.given;
+      learned = started.learned;
+      missed = started.missed;
+      away = started.away;
       changed = started.changed;
       now = started.now;
     } in
@@ -165,11 +211,15 @@ calls_are_one_run u _ (next_call v first w events before b run) = goes_on u v fi
 
 -- MESSAGES STAY
 
+meets_sends : (w v : World) (at : ℕ) (i : Input) → Meets w at i v → (more : List Letter) × (v.sent ≡ w.sent ++ more)
+meets_sends w v at i (inl m) = (m.f.mail, ap (λ (x : World). x.sent) m.then)
+meets_sends w v at i (inr m) = ((misses m.old.state m.lack i).mail, ap (λ (x : World). x.sent) m.then)
+
 event_sends : (w v : World) (e : Event) → Happens w e v → (more : List Letter) × (v.sent ≡ w.sent ++ more)
-event_sends _ _ _ (comes w v at link number request is m) = (m.f.mail, ap (λ (x : World). x.sent) m.then)
-event_sends _ _ _ (delivers w v at which l got to m) = (m.f.mail, ap (λ (x : World). x.sent) m.then)
-event_sends _ _ _ (passes w v at moment m) = (m.f.mail, ap (λ (x : World). x.sent) m.then)
-event_sends _ _ _ (begins w v at m) = (m.f.mail, ap (λ (x : World). x.sent) m.then)
+event_sends _ _ _ (comes w v at link number request is m) = meets_sends w v at _ m
+event_sends _ _ _ (delivers w v at which l got to m) = meets_sends w v at _ m
+event_sends _ _ _ (passes w v at moment m) = meets_sends w v at _ m
+event_sends _ _ _ (begins w v at m) = meets_sends w v at _ m
 
 occurs_sends : (w v : World) (e : EventOrStop) → Occurs w e v → (more : List Letter) × (v.sent ≡ w.sent ++ more)
 occurs_sends _ _ _ (occurs w v e h) = event_sends w v e h

@@ -15,7 +15,8 @@ use Rattle.node_model.specs.RouterRows.{block_size}
 use Rattle.node_model.specs.ShardRows.{top, greatest_entry}
 use Rattle.node_model.specs.States.{Catalogue, Shard, Router, NodeState, catalogue_state, shard_state, router_state}
 use Rattle.node_model.specs.World.{Held}
-use Rattle.node_laws.proofs.Views.{View, changes_in}
+use Rattle.node_laws.proofs.Views.{Reach, View, history_in, changes_in}
+use Rattle.node_laws.proofs.WriteFacts.{WasMade}
 use Rattle.node_laws.proofs.Facts.{IsKnownTable, CatalogueFits, ShardFits, RouterFits, IsBy, IsMet, IsGiven, is_of, is_of_life, CursorsFit, OwnCursors, HeldFits, SameKind, ToldBelow, IsClosedOrOpen}
 use Rattle.node_laws.proofs.GreatestTimes.{entries_within, changes_within}
 use Rattle.node_laws.proofs.Growth.{met_max}
@@ -50,7 +51,8 @@ module _ (v : View) (given : List Given) (time : ℕ) (met : IsMet v given time)
   record_met (kept_change (commit_change c)) le is = inl refl
 
   -- the greatest time in records was met, where that of the node was that stored them
-  latest_met : (kept : List Kept) → greatest_kept kept ≤ time → AllByRecursion (StoresPastTable (changes_in v)) kept → IsMet v given (latest_time (records_of kept))
+  latest_met : (kept : List Kept) → greatest_kept kept ≤ time → AllByRecursion (StoresPastTable (changes_in v)) kept
+      → IsMet v given (latest_time (records_of kept))
   latest_met [] le all = inl refl
   latest_met (k ∷ kept) le all = met_max v given (time_in (record_kept k)) (latest_time (records_of kept))
       (record_met k (omega (arith, le)) all.0) (latest_met kept (omega (arith, le)) all.1)
@@ -71,9 +73,23 @@ tabled_none v (k ∷ kept) all = (by_kind k all.0, tabled_none v kept all.1)
 
 -- THE CATALOGUE AND A SHARD
 
--- the view with other cursors
-abbrev pub in_cursors : List Cursor → View → View
-in_cursors cursors v = record { journal = v.journal; bound = v.bound; chosen = v.chosen; cursors = cursors }
+-- the view with other cursors, and other notes of how far statements were sent
+abbrev pub in_notes : List Cursor → List Reach → View → View
+in_notes cursors notes v = record {
+  journal = v.journal;
+  bound = v.bound;
+  chosen = v.chosen;
+  cursors = cursors;
+  given = v.given;
+  missed = v.missed;
+  reached = notes;
+}
+
+-- which is of open requests alone
+abbrev pub SameNotes : (notes reached : List Reach) → NodeState → Type 0
+SameNotes notes reached (catalogue_state c) = Unit {0}
+SameNotes notes reached (shard_state s) = notes ≡ reached
+SameNotes notes reached (router_state r) = Unit {0}
 
 catalogue_anew : (asked : List Asked) (at time : ℕ) (kept : List Kept) (c : Catalogue) → greatest_kept kept ≤ time → CatalogueFits asked at kept c
     → CatalogueFits asked at kept (record { me = c.me; time = time; changes = c.changes })
@@ -87,9 +103,9 @@ catalogue_anew asked at time kept c le fits = record {
 }
 
 -- a table is known by a time that is not below any time in it
-known_anew : (v : View) (cursors : List Cursor) (early time : ℕ) (t : Table) → IsKnownTable v early t → latest_in_table t ≤ time
-    → IsKnownTable (in_cursors cursors v) time t
-known_anew v cursors early time t k le =
+known_anew : (v : View) (cursors : List Cursor) (notes : List Reach) (early time : ℕ) (t : Table) → IsKnownTable v early t → latest_in_table t ≤ time
+    → IsKnownTable (in_notes cursors notes v) time t
+known_anew v cursors notes early time t k le =
     let latest = known_latest v early t k in
     record {
       more = k.more;
@@ -104,10 +120,10 @@ known_anew v cursors early time t k le =
 abbrev shard_anew_state : ℕ → Shard → Shard
 shard_anew_state time s = record { me = s.me; time = time; tables = s.tables; entries = s.entries; ceiling = top s; parked = [] }
 
-shard_anew : (v : View) (cursors : List Cursor) (asked : List Asked) (at time : ℕ) (kept : List Kept) (s : Shard) → greatest_kept kept ≤ time
-    → AllByRecursion (λ t. latest_in_table t ≤ time) s.tables → ShardFits v asked at kept s
-    → ShardFits (in_cursors cursors v) asked at kept (shard_anew_state time s)
-shard_anew v cursors asked at time kept s le tables fits = record {
+shard_anew : (v : View) (cursors : List Cursor) (notes : List Reach) (asked : List Asked) (at time : ℕ) (kept : List Kept) (s : Shard)
+    → greatest_kept kept ≤ time → AllByRecursion (λ t. latest_in_table t ≤ time) s.tables → notes ≡ v.reached → ShardFits v asked at kept s
+    → ShardFits (in_notes cursors notes v) asked at kept (shard_anew_state time s)
+shard_anew v cursors notes asked at time kept s le tables same fits = record {
   own = fits.own;
   came = tt;
   entries = fits.entries;
@@ -116,13 +132,13 @@ shard_anew v cursors asked at time kept s le tables fits = record {
       (all_weaken (λ (e : Entry). e.time ≤ greatest_kept kept) (λ (e : Entry). e.time ≤ time) (entries_kept kept) (λ e h. omega (arith, h, le))
       (entries_within kept));
   legal = fits.legal;
-  sent = fits.sent;
+  sent = subst (λ l. AllByRecursion (WasMade (history_in v) asked l) s.entries) (sym same) fits.sent;
   numbers = fits.numbers;
   placed = fits.placed;
   parts = fits.parts;
   still = fits.still;
-  tables = all_both (IsKnownTable v s.time) (λ t. latest_in_table t ≤ time) (IsKnownTable (in_cursors cursors v) time) s.tables
-      (λ t k h. known_anew v cursors s.time time t k h) fits.tables tables;
+  tables = all_both (IsKnownTable v s.time) (λ t. latest_in_table t ≤ time) (IsKnownTable (in_notes cursors notes v) time) s.tables
+      (λ t k h. known_anew v cursors notes s.time time t k h) fits.tables tables;
   parked = tt;
 }
 
@@ -212,12 +228,13 @@ cursors_anew cursors at r d fits lives blocks =
 -- A NODE
 
 -- what was known of the node that stopped
-pub record Stood (v : View) (cursors : List Cursor) (asked : List Asked) (answered news : List Answered) (given : List Given) (at : ℕ)
+pub record Stood (v : View) (cursors : List Cursor) (notes : List Reach) (asked : List Asked) (answered news : List Answered) (given : List Given) (at : ℕ)
     (first : NodeState) (written : List Kept) (h : Held) : Type 0 where
   pub fits : HeldFits v asked (answered ++ news) given at h
   pub replays : Replays h
-  pub holds : HoldsOwn (record { state = became h; kept = h.kept })
+  pub holds : HoldsOwn (record { state = became h; kept = h.kept; steps = h.steps })
   pub tables : StorePastTables (changes_in v) h.kept h.state
+  pub noted : SameNotes notes v.reached h.state
   -- and, before its last step, of its cursors
   pub kind : SameKind first h.state
   pub early : ℕ
@@ -225,11 +242,12 @@ pub record Stood (v : View) (cursors : List Cursor) (asked : List Asked) (answer
   pub leads : replayed (Some (durable_of early first)) (records_of written) ≡ Some (durable_of late h.state)
   pub cursors_fit : OwnCursors cursors at first
 
-catalogue_again : (v : View) (cursors : List Cursor) (asked : List Asked) (answered news : List Answered) (given : List Given) (at : ℕ)
+catalogue_again : (v : View) (cursors : List Cursor) (notes : List Reach) (asked : List Asked) (answered news : List Answered) (given : List Given) (at : ℕ)
     (first : NodeState) (written kept : List Kept) (c : Catalogue)
-    → Stood v cursors asked answered news given at first written (record { state = catalogue_state c; kept = kept })
-    → HeldFits (in_cursors cursors v) asked answered given at (record { state = became (record { state = catalogue_state c; kept = kept }); kept = kept })
-catalogue_again v cursors asked answered news given at first written kept c s = record {
+    → Stood v cursors notes asked answered news given at first written (record { state = catalogue_state c; kept = kept; steps = 0 })
+    → HeldFits (in_notes cursors notes v) asked answered given at
+    (record { state = became (record { state = catalogue_state c; kept = kept; steps = 0 }); kept = kept; steps = 0 })
+catalogue_again v cursors notes asked answered news given at first written kept c s = record {
   state = catalogue_anew asked at (latest_time (records_of kept)) kept c s.holds s.fits.state;
   met = latest_met v given c.time s.fits.met kept s.fits.within
       (tabled_none v kept (catalogue_stores_no_table (records_of kept) (empty_catalogue c.me) (durable_of (greatest_kept kept) (catalogue_state c)) s.replays));
@@ -237,46 +255,50 @@ catalogue_again v cursors asked answered news given at first written kept c s = 
   within = s.holds;
 }
 
-shard_again : (v : View) (cursors : List Cursor) (asked : List Asked) (answered news : List Answered) (given : List Given) (at : ℕ)
+shard_again : (v : View) (cursors : List Cursor) (notes : List Reach) (asked : List Asked) (answered news : List Answered) (given : List Given) (at : ℕ)
     (first : NodeState) (written kept : List Kept) (x : Shard)
-    → Stood v cursors asked answered news given at first written (record { state = shard_state x; kept = kept })
-    → HeldFits (in_cursors cursors v) asked answered given at (record { state = became (record { state = shard_state x; kept = kept }); kept = kept })
-shard_again v cursors asked answered news given at first written kept x s =
+    → Stood v cursors notes asked answered news given at first written (record { state = shard_state x; kept = kept; steps = 0 })
+    → HeldFits (in_notes cursors notes v) asked answered given at
+    (record { state = became (record { state = shard_state x; kept = kept; steps = 0 }); kept = kept; steps = 0 })
+shard_again v cursors notes asked answered news given at first written kept x s =
     let tops : top x ≡ greatest_kept kept = s.fits.state.tops in
     let same : max (top x) (greatest_entry x.entries) ≡ top x = same_top x in
     let holds : max (top x) (greatest_entry x.entries) ≤ latest_time (records_of kept) = s.holds in
     let within : greatest_kept kept ≤ latest_time (records_of kept) = omega (arith, tops, same, holds) in
     record {
-      state = shard_anew v cursors asked at (latest_time (records_of kept)) kept x within
-          (shard_tables_within (records_of kept) x.me (shard_part x) s.replays) s.fits.state;
+      state = shard_anew v cursors notes asked at (latest_time (records_of kept)) kept x within
+          (shard_tables_within (records_of kept) x.me (shard_part x) s.replays) s.noted s.fits.state;
       met = latest_met v given x.time s.fits.met kept s.fits.within s.tables;
       cursors = tt;
       within = within;
     }
 
-router_again : (v : View) (cursors : List Cursor) (asked : List Asked) (answered news : List Answered) (given : List Given) (at : ℕ)
+router_again : (v : View) (cursors : List Cursor) (notes : List Reach) (asked : List Asked) (answered news : List Answered) (given : List Given) (at : ℕ)
     (first r : Router) (written kept : List Kept)
-    → Stood v cursors asked answered news given at (router_state first) written (record { state = router_state r; kept = kept })
-    → HeldFits (in_cursors cursors v) asked answered given at (record { state = became (record { state = router_state r; kept = kept }); kept = kept })
-router_again v cursors asked answered news given at first r written kept s =
+    → Stood v cursors notes asked answered news given at (router_state first) written (record { state = router_state r; kept = kept; steps = 0 })
+    → HeldFits (in_notes cursors notes v) asked answered given at
+    (record { state = became (record { state = router_state r; kept = kept; steps = 0 }); kept = kept; steps = 0 })
+router_again v cursors notes asked answered news given at first r written kept s =
     let on = (router_along (records_of written) (router_part first) (router_part r) s.leads).0 in
     let none : greatest_kept kept ≡ 0 = router_stores_none kept (empty_router r.me r.shards) (router_part r) s.replays in
     record {
-      state = router_anew v (in_cursors cursors v) asked answered news at r s.fits.state;
+      state = router_anew v (in_notes cursors notes v) asked answered news at r s.fits.state;
       met = inl refl;
       cursors = cursors_anew cursors at first (router_part r) s.cursors_fit on.0 on.1;
       within = omega (arith, none);
     }
 
 -- the node that is started fits
-pub opened_fits : (v : View) (cursors : List Cursor) (asked : List Asked) (answered news : List Answered) (given : List Given) (at : ℕ)
-    (first state : NodeState) (written kept : List Kept) → Stood v cursors asked answered news given at first written (record { state = state; kept = kept })
-    → HeldFits (in_cursors cursors v) asked answered given at (record { state = became (record { state = state; kept = kept }); kept = kept })
-opened_fits v cursors asked answered news given at first (catalogue_state c) written kept s =
-    catalogue_again v cursors asked answered news given at first written kept c s
-opened_fits v cursors asked answered news given at first (shard_state x) written kept s =
-    shard_again v cursors asked answered news given at first written kept x s
-opened_fits v cursors asked answered news given at (router_state first) (router_state r) written kept s =
-    router_again v cursors asked answered news given at first r written kept s
-opened_fits v cursors asked answered news given at (catalogue_state c) (router_state r) written kept s = absurd s.kind
-opened_fits v cursors asked answered news given at (shard_state x) (router_state r) written kept s = absurd s.kind
+pub opened_fits : (v : View) (cursors : List Cursor) (notes : List Reach) (asked : List Asked) (answered news : List Answered) (given : List Given) (at : ℕ)
+    (first state : NodeState) (written kept : List Kept)
+    → Stood v cursors notes asked answered news given at first written (record { state = state; kept = kept; steps = 0 })
+    → HeldFits (in_notes cursors notes v) asked answered given at
+    (record { state = became (record { state = state; kept = kept; steps = 0 }); kept = kept; steps = 0 })
+opened_fits v cursors notes asked answered news given at first (catalogue_state c) written kept s =
+    catalogue_again v cursors notes asked answered news given at first written kept c s
+opened_fits v cursors notes asked answered news given at first (shard_state x) written kept s =
+    shard_again v cursors notes asked answered news given at first written kept x s
+opened_fits v cursors notes asked answered news given at (router_state first) (router_state r) written kept s =
+    router_again v cursors notes asked answered news given at first r written kept s
+opened_fits v cursors notes asked answered news given at (catalogue_state c) (router_state r) written kept s = absurd s.kind
+opened_fits v cursors notes asked answered news given at (shard_state x) (router_state r) written kept s = absurd s.kind

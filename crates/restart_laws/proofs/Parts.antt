@@ -1,12 +1,12 @@
 -- What each node is where its journal is empty stays, also where nodes stop and are started again.
-use Rattle.std.proofs.Common.{◌≡◌, ℕ, zero, suc, List, [], ◌∷◌, ◌++◌, sym, ap, subst, ◌∙◌}
+use Rattle.std.proofs.Common.{◌≡◌, inl, inr, ℕ, zero, suc, ◌+◌, List, [], ◌∷◌, ◌++◌, refl, sym, ap, subst, ◌∙◌}
 use Rattle.std.specs.Prelude.{Some}
 use Rattle.std.specs.List.{slice_get, slice_set}
 use Rattle.std.specs.Option.{option_map}
 use Rattle.node_model.specs.Journal.{Kept, greatest_kept}
 use Rattle.node_model.specs.Letters.{Input, client_input, letter_input, moment_input, opened_input}
 use Rattle.node_model.specs.States.{NodeState}
-use Rattle.node_model.specs.World.{Held, World, Moves, Event, Happens, comes, delivers, passes, begins}
+use Rattle.node_model.specs.World.{Held, World, Moves, steps_after, Meets, Event, Happens, comes, delivers, passes, begins}
 use Rattle.node_replay.specs.Durable.{DurableState, empty_of}
 use Rattle.node_replay.specs.Holds.{Replays}
 use Rattle.node_replay.specs.Openings.{opened, opened_on}
@@ -45,19 +45,27 @@ module _ (part : ℕ → DurableState) where
       let follows : StepFollows (greatest_kept m.old.kept) m.old.state i m.f m.new =
       step_follows (greatest_kept m.old.kept) m.old.state m.new i m.f old.1 m.step in
       subst (λ (x : World). AreParts part x.nodes) (sym m.then)
-      (parts_set part w.nodes at m.old (record { state = m.new; kept = m.old.kept ++ m.f.written }) parts m.here follows.own)
+      (parts_set part w.nodes at m.old (record { state = m.new; kept = m.old.kept ++ m.f.written; steps = m.old.steps + 1 }) parts m.here follows.own)
+
+  -- a node that takes no step is as it was
+  meets_parts : (w v : World) (at : ℕ) (i : Input) → WorldReplays w → AreParts part w.nodes → Meets w at i v → AreParts part v.nodes
+  meets_parts w v at i all parts (inl m) = move_parts w v at i all parts m
+  meets_parts w v at i all parts (inr m) =
+      subst (λ (x : World). AreParts part x.nodes) (sym m.then)
+      (parts_set part w.nodes at m.old (record { state = m.old.state; kept = m.old.kept; steps = steps_after m.lack m.old.steps }) parts m.here refl)
 
   event_parts : (w v : World) (e : Event) → WorldReplays w → AreParts part w.nodes → Happens w e v → AreParts part v.nodes
-  event_parts _ _ _ all parts (comes w v at link number request is m) = move_parts w v at (client_input link number request) all parts m
-  event_parts _ _ _ all parts (delivers w v at which l got to m) = move_parts w v at (letter_input l) all parts m
-  event_parts _ _ _ all parts (passes w v at moment m) = move_parts w v at (moment_input moment) all parts m
-  event_parts _ _ _ all parts (begins w v at m) = move_parts w v at opened_input all parts m
+  event_parts _ _ _ all parts (comes w v at link number request is m) = meets_parts w v at (client_input link number request) all parts m
+  event_parts _ _ _ all parts (delivers w v at which l got to m) = meets_parts w v at (letter_input l) all parts m
+  event_parts _ _ _ all parts (passes w v at moment m) = meets_parts w v at (moment_input moment) all parts m
+  event_parts _ _ _ all parts (begins w v at m) = meets_parts w v at opened_input all parts m
 
   restart_parts : (w v : World) (at : ℕ) → WorldReplays w → AreParts part w.nodes → Restarts w at v → AreParts part v.nodes
   restart_parts w v at all parts m =
       let old : NodeReplays m.old = all_got NodeReplays w.nodes at m.old all.nodes m.here in
       subst (λ (x : World). AreParts part x.nodes) (sym m.then)
-      (parts_set part w.nodes at m.old (record { state = m.new; kept = m.old.kept ++ [] }) parts m.here (started_own m.old m.new old.0 m.opens))
+      (parts_set part w.nodes at m.old (record { state = m.new; kept = m.old.kept ++ []; steps = m.steps }) parts m.here
+      (started_own m.old m.new old.0 m.opens))
 
   stop_parts : (w v : World) (at : ℕ) (i : Input) → WorldReplays w → AreParts part w.nodes → ComesInTime i → Stops w at i v → AreParts part v.nodes
   stop_parts w v at i all parts input m =
@@ -67,9 +75,11 @@ module _ (part : ℕ → DurableState) where
       let kept : List Kept = m.old.kept ++ m.f.written in
       let opens : opened_on m.reached kept ≡ Some m.new =
       ap (λ e. option_map (opened (latest_time (records_of kept))) (replayed (Some e) (records_of kept))) follows.own ∙ m.opens in
-      let now : NodeReplays (record { state = m.reached; kept = kept }) = step_replays m.old m.reached i m.f old input follows in
-      subst (λ (x : World). AreParts part x.nodes) (sym m.then) (parts_set part w.nodes at m.old (record { state = m.new; kept = kept }) parts m.here
-      (started_own (record { state = m.reached; kept = kept }) m.new now.0 opens ∙ follows.own))
+      let now : NodeReplays (record { state = m.reached; kept = kept; steps = m.old.steps + 1 }) =
+      step_replays m.old m.reached i m.f (m.old.steps + 1) old input follows in
+      subst (λ (x : World). AreParts part x.nodes) (sym m.then)
+      (parts_set part w.nodes at m.old (record { state = m.new; kept = kept; steps = m.old.steps + 1 }) parts m.here
+      (started_own (record { state = m.reached; kept = kept; steps = m.old.steps + 1 }) m.new now.0 opens ∙ follows.own))
 
   occurs_parts : (w v : World) (e : EventOrStop) → WorldReplays w → AreParts part w.nodes → Occurs w e v → AreParts part v.nodes
   occurs_parts _ _ _ all parts (occurs w v e h) = event_parts w v e all parts h

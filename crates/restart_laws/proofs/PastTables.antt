@@ -8,7 +8,7 @@ use Rattle.chunk_model.specs.Tables.{Table}
 use Rattle.reply_model.specs.Accounts.{Given}
 use Rattle.reply_model.specs.Exchanges.{Asked, Answered}
 use Rattle.node_model.specs.Journal.{Kept, kept_table, kept_entry, kept_ceiling, kept_change, kept_none, kept_life, kept_block, record_kept, greatest_kept}
-use Rattle.node_model.specs.Letters.{Body, table_ask, table_told, split_ask, split_done, write_ask, write_done, read_ask, half_ask, read_rows, stale, time_ask, time_told, Letter}
+use Rattle.node_model.specs.Letters.{Body, table_ask, table_told, split_ask, split_done, write_ask, write_done, read_ask, half_ask, read_rows, refused, time_ask, time_told, Letter}
 use Rattle.node_model.specs.States.{NodeState, catalogue_state, shard_state, router_state, time_of_node}
 use Rattle.node_model.specs.World.{Held, World, start}
 use Rattle.node_laws.proofs.Views.{View, view_of, changes_in}
@@ -89,7 +89,7 @@ routers_none (k ∷ kept) all = (by_kind k all.0, routers_none kept all.1)
     by_kind (kept_block n) is = tt
 
 node_stores : (changes : List Change) (kept : List Kept) (s : NodeState) → StorePastTables changes kept s → StateInTime kept s
-    → Replays (record { state = s; kept = kept }) → AllByRecursion (StoresTable changes (time_of_node s)) kept
+    → Replays (record { state = s; kept = kept; steps = 0 }) → AllByRecursion (StoresTable changes (time_of_node s)) kept
 node_stores changes kept (shard_state s) past in_time replays =
     all_both (StoresPastTable changes) (StoresBy s.time) (StoresTable changes s.time) kept (past_in_time changes s.time) past in_time
 node_stores changes kept (catalogue_state c) past in_time replays =
@@ -120,7 +120,7 @@ body_says v asked sender receiver time (write_done id dones) fits = tt
 body_says v asked sender receiver time (read_ask id turn namespace at half sent) fits = tt
 body_says v asked sender receiver time (half_ask id turn namespace at half documents) fits = tt
 body_says v asked sender receiver time (read_rows id turn rows) fits = tt
-body_says v asked sender receiver time (stale id turn met) fits = tt
+body_says v asked sender receiver time (refused what cause) fits = tt
 body_says v asked sender receiver time (time_ask id) fits = tt
 body_says v asked sender receiver time (time_told id) fits = tt
 

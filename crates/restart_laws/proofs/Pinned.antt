@@ -6,7 +6,7 @@ use Rattle.history_model.proofs.Lists.{all_weaken}
 use Rattle.chunk_model.specs.Changes.{Change, create_change, split_change, commit_change}
 use Rattle.reply_model.specs.Exchanges.{Asked}
 use Rattle.node_model.specs.Journal.{changes_kept}
-use Rattle.node_model.specs.Letters.{no_time, at_time, Body, table_ask, table_told, split_ask, split_done, write_ask, write_done, read_ask, half_ask, read_rows, stale, time_ask, time_told, Letter}
+use Rattle.node_model.specs.Letters.{no_time, at_time, Body, table_ask, table_told, split_ask, split_done, write_ask, write_done, read_ask, half_ask, read_rows, refused, time_ask, time_told, Letter}
 use Rattle.node_model.specs.World.{Held, World, journal_at, start}
 use Rattle.node_laws.proofs.Views.{Book, view_of}
 use Rattle.node_laws.proofs.Lists.{all_prefix, all_behind}
@@ -40,12 +40,12 @@ body_pinned nodes book asked sender receiver time (write_ask id turn ordered nam
 body_pinned nodes book asked sender receiver time (write_done id dones) f = tt
 body_pinned nodes book asked sender receiver time (read_ask id turn namespace at half sent) f = tt
 body_pinned nodes book asked sender receiver time (read_rows id turn rows) f = tt
-body_pinned nodes book asked sender receiver time (stale id turn met) f = tt
+body_pinned nodes book asked sender receiver time (refused what cause) f = tt
 body_pinned nodes book asked sender receiver time (time_ask id) f = tt
 body_pinned nodes book asked sender receiver time (time_told id) f = tt
 
 pub true_pinned : (w : World) → StaysTrue w → AllByRecursion (IsPinned w) w.sent
-true_pinned w (known, moments, told, based) =
+true_pinned w (known, moments, told, based, caused) =
     all_weaken (SentFits (view_of w.nodes known.book) w.changed w.asked w.answered w.given) (IsPinned w) w.sent
     (λ (m : Letter) f. body_pinned w.nodes known.book w.asked m.sender m.receiver m.time m.body f.0) known.good.letters
 

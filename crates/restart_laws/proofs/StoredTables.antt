@@ -11,7 +11,7 @@ use Rattle.chunk_model.specs.Changes.{Change, create_change, known_table}
 use Rattle.reply_model.specs.Exchanges.{Asked, Answered}
 use Rattle.node_model.specs.Journal.{Kept, kept_table, kept_entry, kept_ceiling, kept_change, kept_none, kept_life, kept_block}
 use Rattle.node_model.specs.Letters.{Input, Effect}
-use Rattle.node_model.specs.ShardRows.{is_news, ShardRow, shard_write, shard_repeat, shard_empty, shard_park, shard_waits, shard_stale, shard_read, shard_read_above, shard_rows, shard_excess, shard_overflow, shard_time, shard_learn, shard_known, shard_skip, shard_moment, shard_opened, shard_client}
+use Rattle.node_model.specs.ShardRows.{is_news, ShardRow, shard_write, shard_repeat, shard_empty, shard_park, shard_waits, shard_stale, shard_read, shard_read_above, shard_rows, shard_excess, shard_overflow, shard_time, shard_learn, shard_known, shard_no_table, shard_skip, shard_moment, shard_opened, shard_client}
 use Rattle.node_model.specs.States.{Shard, NodeState, catalogue_state, shard_state, router_state}
 use Rattle.node_model.specs.Steps.{Step, catalogue_step, shard_step, router_step, begin_step, other_step}
 use Rattle.node_laws.proofs.Views.{View, changes_in}
@@ -126,6 +126,7 @@ shard_owns _ _ _ _ (shard_overflow s m id turn namespace at half documents says 
 shard_owns _ _ _ _ (shard_time s m id says) = tt
 shard_owns _ _ _ _ (shard_learn s m namespace create at t says news) = (news_there t s.tables news, tt)
 shard_owns _ _ _ _ (shard_known s m namespace create at table says none) = tt
+shard_owns _ _ _ _ (shard_no_table s m namespace node lack says) = tt
 shard_owns _ _ _ _ (shard_skip s m skips) = tt
 shard_owns _ _ _ _ (shard_moment s moment) = tt
 shard_owns _ _ _ _ (shard_opened s) = tt

@@ -1,17 +1,18 @@
 -- While the catalogue runs, each message says the table of its time: by induction over the events of a run.
-use Rattle.std.proofs.Common.{◌≡◌, ◌≢◌, ℕ, zero, suc, List, [], ◌∷◌, ◌++◌, refl, sym, ap, subst, ◌∙◌, arith, append_assoc, append-nil}
+use Rattle.std.proofs.Common.{◌≡◌, ◌≢◌, inl, inr, ℕ, ◌+◌, zero, suc, List, [], ◌∷◌, ◌++◌, refl, sym, ap, subst, ◌∙◌, arith, append_assoc, append-nil}
 use Rattle.std.specs.Prelude.{Some, drop, length}
 use Rattle.std.specs.List.{AllByRecursion, slice_get, slice_set}
 use Rattle.node_model.specs.Journal.{Kept, changes_kept}
 use Rattle.node_model.specs.Letters.{Letter, Input, Effect}
 use Rattle.node_model.specs.States.{Shard, NodeState, catalogue_state, shard_state, router_state}
 use Rattle.node_model.specs.Steps.{Step, catalogue_step, shard_step, router_step, begin_step, other_step}
-use Rattle.node_model.specs.World.{Held, World, Moves, Event, Happens, comes, delivers, passes, begins, Run, start, journal_at}
+use Rattle.node_model.specs.Lacks.{misses}
+use Rattle.node_model.specs.World.{Held, World, Moves, steps_after, Misses, Meets, Event, Happens, comes, delivers, passes, begins, Run, start, journal_at}
 use Rattle.node_model.proofs.Journals.{journal_got}
 use Rattle.node_laws.proofs.Views.{Book}
 use Rattle.node_laws.proofs.Facts.{IsCatalogue, InOrder, Good}
 use Rattle.node_laws.proofs.Journals.{journal_else}
-use Rattle.node_laws.proofs.StepsKeep.{fits_here, get_set, set_same}
+use Rattle.node_laws.proofs.StepsKeep.{fits_here, get_set}
 use Rattle.node_replay.specs.Restarts.{EventOrStop, whole_event, restart_event, stop_event, Occurs, occurs, restarts, stops, RunWithStops, stays, proceeds}
 use Rattle.restart_laws.specs.Calls.{wholes, with_mail, Reached}
 use Rattle.restart_laws.specs.Tables.{changes_stored, SaysTableOfItsTime, DoesNotStart, CatalogueRuns, sent_since}
@@ -19,7 +20,7 @@ use Rattle.restart_laws.proofs.CatalogueTells.{AreUpTo, TellsBy, all_none, GoesO
 use Rattle.restart_laws.proofs.Mail.{all_later, mail_runs, calls_are_one_run}
 use Rattle.restart_laws.proofs.ReachedCalls.{run_whole}
 use Rattle.restart_laws.proofs.Runs.{StaysWhole, start_whole, occurs_keeps, runs_with_stops_stay_true}
-use Rattle.restart_laws.proofs.SentTables.{SaysNoTable, shard_sends, router_sends}
+use Rattle.restart_laws.proofs.SentTables.{SaysNoTable, shard_sends, router_sends, missed_sends}
 
 -- THE TIME OF THE CATALOGUE
 
@@ -44,11 +45,21 @@ time_else (x ∷ nodes) zero new other = absurd (other refl)
 time_else (x ∷ nodes) (suc at) new other = refl
 
 -- no shard is first
-in_order : (nodes : List Held) (s : Shard) (kept : List Kept) → InOrder nodes → slice_get nodes 0 ≡ Some (record { state = shard_state s; kept = kept }) → ⊥
-in_order nodes s kept (c, first, others, same, catalogue, shard) here =
-    let is : Some c ≡ Some (record { state = shard_state s; kept = kept }) = ap (λ l. slice_get l 0) (sym same) ∙ here in
-    let one : c ≡ record { state = shard_state s; kept = kept } = cc in
+in_order : (nodes : List Held) (s : Shard) (kept : List Kept) (steps : ℕ) → InOrder nodes
+    → slice_get nodes 0 ≡ Some (record { state = shard_state s; kept = kept; steps = steps }) → ⊥
+in_order nodes s kept steps (c, first, others, same, catalogue, shard) here =
+    let is : Some c ≡ Some (record { state = shard_state s; kept = kept; steps = steps }) = ap (λ l. slice_get l 0) (sym same) ∙ here in
+    let one : c ≡ record { state = shard_state s; kept = kept; steps = steps } = cc in
     subst (λ (h : Held). IsCatalogue h.state) one catalogue
+
+-- where a node counts a step and stays as it is else
+counts_alone : (nodes : List Held) (at : ℕ) (old : Held) (steps : ℕ) → slice_get nodes at ≡ Some old
+    → (journal_at (slice_set nodes at (record { state = old.state; kept = old.kept; steps = steps })) 0 ≡ journal_at nodes 0)
+    × (catalogue_time (slice_set nodes at (record { state = old.state; kept = old.kept; steps = steps })) ≡ catalogue_time nodes)
+counts_alone [] at old steps here = (refl, refl)
+counts_alone (x ∷ nodes) zero old steps here =
+    let same : x ≡ old = cc in (ap (λ (y : Held). y.kept) (sym same), ap (λ (y : Held). own_time y.state) (sym same))
+counts_alone (x ∷ nodes) (suc at) old steps here = (refl, refl)
 
 -- AN EVENT
 
@@ -70,14 +81,23 @@ module _ (w v : World) (at : ℕ) where
       (ap (λ l. changes_kept (journal_at l 0)) nodes ∙ ap (λ k. changes_kept k) (journal_else w.nodes at new 0 (λ e. other (sym e))))
       (ap (λ l. catalogue_time l) nodes ∙ time_else w.nodes at new other) none
 
+  -- where it counts a step alone
+  counts_on : (old : Held) (steps : ℕ) (mail : List Letter) → slice_get w.nodes at ≡ Some old
+      → v.nodes ≡ slice_set w.nodes at (record { state = old.state; kept = old.kept; steps = steps }) → AllByRecursion SaysNoTable mail
+      → WorldGoesOn w v mail
+  counts_on old steps mail here nodes none =
+      let same = counts_alone w.nodes at old steps here in
+      same_catalogue w v mail (ap (λ l. changes_kept (journal_at l 0)) nodes ∙ ap (λ k. changes_kept k) same.0)
+      (ap (λ l. catalogue_time l) nodes ∙ same.1) none
+
   -- a step of the node at the place
-  step_goes_on : (book later_book : Book) (kept : List Kept) (s t : NodeState) (i : Input) (f : Effect) → Good w book → Good v later_book
-      → slice_get w.nodes at ≡ Some (record { state = s; kept = kept }) → v.nodes ≡ slice_set w.nodes at (record { state = t; kept = kept ++ f.written })
-      → Step s i f t → WorldGoesOn w v f.mail
-  step_goes_on book later_book kept _ _ _ _ good next here nodes (catalogue_step c d i f own row) =
-      let old : Held = record { state = catalogue_state c; kept = kept } in
-      let new : Held = record { state = catalogue_state d; kept = kept ++ f.written } in
-      let there : slice_get v.nodes at ≡ Some (record { state = catalogue_state d; kept = kept ++ f.written }) =
+  step_goes_on : (book later_book : Book) (kept : List Kept) (taken steps : ℕ) (s t : NodeState) (i : Input) (f : Effect) → Good w book → Good v later_book
+      → slice_get w.nodes at ≡ Some (record { state = s; kept = kept; steps = taken })
+      → v.nodes ≡ slice_set w.nodes at (record { state = t; kept = kept ++ f.written; steps = steps }) → Step s i f t → WorldGoesOn w v f.mail
+  step_goes_on book later_book kept taken steps _ _ _ _ good next here nodes (catalogue_step c d i f own row) =
+      let old : Held = record { state = catalogue_state c; kept = kept; steps = taken } in
+      let new : Held = record { state = catalogue_state d; kept = kept ++ f.written; steps = steps } in
+      let there : slice_get v.nodes at ≡ Some (record { state = catalogue_state d; kept = kept ++ f.written; steps = steps }) =
       ap (λ l. slice_get l at) nodes ∙ get_set w.nodes at old new here in
       let before = (fits_here w book at old good here).state in
       let after = (fits_here v later_book at new next there).state in
@@ -90,23 +110,22 @@ module _ (w v : World) (at : ℕ) where
       (subst (λ l. GoesOn l c.time (changes_stored v) d.time f.mail) early
       (subst (λ l. GoesOn c.changes c.time l d.time f.mail) late
       (catalogue_goes_on c d i f (subst (λ l. AreUpTo c.time l) (sym before.changes) before.past) row))))
-  step_goes_on book later_book kept _ _ _ _ good next here nodes (shard_step s t i f own row) =
-      elsewhere (record { state = shard_state t; kept = kept ++ f.written }) f.mail
-      (λ place. in_order w.nodes s kept good.order (subst (λ p. slice_get w.nodes p ≡ Some (record { state = shard_state s; kept = kept })) place here)) nodes
+  step_goes_on book later_book kept taken steps _ _ _ _ good next here nodes (shard_step s t i f own row) =
+      elsewhere (record { state = shard_state t; kept = kept ++ f.written; steps = steps }) f.mail
+      (λ place. in_order w.nodes s kept taken good.order
+      (subst (λ p. slice_get w.nodes p ≡ Some (record { state = shard_state s; kept = kept; steps = taken })) place here)) nodes
       (shard_sends s t i f row)
-  step_goes_on book later_book kept _ _ _ _ good next here nodes (router_step r q i f own row) =
-      let place = (fits_here w book at (record { state = router_state r; kept = kept }) good here).state.place in
-      elsewhere (record { state = router_state q; kept = kept ++ f.written }) f.mail
+  step_goes_on book later_book kept taken steps _ _ _ _ good next here nodes (router_step r q i f own row) =
+      let place = (fits_here w book at (record { state = router_state r; kept = kept; steps = taken }) good here).state.place in
+      elsewhere (record { state = router_state q; kept = kept ++ f.written; steps = steps }) f.mail
       (λ first. omega (arith, place, first)) nodes (router_sends r q i f row)
-  step_goes_on book later_book kept _ _ _ _ good next here nodes (begin_step r q i f closed before row) =
-      let place = (fits_here w book at (record { state = router_state r; kept = kept }) good here).state.place in
-      elsewhere (record { state = router_state q; kept = _ }) f.mail
+  step_goes_on book later_book kept taken steps _ _ _ _ good next here nodes (begin_step r q i f closed before row) =
+      let place = (fits_here w book at (record { state = router_state r; kept = kept; steps = taken }) good here).state.place in
+      elsewhere (record { state = router_state q; kept = _; steps = steps }) f.mail
       (λ first. omega (arith, place, first)) nodes (router_sends _ q i f row)
-  step_goes_on book later_book kept _ _ _ _ good next here nodes (other_step s m other) =
-      let old : Held = record { state = s; kept = kept } in
-      let same : v.nodes ≡ w.nodes =
-      nodes ∙ ap (λ k. slice_set w.nodes at (record { state = s; kept = k })) (append-nil kept) ∙ set_same w.nodes at old here in
-      same_catalogue w v [] (ap (λ l. changes_kept (journal_at l 0)) same) (ap (λ l. catalogue_time l) same) tt
+  step_goes_on book later_book kept taken steps _ _ _ _ good next here nodes (other_step s m other) =
+      counts_on (record { state = s; kept = kept; steps = taken }) steps [] here
+      (nodes ∙ ap (λ k. slice_set w.nodes at (record { state = s; kept = k; steps = steps })) (append-nil kept)) tt
 
 -- the messages of an event, in which the catalogue is not started
 pub record EventGoesOn (w v : World) : Type 0 where
@@ -119,19 +138,32 @@ module _ (w v : World) (whole : StaysWhole w) (next : StaysWhole v) where
   moves_on at i m = record {
     mail = m.f.mail;
     sent = ap (λ (x : World). x.sent) m.then;
-    goes = step_goes_on w v at whole.facts.0.book next.facts.0.book m.old.kept m.old.state m.new i m.f whole.facts.0.good next.facts.0.good m.here
+    goes = step_goes_on w v at whole.facts.0.book next.facts.0.book m.old.kept m.old.steps (m.old.steps + 1) m.old.state m.new i m.f whole.facts.0.good
+        next.facts.0.good m.here
         (ap (λ (x : World). x.nodes) m.then) m.step;
   }
+
+  misses_on : (at : ℕ) (i : Input) → Misses w at i v → EventGoesOn w v
+  misses_on at i m = record {
+    mail = (misses m.old.state m.lack i).mail;
+    sent = ap (λ (x : World). x.sent) m.then;
+    goes = counts_on w v at m.old (steps_after m.lack m.old.steps) (misses m.old.state m.lack i).mail m.here (ap (λ (x : World). x.nodes) m.then)
+        (missed_sends m.old.state m.lack i);
+  }
+
+  meets_on : (at : ℕ) (i : Input) → Meets w at i v → EventGoesOn w v
+  meets_on at i (inl m) = moves_on at i m
+  meets_on at i (inr m) = misses_on at i m
 
   -- another node is started
   starts_on : (at : ℕ) (new : Held) → at ≢ 0 → v.nodes ≡ slice_set w.nodes at new → v.sent ≡ w.sent ++ [] → EventGoesOn w v
   starts_on at new other nodes sent = record { mail = []; sent = sent; goes = elsewhere w v at new [] other nodes tt }
 
 event_goes_on : (w v : World) (e : Event) → StaysWhole w → StaysWhole v → Happens w e v → EventGoesOn w v
-event_goes_on _ _ _ whole next (comes w v at link number request is m) = moves_on w v whole next at _ m
-event_goes_on _ _ _ whole next (delivers w v at which l got to m) = moves_on w v whole next at _ m
-event_goes_on _ _ _ whole next (passes w v at moment m) = moves_on w v whole next at _ m
-event_goes_on _ _ _ whole next (begins w v at m) = moves_on w v whole next at _ m
+event_goes_on _ _ _ whole next (comes w v at link number request is m) = meets_on w v whole next at _ m
+event_goes_on _ _ _ whole next (delivers w v at which l got to m) = meets_on w v whole next at _ m
+event_goes_on _ _ _ whole next (passes w v at moment m) = meets_on w v whole next at _ m
+event_goes_on _ _ _ whole next (begins w v at m) = meets_on w v whole next at _ m
 
 occurs_goes_on : (w v : World) (e : EventOrStop) → StaysWhole w → StaysWhole v → DoesNotStart 0 e → Occurs w e v → EventGoesOn w v
 occurs_goes_on _ _ _ whole next none (occurs w v e h) = event_goes_on w v e whole next h

@@ -6,7 +6,7 @@ use Rattle.chunk_model.specs.Tables.{Table}
 use Rattle.reply_model.specs.Exchanges.{Asked, Answered}
 use Rattle.node_model.specs.Journal.{Kept, kept_table, kept_entry, kept_ceiling, kept_change, kept_none, kept_life, kept_block}
 use Rattle.node_model.specs.Letters.{Input, Effect}
-use Rattle.node_model.specs.ShardRows.{heard, ShardRow, shard_write, shard_repeat, shard_empty, shard_park, shard_waits, shard_stale, shard_read, shard_read_above, shard_rows, shard_excess, shard_overflow, shard_time, shard_learn, shard_known, shard_skip, shard_moment, shard_opened, shard_client}
+use Rattle.node_model.specs.ShardRows.{heard, ShardRow, shard_write, shard_repeat, shard_empty, shard_park, shard_waits, shard_stale, shard_read, shard_read_above, shard_rows, shard_excess, shard_overflow, shard_time, shard_learn, shard_known, shard_no_table, shard_skip, shard_moment, shard_opened, shard_client}
 use Rattle.node_model.specs.States.{Shard, NodeState, catalogue_state, shard_state, router_state}
 use Rattle.node_model.specs.Steps.{Step, catalogue_step, shard_step, router_step, begin_step, other_step}
 use Rattle.node_model.specs.World.{Held}
@@ -98,6 +98,7 @@ shard_rises _ _ _ _ (shard_overflow s m id turn namespace at half documents says
 shard_rises _ _ _ _ (shard_time s m id says) = omega arith
 shard_rises _ _ _ _ (shard_learn s m namespace create at t says news) = omega arith
 shard_rises _ _ _ _ (shard_known s m namespace create at table says none) = omega arith
+shard_rises _ _ _ _ (shard_no_table s m namespace node lack says) = omega arith
 shard_rises _ _ _ _ (shard_skip s m skips) = omega arith
 shard_rises _ _ _ _ (shard_moment s moment) = omega arith
 shard_rises _ _ _ _ (shard_opened s) = omega arith
@@ -130,10 +131,11 @@ within bound (k ∷ kept) le = (by_kind k le, within bound kept (omega (arith, l
     by_kind (kept_life n) le = tt
     by_kind (kept_block n) le = tt
 
-pub start_in_time : (h : Held) → StoresInTime (record { state = became h; kept = h.kept })
+pub start_in_time : (h : Held) → StoresInTime (record { state = became h; kept = h.kept; steps = h.steps })
 start_in_time h = by_state h.state h.kept
   where
-    by_state : (s : NodeState) (kept : List Kept) → StoresInTime (record { state = became (record { state = s; kept = kept }); kept = kept })
+    by_state : (s : NodeState) (kept : List Kept)
+        → StoresInTime (record { state = became (record { state = s; kept = kept; steps = h.steps }); kept = kept; steps = h.steps })
     by_state (shard_state s) kept = within (latest_time (records_of kept)) kept (omega arith)
     by_state (catalogue_state c) kept = tt
     by_state (router_state r) kept = tt

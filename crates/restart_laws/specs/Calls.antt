@@ -1,6 +1,7 @@
 -- Calls of the program that begin on the journals that earlier calls left: each node is started on its own (docs/JOURNAL.md, "The program's journals"), and
 -- no message of one call is delivered in another (docs/NODES.md, "Messages"). That a node receives `Opened` is an event of the call itself.
 use Rattle.std.specs.Prelude.{◌≡◌, ℕ, zero, suc, ◌+◌, List, [], ◌∷◌, ◌++◌, length}
+use Rattle.std.specs.List.{AllByRecursion}
 use Rattle.history_laws.specs.Merged.{IsJournalOf}
 use Rattle.node_model.specs.Letters.{Letter}
 use Rattle.node_model.specs.World.{Held, World, Event, entries_at, start}
@@ -24,6 +25,9 @@ without_mail w = record {
   asked = w.asked;
   answered = w.answered;
   given = w.given;
+  learned = w.learned;
+  missed = w.missed;
+  away = w.away;
   changed = w.changed;
   now = w.now;
 }
@@ -36,14 +40,18 @@ with_mail mail w = record {
   asked = w.asked;
   answered = w.answered;
   given = w.given;
+  learned = w.learned;
+  missed = w.missed;
+  away = w.away;
   changed = w.changed;
   now = w.now;
 }
 
--- a call begins on what the calls before it left: every node was started on its journal, and then no message is under way
+-- a call begins on what the calls before it left: every node was started on its journal, and then none has taken a step, and no message is under way
 pub record BeginsOn (u first : World) : Type 0 where
   pub started : World
   pub starts : RunWithStops u (restarts_of 0 (length u.nodes)) started
+  pub counts : AllByRecursion (λ (h : Held). h.steps ≡ 0) started.nodes
   pub then : first ≡ without_mail started
 
 -- what a call leads to from one of its worlds, or calls after it do, each on the journals that the one before it left; nodes may also stop in a call

@@ -27,7 +27,7 @@ unchanged time same = changed_differs time (sym same)
 caused : (dated : List Dated) → changes_before 4 dated ≡ [] → IsCaused (account_by dated [] (splitting ∷ []) []) told_none
 caused dated none =
     caused_by (account_by dated [] (splitting ∷ []) []) told_none (
-      by_split dated 4 told_none (record { namespace = codes "d.c"; middle = five }) (λ says. absurd (unchanged told_none.time says))
+      by_split (account_by dated [] (splitting ∷ []) []) splitting told_none (record { namespace = codes "d.c"; middle = five }) (λ says. absurd (unchanged told_none.time says))
           (λ says. record { step = 4; after = omega arith; before = omega arith; none = ap (known_table (codes "d.c")) none }),
       tt,
     )

@@ -15,8 +15,9 @@ use Rattle.reply_model.specs.Exchanges.{Asked}
 use Rattle.reply_laws.specs.SampleExchanges.{account_of}
 use Rattle.reply_model.specs.Cursors.{Cursor, Opens, opens_none, opens_one, ShowsFirst}
 use Rattle.reply_model.specs.Reads.{own_time, MayGive}
-use Rattle.reply_model.specs.Right.{IsReadRefused, refused_overflow, refused_excess, refused_ahead, right_find}
+use Rattle.reply_model.specs.Right.{right_find}
 use Rattle.reply_laws.specs.SampleReads.{batch, by_id, finds_sorted, reading_all, sorting, told_first}
+use Rattle.reply_laws.proofs.Quiet.{never_batch}
 use Rattle.reply_facts.proofs.RightAnswers.{RightBy, right_of, same_first}
 use Rattle.reply_laws.proofs.FilteredOrders.{no_order}
 use Rattle.reply_laws.proofs.KeyFinds.{whole_batch}
@@ -44,14 +45,10 @@ never_opens : (rest : List Fields) (number : ℤ) (next : List Cursor) → rest 
 never_opens rest number next none is (opens_none r why) = let e : pos 0 ≡ pos 1 = is in cc
 never_opens rest number next none is (opens_one r n some more new) = some none
 
-not_refused : IsReadRefused (account_of [] [] []) asked (told_first (sorting false 0 no_fields) (pos 1) []) reading_all → ⊥
-not_refused (refused_overflow when read gives says) = let e = says in cc
-not_refused (refused_excess when n read excess says) = let e = says in cc
-not_refused (refused_ahead ahead says) = let e = says in cc
-
 by_told : (next : List Cursor) → RightBy (account_of [] [] []) [] asked (told_first (sorting false 0 no_fields) (pos 1) [])
     (Ok (find_command (finds_sorted 0 false))) next → ⊥
-by_told next (inr refused) = not_refused refused.0
+by_told next (inr refused) =
+    never_batch (account_of [] [] []) [] asked (told_first (sorting false 0 no_fields) (pos 1) []) reading_all (batch (pos 1) []) refl refused.0
 by_told next (inl first) =
     let same : first.batch ≡ batch (pos 1) [] = same_first first.batch (batch (pos 1) []) (sym first.says) in
     let gives = subst (λ (x : Batch). MayGive [] reading_all x.time (listed first.documents)) same first.gives in

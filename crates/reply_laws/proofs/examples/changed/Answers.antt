@@ -52,12 +52,12 @@ deletes = record { kind = delete_kind; namespace = codes "d.c"; operations = del
 
 pub returns-clause-updated : goal.returns-clause-updated
 returns-clause-updated c =
-    own_right three_writes [] (tells changing 5 3 (changed_reply 1 1)) changes refl [] changing refl refl
+    own_right three_writes [] changing (tells changing 5 3 (changed_reply 1 1)) changes refl [] refl refl
     (record { part = (record { same_number = refl; name = refl; does = refl }, (λ e. refl), tt); all = refl }) (omega arith, tt) refl (omega arith) refl
 
 pub returns-clause-deleted : goal.returns-clause-deleted
 returns-clause-deleted c =
-    own_right three_writes [] (tells deleting 7 4 (deleted_reply 1 4)) deletes refl [] deleting refl refl
+    own_right three_writes [] deleting (tells deleting 7 4 (deleted_reply 1 4)) deletes refl [] refl refl
     (record { part = (record { same_number = refl; name = refl; does = refl }, (λ e. refl), tt); all = refl }) (omega arith, tt) refl (omega arith) refl
 
 numbered : AreNumbered three_writes
@@ -69,8 +69,8 @@ numbered = (
 update_says : (document : Fields) (next : List Cursor) → IsRight (account_of three_writes [] []) [] changing (tells changing 5 3 document) next
     → document ≡ changed_reply 1 1
 update_says document next right =
-    own_says three_writes [] (tells changing 5 3 document) changes refl [] numbered (refl, (refl, (refl, tt)))
-    (record { same_number = refl; name = refl; does = refl }, (λ e. refl), tt) changing next refl refl right
+    own_says three_writes [] changing (tells changing 5 3 document) changes refl [] numbered (refl, (refl, (refl, tt)))
+    (record { same_number = refl; name = refl; does = refl }, (λ e. refl), tt) next refl refl refl right
 
 pub returns-clause-not_changed : goal.returns-clause-not_changed
 returns-clause-not_changed c next right = let e = update_says (changed_reply 1 0) next right in cc
@@ -81,6 +81,6 @@ returns-clause-not_met c next right = let e = update_says (changed_reply 0 0) ne
 pub returns-clause-not_deleted : goal.returns-clause-not_deleted
 returns-clause-not_deleted c next right =
     let e : deleted_reply 0 4 ≡ deleted_reply 1 4 =
-    own_says three_writes [] (tells deleting 7 4 (deleted_reply 0 4)) deletes refl [] numbered (refl, (refl, (refl, tt)))
-    (record { same_number = refl; name = refl; does = refl }, (λ e. refl), tt) deleting next refl refl right in
+    own_says three_writes [] deleting (tells deleting 7 4 (deleted_reply 0 4)) deletes refl [] numbered (refl, (refl, (refl, tt)))
+    (record { same_number = refl; name = refl; does = refl }, (λ e. refl), tt) next refl refl refl right in
     cc

@@ -43,5 +43,5 @@ returns-clause-right_ahead c =
       wanted = timestamp 1000 3;
       wants = refl;
       ahead = omega arith;
-      of_all = λ s write index e i before asks j numbered shows. absurd (in_none s i);
+      of_all = λ s write index e i before asks j numbered shows nothing. absurd (in_none s i);
     }) refl)

@@ -20,6 +20,9 @@ use Rattle.reply_model.specs.Reads.{own_time}
 use Rattle.reply_laws.specs.SampleExchanges.{find_of, all_told, all_asked, both_entries, first, first_entry, first_told, id_at, second, second_entry, second_told, tells, third, third_told, created, created_dated, account_of}
 use Rattle.reply_laws.proofs.CausedReplies.{by_find, by_write, caused_by, made_by}
 use Rattle.reply_laws.proofs.OwnWrites.{none_before, own_right, own_shown, same_write}
+use Rattle.command_model.specs.Command.{time_limit}
+use Rattle.reply_facts.specs.Earlier.{IsTold}
+use Rattle.reply_laws.proofs.Quiet.{quiet}
 use Rattle.reply_laws.proofs.NumberedWrites.{told_by_entries, gives_elsewhere}
 use Rattle.reply_facts.proofs.Requests.{number_same}
 use Rattle.reply_laws.proofs.KeyFinds.{key_find_right_among}
@@ -76,7 +79,7 @@ another_router a b e = let routers = ap (λ (id : RequestId). id.router) e in cc
 first_shown : (t : Answered) → IsIn t all_told → t.id ≡ first.id → Shows (account_of both_entries all_asked all_told) first t inserts_five
 first_shown t i own =
     all_at (λ (x : Answered). x.id ≡ first.id → Shows (account_of both_entries all_asked all_told) first x inserts_five) t all_told (
-      (λ same. own_shown both_entries all_asked first_told inserts_five refl all_told first (record { part = first_part; all = refl }) (omega arith, tt) refl),
+      (λ same. own_shown both_entries all_asked first first_told inserts_five refl all_told (record { part = first_part; all = refl }) (omega arith, tt) refl),
       ((λ same. absurd (another_router 1 1 same)), ((λ same. absurd (another_count same)), tt)),
     ) i own
 
@@ -85,7 +88,7 @@ second_shown t i own =
     all_at (λ (x : Answered). x.id ≡ second.id → Shows (account_of both_entries all_asked all_told) second x inserts_long_five) t all_told (
       (λ same. absurd (another_router 1 1 (sym same))),
       (
-        (λ same. own_shown both_entries all_asked second_told inserts_long_five refl all_told second (record { part = second_part; all = refl })
+        (λ same. own_shown both_entries all_asked second second_told inserts_long_five refl all_told (record { part = second_part; all = refl })
             (omega arith, tt) refl),
         ((λ same. absurd (another_router 1 2 (sym same))), tt),
       ),
@@ -179,13 +182,13 @@ met_second = inr (inr (inr (second_entry, in_later second_entry first_entry (sec
 first_right : IsRightOf (account_of both_entries all_asked all_told) [] first_told []
 first_right =
     right_of first 3 2 done_reply (in_first first (second ∷ third ∷ [])) (omega arith) (omega arith) met_first
-    (own_right both_entries all_asked first_told inserts_five refl all_told first refl refl (record { part = first_part; all = refl }) (omega arith, tt) refl
+    (own_right both_entries all_asked first first_told inserts_five refl all_told refl refl (record { part = first_part; all = refl }) (omega arith, tt) refl
     (omega arith) refl)
 
 second_right : IsRightOf (account_of both_entries all_asked all_told) [] second_told []
 second_right =
     right_of second 5 3 duplicate_reply second_taken (omega arith) (omega arith) met_second
-    (own_right both_entries all_asked second_told inserts_long_five refl all_told second refl refl (record { part = second_part; all = refl })
+    (own_right both_entries all_asked second second_told inserts_long_five refl all_told refl refl (record { part = second_part; all = refl })
     (omega arith, tt) refl (omega arith) refl)
 
 third_right : IsRightOf (account_of both_entries all_asked all_told) [] third_told []
@@ -214,11 +217,15 @@ third_known : IsKnown (account_of both_entries all_asked all_told) third
 third_known = record { moment = refl; time = inr (inr (inr (first_entry, in_first first_entry (second_entry ∷ []), omega arith))); reached = omega arith }
 
 -- the collection was created before all replies
-all_caused : (t : Answered) → changes_by created_dated t ≡ created → creation.at ≤ t.time → IsCaused (account_of both_entries all_asked all_told) t
-all_caused t same past =
+all_caused : (t : Answered) → IsIn t all_told → changes_by created_dated t ≡ created → creation.at ≤ t.time → IsCaused (account_of both_entries all_asked all_told) t
+all_caused t i same past =
     caused_by (account_of both_entries all_asked all_told) t (
-      by_write created_dated 2 t inserts_five (made_by created_dated t same past),
-      (by_write created_dated 4 t inserts_long_five (made_by created_dated t same past), (by_find created_dated 6 t (find_of long_five None), tt)),
+      by_write (account_of both_entries all_asked all_told) first t inserts_five (λ own. first_shown t i (sym own)) (made_by created_dated t same past),
+      (
+        by_write (account_of both_entries all_asked all_told) second t inserts_long_five (λ own. second_shown t i (sym own))
+            (made_by created_dated t same past),
+        (by_find (account_of both_entries all_asked all_told) third t (find_of long_five None), tt),
+      ),
     )
 
 all_different : AreDifferent (id_at 2 1 ∷ id_at 3 1 ∷ id_at 2 2 ∷ [])
@@ -257,10 +264,19 @@ returns-clause-whole c = record {
   fitting = (record { later = tt; fits = record { absent = refl; next = refl } }, tt);
   steps = refl;
   caused = (
-    all_caused first_told refl (omega arith),
-    (all_caused second_told refl (omega arith), (all_caused third_told refl (omega arith), tt)),
+    all_caused first_told (in_first first_told (second_told ∷ third_told ∷ [])) refl (omega arith),
+    (
+      all_caused second_told (in_later second_told first_told (second_told ∷ third_told ∷ []) (in_first second_told (third_told ∷ []))) refl (omega arith),
+      (
+        all_caused third_told
+            (in_later third_told first_told (second_told ∷ third_told ∷ []) (in_later third_told second_told (third_told ∷ []) (in_first third_told []))) refl
+            (omega arith),
+        tt,
+      ),
+    ),
   );
   right = all_right;
+  away = tt;
   one = all_different;
   once = all_different;
   fresh = (
@@ -295,6 +311,9 @@ returns-clause-whole c = record {
 
 -- WHAT IS NONE
 
+free : (a : Asked) → IsInAll a → time_limit a.request ≡ 0
+free a i = all_at (λ (x : Asked). time_limit x.request ≡ 0) a all_asked (refl, (refl, (refl, tt))) i
+
 no_sender : (a : Asked) → (id_at 3 1 ≡ a.id → ⊥) → Sends a second_entry → ⊥
 no_sender a other sends = other (number_same (id_at 3 1) a.id sends.write.number 0 sends.index sends.entry.statement.same_number)
 
@@ -307,28 +326,30 @@ returns-clause-nobody_sent c one =
 pub returns-clause-lost : goal.returns-clause-lost
 returns-clause-lost c one =
     let told = told_write (account_of [] all_asked all_told) one first_told inserts_five (in_first first_told (second_told ∷ third_told ∷ [])) refl in
-    no_first told.dones told.tells
+    no_first told.request told.is told.tells.dones told.tells.tells
   where
-    no_first : (dones : List Done) → AreTold (account_of [] all_asked all_told) first_told inserts_five 0 inserts_five.operations dones → ⊥
-    no_first [] told = told
-    no_first (d ∷ dones) told =
-        told_by_entries (account_of [] all_asked all_told) first_told None (number_for None first_told.id 0) (codes "d.c") (insert_operation (with_id five))
+    no_first : (a : Asked) → IsTold all_asked all_told a first_told → (dones : List Done)
+        → AreTold (account_of [] all_asked all_told) a first_told inserts_five 0 inserts_five.operations dones → ⊥
+    no_first a is [] told = told
+    no_first a is (d ∷ dones) told =
+        told_by_entries (account_of [] all_asked all_told) a first_told (quiet [] all_asked all_told a first_told (free a is.taken)) None (number_for None first_told.id 0) (codes "d.c") (insert_operation (with_id five))
         (λ x. ⊥) d.answer tt told.1
 
 pub returns-clause-lost_duplicate : goal.returns-clause-lost_duplicate
 returns-clause-lost_duplicate c one =
     let told = told_write (account_of (first_entry ∷ []) all_asked all_told) one second_told inserts_long_five
     (in_later second_told first_told (second_told ∷ third_told ∷ []) (in_first second_told (third_told ∷ []))) refl in
-    no_first told.dones told.tells
+    no_first told.request told.is told.tells.dones told.tells.tells
   where
     other_session_of : router_session 2 1 1 ≡ router_session 3 1 1 → ⊥
     other_session_of same = cc
 
-    no_first : (dones : List Done)
-        → AreTold (account_of (first_entry ∷ []) all_asked all_told) second_told inserts_long_five 0 inserts_long_five.operations dones → ⊥
-    no_first [] told = told
-    no_first (d ∷ dones) told =
-        told_by_entries (account_of (first_entry ∷ []) all_asked all_told) second_told None (number_for None second_told.id 0) (codes "d.c")
+    no_first : (a : Asked) → IsTold all_asked all_told a second_told → (dones : List Done)
+        → AreTold (account_of (first_entry ∷ []) all_asked all_told) a second_told inserts_long_five 0 inserts_long_five.operations dones → ⊥
+    no_first a is [] told = told
+    no_first a is (d ∷ dones) told =
+        told_by_entries (account_of (first_entry ∷ []) all_asked all_told) a second_told
+        (quiet (first_entry ∷ []) all_asked all_told a second_told (free a is.taken)) None (number_for None second_told.id 0) (codes "d.c")
         (insert_operation (with_id long_five)) (λ x. ⊥) d.answer
         (gives_elsewhere all_asked second_told (number_for None second_told.id 0) (λ x. ⊥) first_entry (λ same. other_session_of same), tt) told.1
 

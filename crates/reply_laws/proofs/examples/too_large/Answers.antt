@@ -22,7 +22,7 @@ inserts_deep = record {
 
 pub returns-clause-told : goal.returns-clause-told
 returns-clause-told c =
-    own_right (deep_entry ∷ []) [] (tells deep_asked 3 2 too_large_reply) inserts_deep refl [] deep_asked refl refl
+    own_right (deep_entry ∷ []) [] deep_asked (tells deep_asked 3 2 too_large_reply) inserts_deep refl [] refl refl
     (record { part = (record { same_number = refl; name = refl; does = refl }, (λ e. refl), tt); all = refl }) (omega arith, tt) refl (omega arith) refl
 
 pub returns-clause-not_found : goal.returns-clause-not_found

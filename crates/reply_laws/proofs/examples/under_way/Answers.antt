@@ -12,6 +12,7 @@ use Rattle.reply_model.specs.Right.{AreTold, ends}
 use Rattle.reply_facts.proofs.RightAnswers.{right_of}
 use Rattle.reply_facts.proofs.Statements.{UnlessEnded}
 use Rattle.reply_laws.specs.SampleExchanges.{account_of, first_entry, tells, three_asked}
+use Rattle.reply_laws.proofs.Quiet.{IsQuiet, quiet}
 use Rattle.reply_laws.proofs.NumberedWrites.{told_by_entries, gives_another, gives_itself}
 use Rattle.reply_laws.proofs.examples.under_way.Goals as goal
 
@@ -22,12 +23,15 @@ abbrev early : Answered
 early = tells (three_asked false true) 3 2 done_reply
 
 abbrev Told : (index : ℕ) → List Operation → List Done → Type 0
-Told index operations dones = AreTold (account_of (first_entry ∷ []) [] []) early inserts_three index operations dones
+Told index operations dones = AreTold (account_of (first_entry ∷ []) [] []) (three_asked false true) early inserts_three index operations dones
+
+calm : IsQuiet (account_of (first_entry ∷ []) [] []) (three_asked false true) early
+calm = quiet (first_entry ∷ []) [] [] (three_asked false true) early refl
 
 no_second : (dones : List Done) → Told 1 (insert_operation (with_id long_five) ∷ insert_operation (with_id six) ∷ []) dones → ⊥
 no_second [] told = told
 no_second (d ∷ dones) told =
-    told_by_entries (account_of (first_entry ∷ []) [] []) early None (number_for None early.id 1) (codes "d.c") (insert_operation (with_id long_five))
+    told_by_entries (account_of (first_entry ∷ []) [] []) (three_asked false true) early calm None (number_for None early.id 1) (codes "d.c") (insert_operation (with_id long_five))
     (λ x. ⊥) d.answer (gives_another [] early (number_for None early.id 1) (λ x. ⊥) first_entry (λ same. cc) refl, tt) told.1
 
 -- the first has an outcome without an error
@@ -35,7 +39,7 @@ no_answer : (dones : List Done) → Told 0 (map insert_operation three) dones �
 no_answer [] told = told
 no_answer (d ∷ dones) told =
     let says : d.answer ≡ answer_by first_entry =
-    told_by_entries (account_of (first_entry ∷ []) [] []) early None (number_for None early.id 0) (codes "d.c") (insert_operation (with_id five))
+    told_by_entries (account_of (first_entry ∷ []) [] []) (three_asked false true) early calm None (number_for None early.id 0) (codes "d.c") (insert_operation (with_id five))
     (λ x. x ≡ answer_by first_entry) d.answer (gives_itself [] early (number_for None early.id 0) first_entry refl, tt) told.1 in
     let at : d.index ≡ 0 = told.0 in
     let same : d ≡ done_of first_entry = λ i. record { index = at i; answer = says i } in

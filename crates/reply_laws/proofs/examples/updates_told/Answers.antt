@@ -41,13 +41,13 @@ deletes_six = record { kind = delete_kind; namespace = codes "d.c"; operations =
 
 pub returns-clause-right : goal.returns-clause-right
 returns-clause-right c =
-    own_right upserting_entries [] (tells upserting 5 5 (upserting_reply 2 0 1)) three_updates refl [] upserting refl refl
+    own_right upserting_entries [] upserting (tells upserting 5 5 (upserting_reply 2 0 1)) three_updates refl [] refl refl
     (record { part = updates_done; all = refl })
     (omega arith, (omega arith, (omega arith, tt))) refl (omega arith) refl
 
 pub returns-clause-unmet : goal.returns-clause-unmet
 returns-clause-unmet c =
-    own_right unmet_entries [] (tells unmet_delete 5 3 (deleted_reply 0 3)) deletes_six refl [] unmet_delete refl refl
+    own_right unmet_entries [] unmet_delete (tells unmet_delete 5 3 (deleted_reply 0 3)) deletes_six refl [] refl refl
     (record { part = (record { same_number = refl; name = refl; does = refl }, (λ e. refl), tt); all = refl }) (omega arith, tt) refl (omega arith) refl
 
 abbrev nothing_set : Entry
@@ -83,8 +83,8 @@ numbered = (
 says : (document : Fields) (next : List Cursor) → IsRight (account_of upserting_entries [] []) [] upserting (tells upserting 5 5 document) next
     → document ≡ upserting_reply 2 0 1
 says document next right =
-    own_says upserting_entries [] (tells upserting 5 5 document) three_updates refl [] numbered
-    (refl, (refl, (refl, (refl, tt)))) updates_done upserting next refl refl right
+    own_says upserting_entries [] upserting (tells upserting 5 5 document) three_updates refl [] numbered
+    (refl, (refl, (refl, (refl, tt)))) updates_done next refl refl refl right
 
 pub returns-clause-more_changed : goal.returns-clause-more_changed
 returns-clause-more_changed c next right = let e = says (upserting_reply 2 2 1) next right in cc
@@ -97,6 +97,6 @@ returns-clause-another_index c next right = let e = says (upserting_reply 2 0 0)
 
 pub returns-clause-unmet_without_entry : goal.returns-clause-unmet_without_entry
 returns-clause-unmet_without_entry c next right =
-    own_untold (first_entry ∷ []) [] unmet_delete 5 3 delete_kind true (delete_operation (with_id six)) [] refl
+    own_untold (first_entry ∷ []) [] unmet_delete 5 3 delete_kind true (delete_operation (with_id six)) [] refl refl
     (λ document. (gives_elsewhere [] (tells unmet_delete 5 3 document) (number_for None unmet_delete.id 0) (λ x. ⊥) first_entry (λ same. cc), tt))
     (deleted_reply 0 3) next right

@@ -3,5 +3,5 @@ use Rattle.reply_facts.proofs.Freshness.{told_again}
 use Rattle.reply_laws.proofs.laws.retries_are_told_the_same.Goals as goal
 
 pub returns : goal.returns
-returns c account s t write again by first second d e before now outcome other one told also own own_again i j at is was =
-    told_again account one s t write again by first second d e before now outcome other told also own own_again i j at is was
+returns c account a b s t write again by first second d e before now outcome other one told also own own_again i j at is was =
+    told_again account one a b s t write again by first second d e before now outcome other told also own own_again i j at is was

@@ -9,7 +9,8 @@ use Rattle.reply_model.specs.Exchanges.{Asked, Answered}
 use Rattle.reply_model.specs.Accounts.{Account}
 use Rattle.reply_model.specs.Cursors.{Cursor}
 use Rattle.reply_model.specs.Reads.{IsTimeRead, MayGive}
-use Rattle.reply_model.specs.Right.{IsReadRefused}
+use Rattle.reply_laws.specs.UnfinishedReads.{IsUnfinished}
+use Rattle.reply_laws.proofs.Quiet.{unfinished}
 use Rattle.reply_facts.proofs.RightAnswers.{RightBy, right_of}
 use Rattle.reply_facts.proofs.Freshness.{answer_right}
 use Rattle.reply_laws.proofs.read_laws.counts_are_answered.Goals as goal
@@ -19,10 +20,10 @@ tells : (account : Account) (cursors next : List Cursor) (a : Asked)
     → RightBy account cursors a t (Ok (count_command reading)) next
     → ((time n : ℕ) × IsTimeRead a t reading time × MayGive account.history reading time (listed (count_documents (codes "n") n))
     × (t.document ≡ answer_document (count_answer n time)))
-    ⊎ IsReadRefused account a t reading
-tells account cursors next a t reading (inl (counted, same)) =
+    ⊎ IsUnfinished account a t reading
+tells account cursors next a t reading (inl counted, same) =
     inl (counted.time, counted.number, counted.read, counted.gives, counted.says)
-tells account cursors next a t reading (inr refused) = inr refused.0
+tells account cursors next a t reading (inr refused, same) = inr (unfinished account cursors a t reading refused)
 
 pub returns : goal.returns
 returns c account a t reading one told asks =

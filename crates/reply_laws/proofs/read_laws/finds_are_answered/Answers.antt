@@ -13,7 +13,9 @@ use Rattle.reply_model.specs.Exchanges.{Asked, Answered}
 use Rattle.reply_model.specs.Accounts.{Account}
 use Rattle.reply_model.specs.Cursors.{Cursor}
 use Rattle.reply_model.specs.Reads.{IsTimeRead, MayGive}
-use Rattle.reply_model.specs.Right.{IsReadRefused, usual_size}
+use Rattle.reply_model.specs.Right.{usual_size}
+use Rattle.reply_laws.specs.UnfinishedReads.{IsUnfinished}
+use Rattle.reply_laws.proofs.Quiet.{unfinished}
 use Rattle.reply_facts.proofs.RightAnswers.{RightBy, right_of}
 use Rattle.reply_facts.proofs.Freshness.{answer_right}
 use Rattle.reply_laws.proofs.read_laws.finds_are_answered.Goals as goal
@@ -24,10 +26,10 @@ tells : (account : Account) (cursors next : List Cursor) (a : Asked)
     → ((documents : List Fields) × (batch : Batch) × IsTimeRead a t find.reading batch.time × MayGive account.history find.reading batch.time (listed documents)
     × IsBatch (Some (unwrap_or find.batches.size usual_size)) documents batch.documents × (batch.namespace ≡ find.reading.namespace)
     × (t.document ≡ answer_document (first_answer batch)))
-    ⊎ IsReadRefused account a t find.reading
+    ⊎ IsUnfinished account a t find.reading
 tells account cursors next a t find (inl first) =
     inl (first.documents, first.batch, first.time, first.gives, first.shows.batch_of, first.name, first.says)
-tells account cursors next a t find (inr refused) = inr refused.0
+tells account cursors next a t find (inr refused) = inr (unfinished account cursors a t find.reading refused.0)
 
 pub returns : goal.returns
 returns c account a t find one told asks =

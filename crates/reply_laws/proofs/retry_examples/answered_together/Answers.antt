@@ -37,7 +37,7 @@ fifth_sent = record {
 pub returns : goal.returns
 returns c =
     right_write (inserts_under (pos 4) (with_id five ∷ with_id six ∷ []) false)
-    (record { index = 0; answer = answer_by put_five } ∷ record { index = 1; answer = is_older (pos 5) } ∷ []) creation refl (
+    (record { index = 0; answer = answer_by put_five } ∷ record { index = 1; answer = is_older (pos 5) } ∷ []) refl (
       refl,
       told_own put_five (in_first put_five (fifth ∷ [])) (record { same_number = refl; name = refl; does = refl }) (omega arith),
       (
@@ -52,4 +52,4 @@ returns c =
         refl,
       ),
     )
-    (λ none. absurd (cc)) (in_first (create_change creation) []) refl (omega arith) refl
+    (λ none. absurd (cc)) (λ any. record { creation = creation; begun = in_first (create_change creation) []; name = refl; before = omega arith }) refl

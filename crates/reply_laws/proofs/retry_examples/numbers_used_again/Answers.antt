@@ -91,7 +91,7 @@ sent_elsewhere = record {
 
 pub returns-clause-insert : goal.returns-clause-insert
 returns-clause-insert c =
-    told_just (upserted_five ∷ []) (sends_three (upsert_three five) insert_six) (then_three insert_six) 5 4 insert_kind true by_three
+    told_just (upserted_five ∷ []) (sends_three (upsert_three five) insert_six) (then_three insert_six) 5 4 insert_kind true by_three refl
     (insert_operation (with_id six) ∷ []) (answer_by upserted_five ∷ []) done_reply refl (
       (λ document.
           told_other upserted_five by_three (in_first upserted_five []) refl refl (omega arith)
@@ -112,7 +112,7 @@ returns-clause-insert c =
 
 pub returns-clause-delete : goal.returns-clause-delete
 returns-clause-delete c =
-    told_just (upserted_five ∷ []) (sends_three (upsert_three five) (delete_three six)) (then_three (delete_three six)) 5 4 delete_kind true by_three
+    told_just (upserted_five ∷ []) (sends_three (upsert_three five) (delete_three six)) (then_three (delete_three six)) 5 4 delete_kind true by_three refl
     (delete_operation (with_id six) ∷ []) (answer_by upserted_five ∷ []) done_reply refl (
       (λ document.
           told_other upserted_five by_three (in_first upserted_five []) refl refl (omega arith)
@@ -133,7 +133,7 @@ returns-clause-delete c =
 
 pub returns-clause-update : goal.returns-clause-update
 returns-clause-update c =
-    told_just (inserted_five ∷ []) (sends_three insert_five (upsert_three six)) (then_three (upsert_three six)) 5 4 update_kind true by_three
+    told_just (inserted_five ∷ []) (sends_three insert_five (upsert_three six)) (then_three (upsert_three six)) 5 4 update_kind true by_three refl
     (update_operation (with_id six) change_one true ∷ []) (answer_by inserted_five ∷ []) unmodified_reply refl (
       (λ document.
           told_other inserted_five by_three (in_first inserted_five []) refl refl (omega arith)
@@ -154,7 +154,7 @@ returns-clause-update c =
 
 pub returns-clause-elsewhere : goal.returns-clause-elsewhere
 returns-clause-elsewhere c =
-    told_just (five_elsewhere ∷ []) (sends_three insert_elsewhere (delete_three six)) (then_three (delete_three six)) 5 4 delete_kind true by_three
+    told_just (five_elsewhere ∷ []) (sends_three insert_elsewhere (delete_three six)) (then_three (delete_three six)) 5 4 delete_kind true by_three refl
     (delete_operation (with_id six) ∷ []) (answer_by five_elsewhere ∷ []) done_reply refl (
       (λ document.
           told_other five_elsewhere by_three (in_first five_elsewhere []) refl refl (omega arith)
@@ -186,12 +186,12 @@ elsewhere = entry_under eights 2 (pos 4) 0 (insert_operation (with_id five)) don
 
 pub returns-clause-another_index : goal.returns-clause-another_index
 returns-clause-another_index c =
-    untold (index_one ∷ []) both_sent sent_again 5 4 insert_kind true four (insert_operation (with_id five)) [] refl
+    untold (index_one ∷ []) both_sent sent_again 5 4 insert_kind true four refl (insert_operation (with_id five)) [] refl
     (λ document. (gives_another both_sent (tells sent_again 5 4 document) (number_in sevens (pos 4) 0) (λ x. ⊥) index_one (λ same. cc) refl, tt))
 
 pub returns-clause-smaller_transaction : goal.returns-clause-smaller_transaction
 returns-clause-smaller_transaction c =
-    untold (smaller ∷ []) both_sent sent_again 5 4 insert_kind true four (insert_operation (with_id five)) [] refl
+    untold (smaller ∷ []) both_sent sent_again 5 4 insert_kind true four refl (insert_operation (with_id five)) [] refl
     (λ document. (
       gives_nothing both_sent (tells sent_again 5 4 document) (number_in sevens (pos 4) 0) (λ x. ⊥) smaller
           (λ same. let n : pos 3 ≡ pos 4 = ap (λ (n : StatementNumber). n.transaction) same in cc) refl,
@@ -201,7 +201,7 @@ returns-clause-smaller_transaction c =
 pub returns-clause-unnumbered : goal.returns-clause-unnumbered
 returns-clause-unnumbered c =
     own_untold (upserted_five ∷ []) (first_three (upsert_three five) ∷ unnumbered_six ∷ []) unnumbered_six 5 4 insert_kind true (insert_operation (with_id six))
-    [] refl
+    [] refl refl
     (λ document. (
       gives_elsewhere (first_three (upsert_three five) ∷ unnumbered_six ∷ []) (tells unnumbered_six 5 4 document)
           (number_for None unnumbered_six.id 0) (λ x. ⊥) upserted_five (λ same. cc),
@@ -210,7 +210,7 @@ returns-clause-unnumbered c =
 
 pub returns-clause-another_session : goal.returns-clause-another_session
 returns-clause-another_session c =
-    untold (elsewhere ∷ []) both_sent sent_again 5 4 insert_kind true four (insert_operation (with_id five)) [] refl
+    untold (elsewhere ∷ []) both_sent sent_again 5 4 insert_kind true four refl (insert_operation (with_id five)) [] refl
     (λ document. (gives_elsewhere both_sent (tells sent_again 5 4 document) (number_in sevens (pos 4) 0) (λ x. ⊥) elsewhere (λ same. cc), tt))
 
 -- the words of the second request are no update
@@ -238,7 +238,7 @@ not_sent document had =
 
 pub returns-clause-foretold : goal.returns-clause-foretold
 returns-clause-foretold c =
-    untold (upserted_five ∷ []) (later_sent ∷ then_three insert_six ∷ []) (then_three insert_six) 5 4 insert_kind true by_three
+    untold (upserted_five ∷ []) (later_sent ∷ then_three insert_six ∷ []) (then_three insert_six) 5 4 insert_kind true by_three refl
     (insert_operation (with_id six)) [] refl
     (λ document. (
       record {

@@ -40,7 +40,7 @@ newer_sent = record {
 }
 
 may : (ordered : Bool) (index : ℕ) (operation : Operation) (document : Fields)
-    → MayBeTold (account_of (newer_entry ∷ []) (newer ∷ late_two ordered ∷ []) []) (tells (late_two ordered) 5 4 document) (Some four)
+    → MayBeTold (account_of (newer_entry ∷ []) (newer ∷ late_two ordered ∷ []) []) (late_two ordered) (tells (late_two ordered) 5 4 document) (Some four)
     (number_in sevens (pos 4) index)
     (codes "d.c") operation (is_older (pos 5))
 may ordered index operation document =
@@ -56,7 +56,7 @@ gives ordered index operation document =
 
 pub returns-clause-ordered : goal.returns-clause-ordered
 returns-clause-ordered c =
-    told_just (newer_entry ∷ []) (newer ∷ late_two true ∷ []) (late_two true) 5 4 insert_kind true four
+    told_just (newer_entry ∷ []) (newer ∷ late_two true ∷ []) (late_two true) 5 4 insert_kind true four refl
     (insert_operation (with_id long_five) ∷ insert_operation (with_id six) ∷ [])
     (is_older (pos 5) ∷ []) (errors_reply 0 4 (older_error (pos 5) 0 ∷ [])) refl (
       (λ document. may true 0 (insert_operation (with_id long_five)) document),
@@ -67,7 +67,7 @@ returns-clause-ordered c =
 
 pub returns-clause-unordered : goal.returns-clause-unordered
 returns-clause-unordered c =
-    told_just (newer_entry ∷ []) (newer ∷ late_two false ∷ []) (late_two false) 5 4 insert_kind false four
+    told_just (newer_entry ∷ []) (newer ∷ late_two false ∷ []) (late_two false) 5 4 insert_kind false four refl
     (insert_operation (with_id long_five) ∷ insert_operation (with_id six) ∷ [])
     (is_older (pos 5) ∷ is_older (pos 5) ∷ []) (errors_reply 0 4 (older_error (pos 5) 0 ∷ older_error (pos 5) 1 ∷ [])) refl (
       (λ document. may false 0 (insert_operation (with_id long_five)) document),
@@ -101,7 +101,7 @@ zero_sends = record {
 
 pub returns-clause-below_zero : goal.returns-clause-below_zero
 returns-clause-below_zero c =
-    told_just (zero_entry ∷ []) (zero_sent ∷ six_as (negsuc 0) ∷ []) (six_as (negsuc 0)) 5 4 insert_kind true below (insert_operation (with_id six) ∷ [])
+    told_just (zero_entry ∷ []) (zero_sent ∷ six_as (negsuc 0) ∷ []) (six_as (negsuc 0)) 5 4 insert_kind true below refl (insert_operation (with_id six) ∷ [])
     (is_older (pos 0) ∷ []) (errors_reply 0 4 (older_error (pos 0) 0 ∷ [])) refl (
       (λ document.
           told_older zero_entry below (in_first zero_entry []) refl refl refl (omega arith)
@@ -122,7 +122,7 @@ elsewhere = record newer_entry { number = number_in eights (pos 5) 0 }
 
 pub returns-clause-unnumbered : goal.returns-clause-unnumbered
 returns-clause-unnumbered c =
-    own_untold (newer_entry ∷ []) (newer ∷ unnumbered_six ∷ []) unnumbered_six 5 4 insert_kind true (insert_operation (with_id six)) [] refl
+    own_untold (newer_entry ∷ []) (newer ∷ unnumbered_six ∷ []) unnumbered_six 5 4 insert_kind true (insert_operation (with_id six)) [] refl refl
     (λ document. (
       gives_elsewhere (newer ∷ unnumbered_six ∷ []) (tells unnumbered_six 5 4 document) (number_for None unnumbered_six.id 0) (λ x. ⊥) newer_entry
           (λ same. cc),
@@ -131,7 +131,7 @@ returns-clause-unnumbered c =
 
 pub returns-clause-another_session : goal.returns-clause-another_session
 returns-clause-another_session c =
-    untold (elsewhere ∷ []) (newer ∷ late_two true ∷ []) (late_two true) 5 4 insert_kind true four (insert_operation (with_id long_five))
+    untold (elsewhere ∷ []) (newer ∷ late_two true ∷ []) (late_two true) 5 4 insert_kind true four refl (insert_operation (with_id long_five))
     (insert_operation (with_id six) ∷ []) refl
     (λ document. (
       gives_elsewhere (newer ∷ late_two true ∷ []) (tells (late_two true) 5 4 document) (number_in sevens (pos 4) 0) (λ x. ⊥) elsewhere
@@ -160,7 +160,7 @@ not_sent document had =
 
 pub returns-clause-foretold : goal.returns-clause-foretold
 returns-clause-foretold c =
-    untold (newer_entry ∷ []) (later_sent ∷ late_two true ∷ []) (late_two true) 5 4 insert_kind true four (insert_operation (with_id long_five))
+    untold (newer_entry ∷ []) (later_sent ∷ late_two true ∷ []) (late_two true) 5 4 insert_kind true four refl (insert_operation (with_id long_five))
     (insert_operation (with_id six) ∷ []) refl
     (λ document. (
       record {

@@ -85,7 +85,7 @@ returns-clause-unordered c ordered = absurd (let both : false ≡ true = ordered
 
 pub returns-clause-ended : goal.returns-clause-ended
 returns-clause-ended c =
-    told_just both_done (two_sent 2 2 4 true ∷ two_sent 3 1 6 false ∷ []) (two_sent 2 2 4 true) 9 5 insert_kind true four
+    told_just both_done (two_sent 2 2 4 true ∷ two_sent 3 1 6 false ∷ []) (two_sent 2 2 4 true) 9 5 insert_kind true four refl
     (insert_operation (with_id long_five) ∷ insert_operation (with_id six) ∷ []) (answer_by failed ∷ []) duplicate_reply refl (
       (λ document.
           told_own failed (in_later failed first_entry (failed ∷ second_done 4 ∷ []) (in_first failed (second_done 4 ∷ [])))

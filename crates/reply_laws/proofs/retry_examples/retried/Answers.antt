@@ -56,9 +56,9 @@ again_taken = in_later sent_again sent_first (sent_again ∷ []) (in_first sent_
 both_right : (a : Asked) (step : ℕ) → command_of a.request ≡ Ok (write_command inserts)
     → IsRight (account_of (put_five ∷ []) both_sent both_answers) [] a (tells a step 2 done_reply) []
 both_right a step asks =
-    right_write inserts (record { index = 0; answer = answer_by put_five } ∷ []) creation asks
+    right_write inserts (record { index = 0; answer = answer_by put_five } ∷ []) asks
     (refl, told_own put_five (in_first put_five []) (record { same_number = refl; name = refl; does = refl }) (omega arith), refl)
-    (λ none. absurd (cc)) (in_first (create_change creation) []) refl (omega arith) refl
+    (λ none. absurd (cc)) (λ any. record { creation = creation; begun = in_first (create_change creation) []; name = refl; before = omega arith }) refl
 
 first_right : IsRightOf (account_of (put_five ∷ []) both_sent both_answers) [] first_answer []
 first_right = record {
@@ -110,17 +110,6 @@ again_known = record {
   reached = omega arith;
 }
 
--- the collection was created before both replies
-both_caused : (t : Answered) → changes_by created_dated t ≡ created → creation.at ≤ t.time → IsCaused (account_of (put_five ∷ []) both_sent both_answers) t
-both_caused t same past =
-    caused_by (account_of (put_five ∷ []) both_sent both_answers) t (
-      by_write created_dated sent_first.came t inserts (made_by created_dated t same past),
-      (by_write created_dated sent_again.came t inserts (made_by created_dated t same past), tt),
-    )
-
-different : AreDifferent (id_at 2 1 ∷ id_at 3 1 ∷ [])
-different = (((λ e. let routers = ap (λ (id : RequestId). id.router) e in cc), tt), (tt, tt))
-
 first_shown : (t : Answered) → IsIn t both_answers → t.id ≡ sent_first.id → Shows (account_of (put_five ∷ []) both_sent both_answers) sent_first t inserts
 first_shown t i own =
     all_at (λ (x : Answered). x.id ≡ sent_first.id → Shows (account_of (put_five ∷ []) both_sent both_answers) sent_first x inserts) t both_answers (
@@ -131,6 +120,35 @@ first_shown t i own =
       }),
       ((λ same. absurd (let routers = ap (λ (id : RequestId). id.router) same in cc)), tt),
     ) i own
+
+again_shown : (t : Answered) → IsIn t both_answers → t.id ≡ sent_again.id → Shows (account_of (put_five ∷ []) both_sent both_answers) sent_again t inserts
+again_shown t i own =
+    all_at (λ (x : Answered). x.id ≡ sent_again.id → Shows (account_of (put_five ∷ []) both_sent both_answers) sent_again x inserts) t both_answers (
+      (λ same. absurd (let routers = ap (λ (id : RequestId). id.router) same in cc)),
+      (
+        (λ same. record {
+          dones = record { index = 0; answer = answer_by put_five } ∷ [];
+          told = (refl, told_own put_five (in_first put_five []) (record { same_number = refl; name = refl; does = refl }) (omega arith), refl);
+          same = refl;
+        }),
+        tt,
+      ),
+    ) i own
+
+-- the collection was created before both replies
+both_caused : (t : Answered) → IsIn t both_answers → changes_by created_dated t ≡ created → creation.at ≤ t.time → IsCaused (account_of (put_five ∷ []) both_sent both_answers) t
+both_caused t i same past =
+    caused_by (account_of (put_five ∷ []) both_sent both_answers) t (
+      by_write (account_of (put_five ∷ []) both_sent both_answers) sent_first t inserts (λ own. first_shown t i (sym own)) (made_by created_dated t same past),
+      (
+        by_write (account_of (put_five ∷ []) both_sent both_answers) sent_again t inserts (λ own. again_shown t i (sym own))
+            (made_by created_dated t same past),
+        tt,
+      ),
+    )
+
+different : AreDifferent (id_at 2 1 ∷ id_at 3 1 ∷ [])
+different = (((λ e. let routers = ap (λ (id : RequestId). id.router) e in cc), tt), (tt, tt))
 
 pub returns-clause-whole : goal.returns-clause-whole
 returns-clause-whole c = record {
@@ -155,8 +173,9 @@ returns-clause-whole c = record {
   wanted = (record { request = sent_first; taken = first_taken; asks = inl (record { write = inserts; asks = refl; name = refl }); later = omega arith }, tt);
   fitting = (record { later = tt; fits = record { absent = refl; next = refl } }, tt);
   steps = refl;
-  caused = (both_caused first_answer refl (omega arith), (both_caused answer_again refl (omega arith), tt));
+  caused = (both_caused first_answer (in_first first_answer (answer_again ∷ [])) refl (omega arith), (both_caused answer_again (in_later answer_again first_answer (answer_again ∷ []) (in_first answer_again [])) refl (omega arith), tt));
   right = then_told [] [] first_answer (answer_again ∷ []) first_right (then_told [] [] answer_again [] again_right (nothing_told []));
+  away = tt;
   one = different;
   once = different;
   fresh = (
@@ -176,7 +195,7 @@ returns-clause-whole c = record {
 
 pub returns-clause-same : goal.returns-clause-same
 returns-clause-same c =
-    told_just (put_five ∷ []) both_sent sent_again 5 4 insert_kind true four (insert_operation (with_id five) ∷ []) (answer_by put_five ∷ []) done_reply refl (
+    told_just (put_five ∷ []) both_sent sent_again 5 4 insert_kind true four refl (insert_operation (with_id five) ∷ []) (answer_by put_five ∷ []) done_reply refl (
       (λ document. told_own put_five (in_first put_five []) (record { same_number = refl; name = refl; does = refl }) (omega arith)),
       (λ document. (gives_itself both_sent (tells sent_again 5 4 document) put_five.number put_five refl, tt)),
       refl,
@@ -184,9 +203,9 @@ returns-clause-same c =
     (omega arith) refl
 
 pub returns-clause-lost : goal.returns-clause-lost
-returns-clause-lost c = untold [] both_sent sent_again 5 2 insert_kind true four (insert_operation (with_id five)) [] refl (λ document. tt)
+returns-clause-lost c = untold [] both_sent sent_again 5 2 insert_kind true four refl (insert_operation (with_id five)) [] refl (λ document. tt)
 
 pub returns-clause-foretold : goal.returns-clause-foretold
 returns-clause-foretold c =
-    untold (put_five ∷ []) both_sent sent_again 5 1 insert_kind true four (insert_operation (with_id five)) [] refl
+    untold (put_five ∷ []) both_sent sent_again 5 1 insert_kind true four refl (insert_operation (with_id five)) [] refl
     (λ document. (gives_later both_sent (tells sent_again 5 1 document) put_five.number (λ x. ⊥) put_five (omega arith) refl, tt))

@@ -19,7 +19,7 @@ four = record { session = sevens; transaction = pos 4 }
 
 pub returns-clause-same : goal.returns-clause-same
 returns-clause-same c =
-    told_just until_removed failing_sent failing_again 9 5 insert_kind true four (insert_operation (with_id long_five) ∷ [])
+    told_just until_removed failing_sent failing_again 9 5 insert_kind true four refl (insert_operation (with_id long_five) ∷ [])
     (answer_by failed ∷ []) duplicate_reply refl (
       (λ document.
           told_own failed (in_later failed first_entry (failed ∷ removed ∷ []) (in_first failed (removed ∷ [])))

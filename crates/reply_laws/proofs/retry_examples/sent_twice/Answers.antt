@@ -29,7 +29,7 @@ both = three_sent 1 2 ∷ three_sent 2 4 ∷ []
 
 told_three : (count came step : ℕ) → IsToldJust three_done both (three_sent count came) step 4 (second_fails 2 4)
 told_three count came step =
-    told_just three_done both (three_sent count came) step 4 insert_kind false four
+    told_just three_done both (three_sent count came) step 4 insert_kind false four refl
     (insert_operation (with_id five) ∷ insert_operation (with_id long_five) ∷ insert_operation (with_id six) ∷ [])
     (answer_by put_five ∷ answer_by duplicate ∷ answer_by last ∷ []) (second_fails 2 4) refl (
       (λ document. told_own put_five (in_first put_five (duplicate ∷ last ∷ [])) (record { same_number = refl; name = refl; does = refl }) (omega arith)),

@@ -8,13 +8,14 @@ use Rattle.history_model.specs.History.{Entry, IsIn, StatementNumber, insert_ope
 use Rattle.history_model.proofs.Lists.{all_at, in_first}
 use Rattle.base_model.specs.Identities.{RequestId}
 use Rattle.reply_model.specs.Exchanges.{Asked, Answered, number_for}
-use Rattle.reply_model.specs.Outcomes.{StatementOutcome, Done, answer_by, is_too_old}
+use Rattle.reply_model.specs.Outcomes.{StatementOutcome, Done, answer_by, is_too_old, summary_of, done_of}
 use Rattle.reply_model.specs.OneHistory.{EndsBefore, Shows}
 use Rattle.reply_model.specs.Reads.{IsAhead}
 use Rattle.reply_model.specs.Right.{AreTold, Sends, ends, find_reads}
 use Rattle.reply_laws.specs.SampleExchanges.{find_of, first_entry, account_of}
 use Rattle.reply_laws.specs.SampleRetries.{ended, failed, finding_two, first_answer, inserts_under, put_five, second_done, sent_first, told_ahead, two_documents, two_sent, unordered_later}
 use Rattle.reply_laws.proofs.OwnWrites.{same_write}
+use Rattle.reply_laws.proofs.Quiet.{quiet}
 use Rattle.reply_laws.proofs.NumberedWrites.{told_by_entries, gives_elsewhere, gives_itself, gives_another}
 use Rattle.reply_facts.proofs.ReadTimes.{is_ahead}
 use Rattle.reply_laws.proofs.retry_examples.told_before.Goals as goal
@@ -30,7 +31,7 @@ returns-clause-ahead c next right =
       arith,
       same,
       ahead.of_all first_answer (inserts_under (pos 4) (with_id five ∷ []) true) 0 put_five (in_first first_answer []) (omega arith) refl
-          (in_first put_five []) refl refl,
+          (in_first put_five []) refl refl (record { told = summary_of first_answer.time (done_of put_five ∷ []); same = refl; each = tt }),
     )
   where
     wanted : (n : ℕ) → Some (timestamp 1000 2) ≡ Some n → timestamp 1000 2 ≡ n
@@ -60,13 +61,14 @@ GoesOn a sends =
 abbrev IsFailed : StatementOutcome → Type 0
 IsFailed x = x ≡ answer_by failed
 
-ends_first : (index : ℕ) → 0 < index → (dones : List Done) → AreTold (account_of entries sent (ended ∷ [])) ended two 0 two.operations dones
+ends_first : (index : ℕ) → 0 < index → (dones : List Done) → AreTold (account_of entries sent (ended ∷ [])) (two_sent 2 2 4 true) ended two 0 two.operations dones
     → EndsBefore index two dones
 ends_first index later [] told = absurd told
 ends_first index later (d ∷ dones) told =
     let at : d.index ≡ 0 = told.0 in
     let says : d.answer ≡ answer_by failed =
-    told_by_entries (account_of entries sent (ended ∷ [])) ended two.number (number_for two.number ended.id 0) two.namespace
+    told_by_entries (account_of entries sent (ended ∷ [])) (two_sent 2 2 4 true) ended
+    (quiet entries sent (ended ∷ []) (two_sent 2 2 4 true) ended refl) two.number (number_for two.number ended.id 0) two.namespace
     (insert_operation (with_id long_five)) IsFailed d.answer (
       gives_elsewhere sent ended (number_for two.number ended.id 0) IsFailed first_entry (λ same. cc),
       (
@@ -88,7 +90,7 @@ not_first sends goes_on =
     ∙ index_of sends.write.number (two_sent 2 2 4 true).id sends.index in
     let more = goes_on ended (in_first ended []) refl in
     more.1 (subst (λ (w : WriteCommand). EndsBefore sends.index w more.0.dones) same (ends_first sends.index (omega (arith, at)) more.0.dones
-    (subst (λ (w : WriteCommand). AreTold (account_of entries sent (ended ∷ [])) ended w 0 w.operations more.0.dones) (sym same) more.0.told)))
+    (subst (λ (w : WriteCommand). AreTold (account_of entries sent (ended ∷ [])) (two_sent 2 2 4 true) ended w 0 w.operations more.0.dones) (sym same) more.0.told)))
 
 pub returns-clause-ended : goal.returns-clause-ended
 returns-clause-ended c was =

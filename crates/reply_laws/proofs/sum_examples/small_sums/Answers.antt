@@ -17,6 +17,7 @@ use Rattle.reply_model.specs.Right.{IsReadRefused, refused_overflow, refused_exc
 use Rattle.reply_laws.specs.SampleReads.{one, two, three}
 use Rattle.reply_laws.specs.SampleSums.{both_valued, of_sum, sum_spec, summing, told_batch, told_overflow, valued}
 use Rattle.reply_laws.specs.SampleTimes.{find_in, reading_of}
+use Rattle.reply_laws.proofs.Quiet.{read_refused}
 use Rattle.reply_facts.proofs.RightAnswers.{RightBy, right_of}
 use Rattle.reply_laws.proofs.TimedReads.{own_is, find_right, told_first}
 use Rattle.reply_laws.proofs.SumReads.{two_orders, joined_of, joined_is}
@@ -98,7 +99,7 @@ not_refused (refused_ahead ahead told) = let e = told in cc
 
 by_told : (next : List Cursor) → RightBy (account_of (both_valued one one) [] []) [] summing told_overflow (Ok (find_command (find_in reading))) next → ⊥
 by_told next (inl told) = let e = told.says in cc
-by_told next (inr refused) = not_refused refused.0
+by_told next (inr refused) = not_refused (read_refused (both_valued one one) [] [] summing told_overflow [] reading refl refused.0)
 
 pub returns-clause-never_refused : goal.returns-clause-never_refused
 returns-clause-never_refused c next right =
