@@ -7,7 +7,7 @@ ghost use Rattle.protocol_model.specs.Requests.{request_of};
 
 use cluster_base::NodeId;
 use config_node::ConfigNode;
-use node_traits::{Node, Outputs, StepFault};
+use node_traits::{Node, Outputs, StepCount, StepFault};
 use opmsg_frames::Request;
 use outside::log::Log;
 use protocol_model::{Input, Message};
@@ -26,6 +26,21 @@ pub enum AnyNode {
     Shard(ShardNode),
     /// A router.
     Router(RouterNode),
+}
+
+impl AnyNode {
+    ghost use Rattle.any_node.specs.Kinds.{steps_of};
+
+    // Returns how many steps it has taken.
+    fn counted(&self) -> &StepCount
+        ensures { result.now ≡ steps_of self.now }
+    {
+        match self {
+            AnyNode::Catalogue(node) => node.counted(),
+            AnyNode::Shard(node) => node.counted(),
+            AnyNode::Router(node) => node.counted(),
+        }
+    }
 }
 
 impl Node for AnyNode {
@@ -71,6 +86,15 @@ impl Node for AnyNode {
 
     fn prepare<R: Threads + Sync>(_rt: &R, _alloc: Global, mail: Message) -> Input {
         Input::Deliver(mail)
+    }
+
+    fn keep_count(&mut self, before: &AnyNode) {
+        let count = before.counted();
+        match self {
+            AnyNode::Catalogue(node) => node.count_from(count),
+            AnyNode::Shard(node) => node.count_from(count),
+            AnyNode::Router(node) => node.count_from(count),
+        }
     }
 
     fn step<L: Log>(&mut self, log: &mut L, input: Input) -> Result<Outputs<Message>, StepFault> {

@@ -13,7 +13,7 @@ use crate::value::{Array, Document, Value};
 use byteorder::{ByteOrder, LittleEndian};
 use itoa::Buffer;
 
-/// Appends the one encoding of the document to the bytes (BSON 1.1, `document`). The document has at most 104 levels and its encoding at most 300,000,000
+/// Appends the one encoding of the document to the bytes (BSON 1.1, `document`). The document has at most 104 levels and its encoding at most 400,000,000
 /// bytes. Returns `Memory` if memory runs out; then the bytes are as before.
 #[tactic(auto, using(crate::proofs::Spells::written_spelled))]
 pub fn write(doc: &Document, out: &mut Vec<u8>) -> Result<(), Memory>

@@ -183,3 +183,21 @@ pub fn number_given(document: &Document, name: &str) -> Option<u64>
         None => None,
     }
 }
+
+// Returns whether a request may take this number of milliseconds.
+fn is_time_limit(number: i64) -> bool
+    ensures { result ≡ fields.is_time_limit number }
+{
+    0 <= number && number < 1 << 31
+}
+
+/// Accepts a number of milliseconds, from 0 to 2^31 - 1 (MongoDB manual, "maxTimeMS"); returns `BadValue` for another whole number, and `TypeMismatch` for
+/// another value.
+pub(crate) fn time_limit_needed(value: &Value) -> Option<Code>
+    ensures { verdict_view result ≡ fields.time_limit_needed (datum_of value.now) }
+{
+    match whole_number(value) {
+        Some(number) => unless_passes(is_time_limit(number), Code::BadValue),
+        None => Some(Code::TypeMismatch),
+    }
+}

@@ -13,7 +13,7 @@ ghost use Rattle.command_model.specs.Fields.{Rule, by_rule, common_rules, find_r
 ghost use Rattle.command_fields.specs.Verdicts.{ruling_view, verdict_view};
 ghost use Rattle.command_fields.specs.FieldNames.{names_given};
 
-use crate::checks::{boolean_needed, check_required, session_id, string_needed};
+use crate::checks::{boolean_needed, check_required, session_id, string_needed, time_limit_needed};
 use bson_values::{Document, Field, Value};
 use cluster_base::Code;
 
@@ -136,6 +136,8 @@ pub fn common_ruling(name: &str, value: &Value) -> Option<Option<Code>>
         Some(session_needed(value))
     } else if "$clusterTime" == name || "$readPreference" == name || "comment" == name {
         Some(None)
+    } else if "maxTimeMS" == name {
+        Some(time_limit_needed(value))
     } else if "apiVersion" == name {
         Some(string_needed(value))
     } else if "apiStrict" == name || "apiDeprecationErrors" == name {

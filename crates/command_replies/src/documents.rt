@@ -40,6 +40,6 @@ pub fn write_answer(alloc: Global, answer: &Answer) -> Result<Document, Memory>
         Answer::Killed { killed, missing } => killed_document(alloc, killed, missing),
         Answer::Sharded { namespace, time } => sharded_document(alloc, namespace, *time),
         Answer::Changed { time } => changed_document(alloc, *time),
-        Answer::Refused(refusal) => refusal_document(alloc, *refusal),
+        Answer::Refused(refusal) => refusal_document(alloc, refusal),
     }
 }

@@ -6,6 +6,7 @@ mod answer;
 mod batches;
 mod counts;
 mod documents;
+mod evidence;
 mod handshake;
 mod hello;
 mod is_master;
@@ -18,4 +19,5 @@ pub use answer::{
     Answer, Batch, ClientNumber, MOST_STATEMENTS, StatementIndex, Upserted, WriteError, WriteKind,
 };
 pub use documents::write_answer;
-pub use refusal::{Evidence, Refusal};
+pub use evidence::{Evidence, ShownTry, ShownVersion};
+pub use refusal::{Refusal, expired_refusal, memory_refusal, stale_refusal, steps_refusal};

@@ -13,8 +13,8 @@ ghost use Rattle.command_replies.specs.Refusals.{refusal_view};
 ghost use Rattle.command_replies.specs.Upserts.{changes_alone, upserted_view};
 
 use crate::answer::{Upserted, WriteError, WriteKind};
+use crate::evidence::add_evidence;
 use crate::parts::{add, add_end, add_number, add_text, count_shown};
-use crate::refusal::add_evidence;
 use bson_values::{Array, Document, Memory, Value};
 use cluster_base::Time;
 use std::alloc::Global;
@@ -28,7 +28,7 @@ fn write_error(alloc: Global, error: &WriteError) -> Result<Document, Memory>
     add_number(&mut document, alloc, "index", error.index.number() as i32)?;
     add_number(&mut document, alloc, "code", code.number())?;
     add_text(&mut document, alloc, "errmsg", code.name())?;
-    add_evidence(&mut document, alloc, error.refusal.evidence)?;
+    add_evidence(&mut document, alloc, &error.refusal.evidence)?;
     Ok(document)
 }
 

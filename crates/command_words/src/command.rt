@@ -258,17 +258,25 @@ fn answered(read: Result<Command, CheckFault>) -> Result<Command, CommandFault>
     }
 }
 
+// Returns the offset of the fault of a document that is not BSON.
+fn place_of(fault: &BsonFault) -> u64
+    ensures { (first : Fault) (place : ℕ) → fault.now ≡ fault_from first place → result ≡ place }
+{
+    match fault.place() {
+        Some(place) => place as u64,
+        None => 0,
+    }
+}
+
 // Returns the refusal of a document that is not BSON, with the offset of its fault.
 fn no_document(fault: &BsonFault) -> Refusal
     ensures { (first : Fault) (place : ℕ) → fault.now ≡ fault_from first place → refusal_view result ≡ no_document_at place }
 {
-    let place = match fault.place() {
-        Some(place) => place as u64,
-        None => 0,
-    };
     Refusal {
         code: Code::InvalidBson,
-        evidence: Evidence::Place { place },
+        evidence: Evidence::Place {
+            place: place_of(fault),
+        },
     }
 }
 

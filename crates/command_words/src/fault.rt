@@ -7,7 +7,7 @@ use bson_values::Memory;
 use command_replies::Refusal;
 
 /// Why there is no command.
-#[derive(Clone, Copy, Debug, PartialEq, Eq)]
+#[derive(Debug, Drop)]
 pub enum CommandFault {
     /// The request is refused.
     Refused(Refusal),

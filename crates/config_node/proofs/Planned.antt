@@ -14,7 +14,8 @@ use Rattle.node_model.specs.Letters.{Letter, letter_input, table_told, split_don
 use Rattle.node_model.specs.States.{Catalogue}
 use Rattle.node_traits.specs.Effects.{AreReadable, spellings}
 use Rattle.node_traits.specs.Ids.{id_view}
-use Rattle.protocol_model.specs.Bodies.{at_view, split_ask_view, table_ask_view}
+use Rattle.protocol_model.specs.Bodies.{split_ask_view, table_ask_view}
+use Rattle.protocol_model.specs.Tables.{at_view}
 use Rattle.protocol_model.specs.Messages.{letter_of}
 use Rattle.protocol_model.specs.declared.message.Message.{Message}
 use Rattle.protocol_model.specs.declared.splits.SplitAsk.{SplitAsk}

@@ -7,7 +7,7 @@ ghost use Rattle.chunk_catalogue.specs.Catalogues.{IsNext, changes_of};
 ghost use Rattle.chunk_catalogue.specs.Views.{change_view};
 ghost use Rattle.chunk_model.specs.Changes.{known_table, time_of};
 ghost use Rattle.chunk_model.specs.Requests.{changed, create_answer};
-ghost use Rattle.node_traits.specs.Effects.{last_time, time_in};
+ghost use Rattle.node_model.specs.Lacks.{last_time, time_in};
 ghost use Rattle.node_model.specs.States.{catalogue_state, new_catalogue};
 ghost use Rattle.node_model.specs.CatalogueRows.{AsksNothing};
 ghost use Rattle.node_model.specs.Letters.{Letter, letter_input};
@@ -57,7 +57,8 @@ fn ask_in(body: Body) -> Option<Ask>
         Body::ReadAsk(ask) => without(ask, None),
         Body::HalfAsk(ask) => without(ask, None),
         Body::ReadRows(rows) => without(rows, None),
-        Body::SplitDone(_) | Body::Stale(_) | Body::TimeAsk(_) | Body::TimeTold(_) => None,
+        Body::Refused(answer) => without(answer, None),
+        Body::SplitDone(_) | Body::TimeAsk(_) | Body::TimeTold(_) => None,
     }
 }
 
@@ -76,6 +77,21 @@ impl ConfigNode {
             time: Time(0),
             catalogue: Catalogue::new(alloc),
         }
+    }
+
+    /// Returns how many steps it has taken.
+    pub fn counted(&self) -> &StepCount
+        ensures { result.now ≡ self.now.steps }
+    {
+        &self.steps
+    }
+
+    /// Goes on with the count of a node that stopped.
+    pub fn count_from(&mut self, before: &StepCount)
+        ensures state { state_of self.new ≡ state_of self.old }
+        ensures steps { self.new.steps ≡ before.now }
+    {
+        self.steps.keep(before);
     }
 
     // Returns the plan for an input. Reserves room for a new table; nothing else changes.
@@ -295,6 +311,10 @@ impl Node for ConfigNode {
 
     fn prepare<R: Threads + Sync>(_rt: &R, _alloc: Global, mail: Message) -> Input {
         Input::Deliver(mail)
+    }
+
+    fn keep_count(&mut self, before: &ConfigNode) {
+        self.count_from(before.counted());
     }
 
     fn step<L: Log>(&mut self, log: &mut L, input: Input) -> Result<Outputs<Message>, StepFault> {

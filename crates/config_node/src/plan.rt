@@ -10,7 +10,7 @@ ghost use Rattle.node_model.specs.Journal.{change_record};
 ghost use Rattle.node_model.specs.Letters.{split_done, table_told};
 ghost use Rattle.node_traits.specs.Effects.{AreReadable, spellings};
 ghost use Rattle.node_traits.specs.Ids.{id_view};
-ghost use Rattle.protocol_model.specs.Bodies.{at_view};
+ghost use Rattle.protocol_model.specs.Tables.{at_view};
 ghost use Rattle.protocol_model.specs.Messages.{letter_of};
 ghost use Rattle.record_model.specs.RecordFormat.{spelled};
 ghost use Rattle.shard_records.specs.Readable.{IsReadable};

@@ -1,14 +1,14 @@
 -- The results of a step.
-use Rattle.std.specs.Prelude.{◌≡◌, ◌⊎◌, ℕ, ◌+◌, ◌-◌, ◌≤◌, ◌^◌, List, [], ◌∷◌, map, if◌then◌else◌}
+use Rattle.std.specs.Prelude.{◌≡◌, ℕ, ◌+◌, List, [], ◌∷◌, map, Bool, true, false, ◌||◌, nat_le, if◌then◌else◌}
 use Rattle.std.specs.List.{AllByRecursion}
 use Rattle.node_model.specs.Exchanges.{reply_put}
 use Rattle.node_model.specs.Journal.{Kept, record_kept}
-use Rattle.node_model.specs.Letters.{Letter, Input, client_input, letter_input, moment_input, opened_input, Reply, Effect}
+use Rattle.node_model.specs.Lacks.{most_steps, last_time}
+use Rattle.node_model.specs.Letters.{Letter, Input, Reply, Effect}
 use Rattle.node_model.specs.RecordFormat.{spelled}
 use Rattle.shard_records.specs.Readable.{IsReadable}
-use Rattle.node_model.specs.States.{NodeState, time_of_node}
+use Rattle.node_model.specs.States.{NodeState}
 use Rattle.node_model.specs.Steps.{Step}
-use Rattle.node_model.specs.Times.{time_of_moment}
 use Rattle.node_traits.specs.Calls.{LogCall, Appended, LeftOff}
 use Rattle.node_traits.specs.declared.outputs.ToLink.{ToLink}
 use Rattle.node_traits.specs.declared.outputs.StepFault.{StepFault}
@@ -63,27 +63,17 @@ ByStepFault (Disk faults) failed unchanged = failed faults
 ByStepFault Steps failed unchanged = unchanged
 ByStepFault Memory failed unchanged = unchanged
 
--- what holds where the fault is that of the last step
-abbrev pub OnLast : StepFault → Type 0 → Type 0
-OnLast Steps is = is
-OnLast fault is = Unit {0}
+-- the fault is that of the last step
+abbrev pub is_at_last : StepFault → Bool
+is_at_last (Disk faults) = false
+is_at_last Steps = true
+is_at_last Memory = false
 
 -- the count of steps after a fault
 abbrev pub steps_after : StepFault → ℕ → ℕ
 steps_after Steps n = n
 steps_after fault n = n + 1
 
--- from this time on a step is refused: it is the last second that a time can encode
-abbrev pub last_time : ℕ
-last_time = 2 ^ 64 - 2 ^ 32
-
--- the time that an input carries
-abbrev pub time_in : Input → ℕ
-time_in (client_input link number request) = 0
-time_in (letter_input m) = m.time
-time_in (moment_input moment) = time_of_moment moment
-time_in opened_input = 0
-
--- the node is at its last step: its count, its time or that of the input is at its end
-abbrev pub IsLast : (steps : ℕ) → NodeState → Input → Type 0
-IsLast steps s i = (2 ^ 56 ≤ steps + 1) ⊎ ((last_time ≤ time_of_node s) ⊎ (last_time ≤ time_in i))
+-- a count of steps is at its end, or the time of its node or of what comes to it (`is_last` of node_model, of these three)
+abbrev pub is_at_end : (steps own brought : ℕ) → Bool
+is_at_end steps own brought = nat_le most_steps steps || (nat_le last_time own || nat_le last_time brought)

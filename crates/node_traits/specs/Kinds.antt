@@ -1,6 +1,6 @@
 -- The names of the kinds of messages in scripts (own).
 use Rattle.std.specs.Prelude.{ℕ, List, codes}
-use Rattle.node_model.specs.Letters.{Body, table_ask, table_told, split_ask, split_done, write_ask, write_done, read_ask, half_ask, read_rows, stale, time_ask, time_told}
+use Rattle.node_model.specs.Letters.{Body, table_ask, table_told, split_ask, split_done, write_ask, write_done, read_ask, half_ask, read_rows, refused, time_ask, time_told}
 
 abbrev pub kind_of : Body → List ℕ
 kind_of (table_ask namespace create at) = codes "TableAsk"
@@ -12,6 +12,6 @@ kind_of (write_done id dones) = codes "WriteDone"
 kind_of (read_ask id turn namespace at half sent) = codes "ReadAsk"
 kind_of (half_ask id turn namespace at half documents) = codes "HalfAsk"
 kind_of (read_rows id turn rows) = codes "ReadRows"
-kind_of (stale id turn met) = codes "Refused"
+kind_of (refused what cause) = codes "Refused"
 kind_of (time_ask id) = codes "TimeAsk"
 kind_of (time_told id) = codes "TimeTold"

@@ -7,6 +7,7 @@ pub use Rattle.node_model.specs.Exchanges
 pub use Rattle.node_model.specs.CatalogueRows
 pub use Rattle.node_model.specs.History
 pub use Rattle.node_model.specs.Journal
+pub use Rattle.node_model.specs.Lacks
 pub use Rattle.node_model.specs.Letters
 pub use Rattle.node_model.specs.Outcomes
 pub use Rattle.node_model.specs.Requests

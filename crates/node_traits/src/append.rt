@@ -1,9 +1,9 @@
 //! The records of a step, appended at once.
 
-ghost use Rattle.std.specs.Prelude.{◌≡◌, ℕ, ◌≤◌, IfErr, IsTrue, OnOk};
+ghost use Rattle.std.specs.Prelude.{◌≡◌, ℕ, ◌≤◌, false, IfErr, IsTrue, OnOk};
 ghost use Rattle.outside.specs.Causes.{Rose};
 ghost use Rattle.node_traits.specs.Calls.{Appended, LeftOff, log_call};
-ghost use Rattle.node_traits.specs.Effects.{ByStepFault, OnLast};
+ghost use Rattle.node_traits.specs.Effects.{ByStepFault, is_at_last};
 
 use crate::outputs::StepFault;
 use bson_values::Blob;
@@ -20,7 +20,7 @@ pub fn append_records<L: Log>(log: &mut L, records: &[Blob]) -> Result<(), StepF
     ensures failed { IfErr result (λ e. ByStepFault e
         (λ faults. LeftOff (log_call L.facts log.old log.new) records.now)
         (log.new ≡ log.old)) }
-    ensures never_last { IfErr result (λ e. OnLast e ⊥) }
+    ensures never_last { IfErr result (λ e. is_at_last e ≡ false) }
     ensures open { OnOk result (IsTrue (L.facts.is_open log.new)) }
     ensures kept { L.facts.holds log.old (L.facts.records log.old) → OnOk result (L.facts.holds log.new (L.facts.records log.new)) }
     ensures cause { IfErr result (λ e. ByStepFault e

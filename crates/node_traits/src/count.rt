@@ -1,7 +1,8 @@
 //! How many steps a node took.
 
-ghost use Rattle.std.specs.Prelude.{◌≡◌, ◌⊎◌, ◌+◌, ◌<◌, ◌≤◌, ◌^◌, IfErr, OnErr, OnOk};
-ghost use Rattle.node_traits.specs.Effects.{last_time};
+ghost use Rattle.std.specs.Prelude.{◌≡◌, ◌+◌, ◌<◌, ◌^◌, false, true, IfErr, OnErr, OnOk};
+ghost use Rattle.node_model.specs.Lacks.{last_time};
+ghost use Rattle.node_traits.specs.Effects.{is_at_end};
 ghost use Rattle.node_traits.specs.declared.outputs.StepFault.TheVariants.{Steps};
 
 use crate::outputs::StepFault;
@@ -11,10 +12,10 @@ use std::marker::Model;
 /// The count of steps at the last one.
 const LAST_COUNT: u64 = (1 << 56) - 1;
 
-/// The last second that a time can encode: from it on a step is refused.
-const LAST_TIME: u64 = 0xffff_ffff_0000_0000;
+/// From this time on no step is taken.
+const LAST_TIME: u64 = 0xfe00_0000_0000_0000;
 
-/// How many steps a node took since it was opened, below 2^56.
+/// How many steps a node has taken, below 2^56.
 #[derive(Drop)]
 pub struct StepCount {
     steps: u64,
@@ -38,15 +39,23 @@ impl StepCount {
         StepCount { steps: 0 }
     }
 
+    /// Goes on with the count of a node that stopped.
+    pub fn keep(&mut self, before: &StepCount)
+        ensures { self.new ≡ before.now }
+    {
+        self.steps = before.steps;
+    }
+
     /// Counts one more step, of a node at its own time, on an input with the other.
     ///
     /// # Errors
     /// `StepFault::Steps` exactly at the last step: where the count, or one of the times, is at its end. Then nothing is counted.
     pub fn count(&mut self, own: Time, brought: Time) -> Result<(), StepFault>
         ensures counted { OnOk result (self.new ≡ self.old + 1) }
+        ensures goes { OnOk result (is_at_end self.old own.0 brought.0 ≡ false) }
         ensures early { OnOk result ((own.0 < last_time) × (brought.0 < last_time)) }
         ensures err { OnErr result (self.new ≡ self.old) }
-        ensures last { IfErr result (λ e. (e ≡ Steps) × ((2 ^ 56 ≤ self.old + 1) ⊎ ((last_time ≤ own.0) ⊎ (last_time ≤ brought.0)))) }
+        ensures last { IfErr result (λ e. (e ≡ Steps) × (is_at_end self.old own.0 brought.0 ≡ true)) }
         ensures below { self.new < 2 ^ 56 }
     {
         if self.steps >= LAST_COUNT || own.0 >= LAST_TIME || brought.0 >= LAST_TIME {

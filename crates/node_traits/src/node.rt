@@ -1,13 +1,14 @@
 //! Nodes: machines that take one step on each input.
 
-ghost use Rattle.std.specs.Prelude.{◌≡◌, ℕ, ◌+◌, ◌<◌, ◌≤◌, ◌^◌, map, IfErr, IfOk, IsTrue, OnOk};
+ghost use Rattle.std.specs.Prelude.{◌≡◌, ℕ, ◌+◌, ◌<◌, ◌≤◌, ◌^◌, false, map, IfErr, IfOk, IsTrue, OnOk};
 ghost use Rattle.outside.specs.Causes.{Rose};
+ghost use Rattle.node_model.specs.Lacks.{is_last};
 ghost use Rattle.node_model.specs.Letters.{Input, client_input, letter_input, moment_input, opened_input};
 ghost use Rattle.node_model.specs.Requests.{Request};
 ghost use Rattle.node_model.specs.States.{NodeState};
 ghost use Rattle.node_model.specs.Steps.{number_of};
 ghost use Rattle.node_traits.specs.Calls.{log_call};
-ghost use Rattle.node_traits.specs.Effects.{ByStepFault, IsLast, OnLast, StepBroken, StepDone, steps_after};
+ghost use Rattle.node_traits.specs.Effects.{ByStepFault, StepBroken, StepDone, is_at_last, steps_after};
 
 use crate::mail::Mail;
 use crate::outputs::{Outputs, StepFault};
@@ -31,7 +32,7 @@ pub trait Node: Drop {
     // The state of the definitions that it is in.
     ghost state: { Self → NodeState };
 
-    // How many steps it took since it was opened.
+    // How many steps it has taken.
     ghost steps: { Self → ℕ };
 
     // The input of the definitions that an input is.
@@ -60,12 +61,17 @@ pub trait Node: Drop {
     fn prepare<R: Threads + Sync>(rt: &R, alloc: Global, mail: Self::Mail) -> Self::Input
         ensures { meaning result ≡ letter_input (Self.Mail.letter mail) };
 
+    /// Goes on with the count of steps of a node that stopped, in whose place this one is opened.
+    fn keep_count(&mut self, before: &Self)
+        ensures state { state self.new ≡ state self.old }
+        ensures steps { steps self.new ≡ steps before.now };
+
     /// Takes one step on an input: its records are appended at once, and its messages and replies are returned.
     ///
     /// # Errors
     /// - `StepFault::Disk` only if the disk of the log met a fault: then all records of a step are stored or none is, and the log and the node must be
     ///   reopened.
-    /// - `StepFault::Steps` only at the last step: node and log are unchanged.
+    /// - `StepFault::Steps` exactly at the last step: node and log are unchanged.
     /// - `StepFault::Memory` if memory runs out: node and log are unchanged, but the step is counted.
     fn step<L: Log>(
         &mut self,
@@ -80,7 +86,8 @@ pub trait Node: Drop {
             (λ faults. StepBroken (state self.old) (meaning input)
             (log_call L.facts log.old log.new))
             ((state self.new ≡ state self.old) × (log.new ≡ log.old))) }
-        ensures last { IfErr result (λ e. OnLast e (IsLast (steps self.old) (state self.old) (meaning input))) }
+        ensures goes { OnOk result (is_last (steps self.old) (state self.old) (meaning input) ≡ false) }
+        ensures last { IfErr result (λ e. is_last (steps self.old) (state self.old) (meaning input) ≡ is_at_last e) }
         ensures open { OnOk result (IsTrue (L.facts.is_open log.new)) }
         ensures kept { L.facts.holds log.old (L.facts.records log.old) → OnOk result (L.facts.holds log.new (L.facts.records log.new)) }
 

@@ -3,7 +3,6 @@ use Rattle.std.specs.Prelude.{map, Result, Ok, Err}
 use Rattle.std.specs.Arc.{arc_value}
 use Rattle.std.specs.Option.{option_map}
 use Rattle.chunk_table.specs.VerdictMeanings.{sent_view}
-use Rattle.chunk_table.specs.Meanings.{version_view}
 use Rattle.command_replies.specs.Kinds.{given_view}
 use Rattle.node_traits.specs.Ids.{id_view}
 use Rattle.pipeline_model.specs.Halves as halves
@@ -11,9 +10,7 @@ use Rattle.pipeline_lang.specs.Halves.{half_of}
 use Rattle.pipeline_eval.specs.Rows.{rows_of}
 use Rattle.pipeline_eval.specs.declared.rows.Rows.{Rows}
 use Rattle.node_model.specs.Letters as letters
-use Rattle.node_model.specs.Letters.{no_time, at_time, half_overflow, half_excess, table_ask, table_told, split_ask, split_done, write_ask, write_done, read_ask, half_ask, read_rows, stale, time_ask, time_told}
-use Rattle.protocol_model.specs.declared.tables.At.{At}
-use Rattle.protocol_model.specs.declared.tables.At.TheVariants.{NoTime, Time}
+use Rattle.node_model.specs.Letters.{half_overflow, half_excess, table_ask, table_told, split_ask, split_done, write_ask, write_done, read_ask, half_ask, read_rows, time_ask, time_told}
 use Rattle.protocol_model.specs.declared.tables.TableAsk.{TableAsk}
 use Rattle.protocol_model.specs.declared.tables.TableTold.{TableTold}
 use Rattle.protocol_model.specs.declared.splits.SplitAsk.{SplitAsk}
@@ -27,14 +24,11 @@ use Rattle.protocol_model.specs.declared.reads.HalfAsk.{HalfAsk}
 use Rattle.protocol_model.specs.declared.reads.ReadRows.{ReadRows}
 use Rattle.protocol_model.specs.declared.reads.TimeAsk.{TimeAsk}
 use Rattle.protocol_model.specs.declared.reads.TimeTold.{TimeTold}
-use Rattle.protocol_model.specs.declared.body.Stale.{Stale}
 use Rattle.protocol_model.specs.declared.body.Body.{Body}
 use Rattle.protocol_model.specs.declared.body.Body.TheVariants as bodies
+use Rattle.protocol_model.specs.Refusals.{refused_view}
 use Rattle.protocol_model.specs.Statements.{done_view, statement_view}
-
-abbrev pub at_view : At → letters.At
-at_view NoTime = no_time
-at_view (Time time) = at_time time.0
+use Rattle.protocol_model.specs.Tables.{at_view}
 
 abbrev pub half_fault_view : HalfFault → letters.HalfFault
 half_fault_view Overflow = half_overflow
@@ -73,9 +67,6 @@ half_ask_view a = half_ask (id_view a.id) a.turn a.namespace a.at.0 (half_of (ar
 abbrev pub read_rows_view : ReadRows → letters.Body
 read_rows_view r = read_rows (id_view r.id) r.turn (rows_view r.rows)
 
-abbrev pub stale_view : Stale → letters.Body
-stale_view s = stale (id_view s.id) s.turn (version_view s.met)
-
 abbrev pub time_ask_view : TimeAsk → letters.Body
 time_ask_view a = time_ask (id_view a.id)
 
@@ -92,6 +83,6 @@ body_view (bodies.WriteDone done) = write_done_view done
 body_view (bodies.ReadAsk ask) = read_ask_view ask
 body_view (bodies.HalfAsk ask) = half_ask_view ask
 body_view (bodies.ReadRows rows) = read_rows_view rows
-body_view (bodies.Stale refusal) = stale_view refusal
+body_view (bodies.Refused refused) = refused_view refused
 body_view (bodies.TimeAsk ask) = time_ask_view ask
 body_view (bodies.TimeTold told) = time_told_view told

@@ -1,5 +1,7 @@
 pub mod Code
 pub mod Statements
+pub mod Tables
+pub mod Refusals
 pub mod Bodies
 pub mod Messages
 pub mod Requests

@@ -9,14 +9,15 @@ use Rattle.history_model.specs.History as history
 use Rattle.history_model.specs.History.{insert_operation}
 use Rattle.node_model.specs.Letters as letters
 use Rattle.command_model.specs.Writes.{ClientNumber}
+use Rattle.command_replies.specs.Refusals.{refusal_view}
 use Rattle.reply_model.specs.Outcomes as outcomes
-use Rattle.reply_model.specs.Outcomes.{is_older, was_done}
+use Rattle.reply_model.specs.Outcomes.{is_older, was_done, was_refused}
 use Rattle.protocol_model.specs.declared.statement.Operation.{Operation}
 use Rattle.protocol_model.specs.declared.statement.Operation.TheVariants.{Insert, Change}
 use Rattle.protocol_model.specs.declared.statement.Statement.{Statement}
 use Rattle.protocol_model.specs.declared.statement.Outcome.{Outcome}
 use Rattle.protocol_model.specs.declared.statement.StatementOutcome.{StatementOutcome}
-use Rattle.protocol_model.specs.declared.statement.StatementOutcome.TheVariants.{WasDone, Older}
+use Rattle.protocol_model.specs.declared.statement.StatementOutcome.TheVariants.{WasDone, Older, WasRefused}
 use Rattle.protocol_model.specs.declared.statement.Done.{Done}
 
 abbrev pub operation_view : Operation → history.Operation
@@ -39,6 +40,7 @@ outcome_view o = record {
 abbrev pub answer_view : StatementOutcome → outcomes.StatementOutcome
 answer_view (WasDone time outcome) = was_done time.0 (outcome_view outcome)
 answer_view (Older greatest) = is_older greatest
+answer_view (WasRefused refusal) = was_refused (refusal_view (arc_value refusal))
 
 abbrev pub done_view : Done → outcomes.Done
 done_view d = record { index = d.index; answer = answer_view d.answer }

@@ -5,21 +5,12 @@ ghost use Rattle.node_traits.specs.Kinds.{kind_of};
 ghost use Rattle.protocol_model.specs.Bodies.{body_view};
 
 use crate::reads::{HalfAsk, ReadAsk, ReadRows, TimeAsk, TimeTold};
+use crate::refused::Refused;
 use crate::splits::{SplitAsk, SplitDone};
 use crate::tables::{TableAsk, TableTold};
 use crate::writes::{WriteAsk, WriteDone};
 use bson_values::Memory;
-use chunk_table::Version;
-use cluster_base::RequestId;
 use std::alloc::Global;
-
-/// The answer to a request that was sent with an older table than the shard's: the version of the shard's table.
-#[derive(Clone, Copy, Debug, PartialEq, Eq, Drop)]
-pub struct Stale {
-    pub id: RequestId,
-    pub turn: u32,
-    pub met: Version,
-}
 
 /// The content of a message. A turn counts the tries of a request that was sent with a stale table.
 #[derive(Drop)]
@@ -33,7 +24,7 @@ pub enum Body {
     ReadAsk(ReadAsk),
     HalfAsk(HalfAsk),
     ReadRows(ReadRows),
-    Stale(Stale),
+    Refused(Refused),
     TimeAsk(TimeAsk),
     TimeTold(TimeTold),
 }
@@ -53,7 +44,7 @@ impl Body {
             Body::ReadAsk(_) => "ReadAsk",
             Body::HalfAsk(_) => "HalfAsk",
             Body::ReadRows(_) => "ReadRows",
-            Body::Stale(_) => "Refused",
+            Body::Refused(_) => "Refused",
             Body::TimeAsk(_) => "TimeAsk",
             Body::TimeTold(_) => "TimeTold",
         }
@@ -73,7 +64,7 @@ impl Body {
             Body::ReadAsk(ask) => Ok(Body::ReadAsk(ask.copy()?)),
             Body::HalfAsk(ask) => Ok(Body::HalfAsk(ask.copy(alloc)?)),
             Body::ReadRows(told) => Ok(Body::ReadRows(told.copy(alloc)?)),
-            Body::Stale(stale) => Ok(Body::Stale(*stale)),
+            Body::Refused(refused) => Ok(Body::Refused(refused.copy()?)),
             Body::TimeAsk(ask) => Ok(Body::TimeAsk(*ask)),
             Body::TimeTold(told) => Ok(Body::TimeTold(*told)),
         }

@@ -1,11 +1,11 @@
 //! The inputs of a node.
 
 ghost use Rattle.std.specs.Prelude.{◌≡◌};
-ghost use Rattle.node_traits.specs.Effects.{time_in};
+ghost use Rattle.node_model.specs.Lacks.{time_in};
 ghost use Rattle.protocol_model.specs.Inputs.{input_of};
 
 use crate::message::Message;
-use cluster_base::{Time, moment_time};
+use cluster_base::Time;
 use opmsg_frames::Request;
 
 /// The input of a node in one step.
@@ -26,14 +26,13 @@ pub enum Input {
 }
 
 impl Input {
-    /// Returns the time that it carries: that of a message, or that of a moment; else 0.
+    /// Returns the time of a message, or else 0.
     pub fn time(&self) -> Time
         ensures { result.0 ≡ time_in (input_of self.now) }
     {
         match self {
             Input::Deliver(message) => message.time,
-            Input::Moment(moment) => moment_time(*moment),
-            Input::Client { .. } | Input::Opened => Time(0),
+            Input::Client { .. } | Input::Moment(_) | Input::Opened => Time(0),
         }
     }
 }

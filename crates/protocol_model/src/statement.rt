@@ -10,6 +10,7 @@ use crate::change::NewChange;
 use crate::document::NewDocument;
 use bson_values::Memory;
 use cluster_base::{Code, Time};
+use command_replies::Refusal;
 use std::alloc::Global;
 use std::sync::Arc;
 use value_compare::Key;
@@ -99,6 +100,8 @@ pub enum StatementOutcome {
     },
     /// It was not applied: its session has this greater transaction.
     Older(i64),
+    /// It was not applied, or it was given up. The reason is shared.
+    WasRefused(Arc<Refusal, Global>),
 }
 
 impl StatementOutcome {
@@ -108,12 +111,12 @@ impl StatementOutcome {
     {
         match self {
             StatementOutcome::WasDone { outcome, .. } => outcome.error.is_some(),
-            StatementOutcome::Older(_) => true,
+            StatementOutcome::Older(_) | StatementOutcome::WasRefused(_) => true,
         }
     }
 
-    /// Returns a copy, or `Memory` if memory runs out.
-    fn copy(&self) -> Result<StatementOutcome, Memory>
+    /// Returns a copy, which shares a reason, or `Memory` if memory runs out.
+    pub fn copy(&self) -> Result<StatementOutcome, Memory>
         ensures { IfOk result (λ answer. answer_view answer ≡ answer_view self.now) }
     {
         match self {
@@ -122,6 +125,9 @@ impl StatementOutcome {
                 outcome: outcome.copy()?,
             }),
             StatementOutcome::Older(greatest) => Ok(StatementOutcome::Older(*greatest)),
+            StatementOutcome::WasRefused(refusal) => {
+                Ok(StatementOutcome::WasRefused(Arc::try_clone(refusal)?))
+            }
         }
     }
 }

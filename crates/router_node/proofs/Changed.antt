@@ -3,25 +3,22 @@ use Rattle.std.proofs.Common.{◌≡◌, refl, sym, subst, ℕ, List, [], Bool, 
 use Rattle.std.specs.Prelude.{Option, Some, None, Result}
 use Rattle.std.specs.declared.vec.Vec.{Vec}
 use Rattle.reply_model.specs.Cursors.{Cursor}
-use Rattle.node_model.specs.Letters.{Statement}
 use Rattle.node_model.specs.RouterRequests.{reached}
 use Rattle.node_model.specs.RouterNext.{with_part, with_work}
-use Rattle.node_model.specs.States.{Course, Open, Router, Work, writing, reading, sharding, splitting, open_with, replaced}
+use Rattle.node_model.specs.States.{Open, Router, open_with, replaced}
 use Rattle.chunk_model.specs.Tables.{Table}
-use Rattle.command_model.specs.Writes.{WriteKind}
 use Rattle.cluster_base.specs.declared.identity.NodeId.{NodeId}
 use Rattle.pipeline_eval.specs.declared.rows.Rows.{Rows}
 use Rattle.protocol_model.specs.Bodies.{rows_view}
 use Rattle.protocol_model.specs.declared.reads.HalfFault.{HalfFault}
 use Rattle.read_parts.specs.Parts.{target_view}
 use Rattle.read_parts.specs.declared.parts.Target.{Target}
+use Rattle.router_requests.specs.Fates.{stay_of}
 use Rattle.router_requests.specs.Works.{numbers_of, told_by, wait_view}
+use Rattle.router_requests.specs.declared.fates.Stay.{Stay}
 use Rattle.router_requests.specs.declared.work.Wait.{Wait}
-use Rattle.protocol_model.specs.declared.statement.StatementOutcome.{StatementOutcome}
-use Rattle.write_runs.specs.Runs.{course_view}
-use Rattle.write_runs.specs.declared.run.Run.{Run}
 use Rattle.router_node.specs.StepPlans.{opens_then}
-use Rattle.router_node.specs.declared.step_plan.Change.TheVariants.{Reaches, Told, Gains, Notes}
+use Rattle.router_node.specs.declared.step_plan.Change.TheVariants.{Reaches, Told, Gains, Goes}
 
 -- by its parts
 pub becomes : (me shards time life : ℕ) (begun : Bool) (moment a b : ℕ) (s t : List Table) (p q : List Open) (x y : List Cursor) (j k g h : ℕ) → a ≡ b → s ≡ t → p ≡ q → x ≡ y → j ≡ k → g ≡ h
@@ -46,23 +43,6 @@ module _ (r : Router) (time count : ℕ) (q : Open) (found : open_with count r.r
       subst (λ (o : Option Open). replaced (with_part q shard.0 (rows_view rows)) r.requests
       ≡ elim o as (λ _. List Open) [ None ↦ r.requests | Some x ↦ replaced (with_part x shard.0 (rows_view rows)) r.requests ]) (sym found) refl
 
-  pub opens_notes : (wait : Wait) (answers : Vec (Option StatementOutcome) Global) (runs : Vec Run Global) (kind : WriteKind) (ordered : Bool) (statements : List Statement) (before : Course) → q.work ≡ writing kind ordered statements before
-      → replaced (with_work q (wait_view wait) [] (writing kind ordered statements (course_view answers.items runs.items))) r.requests ≡ opens_then r time (Notes count wait answers runs)
-  opens_notes wait answers runs kind ordered statements before work =
-      subst (λ (o : Option Open). replaced (with_work q (wait_view wait) [] (writing kind ordered statements (course_view answers.items runs.items))) r.requests
-      ≡ elim o as (λ _. List Open) [
-        | None ↦ r.requests
-        | Some x ↦ elim x.work as (λ _. List Open) [
-          | writing k a s b ↦ replaced (with_work x (wait_view wait) [] (writing k a s (course_view answers.items runs.items))) r.requests
-          | reading named at stages telling ↦ r.requests
-          | sharding ↦ r.requests
-          | splitting middle ↦ r.requests
-        ]
-      ]) (sym found)
-      (subst (λ (w : Work). replaced (with_work q (wait_view wait) [] (writing kind ordered statements (course_view answers.items runs.items))) r.requests
-      ≡ elim w as (λ _. List Open) [
-        | writing k a s b ↦ replaced (with_work q (wait_view wait) [] (writing k a s (course_view answers.items runs.items))) r.requests
-        | reading named at stages telling ↦ r.requests
-        | sharding ↦ r.requests
-        | splitting middle ↦ r.requests
-      ]) (sym work) refl)
+  pub opens_goes : (stay : Stay) → replaced (stay_of q stay) r.requests ≡ opens_then r time (Goes count stay)
+  opens_goes stay =
+      subst (λ (o : Option Open). replaced (stay_of q stay) r.requests ≡ elim o as (λ _. List Open) [ None ↦ r.requests | Some x ↦ replaced (stay_of x stay) r.requests ]) (sym found) refl

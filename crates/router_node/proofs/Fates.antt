@@ -11,7 +11,7 @@ use Rattle.node_model.specs.Letters.{Letter, HalfFault, Reply, letter_input, spl
 use Rattle.reply_model.specs.Outcomes as outcomes
 use Rattle.reply_model.specs.Outcomes.{Done}
 use Rattle.base_model.specs.Refusals.{time_ahead, without_evidence}
-use Rattle.node_model.specs.RouterRequests.{heard, id_of, reached, shards_of, untold}
+use Rattle.node_model.specs.RouterRequests.{heard, id_of, reached, shards_of, turn_after, untold}
 use Rattle.node_model.specs.RouterNext.{Next, stays, is_told, after_next, also_part, also_told, awaited, begins_work, is_target, knows, noted, reply_to, served_in_part, settled, with_part, with_told, with_work, write_on}
 use Rattle.node_model.specs.RouterRows.{RouterRow, router_split, router_not_sharded, router_reach, router_hear, router_ahead, router_note, router_part, open_of, goes_on, answers_now, IsLate, IsNoRead, IsNotAwaited, IsNoSplit, AreNoNews}
 use Rattle.node_model.specs.States.{Course, Telling, Open, Router, Work, for_time, reading, writing, splitting, without, replaced}
@@ -21,9 +21,9 @@ use Rattle.command_model.specs.Writes.{WriteKind}
 use Rattle.node_traits.specs.Effects.{puts_of}
 use Rattle.node_traits.specs.declared.outputs.ToLink.{ToLink}
 use Rattle.protocol_model.specs.declared.statement.StatementOutcome.{StatementOutcome}
-use Rattle.router_requests.specs.Works.{statements_of}
+use Rattle.router_requests.specs.Works.{statements_of, write_course}
 use Rattle.router_requests.specs.declared.write.OpenWrite.{OpenWrite}
-use Rattle.write_runs.specs.Runs.{course_view, runs_view}
+use Rattle.write_runs.specs.Runs.{runs_view}
 use Rattle.router_node.specs.News.{IsNews, next_noted}
 use Rattle.router_node.specs.Rows.{TookRow}
 
@@ -82,7 +82,7 @@ module _ (r : Router) (m : Letter) (id : RequestId) (q : Open) (opened : open_of
   rows_of_write turn rows kind ordered statements c is work = rows_late turn rows (writing kind ordered statements c) is work tt
 
   pub rows_of_turn : (turn : ℕ) (rows : Result Rows HalfFault) (named : Bool) (at : ℕ) (stages : List Stage) (telling : Telling) → m.body ≡ read_rows id turn rows → q.work ≡ reading named at stages telling
-      → (turn ≢ 1) ⊎ (is_target m.sender q.targets ≡ false) → IsLate r m.sender m.body
+      → (turn ≢ turn_after q.tries) ⊎ (is_target m.sender q.targets ≡ false) → IsLate r m.sender m.body
   rows_of_turn turn rows named at stages telling is work other = rows_late turn rows (reading named at stages telling) is work other
 
   pub dones_of_read : (dones : List Done) (named : Bool) (at : ℕ) (stages : List Stage) (telling : Telling) → m.body ≡ write_done id dones → q.work ≡ reading named at stages telling → IsLate r m.sender m.body
@@ -107,7 +107,7 @@ module _ (r : Router) (m : Letter) (id : RequestId) (q : Open) (opened : open_of
   }
 
   -- others have not returned their parts
-  pub rows_gained : (rows : Result Rows HalfFault) (named : Bool) (at : ℕ) (stages : List Stage) (telling : Telling) → m.body ≡ read_rows id 1 rows → q.work ≡ reading named at stages telling
+  pub rows_gained : (rows : Result Rows HalfFault) (named : Bool) (at : ℕ) (stages : List Stage) (telling : Telling) → m.body ≡ read_rows id (turn_after q.tries) rows → q.work ≡ reading named at stages telling
       → is_target m.sender q.targets ≡ true → awaited q.targets (also_part q.parts m.sender rows) ≢ []
       → TookRow r (letter_input m) [] [] (knows r (heard r m) r.tables (replaced (with_part q m.sender rows) r.requests))
   rows_gained rows named at stages telling is work sent some = record {
@@ -153,10 +153,10 @@ dones_no_news r m id q dones kind ordered statements c opened is work same = don
 module _ (r : Router) (m : Letter) (id : RequestId) (q : Open) (write : OpenWrite) (answers : List (Option StatementOutcome)) (news : IsNews r m id q write answers) (time : ℕ) (late : time ≡ heard r m) where
   goes : (next : Next) → next_noted r time q write answers ≡ next → RouterRow r (letter_input m) (goes_on next) (knows r (heard r m) r.tables (after_next q next r.requests))
   goes next is =
-      router_note r m id news.dones q (kind_view write.kind) write.ordered (statements_of (id_of r q.count) write) (course_view write.answers.items write.runs.items) next news.body news.opened news.work news.news
+      router_note r m id news.dones q (kind_view write.kind) write.ordered (statements_of (id_of r q.count) write) (write_course write) next news.body news.opened news.work news.news
       (sym is ∙ ap (λ (t : ℕ). next_noted r t q write answers) late ∙ ap (λ (xs : List (Option outcomes.StatementOutcome)). write_on r (heard r m) r.tables write.ordered
       (served_in_part xs (runs_view write.runs.items)) q (kind_view write.kind) write.ordered (statements_of (id_of r q.count) write)
-      (settled (course_view write.answers.items write.runs.items) xs)) (sym news.are))
+      (settled (write_course write) xs)) (sym news.are))
 
   -- the write is answered
   pub news_told : (reply : Reply) (replies : List ToLink) → next_noted r time q write answers ≡ is_told reply → replies ≡ puts_of (reply ∷ [])

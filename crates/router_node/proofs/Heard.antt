@@ -2,13 +2,11 @@
 use Rattle.std.proofs.Common.{Global, ◌≡◌, refl, ap, sym, subst, ◌∙◌, ℕ, List, [], map, Bool, true, false, if◌then◌else◌}
 use Rattle.std.specs.Prelude.{Option, Some, None, Result}
 use Rattle.base_model.specs.Identities.{RequestId, same_request}
-use Rattle.node_model.specs.Letters as letters
 use Rattle.node_model.specs.Letters.{Letter, Input, letter_input, nothing, Effect}
 use Rattle.node_model.specs.RouterRequests.{heard, id_of, reached}
 use Rattle.node_model.specs.RouterNext.{knows, with_part, with_work}
 use Rattle.node_model.specs.RouterRows.{open_of, router_late, IsLate, RouterRow}
-use Rattle.node_model.specs.States.{Course, Open, Router, Work, writing, reading, sharding, splitting, open_with, replaced}
-use Rattle.command_model.specs.Writes.{WriteKind}
+use Rattle.node_model.specs.States.{Open, Router, open_with, replaced}
 use Rattle.node_traits.specs.Effects.{AreReadable, puts_of, spellings}
 use Rattle.node_traits.specs.declared.outputs.ToLink.{ToLink}
 use Rattle.cluster_base.specs.declared.identity.NodeId.{NodeId}
@@ -17,16 +15,15 @@ use Rattle.protocol_model.specs.Bodies.{rows_view}
 use Rattle.protocol_model.specs.declared.reads.HalfFault.{HalfFault}
 use Rattle.read_parts.specs.Parts.{target_view}
 use Rattle.read_parts.specs.declared.parts.Target.{Target}
+use Rattle.router_requests.specs.Fates.{stay_of}
 use Rattle.router_requests.specs.Works.{numbers_of, told_by, wait_view}
+use Rattle.router_requests.specs.declared.fates.Stay.{Stay}
 use Rattle.router_requests.specs.declared.work.Wait.{Wait}
-use Rattle.protocol_model.specs.declared.statement.StatementOutcome.{StatementOutcome}
-use Rattle.write_runs.specs.Runs.{course_view}
-use Rattle.write_runs.specs.declared.run.Run.{Run}
 use Rattle.std.specs.declared.vec.Vec.{Vec}
 use Rattle.router_node.specs.Rows.{TookRow}
 use Rattle.router_node.specs.StepPlans.{Follows, FollowsBy, Hears, HearsKeeping, IsHeard, changed}
 use Rattle.router_node.specs.declared.step_plan.Change.{Change}
-use Rattle.router_node.specs.declared.step_plan.Change.TheVariants.{Stays, Reaches, Told, Gains, Notes}
+use Rattle.router_node.specs.declared.step_plan.Change.TheVariants.{Stays, Reaches, Told, Gains, Goes}
 use Rattle.router_node.specs.declared.step_plan.StepPlan.{StepPlan}
 
 -- the change that was planned may follow
@@ -131,12 +128,10 @@ module _ (r : Router) (id : RequestId) (q : Open) (opened : open_of r id ≡ Som
         gave = r.gave;
       })) (sym found) took
 
-  -- it has these answers now, and waits for this
-  pub notes_so : (i : Input) (ls : List Letter) (rs : List ToLink) (time : ℕ) (wait : Wait) (answers : Vec (Option StatementOutcome) Global) (runs : Vec Run Global) (kind : WriteKind) (ordered : Bool) (statements : List letters.Statement) (before : Course)
-      → q.work ≡ writing kind ordered statements before
-      → TookRow r i ls rs (knows r time r.tables (replaced (with_work q (wait_view wait) [] (writing kind ordered statements (course_view answers.items runs.items))) r.requests))
-      → TookRow r i ls rs (changed r time r.begun r.moment (Notes id.count wait answers runs))
-  notes_so i ls rs time wait answers runs kind ordered statements before work took =
+  -- it stays open like this
+  pub goes_so : (i : Input) (ls : List Letter) (rs : List ToLink) (time : ℕ) (stay : Stay) → TookRow r i ls rs (knows r time r.tables (replaced (stay_of q stay) r.requests))
+      → TookRow r i ls rs (changed r time r.begun r.moment (Goes id.count stay))
+  goes_so i ls rs time stay took =
       subst (λ (o : Option Open). TookRow r i ls rs (record {
         me = r.me;
         shards = r.shards;
@@ -146,34 +141,8 @@ module _ (r : Router) (id : RequestId) (q : Open) (opened : open_of r id ≡ Som
         moment = r.moment;
         count = r.count;
         tables = r.tables;
-        requests = elim o as (λ _. List Open) [
-          | None ↦ r.requests
-          | Some x ↦ elim x.work as (λ _. List Open) [
-            | writing k a s b ↦ replaced (with_work x (wait_view wait) [] (writing k a s (course_view answers.items runs.items))) r.requests
-            | reading named at stages telling ↦ r.requests
-            | sharding ↦ r.requests
-            | splitting middle ↦ r.requests
-          ]
-        ];
+        requests = elim o as (λ _. List Open) [ None ↦ r.requests | Some x ↦ replaced (stay_of x stay) r.requests ];
         cursors = r.cursors;
         blocks = r.blocks;
         gave = r.gave;
-      })) (sym found) (subst (λ (w : Work). TookRow r i ls rs (record {
-        me = r.me;
-        shards = r.shards;
-        time = time;
-        life = r.life;
-        begun = r.begun;
-        moment = r.moment;
-        count = r.count;
-        tables = r.tables;
-        requests = elim w as (λ _. List Open) [
-          | writing k a s b ↦ replaced (with_work q (wait_view wait) [] (writing k a s (course_view answers.items runs.items))) r.requests
-          | reading named at stages telling ↦ r.requests
-          | sharding ↦ r.requests
-          | splitting middle ↦ r.requests
-        ];
-        cursors = r.cursors;
-        blocks = r.blocks;
-        gave = r.gave;
-      })) (sym work) took)
+      })) (sym found) took

@@ -2,7 +2,9 @@ mod Changed
 mod Fates
 mod Heard
 mod Known
-mod Learning
+mod AllNexts
+mod AllSteps
+mod Refused
 mod Puts
 mod Started
 mod Shown

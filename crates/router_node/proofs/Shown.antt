@@ -123,7 +123,7 @@ module _ (r : Router) (m : Letter) (p : StepPlan) (time : ℕ) (late : time ≡ 
   -- without a cursor
   pub told_plain : Hears r time (Closes q.count) [] replies p → MayTell r m q answer (as_before r) → IsHeard r m p
   told_plain h may = heard_by r m p time late (Closes q.count) [] replies h (λ e. e) (record {
-    effect = record { written = []; mail = []; taken = []; replies = reply_to r (heard r m) q answer ∷ [] };
+    effect = record { written = []; mail = []; taken = []; replies = reply_to r (heard r m) q answer ∷ []; away = [] };
     row = may;
     written = refl;
     sent = refl;
@@ -137,5 +137,5 @@ module _ (r : Router) (m : Letter) (p : StepPlan) (time : ℕ) (late : time ≡ 
       let cursors = cursors_then r (Shelves q.count opened) in
       let f : Opened = record { written = block_kept (block_given r.blocks r.gave); cursors = cursors; blocks = blocks_then r.blocks r.gave; gave = next_number r } in
       heard_keeping r m p time late (Shelves q.count opened) replies
-      (record { written = f.written; mail = []; taken = []; replies = reply_to r (heard r m) q answer ∷ [] }) h ((λ e. e), left)
+      (record { written = f.written; mail = []; taken = []; replies = reply_to r (heard r m) q answer ∷ []; away = [] }) h ((λ e. e), left)
       (subst (λ (g : Opened). MayTell r m q answer g) (gives_is r cursors) may) refl told readable

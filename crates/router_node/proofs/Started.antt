@@ -1,38 +1,39 @@
 -- A transition before which the life begins, if it did not begin.
 use Rattle.std.proofs.Common.{◌≡◌, refl, ap, sym, subst, ◌∙◌, ℕ, ℤ, ◌+◌, List, [], ◌∷◌, ◌++◌, Bool, true, false, map, append-nil, if◌then◌else◌}
-use Rattle.std.specs.Prelude.{max, Result, Ok, Err, IfOk}
-use Rattle.std.specs.List.{flat_map}
+use Rattle.std.specs.Prelude.{Result, Ok, Err, IfOk}
 use Rattle.command_model.specs.Answers.{Answer, answer_document}
 use Rattle.command_model.specs.Command.{command_of}
 use Rattle.node_model.specs.Journal.{kept_life}
-use Rattle.node_model.specs.Letters.{Letter, Input, Reply, client_input, letter_input, moment_input, opened_input, Effect, nothing, sends, writes}
+use Rattle.node_model.specs.Letters.{Letter, Input, Reply, client_input, letter_input, opened_input, Effect, nothing, writes}
 use Rattle.opmsg_model.specs.Requests.{Request}
 use Rattle.node_model.specs.RouterRequests.{plan_of, at_once, id_of}
-use Rattle.node_model.specs.RouterNext.{Next, stays, is_told, asks_again, letters_in, replies_in, stay_in, with_work}
-use Rattle.node_model.specs.RouterRows.{RouterRow, router_begin, router_opened, router_plain, router_take, router_moment, router_skip, TellsNothing, begins, takes, opened_request, taken_now}
+use Rattle.node_model.specs.RouterNext.{Next, stays, is_told, letters_in, replies_in, stay_in, with_work}
+use Rattle.node_model.specs.RouterRows.{RouterRow, router_begin, router_opened, router_plain, router_take, router_skip, TellsNothing, begins, takes, opened_request, taken_now}
 use Rattle.node_model.specs.States.{Router, Work, Wait, Open, Target, Part, router_state}
 use Rattle.node_model.specs.Steps.{Step, IsFor, BeginsBefore, router_step, begin_step, other_step}
-use Rattle.base_model.specs.Times.{time_of_moment}
+use Rattle.reply_model.specs.Outcomes.{Try}
 use Rattle.node_traits.specs.Effects.{AreReadable, puts_of, spellings}
 use Rattle.node_traits.specs.declared.outputs.ToLink.{ToLink}
 use Rattle.cluster_base.specs.declared.identity.NodeId.{NodeId}
 use Rattle.read_parts.specs.Parts.{part_view, target_view}
 use Rattle.read_parts.specs.declared.parts.Part.{Part as PartTold}
+use Rattle.protocol_model.specs.declared.refused.Try.{Try as TryMade}
 use Rattle.router_requests.specs.Order.{Held}
 use Rattle.router_requests.specs.Works.{numbers_of, open_view, wait_view, work_view}
 use Rattle.router_requests.specs.declared.work.OpenRequest.{OpenRequest}
 use Rattle.protocol_model.specs.Heads.{head_request}
+use Rattle.write_runs.specs.Runs.{tries_view}
 use Rattle.router_node.specs.Begins.{Begins}
 use Rattle.router_node.specs.Rows.{TookRow, started, life_kept}
 use Rattle.router_node.proofs.Heard.{follows_so}
 use Rattle.router_node.specs.StepPlans.{FollowsBy, Hears, IsHeard, IsPlanned, Starts, changed, count_then, router_then}
 use Rattle.router_node.specs.declared.step_plan.Change.{Change}
-use Rattle.router_node.specs.declared.step_plan.Change.TheVariants.{Stays, Counts, Opens, Closes, Reaches, Told, Gains, Notes, Learns, Shelves, Advances, Ends}
+use Rattle.router_node.specs.declared.step_plan.Change.TheVariants.{Stays, Counts, Opens, Closes, Reaches, Told, Gains, Goes, Learns, Shelves, Advances, Ends}
 use Rattle.router_node.specs.declared.step_plan.StepPlan.{StepPlan}
 
 -- the effect with the record of a life that begins
 abbrev with_life : Router → Effect → Effect
-with_life r f = record { written = life_kept r ++ f.written; mail = f.mail; taken = f.taken; replies = f.replies }
+with_life r f = record { written = life_kept r ++ f.written; mail = f.mail; taken = f.taken; replies = f.replies; away = f.away }
 
 -- a router in its life
 in_life : (r : Router) → r.begun ≡ true → started r ≡ r
@@ -46,7 +47,7 @@ started_step : (r q : Router) (i : Input) (f : Effect) → (r.begun ≡ false �
     → Step (router_state r) i (with_life r f) (router_state q)
 started_step r q i f quiet for before row = by_begun r.begun refl where
   by_begun : (begun : Bool) → r.begun ≡ begun
-      → Step (router_state r) i (record { written = (if begun then [] else kept_life r.life ∷ []) ++ f.written; mail = f.mail; taken = f.taken; replies = f.replies }) (router_state q)
+      → Step (router_state r) i (record { written = (if begun then [] else kept_life r.life ∷ []) ++ f.written; mail = f.mail; taken = f.taken; replies = f.replies; away = f.away }) (router_state q)
   by_begun true is = router_step r q i f for (subst (λ (s : Router). RouterRow s i f q) (in_life r is) row)
   by_begun false is = begin_step r q i f is before (subst (λ (s : Router). RouterRow s i f q) (not_yet r (quiet is)) row)
 
@@ -135,6 +136,7 @@ module _ (r : Router) (link : ℕ) (number : ℤ) (request : Request) (answer : 
     mail = [];
     taken = taken_now (started r) link number request ∷ [];
     replies = record { id = id_of r (r.count + 1); link = link; number = number; request = request; time = r.time; document = answer_document answer } ∷ [];
+    away = [];
   }
 
   -- answered at once
@@ -152,15 +154,15 @@ module _ (r : Router) (link : ℕ) (number : ℤ) (request : Request) (answer : 
   }
 
 -- by its parts
-same_open : (q : Open) (work : Work) (wait : Wait) (targets : List Target) (a : ℕ) (told : List ℕ) (parts : List Part) → a ≡ q.count → told ≡ q.told → parts ≡ []
-    → ◌≡◌ {A = Open} (record { count = a; link = q.link; number = q.number; request = q.request; namespace = q.namespace; wait = wait; told = told; targets = targets; parts = parts; work = work })
+same_open : (q : Open) (work : Work) (wait : Wait) (targets : List Target) (a b : ℕ) (tries : List Try) (told : List ℕ) (parts : List Part) → a ≡ q.count → b ≡ q.arrived → tries ≡ q.tries → told ≡ q.told → parts ≡ []
+    → ◌≡◌ {A = Open} (record { count = a; link = q.link; number = q.number; request = q.request; arrived = b; tries = tries; namespace = q.namespace; wait = wait; told = told; targets = targets; parts = parts; work = work })
     (with_work q wait targets work)
-same_open q work wait targets a told parts count shards none = rw (count, shards, none) refl
+same_open q work wait targets a b tries told parts count now untried shards none = rw (count, now, untried, shards, none) refl
 
 -- a request whose work begins
 module _ (r : Router) (link : ℕ) (number : ℤ) (request : Request) (namespace : List ℕ) (needed : Work) (next : Next) (begun : Begins r link number request namespace needed next) where
   abbrev effect : Next → Effect
-  effect n = record { written = []; mail = letters_in n; taken = taken_now (started r) link number request ∷ []; replies = replies_in n }
+  effect n = record { written = []; mail = letters_in n; taken = taken_now (started r) link number request ∷ []; replies = replies_in n; away = [] }
 
   abbrev Takes : Next → Type 0
   Takes n = RouterRow (started r) (client_input link number request) (effect n) (takes (started r) (stay_in n))
@@ -193,24 +195,13 @@ module _ (r : Router) (link : ℕ) (number : ℤ) (request : Request) (namespace
   }
 
 -- an open request that was sent, of a request that just came
-pub opens_so : (r : Router) (o : OpenRequest) (needed : Work) → o.count ≡ r.count + 1 → o.told.items ≡ [] → o.parts.items ≡ []
+pub opens_so : (r : Router) (o : OpenRequest) (needed : Work) → o.count ≡ r.count + 1 → o.arrived ≡ r.moment → o.tries.items ≡ [] → o.told.items ≡ [] → o.parts.items ≡ []
     → with_work (opened_request (started r) o.link o.number (head_request o.head) o.namespace needed) (wait_view o.wait) (map target_view o.targets.items) (work_view (id_of r o.count) o.work)
     ≡ open_view r.me r.life o
-opens_so r o needed next untold none =
+opens_so r o needed next now untried untold none =
     let q = opened_request (started r) o.link o.number (head_request o.head) o.namespace needed in
-    sym (same_open q (work_view (id_of r o.count) o.work) (wait_view o.wait) (map target_view o.targets.items) o.count (numbers_of o.told.items) (map part_view o.parts.items)
-    next (ap (λ (l : List NodeId). numbers_of l) untold) (ap (λ (l : List PartTold). map part_view l) none))
-
--- what is unanswered is requested again
-pub took_moment : (r : Router) (moment time : ℕ) (letters : List Letter) → time ≡ max r.time (time_of_moment moment) → letters ≡ flat_map (λ q. asks_again (started r) time q) r.requests
-    → TookRow (started r) (moment_input moment) letters [] (changed r time true moment Stays)
-took_moment r moment time letters is asked = record {
-  effect = sends (flat_map (λ q. asks_again (started r) (max r.time (time_of_moment moment)) q) r.requests);
-  row = subst (λ (t : ℕ). RouterRow (started r) (moment_input moment) (sends (flat_map (λ q. asks_again (started r) (max r.time (time_of_moment moment)) q) r.requests)) (changed r t true moment Stays)) (sym is) (router_moment (started r) moment refl);
-  written = refl;
-  sent = sym (subst (λ (t : ℕ). letters ≡ flat_map (λ q. asks_again (started r) t q) r.requests) is asked);
-  told = refl;
-}
+    sym (same_open q (work_view (id_of r o.count) o.work) (wait_view o.wait) (map target_view o.targets.items) o.count o.arrived (tries_view o.tries.items) (numbers_of o.told.items) (map part_view o.parts.items)
+    next now (ap (λ (l : List TryMade). tries_view l) untried) (ap (λ (l : List NodeId). numbers_of l) untold) (ap (λ (l : List PartTold). map part_view l) none))
 
 -- OVER RESULTS
 
@@ -247,7 +238,7 @@ quiet_then r begun (Closes count) quiet follows not_begun = quiet (follows not_b
 quiet_then r begun (Reaches count wait targets) quiet follows not_begun = quiet (follows.0 not_begun)
 quiet_then r begun (Told count told) quiet follows not_begun = quiet (follows.0 not_begun)
 quiet_then r begun (Gains count shard rows) quiet follows not_begun = quiet (follows.0 not_begun)
-quiet_then r begun (Notes count wait answers runs) quiet follows not_begun = quiet (follows.0 not_begun)
+quiet_then r begun (Goes count stay) quiet follows not_begun = quiet (follows.0 not_begun)
 quiet_then r begun (Learns table fates) quiet follows not_begun = quiet (follows not_begun)
 quiet_then r begun (Shelves count opened) quiet follows not_begun = quiet (follows.0 not_begun)
 quiet_then r begun (Advances number shown) quiet follows not_begun = absurd (cc (sym follows.0 ∙ not_begun))

@@ -1,8 +1,9 @@
 pub mod RouterStates
 pub mod Rows
 pub mod Nexts
-pub mod Learned
+pub mod AllNext
 pub mod Begins
 pub mod News
 pub mod StepPlans
 pub mod Tellings
+pub mod Goings

@@ -9,9 +9,9 @@ use Rattle.node_model.specs.RouterNext.{Next, noted, served_in_part, settled, wr
 use Rattle.node_model.specs.RouterRows.{open_of}
 use Rattle.node_model.specs.States.{Open, Router}
 use Rattle.protocol_model.specs.declared.statement.StatementOutcome.{StatementOutcome}
-use Rattle.router_requests.specs.Works.{statements_of, write_view}
+use Rattle.router_requests.specs.Works.{statements_of, write_course, write_view}
 use Rattle.router_requests.specs.declared.write.OpenWrite.{OpenWrite}
-use Rattle.write_runs.specs.Runs.{answers_view, course_view, runs_view}
+use Rattle.write_runs.specs.Runs.{answers_view, runs_view}
 
 -- the message has outcomes for an open write; with them its answers are these, which are more than it had
 pub record IsNews (r : Router) (m : Letter) (id : RequestId) (q : Open) (write : OpenWrite) (answers : List (Option StatementOutcome)) : Type 0 where
@@ -26,4 +26,4 @@ pub record IsNews (r : Router) (m : Letter) (id : RequestId) (q : Open) (write :
 abbrev pub next_noted : Router → (time : ℕ) → Open → OpenWrite → List (Option StatementOutcome) → Next
 next_noted r time q write answers =
     write_on r time r.tables write.ordered (served_in_part (answers_view answers) (runs_view write.runs.items)) q (kind_view write.kind) write.ordered
-    (statements_of (id_of r q.count) write) (settled (course_view write.answers.items write.runs.items) (answers_view answers))
+    (statements_of (id_of r q.count) write) (settled (write_course write) (answers_view answers))

@@ -5,7 +5,7 @@ use Rattle.std.specs.Option.{option_map}
 use Rattle.node_model.specs.RouterNext.{Next, adopted, next_of, was_created}
 use Rattle.node_model.specs.States.{Open, Router}
 use Rattle.chunk_model.specs.Tables.{Table}
-use Rattle.protocol_model.specs.Bodies.{at_view}
+use Rattle.protocol_model.specs.Tables.{at_view}
 use Rattle.protocol_model.specs.declared.tables.TableTold.{TableTold}
 
 -- the tables with the one that arrived, if there is one

@@ -4,22 +4,20 @@ use Rattle.std.specs.Arc.{arc_value}
 use Rattle.std.specs.Option.{option_map}
 use Rattle.reply_model.specs.Cursors.{Cursor}
 use Rattle.node_model.specs.Journal.{Kept}
-use Rattle.node_model.specs.Letters.{Letter, Statement, Input, letter_input, Effect}
+use Rattle.node_model.specs.Letters.{Letter, Input, letter_input, Effect}
 use Rattle.node_model.specs.RouterRequests.{id_of, reached}
 use Rattle.node_model.specs.RouterNext.{adopted, with_part, with_work}
 use Rattle.node_model.specs.RouterRows.{RouterRow, next_number}
-use Rattle.node_model.specs.States.{Course, Open, Router, router_state, writing, reading, sharding, splitting, open_with, without, replaced}
+use Rattle.node_model.specs.States.{Open, Router, router_state, open_with, without, replaced}
 use Rattle.chunk_model.specs.Tables.{Table}
-use Rattle.command_model.specs.Writes.{WriteKind}
 use Rattle.node_traits.specs.Effects.{AreReadable, StepPlanned, puts_of, spellings}
 use Rattle.node_traits.specs.declared.outputs.ToLink.{ToLink}
 use Rattle.read_parts.specs.Parts.{target_view}
-use Rattle.router_requests.specs.Fates.{fated}
+use Rattle.router_requests.specs.Fates.{fated, stay_of}
 use Rattle.router_requests.specs.Lists.{has_room, has_room_for_part}
 use Rattle.router_requests.specs.Works.{numbers_of, open_view, told_by, wait_view}
 use Rattle.protocol_model.specs.Bodies.{rows_view}
 use Rattle.protocol_model.specs.Messages.{letter_of}
-use Rattle.write_runs.specs.Runs.{course_view}
 use Rattle.router_cursors.specs.CursorLists as cursors
 use Rattle.router_cursors.specs.CursorLists.{advanced, closed_all}
 use Rattle.router_cursors.specs.Marks.{is_left}
@@ -28,7 +26,7 @@ use Rattle.router_node.specs.RouterStates.{router_of}
 use Rattle.router_node.specs.Rows.{life_kept}
 use Rattle.router_node.specs.declared.node.RouterNode.{RouterNode}
 use Rattle.router_node.specs.declared.step_plan.Change.{Change}
-use Rattle.router_node.specs.declared.step_plan.Change.TheVariants.{Stays, Counts, Opens, Closes, Reaches, Told, Gains, Notes, Learns, Shelves, Advances, Ends}
+use Rattle.router_node.specs.declared.step_plan.Change.TheVariants.{Stays, Counts, Opens, Closes, Reaches, Told, Gains, Goes, Learns, Shelves, Advances, Ends}
 use Rattle.router_node.specs.declared.step_plan.StepPlan.{StepPlan}
 
 -- how many requests were taken afterwards
@@ -40,7 +38,7 @@ count_then (Closes closed) count = count
 count_then (Reaches waiting wait targets) count = count
 count_then (Told waiting told) count = count
 count_then (Gains waiting shard rows) count = count
-count_then (Notes waiting wait answers runs) count = count
+count_then (Goes going stay) count = count
 count_then (Learns table fates) count = count
 count_then (Shelves told opened) count = count
 count_then (Advances number shown) count = count + 1
@@ -55,7 +53,7 @@ tables_then (Closes closed) tables = tables
 tables_then (Reaches waiting wait targets) tables = tables
 tables_then (Told waiting told) tables = tables
 tables_then (Gains waiting shard rows) tables = tables
-tables_then (Notes waiting wait answers runs) tables = tables
+tables_then (Goes going stay) tables = tables
 tables_then (Learns table fates) tables = adopted (option_map (λ t. arc_value t) table) tables
 tables_then (Shelves told opened) tables = tables
 tables_then (Advances number shown) tables = tables
@@ -79,15 +77,9 @@ opens_then r time (Gains count shard rows) = elim (open_with count r.requests) [
   | None ↦ r.requests
   | Some q ↦ replaced (with_part q shard.0 (rows_view rows)) r.requests
 ]
-opens_then r time (Notes count wait answers runs) = elim (open_with count r.requests) [
+opens_then r time (Goes count stay) = elim (open_with count r.requests) [
   | None ↦ r.requests
-  | Some q ↦ elim q.work [
-    | writing kind ordered statements before ↦
-        replaced (with_work q (wait_view wait) [] (writing kind ordered statements (course_view answers.items runs.items))) r.requests
-    | reading named at stages telling ↦ r.requests
-    | sharding ↦ r.requests
-    | splitting middle ↦ r.requests
-  ]
+  | Some q ↦ replaced (stay_of q stay) r.requests
 ]
 opens_then r time (Learns table fates) = fated r.requests fates.items
 opens_then r time (Shelves count opened) = without count r.requests
@@ -103,7 +95,7 @@ cursors_then r (Closes count) = r.cursors
 cursors_then r (Reaches count wait targets) = r.cursors
 cursors_then r (Told count told) = r.cursors
 cursors_then r (Gains count shard rows) = r.cursors
-cursors_then r (Notes count wait answers runs) = r.cursors
+cursors_then r (Goes count stay) = r.cursors
 cursors_then r (Learns table fates) = r.cursors
 cursors_then r (Shelves count opened) = r.cursors ++ record {
   router = r.me;
@@ -125,7 +117,7 @@ blocks_after r (Closes count) = r.blocks
 blocks_after r (Reaches count wait targets) = r.blocks
 blocks_after r (Told count told) = r.blocks
 blocks_after r (Gains count shard rows) = r.blocks
-blocks_after r (Notes count wait answers runs) = r.blocks
+blocks_after r (Goes count stay) = r.blocks
 blocks_after r (Learns table fates) = r.blocks
 blocks_after r (Shelves count opened) = blocks_then r.blocks r.gave
 blocks_after r (Advances number shown) = r.blocks
@@ -139,7 +131,7 @@ gave_after r (Closes count) = r.gave
 gave_after r (Reaches count wait targets) = r.gave
 gave_after r (Told count told) = r.gave
 gave_after r (Gains count shard rows) = r.gave
-gave_after r (Notes count wait answers runs) = r.gave
+gave_after r (Goes count stay) = r.gave
 gave_after r (Learns table fates) = r.gave
 gave_after r (Shelves count opened) = next_number r
 gave_after r (Advances number shown) = r.gave
@@ -206,9 +198,7 @@ FollowsBy r begun (Closes count) = begun ≡ false → r.begun ≡ false
 FollowsBy r begun (Reaches count wait targets) = (begun ≡ false → r.begun ≡ false) × (q : Open) × (open_with count r.requests ≡ Some q)
 FollowsBy r begun (Told count told) = (begun ≡ false → r.begun ≡ false) × (q : Open) × (open_with count r.requests ≡ Some q)
 FollowsBy r begun (Gains count shard rows) = (begun ≡ false → r.begun ≡ false) × (q : Open) × (open_with count r.requests ≡ Some q)
-FollowsBy r begun (Notes count wait answers runs) =
-    (begun ≡ false → r.begun ≡ false) × (q : Open) × (kind : WriteKind) × (ordered : Bool) × (statements : List Statement) × (before : Course)
-    × (open_with count r.requests ≡ Some q) × (q.work ≡ writing kind ordered statements before)
+FollowsBy r begun (Goes count stay) = (begun ≡ false → r.begun ≡ false) × (q : Open) × (open_with count r.requests ≡ Some q)
 FollowsBy r begun (Learns table fates) = begun ≡ false → r.begun ≡ false
 FollowsBy r begun (Shelves count opened) = (begun ≡ false → r.begun ≡ false) × (is_left (map (λ d. arc_value d) opened.rest.items) ≡ true)
 FollowsBy r begun (Advances number shown) = (begun ≡ true) × (r.count < 2 ^ 64 - 1)
@@ -241,7 +231,7 @@ HasRoomFor n (Closes count) = Unit {0}
 HasRoomFor n (Reaches count wait targets) = Unit {0}
 HasRoomFor n (Told count told) = Unit {0}
 HasRoomFor n (Gains count shard rows) = has_room_for_part count n.requests ≡ true
-HasRoomFor n (Notes count wait answers runs) = Unit {0}
+HasRoomFor n (Goes count stay) = Unit {0}
 HasRoomFor n (Learns table fates) = IfSome table (λ t. 1 ≤ n.tables.room)
 HasRoomFor n (Shelves count opened) = cursors.HasRoomFor n.cursors opened.namespace opened.time.0
 HasRoomFor n (Advances number shown) = Unit {0}

@@ -1,6 +1,11 @@
 //! Requests of clients.
 
+ghost use Rattle.std.specs.Prelude.{◌≡◌};
+ghost use Rattle.command_model.specs.Command.{time_limit};
+ghost use Rattle.protocol_model.specs.Heads.{head_request};
+
 use crate::node::RouterNode;
+use crate::plans::TimedPlan;
 use crate::step_plan::{Change, StepPlan};
 use bson_values::Memory;
 use cluster_base::Namespace;
@@ -12,12 +17,14 @@ use read_parts::Target;
 use router_replies::{RequestPlan, reply_to};
 use router_requests::{Begun, OpenRequest, Sends, Wait, Work, WriteNext, WriteSends, spare_list};
 
-/// The head of a request that arrived on a link; the number is that of its reply.
+/// The head of a request that arrived on a link, with the number of its reply and its time limit in milliseconds, 0 where it has none.
 #[derive(Drop)]
 pub(crate) struct Asked {
     pub(crate) link: u32,
     pub(crate) number: i32,
     pub(crate) head: Head,
+    pub(crate) limit: u64,
+    ghost limited: { time_limit (head_request head) ≡ limit },
 }
 
 impl RouterNode {
@@ -49,7 +56,12 @@ impl RouterNode {
             ≡ requested.at_once (answer_view answer) }
         ensures { IfOk result (λ p. IsPlanned (router_of self.now) (client_input asked.link asked.number (head_request asked.head)) p) }
     {
-        let Asked { link, number, head } = asked;
+        let Asked {
+            link,
+            number,
+            head,
+            limit: _,
+        } = asked;
         let reply = reply_to(self.alloc, link, number, &head, &answer)?;
         let mail = MailList::new(self.alloc);
         self.starts(self.time, self.moment, Change::Counts, mail, reply)
@@ -73,12 +85,20 @@ impl RouterNode {
             (wait_view wait) (map target_view targets.items) (work_view (requested.id_of (router_of self.now) count) work)) (map letter_of mail.items)) →
             IfOk result (λ p. IsPlanned (router_of self.now) (client_input asked.link asked.number (head_request asked.head)) p) }
     {
-        let Asked { link, number, head } = asked;
+        let Asked {
+            link,
+            number,
+            head,
+            limit,
+        } = asked;
         let request = OpenRequest {
             count,
             link,
             number,
             head,
+            arrived: self.moment,
+            limit,
+            tries: Vec::new(self.alloc),
             namespace,
             wait,
             told: Vec::new(self.alloc),
@@ -99,7 +119,12 @@ impl RouterNode {
             (opened_request (started (router_of self.now)) asked.link asked.number (head_request asked.head) namespace needed) (answer_view answer.now))) →
             IfOk result (λ p. IsPlanned (router_of self.now) (client_input asked.link asked.number (head_request asked.head)) p) }
     {
-        let Asked { link, number, head } = asked;
+        let Asked {
+            link,
+            number,
+            head,
+            limit: _,
+        } = asked;
         let reply = reply_to(self.alloc, link, number, &head, answer)?;
         let mail = MailList::new(self.alloc);
         self.starts(self.time, self.moment, Change::Counts, mail, reply)
@@ -179,8 +204,13 @@ impl RouterNode {
             return Err(Memory);
         }
         let (head, body) = Head::of(request);
-        let plan = self.plan_of(head.form, head.more, body)?;
-        let asked = Asked { link, number, head };
+        let TimedPlan { limit, plan } = self.plan_of(head.form, head.more, body)?;
+        let asked = Asked {
+            link,
+            number,
+            head,
+            limit,
+        };
         match plan {
             RequestPlan::AtOnce(answer) => self.plan_plain(asked, answer),
             RequestPlan::Needs { namespace, work } => self.plan_open(

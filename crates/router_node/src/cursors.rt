@@ -42,7 +42,12 @@ impl RouterNode {
         let cursor = more.cursor;
         let count = shown.documents.len();
         let answer = next_answer(more, shown);
-        let Asked { link, number, head } = asked;
+        let Asked {
+            link,
+            number,
+            head,
+            limit: _,
+        } = asked;
         let reply = reply_to(self.alloc, link, number, &head, &answer)?;
         let mail = MailList::new(self.alloc);
         if head.more {
@@ -64,7 +69,12 @@ impl RouterNode {
         ensures { IfOk result (λ p. IsPlanned (router_of self.now) (client_input asked.link asked.number (head_request asked.head)) p) }
     {
         let answer = Answer::Refused(not_open(more.cursor));
-        let Asked { link, number, head } = asked;
+        let Asked {
+            link,
+            number,
+            head,
+            limit: _,
+        } = asked;
         let reply = reply_to(self.alloc, link, number, &head, &answer)?;
         let mail = MailList::new(self.alloc);
         self.starts(self.time, self.moment, Change::Counts, mail, reply)
@@ -102,7 +112,12 @@ impl RouterNode {
             killed: closing.killed,
             missing: closing.missing,
         };
-        let Asked { link, number, head } = asked;
+        let Asked {
+            link,
+            number,
+            head,
+            limit: _,
+        } = asked;
         let reply = reply_to(self.alloc, link, number, &head, &answer)?;
         let mail = MailList::new(self.alloc);
         self.starts(self.time, self.moment, Change::Ends(closed), mail, reply)

@@ -1,34 +1,16 @@
 //! Tables that arrive.
 
-ghost use Rattle.std.specs.Prelude.{◌≡◌, ◌∷◌, ◌++◌, [], OnOk, if◌then◌else◌, map};
+ghost use Rattle.std.specs.Prelude.{◌≡◌, if◌then◌else◌};
 ghost use Rattle.chunk_model.specs.Tables.{is_longer};
-ghost use Rattle.node_model.specs.RouterNext as nexts;
-ghost use Rattle.node_model.specs.States as states;
-ghost use Rattle.node_traits.specs.Lists.{listed};
-ghost use Rattle.protocol_model.specs.Messages.{letter_of};
-ghost use Rattle.router_requests.specs.Fates.{fate_of};
-ghost use Rattle.router_node.specs.Learned.{Adds};
 
+use crate::all_next::AllNext;
 use crate::node::RouterNode;
 use crate::step_plan::{Change, StepPlan};
 use bson_values::Memory;
 use chunk_table::Table;
 use cluster_base::Time;
-use command_replies::Answer;
-use node_traits::{MailList, ReplyList, ToLink};
-use protocol_model::{Message, TableTold};
-use router_replies::{empty_answer, sharded_answer};
-use router_requests::{
-    Fate, Next, OpenRequest, Sends, WriteNext, WriteSends, add_all, was_created,
-};
-
-/// What becomes of open requests, in their order, after a table arrived, with the messages and the replies.
-#[derive(Drop)]
-pub(crate) struct Learned {
-    pub(crate) fates: Vec<Fate>,
-    pub(crate) mail: MailList<Message>,
-    pub(crate) replies: ReplyList,
-}
+use protocol_model::TableTold;
+use router_requests::{Next, OpenRequest, was_created};
 
 /// Returns the first of two tables where it is longer, else the other.
 fn longer_of<'a>(table: &'a Table, other: &'a Table) -> &'a Table
@@ -41,42 +23,17 @@ fn longer_of<'a>(table: &'a Table, other: &'a Table) -> &'a Table
     }
 }
 
-/// Appends the reply to a request, if there is one. Returns `Memory` if memory runs out.
-fn add_reply(replies: &mut ReplyList, reply: Option<ToLink>) -> Result<(), Memory>
-    ensures { OnOk result (replies.new ≡ replies.old ++ listed reply) }
-{
-    match reply {
-        Some(reply) => replies.push(reply),
-        None => Ok(()),
-    }
-}
-
-/// Appends the fate of an open request that stays open, and the messages that it sends. Returns `Memory` if memory runs out.
-fn add_stay(learned: &mut Learned, mail: Vec<Message>, fate: Fate) -> Result<(), Memory>
-    ensures { (q p : states.Open) → fate_of q fate ≡ p ∷ [] →
-        OnOk result (Adds q (nexts.stays p (map (λ m. letter_of m) mail.items)) learned.old learned.new) }
-{
-    add_all(&mut learned.mail, mail)?;
-    learned.fates.push(fate)?;
-    Ok(())
-}
-
 impl RouterNode {
     ghost use Rattle.std.specs.Prelude.{◌≡◌, ℕ, IfOk, OnOk, map};
     ghost use Rattle.std.specs.List.{flat_map};
     ghost use Rattle.std.specs.Option.{option_map};
     ghost use Rattle.node_model.specs.Letters.{Letter};
     ghost use Rattle.node_model.specs.RouterRequests as requested;
-    ghost use Rattle.node_model.specs.RouterNext as nexts;
     ghost use Rattle.chunk_model.specs.Tables.{table_of};
-    ghost use Rattle.node_traits.specs.Effects.{puts_of};
-    ghost use Rattle.command_replies.specs.AnswerMeanings.{answer_view};
-    ghost use Rattle.router_requests.specs.Fates.{fated};
-    ghost use Rattle.router_requests.specs.Nexts.{next_view, write_next};
+    ghost use Rattle.router_requests.specs.Nexts.{next_view};
     ghost use Rattle.router_requests.specs.Works.{open_view};
     ghost use Rattle.protocol_model.specs.Bodies.{table_told_view};
-    ghost use Rattle.protocol_model.specs.Messages.{letter_of};
-    ghost use Rattle.router_node.specs.Learned.{Adds};
+    ghost use Rattle.router_node.specs.AllNext.{AreNext};
     ghost use Rattle.router_node.specs.Nexts.{next_at, tables_told};
     ghost use Rattle.router_node.specs.RouterStates.{router_of};
     ghost use Rattle.router_node.specs.StepPlans.{IsHeard};
@@ -123,103 +80,23 @@ impl RouterNode {
         )
     }
 
-    // Appends the answer to an open request, which leaves. Returns `Memory` if memory runs out.
-    fn add_told(
-        &self,
-        learned: &mut Learned,
-        request: &OpenRequest,
-        answer: &Answer,
-    ) -> Result<(), Memory>
-        ensures { (time : ℕ) → OnOk result (Adds (open_view self.now.me.0 self.now.life request.now)
-            (nexts.is_told (nexts.reply_to (router_of self.now) time (open_view self.now.me.0 self.now.life request.now) (answer_view answer.now))) learned.old learned.new) }
-    {
-        let reply = self.answered(request, answer)?;
-        add_reply(&mut learned.replies, reply)?;
-        learned.fates.push(Fate::Leaves)?;
-        Ok(())
-    }
-
-    // Appends what becomes of an open write. Returns `Memory` if memory runs out.
-    fn add_write(
-        &self,
-        learned: &mut Learned,
-        request: &OpenRequest,
-        next: WriteNext,
-    ) -> Result<(), Memory>
-        ensures { (time : ℕ) → OnOk result (Adds (open_view self.now.me.0 self.now.life request.now)
-            (write_next (router_of self.now) time (open_view self.now.me.0 self.now.life request.now)
-            (open_view self.now.me.0 self.now.life request.now).work next) learned.old learned.new) }
-    {
-        match next {
-            WriteNext::GoesOn(sends) => {
-                let WriteSends { wait, runs, mail } = sends;
-                add_stay(learned, mail, Fate::Writes(wait, runs))
-            }
-            WriteNext::IsWritten(answer) => self.add_told(learned, request, &answer),
-        }
-    }
-
-    // Appends what becomes of an open request at a time. Returns `Memory` if memory runs out.
-    fn add_next(
-        &self,
-        learned: &mut Learned,
-        time: Time,
-        request: &OpenRequest,
-        next: Next,
-    ) -> Result<(), Memory>
-        ensures { OnOk result (Adds (open_view self.now.me.0 self.now.life request.now)
-            (next_view (router_of self.now) time.0 (open_view self.now.me.0 self.now.life request.now) next) learned.old learned.new) }
-    {
-        match next {
-            Next::Stays => add_stay(learned, Vec::new(self.alloc), Fate::Stays),
-            Next::Reads(sends) => {
-                let Sends {
-                    wait,
-                    targets,
-                    mail,
-                } = sends;
-                add_stay(learned, mail, Fate::Reads(wait, targets))
-            }
-            Next::Writes(next) => self.add_write(learned, request, next),
-            Next::IsEmpty(at, telling) => {
-                let answer = empty_answer(self.alloc, &request.namespace, at, telling)?;
-                self.add_told(learned, request, &answer)
-            }
-            Next::IsSharded => {
-                let answer = sharded_answer(&request.namespace, time)?;
-                self.add_told(learned, request, &answer)
-            }
-        }
-    }
-
-    // Returns what becomes of the open requests after a table arrived, or `Memory` if memory runs out.
+    // Returns what becomes of these open requests after a table arrived, or `Memory` if memory runs out.
     fn learned(
         &self,
         time: Time,
         told: &TableTold,
         requests: &[Box<OpenRequest>],
-    ) -> Result<Learned, Memory>
-        ensures mail { IfOk result (λ l. map (λ m. letter_of m) l.mail
-            ≡ flat_map (λ q. nexts.letters_in (next_at (router_of self.now) time.0 told.now q))
-            (map (λ q. open_view self.now.me.0 self.now.life q.value) requests.now)) }
-        ensures replies { IfOk result (λ l. l.replies
-            ≡ puts_of (flat_map (λ q. nexts.replies_in (next_at (router_of self.now) time.0 told.now q))
-            (map (λ q. open_view self.now.me.0 self.now.life q.value) requests.now))) }
-        ensures fates { IfOk result (λ l. fated (map (λ q. open_view self.now.me.0 self.now.life q.value) requests.now) l.fates.items
-            ≡ flat_map (λ q. nexts.stay_in (next_at (router_of self.now) time.0 told.now q))
-            (map (λ q. open_view self.now.me.0 self.now.life q.value) requests.now)) }
+    ) -> Result<AllNext, Memory>
+        ensures { IfOk result (λ all. AreNext (λ q. next_at (router_of self.now) time.0 told.now q)
+            (map (λ q. open_view self.now.me.0 self.now.life q.value) requests.now) all) }
     {
         let known = self.known_after(told);
-        let mut learned = Learned {
-            fates: Vec::with_capacity(self.alloc, requests.len())?,
-            mail: MailList::new(self.alloc),
-            replies: ReplyList::new(self.alloc),
-        };
+        let mut all = AllNext::with_room(self.alloc, requests.len())?;
         for request in requests {
             let next = self.next_after(time, told, known, request)?;
-            self.add_next(&mut learned, time, request, next)?;
+            self.add_next(&mut all, time, request, next)?;
         }
-        Ok(learned)
+        Ok(all)
     }
 
     // Returns the plan for a table that arrives, or `Memory` if memory runs out.
@@ -227,12 +104,12 @@ impl RouterNode {
         ensures { (m : Letter) → m.body ≡ table_told_view told → time.0 ≡ requested.heard (router_of self.now) m →
             IfOk result (λ p. IsHeard (router_of self.now) m p) }
     {
-        let learned = self.learned(time, &told, self.requests.as_slice())?;
-        let Learned {
+        let all = self.learned(time, &told, self.requests.as_slice())?;
+        let AllNext {
             fates,
             mail,
             replies,
-        } = learned;
+        } = all;
         let change = Change::Learns(told.table, fates);
         Ok(self.hears_all(time, change, mail, replies))
     }

@@ -1,6 +1,7 @@
 //! A router: it takes the requests of clients, sends requests to the catalogue and the shards, and replies to the clients.
 #![tactic(auto)]
 
+mod all_next;
 mod begin;
 mod clients;
 mod cursors;
@@ -10,6 +11,7 @@ mod moments;
 mod node;
 mod plans;
 mod reads;
+mod refusals;
 mod restored;
 mod splits;
 mod step;

@@ -5,6 +5,7 @@ ghost use Rattle.node_model.specs.RouterRequests as requested;
 ghost use Rattle.node_model.specs.RouterNext as nexts;
 ghost use Rattle.node_model.specs.RouterRows as rows;
 ghost use Rattle.read_parts.specs.Parts.{target_view};
+ghost use Rattle.write_runs.specs.Runs.{tries_view};
 
 use crate::node::RouterNode;
 use crate::step_plan::{Change, StepPlan};
@@ -12,18 +13,19 @@ use bson_values::Memory;
 use cluster_base::{NodeId, RequestId, Time};
 use command_replies::Answer;
 use node_traits::ReplyList;
-use protocol_model::{ReadRows, TimeTold};
+use protocol_model::{ReadRows, TimeTold, Try};
 use read_parts::{Target, is_target};
 use router_replies::{reply_to, time_ahead};
 use router_requests::{OpenRead, OpenRequest, Sends, Wait, Work, also_told, has_come, spare_list};
+use write_runs::is_turn;
 
-/// Returns whether rows are a part of a read that was sent to these shards: they are of the first turn, which is currently the only one, and from one of them.
-fn is_part(turn: u32, sender: NodeId, targets: &[Target]) -> bool
-    ensures first { result ≡ true → turn ≡ 1 }
+/// Returns whether rows are a part of a read that was sent to these shards in the turn after these tries: they are of that turn, and from one of them.
+fn is_part(turn: u32, sender: NodeId, tries: &[Try], targets: &[Target]) -> bool
+    ensures turn { result ≡ true → turn ≡ requested.turn_after (tries_view tries.now) }
     ensures sent { result ≡ true → nexts.is_target sender.0 (map target_view targets.now) ≡ true }
-    ensures other { result ≡ false → (turn ≢ 1) ⊎ (nexts.is_target sender.0 (map target_view targets.now) ≡ false) }
+    ensures other { result ≡ false → (turn ≢ requested.turn_after (tries_view tries.now)) ⊎ (nexts.is_target sender.0 (map target_view targets.now) ≡ false) }
 {
-    turn == 1 && is_target(sender, targets)
+    is_turn(turn, tries) && is_target(sender, targets)
 }
 
 impl RouterNode {
@@ -56,7 +58,7 @@ impl RouterNode {
                 Work::Sharding => Ok(self.late(time)),
                 Work::Splitting(_) => Ok(self.late(time)),
                 Work::Reading(read) => {
-                    if is_part(told.turn, sender, &request.targets) {
+                    if is_part(told.turn, sender, &request.tries, &request.targets) {
                         self.plan_part(sender, time, told.id, request, read, told.rows)
                     } else {
                         Ok(self.late(time))
@@ -90,6 +92,7 @@ impl RouterNode {
             true,
             read,
             read.at_reached(time),
+            &request.tries,
         )?;
         let Sends {
             wait,

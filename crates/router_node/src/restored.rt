@@ -1,7 +1,7 @@
 //! A router that was started again.
 
 ghost use Rattle.std.specs.Prelude.{◌≡◌, ◌≤◌, ◌*◌, ◌^◌, [], false};
-ghost use Rattle.router_node.specs.RouterStates.{router_of};
+ghost use Rattle.router_node.specs.RouterStates.{router_of, state_of};
 
 use crate::node::RouterNode;
 use cluster_base::{NodeId, Time};
@@ -45,5 +45,20 @@ impl RouterNode {
             cursors: CursorList::restored(alloc, blocks),
             steps: StepCount::new(),
         }
+    }
+
+    /// Returns how many steps it has taken.
+    pub fn counted(&self) -> &StepCount
+        ensures { result.now ≡ self.now.steps }
+    {
+        &self.steps
+    }
+
+    /// Goes on with the count of a node that stopped.
+    pub fn count_from(&mut self, before: &StepCount)
+        ensures state { state_of self.new ≡ state_of self.old }
+        ensures steps { self.new.steps ≡ before.now }
+    {
+        self.steps.keep(before);
     }
 }

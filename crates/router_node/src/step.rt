@@ -54,6 +54,10 @@ impl Node for RouterNode {
         Input::Deliver(mail)
     }
 
+    fn keep_count(&mut self, before: &RouterNode) {
+        self.count_from(before.counted());
+    }
+
     fn step<L: Log>(&mut self, log: &mut L, input: Input) -> Result<Outputs<Message>, StepFault> {
         self.steps.count(self.time, input.time())?;
         let plan = self.plan(input)?;

@@ -10,13 +10,12 @@ use chunk_table::Table;
 use cluster_base::{Namespace, NodeId, Time};
 use node_traits::{MailList, ReplyList, ToLink};
 use pipeline_eval::Rows;
-use protocol_model::{HalfFault, Message, StatementOutcome};
+use protocol_model::{HalfFault, Message};
 use read_parts::Target;
-use router_requests::{Fate, OpenRequest, Wait};
+use router_requests::{Fate, OpenRequest, Stay, Wait};
 use std::alloc::Global;
 use std::collections::VecDeque;
 use std::sync::Arc;
-use write_runs::Run;
 
 /// The change of the open requests and the cursors.
 #[derive(Drop)]
@@ -35,9 +34,9 @@ pub(crate) enum Change {
     Told(u64, Vec<NodeId>),
     /// This shard has returned its part to the read with this count.
     Gains(u64, NodeId, Result<Rows, HalfFault>),
-    /// The write with this count has these answers, these runs of it are under way, and it waits for this.
-    Notes(u64, Wait, Vec<Option<StatementOutcome>>, Vec<Run>),
-    /// A table that arrived is stored, if there is one, and this becomes of the open requests, in their order.
+    /// The one with this count stays open like this.
+    Goes(u64, Stay),
+    /// A table that arrived is stored, if one did, and this becomes of the open requests, in their order.
     Learns(Option<Arc<Table, Global>>, Vec<Fate>),
     /// The one with this count is answered with its first batch, and a cursor has the other documents.
     Shelves(u64, NewCursor),
@@ -170,7 +169,7 @@ impl RouterNode {
         }
     }
 
-    // Returns a plan before which the life begins, if it did not begin. Returns `Memory` if memory runs out.
+    // Returns a plan with this reply before which the life begins, if it did not begin. Returns `Memory` if memory runs out.
     pub(crate) fn starts(
         &self,
         time: Time,
@@ -181,8 +180,22 @@ impl RouterNode {
     ) -> Result<StepPlan, Memory>
         ensures { IfOk result (λ p. Starts (router_of self.now) time.0 moment change (map letter_of mail) (listed reply) p) }
     {
-        let records = self.life_records()?;
         let replies = replies_of(self.alloc, reply);
+        self.starts_all(time, moment, change, mail, replies)
+    }
+
+    // Returns a plan with these replies before which the life begins, if it did not begin. Returns `Memory` if memory runs out.
+    pub(crate) fn starts_all(
+        &self,
+        time: Time,
+        moment: u64,
+        change: Change,
+        mail: MailList<Message>,
+        replies: ReplyList,
+    ) -> Result<StepPlan, Memory>
+        ensures { IfOk result (λ p. Starts (router_of self.now) time.0 moment change (map letter_of mail) replies p) }
+    {
+        let records = self.life_records()?;
         Ok(StepPlan {
             time,
             moment,

@@ -3,13 +3,13 @@
 use crate::node::RouterNode;
 use crate::step_plan::{Change, StepPlan};
 use bson_values::Memory;
-use cluster_base::{NodeId, Time, moment_time};
+use cluster_base::{NodeId, Time};
 use node_traits::MailList;
 use protocol_model::{Body, Input, Message};
 
 impl RouterNode {
     ghost use Rattle.std.specs.Prelude.{◌≡◌, IfOk, OnOk, map};
-    ghost use Rattle.node_model.specs.Letters.{Letter, letter_input, moment_input, opened_input};
+    ghost use Rattle.node_model.specs.Letters.{Letter, letter_input, opened_input};
     ghost use Rattle.node_model.specs.RouterRequests as requested;
     ghost use Rattle.node_model.specs.States.{router_state};
     ghost use Rattle.node_traits.specs.Effects.{StepPlanned};
@@ -30,7 +30,7 @@ impl RouterNode {
             Body::WriteDone(told) => self.plan_dones(time, &told),
             Body::ReadRows(told) => self.plan_rows(sender, time, told),
             Body::TimeTold(told) => self.plan_time(sender, time, &told),
-            Body::Stale(_) => Ok(self.late(time)),
+            Body::Refused(told) => self.plan_refused(sender, time, told),
             Body::TableAsk(_) => Ok(self.late(self.time)),
             Body::SplitAsk(_) => Ok(self.late(self.time)),
             Body::WriteAsk(_) => Ok(self.late(self.time)),
@@ -48,15 +48,6 @@ impl RouterNode {
             return Ok(self.late(self.time));
         }
         self.plan_body(message.sender, self.time.max(message.time), message.body)
-    }
-
-    // Returns the plan for a moment, or `Memory` if memory runs out.
-    fn plan_moment(&self, moment: u64) -> Result<StepPlan, Memory>
-        ensures { IfOk result (λ p. IsPlanned (router_of self.now) (moment_input moment) p) }
-    {
-        let time = self.time.max(moment_time(moment));
-        let mail = self.ask_again(time)?;
-        self.starts(time, moment, Change::Stays, mail, None)
     }
 
     // Returns the plan for the opening of the router, or `Memory` if memory runs out.
@@ -98,7 +89,7 @@ impl RouterNode {
             Change::Reaches(..) => {}
             Change::Told(..) => {}
             Change::Gains(count, ..) => self.requests.reserve_part(*count)?,
-            Change::Notes(..) => {}
+            Change::Goes(..) => {}
             Change::Learns(..) => self.tables.reserve()?,
             Change::Shelves(_, opened) => self.cursors.make_room(&opened.namespace, opened.time)?,
             Change::Advances(..) => {}

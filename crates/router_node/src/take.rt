@@ -32,9 +32,7 @@ impl RouterNode {
             }
             Change::Told(count, told) => self.requests.hear(count, told),
             Change::Gains(count, shard, rows) => self.requests.note_part(count, shard, rows),
-            Change::Notes(count, wait, answers, runs) => {
-                self.requests.set_answers(count, wait, answers, runs)
-            }
+            Change::Goes(count, stay) => self.requests.stay(count, stay),
             Change::Learns(table, fates) => {
                 learn(&mut self.tables, &mut self.requests, table, fates)
             }

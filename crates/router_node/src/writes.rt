@@ -7,7 +7,7 @@ use cluster_base::{RequestId, Time};
 use command_replies::Answer;
 use node_traits::ReplyList;
 use protocol_model::{Done, StatementOutcome, WriteDone};
-use router_requests::{OpenRequest, OpenWrite, Work, WriteNext, WriteSends, spare_list};
+use router_requests::{OpenRequest, OpenWrite, Stay, Work, WriteNext, WriteSends, spare_list};
 use router_writes::note;
 use write_runs::{left_of, rest_of_served};
 
@@ -24,6 +24,7 @@ impl RouterNode {
     ghost use Rattle.router_requests.specs.Nexts.{write_next};
     ghost use Rattle.router_requests.specs.Works.{open_view, work_of, write_view};
     ghost use Rattle.router_requests.specs.declared.writes.WriteNext.TheVariants.{GoesOn};
+    ghost use Rattle.write_runs.specs.Runs.{course_view};
     ghost use Rattle.router_node.specs.News.{IsNews, next_noted};
     ghost use Rattle.router_node.specs.RouterStates.{router_of};
     ghost use Rattle.router_node.specs.StepPlans.{IsHeard};
@@ -62,11 +63,12 @@ impl RouterNode {
             IsNews (router_of self.now) m (id_view id) (open_view self.now.me.0 self.now.life request.now) write.now noted.items →
             next_noted (router_of self.now) time.0 (open_view self.now.me.0 self.now.life request.now) write.now noted.items
             ≡ write_next (router_of self.now) time.0 (open_view self.now.me.0 self.now.life request.now)
-            (work_of (requested.id_of (router_of self.now) request.now.count) write.now noted.items write.now.runs.items) (GoesOn sends) →
+            (work_of (requested.id_of (router_of self.now) request.now.count) write.now (course_view noted.items write.now.tries.items write.now.runs.items))
+            (GoesOn sends) →
             IfOk result (λ p. IsHeard (router_of self.now) m p) }
     {
         let WriteSends { wait, runs, mail } = sends;
-        let change = Change::Notes(id.count, wait, noted, runs);
+        let change = Change::Goes(id.count, Stay::Answers(wait, noted, runs));
         let mail = spare_list(self.alloc, mail)?;
         let replies = ReplyList::new(self.alloc);
         Ok(self.hears_all(time, change, mail, replies))
@@ -83,7 +85,8 @@ impl RouterNode {
     ) -> Result<WriteNext, Memory>
         ensures { IfOk result (λ next. next_noted (router_of self.now) time.0 (open_view self.now.me.0 self.now.life request.now) write.now noted.now
             ≡ write_next (router_of self.now) time.0 (open_view self.now.me.0 self.now.life request.now)
-            (work_of (requested.id_of (router_of self.now) request.now.count) write.now noted.now write.now.runs.items) next) }
+            (work_of (requested.id_of (router_of self.now) request.now.count) write.now (course_view noted.now write.now.tries.items write.now.runs.items))
+            next) }
     {
         let rest = rest_of_served(self.alloc, noted, &write.runs)?;
         let left = left_of(self.alloc, noted, &write.runs)?;
@@ -97,6 +100,7 @@ impl RouterNode {
             &rest,
             write,
             noted,
+            &write.tries,
             left,
         )
     }

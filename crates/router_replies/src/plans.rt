@@ -21,6 +21,7 @@ use command_words::{Batches, GetMore, KillCursors, SplitCommand, WriteCommand};
 use router_requests::{OpenRead, OpenWrite, Parts, Telling, Work};
 use router_writes::none_yet;
 use std::alloc::Global;
+use write_runs::no_tries;
 
 /// The greatest size of a first batch where no size is given (MongoDB manual, "Cursor Batches").
 const USUAL_SIZE: u64 = 101;
@@ -52,12 +53,14 @@ pub fn plan_write(alloc: Global, write: WriteCommand) -> Result<RequestPlan, Mem
     } = write;
     let statements = statements_of(alloc, operations)?;
     let answers = none_yet(alloc, &statements)?;
+    let tries = no_tries(alloc, &statements)?;
     let work = Work::Writing(OpenWrite {
         kind,
         number,
         ordered,
         statements,
         answers,
+        tries,
         runs: Vec::new(alloc),
     });
     Ok(RequestPlan::Needs { namespace, work })

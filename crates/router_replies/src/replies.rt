@@ -21,7 +21,7 @@ use std::alloc::Global;
 const MOST_LEVELS: usize = 104;
 
 /// The greatest number of bytes of a document that is written.
-const MOST_BYTES: usize = 300_000_000;
+const MOST_BYTES: usize = 400_000_000;
 
 /// Returns the bytes of the reply with this number to a request. Returns `Memory` if memory runs out, and where the answer is larger than allowed.
 fn bytes_of(alloc: Global, head: &Head, number: i32, answer: &Answer) -> Result<Blob, Memory>

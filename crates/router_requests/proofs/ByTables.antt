@@ -14,7 +14,7 @@ use Rattle.node_model.specs.RouterRequests.{table_to_read}
 use Rattle.node_model.specs.States.{Course, Open, Router, Run, Telling, Work, reading, sharding, splitting, writing}
 use Rattle.pipeline_model.specs.Stages.{Stage}
 use Rattle.reply_model.specs.Tree.{Datum}
-use Rattle.router_requests.specs.Nexts.{begins_by, read_arrives, read_by, write_by}
+use Rattle.router_requests.specs.Nexts.{begins_by, read_arrives, read_by, write_arrives, write_by}
 
 pub write_known : (r : Router) (time : ℕ) (tables : List Table) (asks : Bool) (again : List Run) (q : Open) (kind : WriteKind) (ordered : Bool) (statements : List Statement) (c : Course)
     → nexts.write_on r time tables asks again q kind ordered statements c
@@ -36,7 +36,7 @@ abbrev next_if : Router → ℕ → Option Table → (made : Bool) → At → Op
 next_if r time known made told q waits work = if not waits then stays q [] else elim work [
   | writing kind ordered statements c ↦ write_by r time known false [] q kind ordered statements c
   | reading named at stages telling ↦
-      if is_for told at && not (is_some (table_to_read known at)) then is_told (reply_to r time q (empty_answer q at telling))
+      if is_for told at && not (is_some (table_to_read known at [])) then is_told (reply_to r time q (empty_answer q at telling))
       else read_by r time known false q named at stages telling
   | sharding ↦ if made then is_told (reply_to r time q (sharded_answer q.namespace time)) else stays q []
   | splitting middle ↦ stays q []
@@ -46,8 +46,16 @@ abbrev arrives_if : Router → ℕ → Option Table → At → Open → Work →
 arrives_if r time known told q work = elim work [
   | writing kind ordered statements c ↦ stays q []
   | reading named at stages telling ↦
-      if is_for told at && not (is_some (table_to_read known at)) then is_told (reply_to r time q (empty_answer q at telling))
+      if is_for told at && not (is_some (table_to_read known at [])) then is_told (reply_to r time q (empty_answer q at telling))
       else read_by r time known false q named at stages telling
+  | sharding ↦ stays q []
+  | splitting middle ↦ stays q []
+]
+
+abbrev writes_if : Router → ℕ → Option Table → Open → Work → nexts.Next
+writes_if r time known q work = elim work [
+  | writing kind ordered statements c ↦ write_by r time known false [] q kind ordered statements c
+  | reading named at stages telling ↦ stays q []
   | sharding ↦ stays q []
   | splitting middle ↦ stays q []
 ]
@@ -68,8 +76,8 @@ module _ (r : Router) (time : ℕ) (tables : List Table) (namespace : List ℕ) 
         ∙ ap (λ (w : Work). next_if r time known made told q true w) has
 
     pub next_write : (kind : WriteKind) (ordered : Bool) (statements : List Statement) (c : Course) → q.work ≡ writing kind ordered statements c
-        → nexts.next_of r time tables namespace made told q ≡ write_by r time known false [] q kind ordered statements c
-    next_write kind ordered statements c has = waiting (writing kind ordered statements c) has
+        → nexts.next_of r time tables namespace made told q ≡ write_arrives r time known q
+    next_write kind ordered statements c has = waiting (writing kind ordered statements c) has ∙ sym (ap (λ (w : Work). writes_if r time known q w) has)
 
     pub next_read : (named : Bool) (at : ℕ) (stages : List Stage) (telling : Telling) → q.work ≡ reading named at stages telling
         → nexts.next_of r time tables namespace made told q ≡ read_arrives r time known told q
@@ -83,9 +91,14 @@ module _ (r : Router) (time : ℕ) (tables : List Table) (namespace : List ℕ) 
     pub next_splitting : (middle : Datum) → q.work ≡ splitting middle → nexts.next_of r time tables namespace made told q ≡ stays q []
     next_splitting middle has = waiting (splitting middle) has
 
+-- a write goes on by the table
+pub write_arrives_is : (r : Router) (time : ℕ) (known : Option Table) (q : Open) (kind : WriteKind) (ordered : Bool) (statements : List Statement) (c : Course) → q.work ≡ writing kind ordered statements c
+    → write_arrives r time known q ≡ write_by r time known false [] q kind ordered statements c
+write_arrives_is r time known q kind ordered statements c has = ap (λ (w : Work). writes_if r time known q w) has
+
 -- a read at a time that no table says who owned what it reads: nothing is there, where the answer has that time
 pub arrives_at : (r : Router) (time : ℕ) (known : Option Table) (told : At) (q : Open) (named : Bool) (at : ℕ) (stages : List Stage) (telling : Telling) → q.work ≡ reading named at stages telling
     → read_arrives r time known told q
-    ≡ (if is_for told at && not (is_some (table_to_read known at)) then is_told (reply_to r time q (empty_answer q at telling))
+    ≡ (if is_for told at && not (is_some (table_to_read known at [])) then is_told (reply_to r time q (empty_answer q at telling))
     else read_by r time known false q named at stages telling)
 arrives_at r time known told q named at stages telling has = ap (λ (w : Work). arrives_if r time known told q w) has

@@ -8,3 +8,5 @@ mod Reading
 mod Written
 mod Told
 mod Turns
+mod Staying
+mod GivenUp

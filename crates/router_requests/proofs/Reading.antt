@@ -1,14 +1,15 @@
 -- What becomes of open reads, by the table that is known of their collection.
-use Rattle.std.proofs.Common.{◌≡◌, refl, ap, sym, ◌∙◌, ℕ, List, [], ◌∷◌, Bool, true, false, if◌then◌else◌}
+use Rattle.std.proofs.Common.{◌≡◌, refl, ap, sym, ◌∙◌, ℕ, List, [], ◌∷◌, Bool, true, false, ◌&&◌, if◌then◌else◌}
 use Rattle.std.specs.Prelude.{Option, Some, None, is_some, nat_lt}
 use Rattle.chunk_model.specs.Tables.{Table}
 use Rattle.node_model.specs.Letters.{Letter, at_time, table_ask}
 use Rattle.node_model.specs.RouterNext as nexts
 use Rattle.node_model.specs.RouterNext.{stays, with_work}
-use Rattle.node_model.specs.RouterRequests.{asks_times, asks_to_read, id_of, is_owned_at, says, table_to_read, targets_at}
+use Rattle.node_model.specs.RouterRequests.{asks_times, asks_to_read, id_of, is_owned_at, reaches, says, table_to_read, targets_at, turn_after}
 use Rattle.node_model.specs.States.{Open, Router, Target, Telling, for_catalogue, for_shards, for_time, reading}
 use Rattle.pipeline_model.specs.Split.{split}
 use Rattle.pipeline_model.specs.Stages.{Stage}
+use Rattle.reply_model.specs.Outcomes.{Try}
 use Rattle.router_requests.specs.Nexts.{begins_by, read_by}
 
 -- whether a table says who owned each key at a time
@@ -22,22 +23,25 @@ module _ (r : Router) (time count : ℕ) (namespace : List ℕ) (q : Open) (same
   by_table o = elim o [
     | None ↦ stays (with_work q for_catalogue [] (reading named at stages telling)) (if asks then says r 0 time (table_ask q.namespace false (at_time at)) ∷ [] else [])
     | Some t ↦ stays (with_work q for_shards (targets_at t at stages) (reading named at stages telling))
-        (asks_to_read r time (id_of r q.count) q.namespace at (split stages).0 (targets_at t at stages))
+        (asks_to_read r time (id_of r q.count) q.namespace (turn_after q.tries) at (split stages).0 (targets_at t at stages))
   ]
 
-  pub reads_owners : (t : Table) (targets : List Target) (letters : List Letter) → is_owned_at t at ≡ true → targets ≡ targets_at t at stages
-      → letters ≡ asks_to_read r time (id_of r count) namespace at (split stages).0 targets
+  pub reads_owners : (t : Table) (targets : List Target) (letters : List Letter) (tries : List Try) → q.tries ≡ tries → reaches t tries ≡ true → is_owned_at t at ≡ true
+      → targets ≡ targets_at t at stages → letters ≡ asks_to_read r time (id_of r count) namespace (turn_after tries) at (split stages).0 targets
       → read_by r time (Some t) asks q named at stages telling ≡ stays (with_work q for_shards targets (reading named at stages telling)) letters
-  reads_owners t targets letters owned all asked =
-      ap by_table (ap (λ (b : Bool). if b then Some t else None) owned)
+  reads_owners t targets letters tries had comes owned all asked =
+      ap by_table
+      (ap (λ (b : Bool). if b && is_owned_at t at then Some t else None) (ap (λ (ts : List Try). reaches t ts) had ∙ comes)
+      ∙ ap (λ (b : Bool). if b then Some t else None) owned)
       ∙ ap (λ (ls : List Letter). stays (with_work q for_shards (targets_at t at stages) (reading named at stages telling)) ls)
-      (ap (λ (n : ℕ). asks_to_read r time (id_of r n) q.namespace at (split stages).0 (targets_at t at stages)) same
-      ∙ ap (λ (n : List ℕ). asks_to_read r time (id_of r count) n at (split stages).0 (targets_at t at stages)) of
-      ∙ ap (λ (ts : List Target). asks_to_read r time (id_of r count) namespace at (split stages).0 ts) (sym all)
+      (ap (λ (n : ℕ). asks_to_read r time (id_of r n) q.namespace (turn_after q.tries) at (split stages).0 (targets_at t at stages)) same
+      ∙ ap (λ (n : List ℕ). asks_to_read r time (id_of r count) n (turn_after q.tries) at (split stages).0 (targets_at t at stages)) of
+      ∙ ap (λ (ts : List Try). asks_to_read r time (id_of r count) namespace (turn_after ts) at (split stages).0 (targets_at t at stages)) had
+      ∙ ap (λ (ts : List Target). asks_to_read r time (id_of r count) namespace (turn_after tries) at (split stages).0 ts) (sym all)
       ∙ sym asked)
       ∙ ap (λ (ts : List Target). stays (with_work q for_shards ts (reading named at stages telling)) letters) (sym all)
 
-  pub reads_none : (known : Option Table) (letters : List Letter) → table_to_read known at ≡ None
+  pub reads_none : (known : Option Table) (letters : List Letter) → table_to_read known at q.tries ≡ None
       → letters ≡ (if asks then says r 0 time (table_ask namespace false (at_time at)) ∷ [] else [])
       → read_by r time known asks q named at stages telling ≡ stays (with_work q for_catalogue [] (reading named at stages telling)) letters
   reads_none known letters none asked =

@@ -8,7 +8,7 @@ use Rattle.node_model.specs.States.{Open}
 use Rattle.router_requests.specs.Fates.{fate_of, fated}
 use Rattle.router_requests.specs.Turns.{settled}
 use Rattle.router_requests.specs.declared.fates.Fate.{Fate}
-use Rattle.router_requests.specs.declared.fates.Fate.TheVariants.{Stays, Leaves}
+use Rattle.router_requests.specs.declared.fates.Fate.TheVariants.{Leaves}
 
 -- no fate changes nothing
 no_fates : (requests : List Open) → fated requests [] ≡ requests
@@ -16,12 +16,6 @@ no_fates [] = refl
 no_fates (q ∷ requests) = refl
 
 module _ {X : Type 0} (meant : X → Open) where
-  -- it stays
-  pub settled_stays : (items : List X) (place : ℕ) (fates : List Fate) → place < length items → settled meant (suc place) items fates ≡ settled meant place items (Stays ∷ fates)
-  settled_stays [] place fates inside = absurd (omega (arith, inside))
-  settled_stays (z ∷ items) zero fates inside = refl
-  settled_stays (z ∷ items) (suc place) fates inside = ap (λ (l : List Open). meant z ∷ l) (settled_stays items place fates (omega (arith, inside)))
-
   -- it becomes another
   pub settled_put : (items : List X) (place : ℕ) (x y : X) (f : Fate) (fates : List Fate) → place < length items → x ≡ get_or items place x → fate_of (meant x) f ≡ meant y ∷ []
       → settled meant (suc place) (slice_set items place y) fates ≡ settled meant place items (f ∷ fates)

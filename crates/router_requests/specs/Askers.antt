@@ -1,5 +1,6 @@
 -- Who sends requests, and what is requested.
 use Rattle.std.specs.Prelude.{ℕ, List, [], ◌∷◌, Option, Some, None, true}
+use Rattle.chunk_model.specs.Tables.{Table}
 use Rattle.node_model.specs.Letters.{Letter}
 use Rattle.node_model.specs.States.{Router}
 use Rattle.protocol_model.specs.Messages.{letter_of}
@@ -14,6 +15,11 @@ asking router shards life =
 
 abbrev pub asker_view : Asker → Router
 asker_view a = asking a.me.0 a.shards a.life
+
+-- a router that knows these tables
+abbrev pub knowing : List Table → Router → Router
+knowing tables r =
+    record { me = r.me; shards = r.shards; time = r.time; life = r.life; begun = r.begun; moment = r.moment; count = r.count; tables = tables; requests = r.requests; cursors = r.cursors; blocks = r.blocks; gave = r.gave }
 
 -- the message, if there is one
 abbrev pub letters_of : Option Message → List Letter

@@ -3,6 +3,6 @@ pub mod Works
 pub mod Askers
 pub mod Lists
 pub mod Order
-pub mod Nexts
 pub mod Fates
+pub mod Nexts
 pub mod Turns

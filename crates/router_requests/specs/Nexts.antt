@@ -3,10 +3,10 @@ use Rattle.std.specs.Prelude.{ℕ, List, [], ◌∷◌, ◌++◌, map, not, ◌&
 use Rattle.command_model.specs.Answers.{sharded_answer}
 use Rattle.command_model.specs.Writes.{WriteKind}
 use Rattle.command_replies.specs.AnswerMeanings.{answer_view}
-use Rattle.node_model.specs.Letters.{At, Statement}
-use Rattle.node_model.specs.RouterRequests.{asks_catalogue, asks_times, asks_to_read, asks_to_write, id_of, runs_by, table_to_read, targets_at, unsent, with_runs}
+use Rattle.node_model.specs.Letters.{At, Letter, Statement}
+use Rattle.node_model.specs.RouterRequests.{asks_catalogue, asks_times, asks_to_read, asks_to_write, id_of, indices_of, runs_by, table_to_read, targets_at, turn_after, unanswered, unsent, with_runs}
 use Rattle.node_model.specs.RouterNext as nexts
-use Rattle.node_model.specs.RouterNext.{stays, is_told, empty_answer, is_answered, is_for, reply_to, with_work}
+use Rattle.node_model.specs.RouterNext.{stays, is_told, asks_again, empty_answer, gives_up, is_bound, is_answered, is_for, reply_to, with_work}
 use Rattle.node_model.specs.States as states
 use Rattle.node_model.specs.States.{Course, Open, Router, Run, Work, for_catalogue, for_shards, for_time, reading, sharding, splitting, writing}
 use Rattle.chunk_model.specs.Tables.{Table}
@@ -14,13 +14,14 @@ use Rattle.pipeline_model.specs.Split.{split}
 use Rattle.pipeline_model.specs.Stages.{Stage}
 use Rattle.protocol_model.specs.Messages.{letter_of}
 use Rattle.read_parts.specs.Parts.{target_view}
-use Rattle.reply_model.specs.Outcomes.{answer_of, dones_from}
+use Rattle.reply_model.specs.Outcomes.{answer_of, dones_from, expired_refusal}
+use Rattle.router_requests.specs.Fates.{runs_in, stay_of}
 use Rattle.router_requests.specs.Works.{telling_view, wait_view}
 use Rattle.router_requests.specs.declared.begins.Begun.{Begun}
 use Rattle.router_requests.specs.declared.begins.Begun.TheVariants as begins
 use Rattle.router_requests.specs.declared.reads.Sends.{Sends}
-use Rattle.router_requests.specs.declared.tables.Next.{Next}
-use Rattle.router_requests.specs.declared.tables.Next.TheVariants as next
+use Rattle.router_requests.specs.declared.next.Next.{Next}
+use Rattle.router_requests.specs.declared.next.Next.TheVariants as next
 use Rattle.router_requests.specs.declared.writes.WriteNext.{WriteNext}
 use Rattle.router_requests.specs.declared.writes.WriteNext.TheVariants as writes
 use Rattle.router_requests.specs.declared.writes.WriteSends.{WriteSends}
@@ -28,27 +29,33 @@ use Rattle.write_runs.specs.Runs.{runs_view}
 
 -- BY A TABLE
 
+-- a write that is not answered has come this far, and these messages are sent; where statements are left to be sent it waits for the catalogue, which is
+-- asked if `asks`
+abbrev pub goes_by : Router → ℕ → (asks : Bool) → Open → WriteKind → Bool → List Statement → Course → List Letter → nexts.Next
+goes_by r time asks q kind ordered statements c letters =
+    let work = writing kind ordered statements c in
+    elim (unsent ordered statements c) [
+      | [] ↦ stays (with_work q for_shards [] work) letters
+      | s ∷ left ↦ stays (with_work q for_catalogue [] work) (if asks then asks_catalogue r time q.count q.namespace work ∷ letters else letters)
+    ]
+
 -- a write goes on by this table of its collection, if one is known; of the runs of which some statements are answered this is the rest
 abbrev pub write_by : Router → ℕ → Option Table → (asks : Bool) → (rest : List Run) → Open → WriteKind → Bool → List Statement → Course → nexts.Next
 write_by r time known asks rest q kind ordered statements c =
     let more = runs_by ordered known statements c in
     let d = with_runs c more in
-    let work = writing kind ordered statements d in
-    let letters = asks_to_write r time (id_of r q.count) q.namespace ordered statements (rest ++ more) in
+    let letters = asks_to_write r time (id_of r q.count) q.namespace ordered statements d (rest ++ more) in
     if is_answered ordered c.answers then is_told (reply_to r time q (answer_of kind time (dones_from 0 c.answers)))
-    else elim (unsent ordered statements d) [
-      | [] ↦ stays (with_work q for_shards [] work) letters
-      | s ∷ left ↦ stays (with_work q for_catalogue [] work) (if asks then asks_catalogue r time q.count q.namespace work ∷ letters else letters)
-    ]
+    else goes_by r time asks q kind ordered statements d letters
 
 -- a read goes on by this table of its collection, if one is known
 abbrev pub read_by : Router → ℕ → Option Table → (asks : Bool) → Open → (named : Bool) → (at : ℕ) → List Stage → states.Telling → nexts.Next
 read_by r time known asks q named at stages telling =
     let work = reading named at stages telling in
-    elim (table_to_read known at) [
+    elim (table_to_read known at q.tries) [
       | None ↦ stays (with_work q for_catalogue [] work) (if asks then asks_catalogue r time q.count q.namespace work ∷ [] else [])
       | Some t ↦ stays (with_work q for_shards (targets_at t at stages) work)
-          (asks_to_read r time (id_of r q.count) q.namespace at (split stages).0 (targets_at t at stages))
+          (asks_to_read r time (id_of r q.count) q.namespace (turn_after q.tries) at (split stages).0 (targets_at t at stages))
     ]
 
 -- work begins by this table of its collection, if one is known
@@ -61,25 +68,38 @@ begins_by r time known q sharding = stays (with_work q for_catalogue [] sharding
 begins_by r time known q (splitting middle) =
     stays (with_work q for_catalogue [] (splitting middle)) (asks_catalogue r time q.count q.namespace (splitting middle) ∷ [])
 
+-- a table arrived, and this one is known of the collection of a write that waits for it
+abbrev pub write_arrives : Router → ℕ → Option Table → Open → nexts.Next
+write_arrives r time known q = elim q.work [
+  | writing kind ordered statements c ↦ write_by r time known false [] q kind ordered statements c
+  | reading named at stages telling ↦ stays q []
+  | sharding ↦ stays q []
+  | splitting middle ↦ stays q []
+]
+
 -- a table arrived for a time, and this one is known of the collection of a read that waits for it
 abbrev pub read_arrives : Router → ℕ → Option Table → At → Open → nexts.Next
 read_arrives r time known told q = elim q.work [
   | writing kind ordered statements c ↦ stays q []
   | reading named at stages telling ↦
-      if is_for told at && not (is_some (table_to_read known at)) then is_told (reply_to r time q (empty_answer q at telling))
+      if is_for told at && not (is_some (table_to_read known at [])) then is_told (reply_to r time q (empty_answer q at telling))
       else read_by r time known false q named at stages telling
   | sharding ↦ stays q []
   | splitting middle ↦ stays q []
 ]
 
--- IN THE PROGRAM
+-- what becomes at a moment of a write whose time limit has passed
+abbrev pub write_expires : Router → (time moment : ℕ) → Open → nexts.Next
+write_expires r time moment q = elim q.work [
+  | writing kind ordered statements c ↦
+      if is_bound ordered c.runs then stays q (asks_again r time q)
+      else gives_up r time q kind ordered statements c (expired_refusal q.arrived moment) (indices_of (unanswered statements c.answers))
+  | reading named at stages telling ↦ stays q []
+  | sharding ↦ stays q []
+  | splitting middle ↦ stays q []
+]
 
--- a write of which these runs are under way
-abbrev pub runs_in : Work → List Run → Work
-runs_in (writing kind ordered statements c) runs = writing kind ordered statements (record { answers = c.answers; runs = runs })
-runs_in (reading named at stages telling) runs = reading named at stages telling
-runs_in sharding runs = sharding
-runs_in (splitting middle) runs = splitting middle
+-- IN THE PROGRAM
 
 -- the open request with this work, after it was sent
 abbrev pub sent_open : Open → Work → Sends → Open
@@ -101,10 +121,9 @@ abbrev pub begun_next : Router → ℕ → Open → Work → Begun → nexts.Nex
 begun_next r time q work (begins.Waits s) = read_next q work s
 begun_next r time q work (begins.Writes w) = write_next r time q work w
 
--- what becomes of an open request after a table arrives
+-- what becomes of an open request
 abbrev pub next_view : Router → ℕ → Open → Next → nexts.Next
-next_view r time q next.Stays = stays q []
-next_view r time q (next.Reads s) = read_next q q.work s
-next_view r time q (next.Writes w) = write_next r time q q.work w
+next_view r time q (next.Stays stay mail) = stays (stay_of q stay) (map letter_of mail.items)
+next_view r time q (next.IsTold answer) = is_told (reply_to r time q (answer_view answer))
 next_view r time q (next.IsEmpty at telling) = is_told (reply_to r time q (empty_answer q at.0 (telling_view telling)))
 next_view r time q next.IsSharded = is_told (reply_to r time q (sharded_answer q.namespace time))

@@ -1,5 +1,5 @@
 -- What open requests of the program are, by the definitions.
-use Rattle.std.specs.Prelude.{ℕ, List, map, Option}
+use Rattle.std.specs.Prelude.{ℕ, List, map}
 use Rattle.pipeline_model.specs.Stages.{Stage}
 use Rattle.base_model.specs.Identities as identities
 use Rattle.cluster_base.specs.declared.identity.NodeId.{NodeId}
@@ -9,10 +9,8 @@ use Rattle.node_model.specs.States.{in_batches, as_number, writing, reading, sha
 use Rattle.command_replies.specs.Kinds.{given_view, kind_view}
 use Rattle.protocol_model.specs.Heads.{head_request}
 use Rattle.protocol_model.specs.Statements.{statement_view}
-use Rattle.protocol_model.specs.declared.statement.StatementOutcome.{StatementOutcome}
 use Rattle.read_parts.specs.Parts.{part_view, target_view}
-use Rattle.write_runs.specs.Runs.{course_view}
-use Rattle.write_runs.specs.declared.run.Run.{Run}
+use Rattle.write_runs.specs.Runs.{course_view, tries_view}
 use Rattle.router_requests.specs.declared.read.Parts.{Parts}
 use Rattle.router_requests.specs.declared.read.OpenRead.{OpenRead}
 use Rattle.router_requests.specs.declared.read.Telling.{Telling}
@@ -43,12 +41,15 @@ read_view read = read_at read read.at.0
 abbrev pub statements_of : identities.RequestId → OpenWrite → List letters.Statement
 statements_of id write = map (λ s. statement_view (given_view write.number) id s) write.statements.items
 
--- a write with these answers, of which these runs are under way
-abbrev pub work_of : identities.RequestId → OpenWrite → List (Option StatementOutcome) → List Run → states.Work
-work_of id write answers runs = writing (kind_view write.kind) write.ordered (statements_of id write) (course_view answers runs)
+-- a write that has come this far
+abbrev pub work_of : identities.RequestId → OpenWrite → states.Course → states.Work
+work_of id write c = writing (kind_view write.kind) write.ordered (statements_of id write) c
+
+abbrev pub write_course : OpenWrite → states.Course
+write_course write = course_view write.answers.items write.tries.items write.runs.items
 
 abbrev pub write_view : identities.RequestId → OpenWrite → states.Work
-write_view id write = work_of id write write.answers.items write.runs.items
+write_view id write = work_of id write (write_course write)
 
 -- the work of the request with this id
 abbrev pub work_view : identities.RequestId → Work → states.Work
@@ -73,6 +74,8 @@ open_view router life q = record {
   link = q.link;
   number = q.number;
   request = head_request q.head;
+  arrived = q.arrived;
+  tries = tries_view q.tries.items;
   namespace = q.namespace;
   wait = wait_view q.wait;
   told = numbers_of q.told.items;
@@ -84,4 +87,4 @@ open_view router life q = record {
 -- the open request, to which these shards returned their time
 abbrev pub told_by : states.Open → (told : List ℕ) → states.Open
 told_by q told =
-    record { count = q.count; link = q.link; number = q.number; request = q.request; namespace = q.namespace; wait = q.wait; told = told; targets = q.targets; parts = q.parts; work = q.work }
+    record { count = q.count; link = q.link; number = q.number; request = q.request; arrived = q.arrived; tries = q.tries; namespace = q.namespace; wait = q.wait; told = told; targets = q.targets; parts = q.parts; work = q.work }

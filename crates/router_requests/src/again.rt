@@ -9,6 +9,7 @@ use bson_values::Memory;
 use cluster_base::Time;
 use protocol_model::Message;
 use std::alloc::Global;
+use write_runs::turn_after;
 
 impl Asker {
     ghost use Rattle.std.specs.Prelude.{◌≡◌, IfOk, map};
@@ -37,7 +38,16 @@ impl Asker {
         if request.wait == Wait::ForCatalogue {
             asks.push(self.asks_to_begin(time, namespace)?)?;
         }
-        self.add_runs_asked(alloc, &mut asks, time, count, namespace, write, &write.runs)?;
+        self.add_runs_asked(
+            alloc,
+            &mut asks,
+            time,
+            count,
+            namespace,
+            write,
+            &write.tries,
+            &write.runs,
+        )?;
         Ok(asks)
     }
 
@@ -67,6 +77,7 @@ impl Asker {
                 time,
                 count,
                 namespace,
+                turn_after(&request.tries)?,
                 read.at,
                 read.parts.half(),
                 &request.targets,

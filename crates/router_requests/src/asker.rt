@@ -8,9 +8,6 @@ use value_compare::Key;
 /// The catalogue.
 const CATALOGUE: NodeId = NodeId(0);
 
-/// The turn of a request that met no stale table.
-pub(crate) const FIRST_TURN: u32 = 1;
-
 /// A router, in one of its lives, and how many shards there are.
 #[derive(Clone, Copy, Debug, PartialEq, Eq)]
 pub struct Asker {

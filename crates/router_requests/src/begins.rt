@@ -42,12 +42,22 @@ impl Asker {
         table: Option<&Table>,
         read: &OpenRead,
     ) -> Result<Sends, Memory>
-        ensures { (q : states.Open) → q.count ≡ count → q.namespace ≡ namespace.now →
+        ensures { (q : states.Open) → q.count ≡ count → q.namespace ≡ namespace.now → q.tries ≡ [] →
             IfOk result (λ s. begins_by (asker_view self) time.0 (option_map (λ t. t.now) table.entry) q (read_view read.now)
             ≡ read_next q (read_view read.now) s) }
     {
         if has_come(read.at, time) {
-            return self.read_on(alloc, time, count, namespace, table, true, read, read.at);
+            return self.read_on(
+                alloc,
+                time,
+                count,
+                namespace,
+                table,
+                true,
+                read,
+                read.at,
+                &[],
+            );
         }
         Ok(Sends {
             wait: Wait::ForTime,
@@ -82,7 +92,7 @@ impl Asker {
         table: Option<&Table>,
         work: &Work,
     ) -> Result<Begun, Memory>
-        ensures { (q : states.Open) → q.count ≡ count → q.namespace ≡ namespace.now →
+        ensures { (q : states.Open) → q.count ≡ count → q.namespace ≡ namespace.now → q.tries ≡ [] →
             IfOk result (λ next. begins_by (asker_view self) time.0 (option_map (λ t. t.now) table.entry) q
             (work_view (requested.id_of (asker_view self) count) work.now)
             ≡ begun_next (asker_view self) time.0 q (work_view (requested.id_of (asker_view self) count) work.now) next) }
@@ -100,6 +110,7 @@ impl Asker {
                     &[],
                     write,
                     &write.answers,
+                    &write.tries,
                     runs,
                 )?;
                 Ok(Begun::Writes(next))

@@ -3,15 +3,14 @@
 ghost use Rattle.std.specs.Prelude.{◌≡◌, true};
 ghost use Rattle.router_requests.specs.Order.{place_of, rises};
 
-use crate::fates::Fate;
+use crate::fates::{Fate, Stay};
 use crate::work::{OpenRequest, Wait};
 use bson_values::Memory;
 use cluster_base::{NodeId, Time};
 use pipeline_eval::Rows;
-use protocol_model::{HalfFault, StatementOutcome};
+use protocol_model::HalfFault;
 use read_parts::Target;
 use std::alloc::Global;
-use write_runs::Run;
 
 /// The open requests of a router in one of its lives, in the order in which it took them.
 #[derive(Drop)]
@@ -24,21 +23,18 @@ pub struct OpenList {
 }
 
 impl OpenList {
-    ghost use Rattle.std.specs.Prelude.{◌≡◌, ◌<◌, ◌^◌, ◌-◌, ◌+◌, ◌++◌, ◌∷◌, [], ℕ, List, Bool, Some, true, map, IfOk, OnOk};
+    ghost use Rattle.std.specs.Prelude.{◌≡◌, ◌<◌, ◌^◌, ◌-◌, ◌+◌, ◌++◌, ◌∷◌, [], ℕ, List, Some, true, map, IfOk, OnOk};
     ghost use Rattle.std.specs.Option.{option_map};
-    ghost use Rattle.node_model.specs.Letters as letters;
     ghost use Rattle.node_model.specs.RouterRequests as requested;
     ghost use Rattle.node_model.specs.RouterNext as nexts;
     ghost use Rattle.node_model.specs.States as states;
-    ghost use Rattle.command_model.specs.Writes as writes;
     ghost use Rattle.protocol_model.specs.Bodies.{rows_view};
     ghost use Rattle.read_parts.specs.Parts.{target_view};
-    ghost use Rattle.router_requests.specs.Fates.{fated};
+    ghost use Rattle.router_requests.specs.Fates.{fated, stay_of};
     ghost use Rattle.router_requests.specs.Lists.{has_room, has_room_for_part, opens_of, taken_of};
     ghost use Rattle.router_requests.specs.Turns.{settled};
     ghost use Rattle.router_requests.specs.Works.{numbers_of, open_view, told_by, wait_view};
     ghost use Rattle.router_requests.specs.declared.fates.Fate.{Fate};
-    ghost use Rattle.write_runs.specs.Runs.{course_view};
 
     /// Returns the list before a request was taken.
     pub fn new(alloc: Global) -> OpenList
@@ -186,25 +182,15 @@ impl OpenList {
         }
     }
 
-    /// The write with this count has these answers now, these runs of it are under way, and it waits for this.
-    pub fn set_answers(
-        &mut self,
-        count: u64,
-        wait: Wait,
-        answers: Vec<Option<StatementOutcome>>,
-        runs: Vec<Run>,
-    )
+    /// The request with this count stays open like this.
+    pub fn stay(&mut self, count: u64, stay: Stay)
         ensures taken { taken_of self.new ≡ taken_of self.old }
-        ensures opens { (router life : ℕ) (q : states.Open) (kind : writes.WriteKind) (ordered : Bool) (statements : List letters.Statement)
-            (before : states.Course) →
-            states.open_with count (opens_of router life self.old) ≡ Some q → q.work ≡ states.writing kind ordered statements before →
-            opens_of router life self.new
-            ≡ states.replaced (nexts.with_work q (wait_view wait) [] (states.writing kind ordered statements (course_view answers.items runs.items)))
-            (opens_of router life self.old) }
+        ensures opens { (router life : ℕ) (q : states.Open) → states.open_with count (opens_of router life self.old) ≡ Some q →
+            opens_of router life self.new ≡ states.replaced (stay_of q stay) (opens_of router life self.old) }
     {
         let place = self.place(count);
         if place < self.requests.len() {
-            self.requests[place].answer(wait, answers, runs);
+            self.requests[place].stay(stay);
         }
     }
 
@@ -219,13 +205,8 @@ impl OpenList {
             return place;
         }
         match fate {
-            Fate::Stays => place + 1,
-            Fate::Reads(wait, targets) => {
-                self.requests[place].wait_for(wait, targets);
-                place + 1
-            }
-            Fate::Writes(wait, runs) => {
-                self.requests[place].wait_for_runs(wait, runs);
+            Fate::Stays(stay) => {
+                self.requests[place].stay(stay);
                 place + 1
             }
             Fate::Leaves => {

@@ -8,9 +8,10 @@ use crate::work::Wait;
 use bson_values::Memory;
 use chunk_table::Table;
 use cluster_base::{Namespace, Time};
-use protocol_model::Message;
+use protocol_model::{Message, Try};
 use read_parts::{Target, is_owned, targets_of};
 use std::alloc::Global;
+use write_runs::{reaches, turn_after};
 
 /// What a request waits for, the shards that it is sent to, and the messages.
 #[derive(Drop)]
@@ -37,8 +38,9 @@ impl Asker {
     ghost use Rattle.router_requests.specs.Askers.{asker_view};
     ghost use Rattle.router_requests.specs.Nexts.{read_by, read_next};
     ghost use Rattle.router_requests.specs.Works.{read_at, stages_of, telling_view};
+    ghost use Rattle.write_runs.specs.Runs.{tries_view};
 
-    // Returns how a read at a time goes on by a table that says who owned each key then: it is sent to each owner of its span. Returns `Memory` if memory runs
+    // Returns how a read at a time goes on, after these tries, by a table that is enough: it is sent to each owner of its span. Returns `Memory` if memory runs
     // out.
     fn reads_by(
         self,
@@ -48,16 +50,19 @@ impl Asker {
         namespace: &Namespace,
         read: &OpenRead,
         at: Time,
+        tries: &[Try],
         table: &Table,
     ) -> Result<Sends, Memory>
-        requires { requested.is_owned_at table.now at.0 ≡ true }
-        ensures { (q : states.Open) (asks : Bool) → q.count ≡ count → q.namespace ≡ namespace.now →
+        requires reaches { requested.reaches table.now (tries_view tries.now) ≡ true }
+        requires owned { requested.is_owned_at table.now at.0 ≡ true }
+        ensures { (q : states.Open) (asks : Bool) → q.count ≡ count → q.namespace ≡ namespace.now → q.tries ≡ tries_view tries.now →
             IfOk result (λ s. read_by (asker_view self) time.0 (Some table.now) asks q read.now.named at.0 (stages_of read.now.parts)
             (telling_view read.now.telling) ≡ read_next q (read_at read.now at.0) s) }
     {
         let half = read.parts.half();
         let targets = targets_of(alloc, table, at, half)?;
-        let mail = self.asks_to_read(alloc, time, count, namespace, at, half, &targets, &[])?;
+        let turn = turn_after(tries)?;
+        let mail = self.asks_to_read(alloc, time, count, namespace, turn, at, half, &targets, &[])?;
         Ok(Sends {
             wait: Wait::ForShards,
             targets,
@@ -65,7 +70,7 @@ impl Asker {
         })
     }
 
-    // Returns how a read at a time goes on where no table says who owned each key then: the catalogue is asked if `asks`. Returns `Memory` if memory runs out.
+    // Returns how a read at a time goes on where no table is enough: the catalogue is asked if `asks`. Returns `Memory` if memory runs out.
     fn reads_without(
         self,
         alloc: Global,
@@ -75,7 +80,7 @@ impl Asker {
         read: &OpenRead,
         at: Time,
     ) -> Result<Sends, Memory>
-        ensures { (q : states.Open) (known : Option tables.Table) → requested.table_to_read known at.0 ≡ None → q.namespace ≡ namespace.now →
+        ensures { (q : states.Open) (known : Option tables.Table) → requested.table_to_read known at.0 q.tries ≡ None → q.namespace ≡ namespace.now →
             IfOk result (λ s. read_by (asker_view self) time.0 known asks q read.now.named at.0 (stages_of read.now.parts)
             (telling_view read.now.telling) ≡ read_next q (read_at read.now at.0) s) }
     {
@@ -90,8 +95,9 @@ impl Asker {
         })
     }
 
-    /// Returns how a read at a time goes on by the table of its collection, if one is known: it is sent to each owner of its span; or, where no table says who
-    /// owned each key then, the catalogue is asked if `asks`. Returns `Memory` if memory runs out.
+    /// Returns how a read at a time goes on, after these tries, by the table of its collection, if one is known: it is sent to each owner of its span; or,
+    /// where the table does not say of each key who owned it then, or is older than what the last try met, the catalogue is asked if `asks`. Returns `Memory` if
+    /// memory runs out.
     pub fn read_on(
         self,
         alloc: Global,
@@ -102,16 +108,17 @@ impl Asker {
         asks: bool,
         read: &OpenRead,
         at: Time,
+        tries: &[Try],
     ) -> Result<Sends, Memory>
-        ensures { (q : states.Open) → q.count ≡ count → q.namespace ≡ namespace.now →
+        ensures { (q : states.Open) → q.count ≡ count → q.namespace ≡ namespace.now → q.tries ≡ tries_view tries.now →
             IfOk result (λ s. read_by (asker_view self) time.0 (option_map (λ t. t.now) table.entry) asks q read.now.named at.0
             (stages_of read.now.parts) (telling_view read.now.telling) ≡ read_next q (read_at read.now at.0) s) }
     {
         let Some(table) = table else {
             return self.reads_without(alloc, time, namespace, asks, read, at);
         };
-        if is_owned(table, at) {
-            self.reads_by(alloc, time, count, namespace, read, at, table)
+        if reaches(table, tries) && is_owned(table, at) {
+            self.reads_by(alloc, time, count, namespace, read, at, tries, table)
         } else {
             self.reads_without(alloc, time, namespace, asks, read, at)
         }

@@ -1,19 +1,19 @@
 //! What becomes of open requests after a table arrives.
 
-ghost use Rattle.std.specs.Prelude.{◌≡◌, ◌&&◌};
+ghost use Rattle.std.specs.Prelude.{◌≡◌, ◌&&◌, [], not};
 ghost use Rattle.std.specs.Arc.{arc_value};
 ghost use Rattle.std.specs.Option.{is_some, option_map};
 ghost use Rattle.std.specs.Str.{bytes_eq};
 ghost use Rattle.node_model.specs.RouterRequests as requested;
 ghost use Rattle.node_model.specs.RouterNext as nexts;
-ghost use Rattle.protocol_model.specs.Bodies.{at_view};
+ghost use Rattle.protocol_model.specs.Tables.{at_view};
 ghost use Rattle.router_requests.specs.Works.{wait_view};
 
 use crate::asker::Asker;
-use crate::read::{OpenRead, Telling};
-use crate::reads::Sends;
+use crate::next::{Next, of_sends, of_write, same};
+use crate::read::OpenRead;
 use crate::work::{OpenRequest, Wait, Work};
-use crate::writes::WriteNext;
+use crate::write::OpenWrite;
 use bson_values::Memory;
 use chunk_table::Table;
 use cluster_base::{Namespace, Time};
@@ -22,23 +22,8 @@ use read_parts::is_owned;
 use std::alloc::Global;
 use write_runs::copies_of;
 
-/// What becomes of an open request after a table arrives.
-#[derive(Drop)]
-pub enum Next {
-    /// It stays as it is.
-    Stays,
-    /// It is a read that waits for this.
-    Reads(Sends),
-    /// It is a write.
-    Writes(WriteNext),
-    /// It is answered that nothing is there, at this time.
-    IsEmpty(Time, Telling),
-    /// It is answered that its collection is sharded.
-    IsSharded,
-}
-
 /// Returns whether what arrives for a time is the answer to a read of this one.
-fn is_for(told: At, at: Time) -> bool
+pub(crate) fn is_for(told: At, at: Time) -> bool
     ensures { result ≡ nexts.is_for (at_view told) at.0 }
 {
     match told {
@@ -58,7 +43,7 @@ pub fn was_created(told: &TableTold) -> bool
 }
 
 /// Returns whether a request waits for the catalogue's answer about this collection.
-fn waits_for(request: &OpenRequest, namespace: &Namespace) -> bool
+pub(crate) fn waits_for(request: &OpenRequest, namespace: &Namespace) -> bool
     ensures { result ≡ (nexts.is_for_catalogue (wait_view request.now.wait) && bytes_eq request.now.namespace namespace.now) }
 {
     request.wait == Wait::ForCatalogue && request.namespace.as_str() == namespace.as_str()
@@ -67,7 +52,7 @@ fn waits_for(request: &OpenRequest, namespace: &Namespace) -> bool
 /// Returns whether this table, if it is known, says who owned each key at a time.
 #[tactic(auto, using(crate::proofs::Reading::if_read))]
 fn can_read(known: Option<&Table>, at: Time) -> bool
-    ensures { result ≡ is_some (requested.table_to_read (option_map (λ t. t.now) known.entry) at.0) }
+    ensures { result ≡ is_some (requested.table_to_read (option_map (λ t. t.now) known.entry) at.0 []) }
 {
     match known {
         None => false,
@@ -75,16 +60,23 @@ fn can_read(known: Option<&Table>, at: Time) -> bool
     }
 }
 
+/// Returns whether the answer for a time shows that nothing is there for a read at this time, where this table is known, or none.
+fn is_empty(told: At, known: Option<&Table>, at: Time) -> bool
+    ensures { result ≡ (nexts.is_for (at_view told) at.0 && not (is_some (requested.table_to_read (option_map (λ t. t.now) known.entry) at.0 []))) }
+{
+    is_for(told, at) && !can_read(known, at)
+}
+
 impl Asker {
     ghost use Rattle.std.specs.Prelude.{◌≡◌, IfOk, List, true};
     ghost use Rattle.std.specs.Option.{option_map};
     ghost use Rattle.chunk_model.specs.Tables as tables;
     ghost use Rattle.node_model.specs.RouterNext as nexts;
-    ghost use Rattle.node_model.specs.States as states;
-    ghost use Rattle.protocol_model.specs.Bodies.{at_view};
+    ghost use Rattle.node_model.specs.RouterRequests as requested;
+    ghost use Rattle.protocol_model.specs.Tables.{at_view};
     ghost use Rattle.router_requests.specs.Askers.{asker_view};
-    ghost use Rattle.router_requests.specs.Nexts.{next_view, read_arrives};
-    ghost use Rattle.router_requests.specs.Works.{open_view, read_view};
+    ghost use Rattle.router_requests.specs.Nexts.{next_view, read_arrives, write_arrives};
+    ghost use Rattle.router_requests.specs.Works.{open_view, read_view, write_view};
 
     // Returns what becomes of a read that waits for the catalogue, after a table arrived for a time, where this is the one that is known then. Returns `Memory`
     // if memory runs out.
@@ -102,13 +94,56 @@ impl Asker {
             (open_view (asker_view self).me (asker_view self).life request.now)
             ≡ next_view (asker_view self) time.0 (open_view (asker_view self).me (asker_view self).life request.now) next) }
     {
-        if is_for(told, read.at) && !can_read(known, read.at) {
+        if is_empty(told, known, read.at) {
             return Ok(Next::IsEmpty(read.at, read.telling));
         }
         let count = request.count;
         let namespace = &request.namespace;
-        let sends = self.read_on(alloc, time, count, namespace, known, false, read, read.at)?;
-        Ok(Next::Reads(sends))
+        let sends = self.read_on(
+            alloc,
+            time,
+            count,
+            namespace,
+            known,
+            false,
+            read,
+            read.at,
+            &request.tries,
+        )?;
+        Ok(of_sends(sends))
+    }
+
+    // Returns what becomes of a write that waits for the catalogue, after a table arrived, where this is the one that is known then. Returns `Memory` if memory
+    // runs out, and where the answer is longer than allowed.
+    fn next_write(
+        self,
+        alloc: Global,
+        time: Time,
+        known: Option<&Table>,
+        request: &OpenRequest,
+        write: &OpenWrite,
+    ) -> Result<Next, Memory>
+        requires { (open_view (asker_view self).me (asker_view self).life request.now).work
+            ≡ write_view (requested.id_of (asker_view self) request.now.count) write.now }
+        ensures { IfOk result (λ next. write_arrives (asker_view self) time.0 (option_map (λ t. t.now) known.entry)
+            (open_view (asker_view self).me (asker_view self).life request.now)
+            ≡ next_view (asker_view self) time.0 (open_view (asker_view self).me (asker_view self).life request.now) next) }
+    {
+        let runs = copies_of(alloc, &write.runs)?;
+        let next = self.write_on(
+            alloc,
+            time,
+            request.count,
+            &request.namespace,
+            known,
+            false,
+            &[],
+            write,
+            &write.answers,
+            &write.tries,
+            runs,
+        )?;
+        Ok(of_write(next))
     }
 
     /// Returns what becomes of an open request after a table of this collection arrived for a time, where this is the one that is known then; `made` where the
@@ -129,35 +164,19 @@ impl Asker {
             ≡ next_view (asker_view self) time.0 (open_view (asker_view self).me (asker_view self).life request.now) next) }
     {
         if !waits_for(request, namespace) {
-            return Ok(Next::Stays);
+            return Ok(same(alloc));
         }
-        let count = request.count;
         match &request.work {
-            Work::Writing(write) => {
-                let runs = copies_of(alloc, &write.runs)?;
-                let next = self.write_on(
-                    alloc,
-                    time,
-                    count,
-                    namespace,
-                    known,
-                    false,
-                    &[],
-                    write,
-                    &write.answers,
-                    runs,
-                )?;
-                Ok(Next::Writes(next))
-            }
+            Work::Writing(write) => self.next_write(alloc, time, known, request, write),
             Work::Reading(read) => self.next_read(alloc, time, told, known, request, read),
             Work::Sharding => {
                 if made {
                     Ok(Next::IsSharded)
                 } else {
-                    Ok(Next::Stays)
+                    Ok(same(alloc))
                 }
             }
-            Work::Splitting(_) => Ok(Next::Stays),
+            Work::Splitting(_) => Ok(same(alloc)),
         }
     }
 }

@@ -16,7 +16,7 @@ use std::alloc::Global;
 const FIRST_SHARD: u32 = 1;
 
 /// Returns whether a shard is among those that returned their time.
-fn has_told(told: &[NodeId], shard: NodeId) -> bool
+pub(crate) fn has_told(told: &[NodeId], shard: NodeId) -> bool
     ensures { result ≡ list_any (λ t. t == shard.0) (numbers_of told.now) }
 {
     told.contains(&shard)

@@ -1,14 +1,19 @@
 //! Open requests.
 
+ghost use Rattle.std.specs.Prelude.{◌≡◌};
+ghost use Rattle.command_model.specs.Command.{time_limit};
+ghost use Rattle.protocol_model.specs.Heads.{head_request};
+
+use crate::fates::Stay;
 use crate::read::OpenRead;
 use crate::write::OpenWrite;
 use bson_values::Memory;
 use cluster_base::{Namespace, NodeId, Time};
 use pipeline_eval::Rows;
-use protocol_model::{HalfFault, Head, StatementOutcome};
+use protocol_model::{HalfFault, Head, StatementOutcome, Try};
 use read_parts::{Part, Target, has_part};
 use value_compare::Key;
-use write_runs::Run;
+use write_runs::{Course, Run};
 
 /// What a request has to do before it is answered.
 #[derive(Drop)]
@@ -45,6 +50,12 @@ pub struct OpenRequest {
     pub number: i32,
     /// What came.
     pub head: Head,
+    /// The last moment that the router was given before it took it, 0 if there was none.
+    pub arrived: u64,
+    /// How many milliseconds it may take, 0 where there is no limit.
+    pub limit: u64,
+    /// Of a read, the tries that met a later table.
+    pub tries: Vec<Try>,
     /// The collection that it is of.
     pub namespace: Namespace,
     pub wait: Wait,
@@ -55,35 +66,43 @@ pub struct OpenRequest {
     /// What they returned, in the order in which they did.
     pub parts: Vec<Part>,
     pub work: Work,
+    ghost limited: { time_limit (head_request head) ≡ limit },
 }
 
 impl OpenRequest {
-    ghost use Rattle.std.specs.Prelude.{◌≡◌, ℕ, List, [], Bool, true, map, OnOk};
-    ghost use Rattle.node_model.specs.Letters as letters;
+    ghost use Rattle.std.specs.Prelude.{◌≡◌, ℕ, [], true, map, OnOk};
     ghost use Rattle.node_model.specs.RouterRequests as requested;
     ghost use Rattle.node_model.specs.RouterNext as nexts;
-    ghost use Rattle.node_model.specs.States as states;
-    ghost use Rattle.command_model.specs.Writes as writes;
     ghost use Rattle.protocol_model.specs.Bodies.{rows_view};
     ghost use Rattle.read_parts.specs.Parts.{target_view};
     ghost use Rattle.router_requests.specs.Lists.{has_part_room};
-    ghost use Rattle.router_requests.specs.Nexts.{runs_in};
+    ghost use Rattle.router_requests.specs.Fates.{answers_in, course_in, runs_in, stay_of, tried_by};
     ghost use Rattle.router_requests.specs.Works.{numbers_of, open_view, told_by, wait_view};
-    ghost use Rattle.write_runs.specs.Runs.{course_view, runs_view};
+    ghost use Rattle.write_runs.specs.Runs.{answers_view, course_of, runs_view, tries_view};
 
-    // A write has these answers now, these runs of it are under way, and it waits for this.
-    pub(crate) fn answer(
-        &mut self,
-        wait: Wait,
-        answers: Vec<Option<StatementOutcome>>,
-        runs: Vec<Run>,
-    )
+    // It waits for this now; a write has come this far.
+    fn come(&mut self, wait: Wait, course: Course)
         ensures count { self.new.count ≡ self.old.count }
-        ensures work { (router life : ℕ) (kind : writes.WriteKind) (ordered : Bool) (statements : List letters.Statement) (before : states.Course) →
-            (open_view router life self.old).work ≡ states.writing kind ordered statements before →
-            open_view router life self.new
+        ensures come { (router life : ℕ) → open_view router life self.new
+            ≡ nexts.with_work (open_view router life self.old) (wait_view wait) [] (course_in (open_view router life self.old).work (course_of course)) }
+    {
+        self.wait = wait;
+        self.targets.clear();
+        self.parts.clear();
+        match &mut self.work {
+            Work::Writing(write) => write.come(course),
+            Work::Reading(_) => {}
+            Work::Sharding => {}
+            Work::Splitting(_) => {}
+        }
+    }
+
+    // It waits for this now; a write has these answers, and these runs of it are under way.
+    fn answer(&mut self, wait: Wait, answers: Vec<Option<StatementOutcome>>, runs: Vec<Run>)
+        ensures count { self.new.count ≡ self.old.count }
+        ensures answers { (router life : ℕ) → open_view router life self.new
             ≡ nexts.with_work (open_view router life self.old) (wait_view wait) []
-            (states.writing kind ordered statements (course_view answers.items runs.items)) }
+            (answers_in (open_view router life self.old).work (answers_view answers.items) (runs_view runs.items)) }
     {
         self.wait = wait;
         self.targets.clear();
@@ -100,7 +119,7 @@ impl OpenRequest {
     }
 
     // It waits for this now; of a write these runs are under way.
-    pub(crate) fn wait_for_runs(&mut self, wait: Wait, runs: Vec<Run>)
+    fn wait_for_runs(&mut self, wait: Wait, runs: Vec<Run>)
         ensures count { self.new.count ≡ self.old.count }
         ensures waits { (router life : ℕ) → open_view router life self.new
             ≡ nexts.with_work (open_view router life self.old) (wait_view wait) [] (runs_in (open_view router life self.old).work (runs_view runs.items)) }
@@ -146,7 +165,7 @@ impl OpenRequest {
     }
 
     // It waits for this now; it was sent to these shards.
-    pub(crate) fn wait_for(&mut self, wait: Wait, targets: Vec<Target>)
+    fn wait_for(&mut self, wait: Wait, targets: Vec<Target>)
         ensures count { self.new.count ≡ self.old.count }
         ensures waits { (router life : ℕ) → open_view router life self.new
             ≡ nexts.with_work (open_view router life self.old) (wait_view wait) (map target_view targets.items) (open_view router life self.old).work }
@@ -154,6 +173,32 @@ impl OpenRequest {
         self.wait = wait;
         self.targets = targets;
         self.parts.clear();
+    }
+
+    // It waits for this now, after these tries; it was sent to these shards.
+    fn try_again(&mut self, tries: Vec<Try>, wait: Wait, targets: Vec<Target>)
+        ensures count { self.new.count ≡ self.old.count }
+        ensures tries { (router life : ℕ) → open_view router life self.new
+            ≡ nexts.with_work (tried_by (open_view router life self.old) (tries_view tries.items)) (wait_view wait) (map target_view targets.items)
+            (open_view router life self.old).work }
+    {
+        self.tries = tries;
+        self.wait_for(wait, targets);
+    }
+
+    // It stays open like this.
+    pub(crate) fn stay(&mut self, stay: Stay)
+        ensures count { self.new.count ≡ self.old.count }
+        ensures stays { (router life : ℕ) → open_view router life self.new ≡ stay_of (open_view router life self.old) stay }
+    {
+        match stay {
+            Stay::Same => {}
+            Stay::Reads(wait, targets) => self.wait_for(wait, targets),
+            Stay::ReadsAgain(tries, wait, targets) => self.try_again(tries, wait, targets),
+            Stay::Writes(wait, runs) => self.wait_for_runs(wait, runs),
+            Stay::Answers(wait, answers, runs) => self.answer(wait, answers, runs),
+            Stay::Tries(wait, course) => self.come(wait, course),
+        }
     }
 
     // A read is of this time now, unless one is named, and waits for this; it was sent to these shards.
@@ -178,7 +223,7 @@ impl OpenRequest {
 impl Work {
     ghost use Rattle.std.specs.Prelude.{◌≡◌};
     ghost use Rattle.base_model.specs.Identities as identities;
-    ghost use Rattle.router_requests.specs.Nexts.{runs_in};
+    ghost use Rattle.router_requests.specs.Fates.{runs_in};
     ghost use Rattle.router_requests.specs.Works.{work_view};
     ghost use Rattle.write_runs.specs.Runs.{runs_view};
 

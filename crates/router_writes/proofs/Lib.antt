@@ -1,4 +1,5 @@
 mod Counted
 mod Joint
 mod Places
+mod Refusing
 mod Times

@@ -51,7 +51,7 @@ first_later (suc i) (Some x ∷ answers) shut within le = omega (arith, first_la
 -- THE PROGRAM'S PLACES
 
 -- the place with this index has no outcome
-open_place : (answers : List (Option program.StatementOutcome)) (i : ℕ) (a : Option program.StatementOutcome) → i < length answers → a ≡ get_or answers i a
+pub open_place : (answers : List (Option program.StatementOutcome)) (i : ℕ) (a : Option program.StatementOutcome) → i < length answers → a ≡ get_or answers i a
     → is_open i (answers_view answers) ≡ is_none a
 open_place [] i a within here = absurd (omega (arith, within))
 open_place (None ∷ answers) zero a within here = ap (λ (o : Option program.StatementOutcome). is_none o) (sym here)
@@ -64,12 +64,12 @@ none_is some true is = ap not is
 none_is some false is = ap not is
 
 -- there is no such place
-shut_past : (answers : Answers) (i : ℕ) → length answers ≤ i → is_open i answers ≡ false
+pub shut_past : (answers : Answers) (i : ℕ) → length answers ≤ i → is_open i answers ≡ false
 shut_past [] i past = refl
 shut_past (x ∷ answers) zero past = absurd (omega (arith, past))
 shut_past (x ∷ answers) (suc i) past = shut_past answers i (omega (arith, past))
 
-length_view : (answers : List (Option program.StatementOutcome)) → length (answers_view answers) ≡ length answers
+pub length_view : (answers : List (Option program.StatementOutcome)) → length (answers_view answers) ≡ length answers
 length_view [] = refl
 length_view (x ∷ answers) = ap suc (length_view answers)
 
@@ -108,7 +108,7 @@ old_past ordered answers i past le = new_in_turn ordered i (answers_view answers
 
 -- WHAT BECOMES OF THE OUTCOMES
 
-open_within : (i : ℕ) (answers : Answers) → is_open i answers ≡ true → i < length answers
+pub open_within : (i : ℕ) (answers : Answers) → is_open i answers ≡ true → i < length answers
 open_within i [] opens = absurd (cc)
 open_within zero (x ∷ answers) opens = omega arith
 open_within (suc i) (x ∷ answers) opens = omega (arith, open_within i answers opens)
@@ -119,7 +119,7 @@ open_set zero x (None ∷ answers) opens = refl
 open_set zero x (Some y ∷ answers) opens = absurd (cc)
 open_set (suc i) x (y ∷ answers) opens = ap (λ (l : Answers). y ∷ l) (open_set i x answers opens)
 
-shut_same : (i : ℕ) (x : StatementOutcome) (answers : Answers) → is_open i answers ≡ false → with_outcome i x answers ≡ answers
+pub shut_same : (i : ℕ) (x : StatementOutcome) (answers : Answers) → is_open i answers ≡ false → with_outcome i x answers ≡ answers
 shut_same i x [] shut = refl
 shut_same zero x (None ∷ answers) shut = absurd (cc)
 shut_same zero x (Some y ∷ answers) shut = refl

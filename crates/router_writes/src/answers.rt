@@ -10,7 +10,6 @@ ghost use Rattle.protocol_model.specs.Statements.{done_view};
 ghost use Rattle.router_writes.specs.Counts as counts;
 ghost use Rattle.write_runs.specs.Runs.{answers_view};
 
-use crate::copies::copy_outcome;
 use crate::told::{errors_of, upserted_by};
 use bson_values::Memory;
 use cluster_base::Time;
@@ -34,7 +33,7 @@ fn count_of(answer: &StatementOutcome) -> u32
 {
     match answer {
         StatementOutcome::WasDone { outcome, .. } => outcome.count,
-        StatementOutcome::Older(_) => 0,
+        StatementOutcome::Older(_) | StatementOutcome::WasRefused(_) => 0,
     }
 }
 
@@ -44,7 +43,7 @@ fn changed_by(answer: &StatementOutcome) -> u32
 {
     match answer {
         StatementOutcome::WasDone { outcome, .. } => outcome.modified,
-        StatementOutcome::Older(_) => 0,
+        StatementOutcome::Older(_) | StatementOutcome::WasRefused(_) => 0,
     }
 }
 
@@ -79,7 +78,7 @@ fn greatest(time: Option<Time>, answer: &StatementOutcome) -> Option<Time>
             Some(time) => Some(Time(next.0.max(time.0))),
             None => Some(*next),
         },
-        StatementOutcome::Older(_) => time,
+        StatementOutcome::Older(_) | StatementOutcome::WasRefused(_) => time,
     }
 }
 
@@ -104,7 +103,7 @@ fn add_done(
     ensures { OnOk result (map done_view dones.new.items ≡ map done_view dones.old.items ++ outcomes.dones_from index (option_map told.answer_view answer.now ∷ [])) }
 {
     if let Some(outcome) = answer {
-        let answer = copy_outcome(outcome)?;
+        let answer = outcome.copy()?;
         dones.push(Done { index, answer })?;
     }
     Ok(())

@@ -11,7 +11,7 @@ ghost use Rattle.protocol_model.specs.Statements.{done_view, statement_view};
 ghost use Rattle.router_writes.specs.Places as places;
 ghost use Rattle.write_runs.specs.Runs.{answers_view};
 
-use crate::copies::{copies_of, copy_outcome};
+use crate::copies::copies_of;
 use bson_values::Memory;
 use protocol_model::{Done, Statement, StatementOutcome};
 use std::alloc::Global;
@@ -61,6 +61,13 @@ fn first_from(answers: &[Option<StatementOutcome>], from: usize) -> usize
     first
 }
 
+/// Returns whether the statement with this index has no outcome yet.
+pub(crate) fn is_open(index: usize, answers: &[Option<StatementOutcome>]) -> bool
+    ensures { result ≡ places.is_open index (answers_view answers.now) }
+{
+    index < answers.len() && answers[index].is_none()
+}
+
 /// Returns whether the outcome of the statement with this index is new, where `first` is the first statement without one.
 fn is_new(ordered: bool, index: usize, answers: &[Option<StatementOutcome>], first: usize) -> bool
     requires { first ≡ places.first_open (answers_view answers.now) }
@@ -69,11 +76,11 @@ fn is_new(ordered: bool, index: usize, answers: &[Option<StatementOutcome>], fir
     if ordered && first < index {
         return false;
     }
-    index < answers.len() && answers[index].is_none()
+    is_open(index, answers)
 }
 
 /// Stores an item at a place of a list.
-fn put<T: Drop>(list: &mut Vec<T>, place: usize, item: T)
+pub(crate) fn put<T: Drop>(list: &mut Vec<T>, place: usize, item: T)
     requires { place < vec_len list.old }
     ensures { list.new.items ≡ slice_set list.old.items place item }
 {
@@ -98,7 +105,7 @@ fn note_one(
     if !is_new(ordered, index, answers, *first) {
         return Ok(false);
     }
-    let outcome = copy_outcome(&done.answer)?;
+    let outcome = done.answer.copy()?;
     put(answers, index, Some(outcome));
     *first = first_from(answers, *first);
     Ok(true)

@@ -38,7 +38,7 @@ fn key_of(answer: &StatementOutcome) -> Option<&Arc<Key, Global>>
 {
     match answer {
         StatementOutcome::WasDone { outcome, .. } => outcome.upserted.as_ref(),
-        StatementOutcome::Older(_) => None,
+        StatementOutcome::Older(_) | StatementOutcome::WasRefused(_) => None,
     }
 }
 
@@ -97,31 +97,32 @@ pub(crate) fn upserted_by(alloc: Global, dones: &[Done]) -> Result<Vec<Upserted>
     }
 }
 
-/// Returns the error of a statement, if it has one, with its evidence.
-fn refusal_of(answer: &StatementOutcome) -> Option<Refusal>
-    ensures { option_map refusal_view result ≡ outcomes.refusal_in (answer_view answer.now) }
+/// Returns the error of a statement, if it has one, with its evidence. Returns `Memory` if memory runs out.
+fn refusal_of(alloc: Global, answer: &StatementOutcome) -> Result<Option<Refusal>, Memory>
+    ensures { IfOk result (λ found. option_map refusal_view found ≡ outcomes.refusal_in (answer_view answer.now)) }
 {
     match answer {
         StatementOutcome::WasDone { outcome, .. } => match outcome.error {
-            Some(code) => Some(Refusal {
+            Some(code) => Ok(Some(Refusal {
                 code,
                 evidence: Evidence::Nothing,
-            }),
-            None => None,
+            })),
+            None => Ok(None),
         },
-        StatementOutcome::Older(greatest) => Some(Refusal {
+        StatementOutcome::Older(greatest) => Ok(Some(Refusal {
             code: Code::TransactionTooOld,
             evidence: Evidence::Number { number: *greatest },
-        }),
+        })),
+        StatementOutcome::WasRefused(refusal) => Ok(Some(refusal.copy(alloc)?)),
     }
 }
 
 /// Appends the error of a statement, if it has one. Returns `Memory` if memory runs out, and where no command can have its index.
 #[tactic(auto, using(crate::proofs::Counted::errors_pushed, crate::proofs::Counted::error_told))]
-fn add_error(errors: &mut Vec<WriteError>, done: &Done) -> Result<(), Memory>
+fn add_error(alloc: Global, errors: &mut Vec<WriteError>, done: &Done) -> Result<(), Memory>
     ensures { OnOk result (errors_view errors.new.items ≡ errors_view errors.old.items ++ outcomes.errors_of (done_view done.now ∷ [])) }
 {
-    let Some(refusal) = refusal_of(&done.answer) else {
+    let Some(refusal) = refusal_of(alloc, &done.answer)? else {
         return Ok(());
     };
     let index = index_of(done)?;
@@ -135,7 +136,7 @@ pub(crate) fn errors_of(alloc: Global, dones: &[Done]) -> Result<Vec<WriteError>
 {
     let mut errors = Vec::new(alloc);
     for done in dones {
-        add_error(&mut errors, done)?;
+        add_error(alloc, &mut errors, done)?;
     }
     Ok(errors)
 }

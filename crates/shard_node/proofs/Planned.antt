@@ -22,10 +22,11 @@ use Rattle.shard_node.specs.Writes.{AreKept, spellings_of}
 use Rattle.node_traits.specs.Letters as letters
 use Rattle.node_traits.specs.Letters.{Letter, Body, Input, letter_input, table_told, write_ask, write_done, Effect, sends, writes, nothing}
 use Rattle.command_replies.specs.Kinds.{given_view}
-use Rattle.node_traits.specs.ShardRows.{Ask, AsksNothing, ShardRow, shard_write, shard_repeat, shard_empty, shard_park, shard_waits, shard_stale, shard_read, shard_read_above, shard_rows, shard_excess, shard_overflow, shard_time, shard_learn, shard_known, shard_skip, shard_moment, shard_opened, shard_client, at_later, heard, says, ask_in, asks_again, asks_table}
+use Rattle.node_traits.specs.ShardRows.{Ask, AsksNothing, ShardRow, shard_write, shard_repeat, shard_empty, shard_park, shard_waits, shard_stale, shard_read, shard_read_above, shard_rows, shard_excess, shard_overflow, shard_time, shard_learn, shard_known, shard_no_table, shard_skip, shard_moment, shard_opened, shard_client, at_later, heard, says, ask_in, asks_again, asks_table}
 use Rattle.node_traits.specs.States.{Shard, shard_state}
 use Rattle.chunk_table.specs.VerdictMeanings.{sent_view}
-use Rattle.protocol_model.specs.Bodies.{at_view, body_view, table_told_view}
+use Rattle.protocol_model.specs.Bodies.{body_view, table_told_view}
+use Rattle.protocol_model.specs.Tables.{at_view}
 use Rattle.protocol_model.specs.Statements.{statement_view}
 use Rattle.protocol_model.specs.declared.body.Body as bodies
 use Rattle.protocol_model.specs.declared.body.Body.TheVariants as variants
@@ -40,7 +41,7 @@ use Rattle.std.specs.Option.{option_map}
 use Rattle.protocol_model.specs.Messages.{letter_of}
 use Rattle.shard_node.specs.Plans.{changed, after, FollowsBy, IsPlanned, IsStep}
 use Rattle.shard_node.specs.declared.plan.Change.{Change}
-use Rattle.shard_node.specs.declared.plan.Change.TheVariants.{Nothing, Park, Learn, Ceil, Write}
+use Rattle.shard_node.specs.declared.plan.Change.TheVariants.{Nothing, Park, Learn, Release, Ceil, Write}
 use Rattle.shard_node.specs.declared.plan.StepPlan.{StepPlan}
 
 -- the shard changes nothing but its time
@@ -140,6 +141,7 @@ row_later _ _ _ _ (shard_overflow s m id turn namespace at half documents body o
 row_later _ _ _ _ (shard_time s m id body) = le-max_left s.time m.time
 row_later _ _ _ _ (shard_learn s m namespace create at t body news) = le-max_left s.time m.time
 row_later _ _ _ _ (shard_known s m namespace create at table body known) = le-max_left s.time m.time
+row_later _ _ _ _ (shard_no_table s m namespace node lack body) = le-max_left s.time m.time
 row_later _ _ _ _ (shard_skip s m none) = omega arith
 row_later _ _ _ _ (shard_moment s moment) = le-max_left s.time (time_of_moment moment)
 row_later _ _ _ _ (shard_opened s) = omega arith
@@ -149,6 +151,7 @@ time_after : (s : Shard) (time : ℕ) (change : Change) → (changed s time chan
 time_after s time Nothing = refl
 time_after s time (Park message) = refl
 time_after s time (Learn table) = refl
+time_after s time (Release namespace) = refl
 time_after s time (Ceil at) = refl
 time_after s time (Write namespace entries) = refl
 
@@ -230,6 +233,7 @@ pub follows_same : (n k : ShardNode) (time : ℕ) (change : Change) → entries_
 follows_same n k time Nothing entries last follows = tt
 follows_same n k time (Park message) entries last follows = tt
 follows_same n k time (Learn table) entries last follows = tt
+follows_same n k time (Release namespace) entries last follows = tt
 follows_same n k time (Ceil at) entries last follows = tt
 follows_same n k time (Write namespace plan) entries last follows = (
   subst (λ (es : List Entry). IsPlan es (last_of k.store) namespace plan) (sym entries)

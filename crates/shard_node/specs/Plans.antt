@@ -16,7 +16,7 @@ use Rattle.shard_store.specs.Plans.{IsPlan, made_by, time_of}
 use Rattle.shard_store.specs.Stores.{HasRoom, entries_of, last_of}
 use Rattle.shard_node.specs.declared.node.ShardNode.{ShardNode}
 use Rattle.shard_node.specs.declared.plan.Change.{Change}
-use Rattle.shard_node.specs.declared.plan.Change.TheVariants.{Nothing, Park, Learn, Ceil, Write}
+use Rattle.shard_node.specs.declared.plan.Change.TheVariants.{Nothing, Park, Learn, Release, Ceil, Write}
 use Rattle.shard_node.specs.declared.plan.StepPlan.{StepPlan}
 
 -- the shard at a later time, and changed
@@ -30,6 +30,14 @@ changed s time (Learn table) = record {
   entries = s.entries;
   ceiling = s.ceiling;
   parked = filter (λ p. not (wants_table (arc_value table).namespace p)) s.parked;
+}
+changed s time (Release namespace) = record {
+  me = s.me;
+  time = time;
+  tables = s.tables;
+  entries = s.entries;
+  ceiling = s.ceiling;
+  parked = filter (λ p. not (wants_table namespace p)) s.parked;
 }
 changed s time (Ceil at) = under s time at.0
 changed s time (Write namespace entries) = record {
@@ -67,6 +75,7 @@ abbrev pub FollowsBy : ShardNode → ℕ → Change → Type 0
 FollowsBy n time Nothing = Unit {0}
 FollowsBy n time (Park message) = Unit {0}
 FollowsBy n time (Learn table) = Unit {0}
+FollowsBy n time (Release namespace) = Unit {0}
 FollowsBy n time (Ceil at) = Unit {0}
 FollowsBy n time (Write namespace entries) = IsPlan (entries_of n.store) (last_of n.store) namespace entries × (time_of entries ≤ time)
 
@@ -78,6 +87,7 @@ abbrev pub HasRoomFor : ShardNode → Change → Type 0
 HasRoomFor n Nothing = Unit {0}
 HasRoomFor n (Park message) = nat_lt (vec_len n.parked) (vec_capacity n.parked) ≡ true
 HasRoomFor n (Learn table) = 1 ≤ n.tables.room
+HasRoomFor n (Release namespace) = Unit {0}
 HasRoomFor n (Ceil at) = Unit {0}
 HasRoomFor n (Write namespace entries) = HasRoom n.store namespace entries
 

@@ -53,6 +53,21 @@ impl ShardNode {
             parked: Vec::new(alloc),
         }
     }
+
+    /// Returns how many steps it has taken.
+    pub fn counted(&self) -> &StepCount
+        ensures { result.now ≡ self.now.steps }
+    {
+        &self.steps
+    }
+
+    /// Goes on with the count of a node that stopped.
+    pub fn count_from(&mut self, before: &StepCount)
+        ensures state { state_of self.new ≡ state_of self.old }
+        ensures steps { self.new.steps ≡ before.now }
+    {
+        self.steps.keep(before);
+    }
 }
 
 impl Node for ShardNode {
@@ -96,6 +111,10 @@ impl Node for ShardNode {
 
     fn prepare<R: Threads + Sync>(_rt: &R, _alloc: Global, mail: Message) -> Input {
         Input::Deliver(mail)
+    }
+
+    fn keep_count(&mut self, before: &ShardNode) {
+        self.count_from(before.counted());
     }
 
     fn step<L: Log>(&mut self, log: &mut L, input: Input) -> Result<Outputs<Message>, StepFault> {

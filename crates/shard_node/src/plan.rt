@@ -21,6 +21,8 @@ pub(crate) enum Change {
     Park(Message),
     /// The table is known, and what waited for it waits no longer.
     Learn(Arc<Table, Global>),
+    /// What waits for the table of the collection waits no longer.
+    Release(Namespace),
     /// The time of a read is a ceiling from now on.
     Ceil(Time),
     /// The entries are made in the collection.

@@ -3,13 +3,15 @@
 ghost use Rattle.std.specs.Prelude.{◌≡◌, ◌≢◌, ◌≤◌, ◌<◌, [], IfOk, IfSome, None, OnOk, Some, false, map};
 ghost use Rattle.chunk_table.specs.Tables.{table_of};
 ghost use Rattle.chunk_table.specs.Verdicts.{fits, verdict_of};
-ghost use Rattle.node_traits.specs.Effects.{StepPlanned, last_time, time_in};
+ghost use Rattle.node_model.specs.Lacks.{last_time, time_in};
+ghost use Rattle.node_traits.specs.Effects.{StepPlanned};
 ghost use Rattle.node_traits.specs.Letters.{Letter, letter_input};
 ghost use Rattle.node_traits.specs.ShardRows.{Ask, ask_in, heard, was_seen};
 ghost use Rattle.node_traits.specs.States.{shard_state};
 ghost use Rattle.protocol_model.specs.Bodies.{body_view, table_told_view};
 ghost use Rattle.protocol_model.specs.Inputs.{input_of};
 ghost use Rattle.protocol_model.specs.Messages.{letter_of};
+ghost use Rattle.protocol_model.specs.Refusals.{refused_view};
 ghost use Rattle.shard_node.specs.Plans.{Follows, FollowsBy, HasRoomFor, IsPlanned, IsReady, IsStep, after, changed};
 ghost use Rattle.shard_node.specs.State.{shard_view, state_of};
 ghost use Rattle.shard_requests.specs.Standings.{Stands};
@@ -22,8 +24,8 @@ use bson_values::Memory;
 use chunk_table::Version;
 use cluster_base::Time;
 use node_traits::{Outputs, ReplyList};
-use protocol_model::{Body, Input, Message, TableTold};
-use shard_requests::{Standing, keep_others, later, standing_of};
+use protocol_model::{Body, Input, Message, Refused, TableTold};
+use shard_requests::{Standing, keep_others, later, no_table, standing_of};
 
 impl ShardNode {
     // Returns the plan for a first statement that is not new, which is answered so on any table, or `Memory` if memory runs out.
@@ -45,7 +47,7 @@ impl ShardNode {
             | Body::WriteDone(_)
             | Body::HalfAsk(_)
             | Body::ReadRows(_)
-            | Body::Stale(_)
+            | Body::Refused(_)
             | Body::TimeAsk(_)
             | Body::TimeTold(_) => Ok(None),
         }
@@ -96,7 +98,7 @@ impl ShardNode {
             | Body::WriteDone(_)
             | Body::HalfAsk(_)
             | Body::ReadRows(_)
-            | Body::Stale(_)
+            | Body::Refused(_)
             | Body::TimeAsk(_)
             | Body::TimeTold(_) => Ok(StepPlan::of_time(self.alloc, time)),
         }
@@ -112,6 +114,18 @@ impl ShardNode {
         match table {
             Some(table) => self.plan_table(time, table),
             None => Ok(StepPlan::of_time(self.alloc, time)),
+        }
+    }
+
+    // Returns the plan for the answer to a request of this shard, or of another node, that was not served. Returns `Memory` if memory runs out.
+    fn plan_refused(&self, time: Time, answer: Refused) -> Result<StepPlan, Memory>
+        ensures planned { (m : Letter) → m.body ≡ refused_view answer → time.0 ≡ heard (shard_view self.now) m →
+            IfOk result (λ p. IsPlanned (shard_view self.now) (letter_input m) p) }
+        ensures follows { IfOk result (λ p. Follows self.now p) }
+    {
+        match no_table(answer) {
+            Some(missing) => self.plan_no_table(time, missing),
+            None => Ok(StepPlan::of_time(self.alloc, self.time)),
         }
     }
 
@@ -133,7 +147,7 @@ impl ShardNode {
             Body::SplitDone(_) => Ok(StepPlan::of_time(self.alloc, self.time)),
             Body::WriteDone(_) => Ok(StepPlan::of_time(self.alloc, self.time)),
             Body::ReadRows(_) => Ok(StepPlan::of_time(self.alloc, self.time)),
-            Body::Stale(_) => Ok(StepPlan::of_time(self.alloc, self.time)),
+            Body::Refused(answer) => self.plan_refused(time, answer),
             Body::TimeTold(_) => Ok(StepPlan::of_time(self.alloc, self.time)),
         }
     }
@@ -185,6 +199,7 @@ impl ShardNode {
             Change::Nothing => {}
             Change::Park(_) => self.parked.reserve(1)?,
             Change::Learn(_) => self.tables.reserve()?,
+            Change::Release(_) => {}
             Change::Ceil(_) => {}
             Change::Write { namespace, entries } => self.store.reserve(namespace, entries)?,
         }
@@ -242,6 +257,7 @@ impl ShardNode {
                 keep_others(&mut self.parked, table.namespace());
                 self.tables.adopt(table);
             }
+            Change::Release(namespace) => keep_others(&mut self.parked, &namespace),
             Change::Ceil(at) => self.ceiling = at,
             Change::Write { namespace, entries } => self.store.commit(&namespace, entries),
         }

@@ -2,13 +2,16 @@
 
 ghost use Rattle.std.specs.Prelude.{◌≡◌, ◌++◌, ◌∷◌, [], ℕ, Bool, List, IfOk, OnOk, Some, false, true, filter, map};
 ghost use Rattle.std.specs.Arc.{arc_value};
+ghost use Rattle.std.specs.List.{flat_map};
 ghost use Rattle.chunk_table.specs.Meanings.{version_view};
 ghost use Rattle.chunk_table.specs.Tables.{table_of};
 ghost use Rattle.chunk_table.specs.Verdicts.{router_is_old, shard_is_old, verdict_of};
 ghost use Rattle.node_traits.specs.Letters as letters;
-ghost use Rattle.node_traits.specs.Letters.{Letter, letter_input, moment_input, table_told};
-ghost use Rattle.node_traits.specs.ShardRows.{Ask, ask_in, asks_again, asks_table, heard, is_news, tries, wants_table, was_seen};
+ghost use Rattle.node_traits.specs.Letters.{Letter, is_lack, letter_input, moment_input, no_time, of_request, of_table, refused, table_told};
+ghost use Rattle.node_traits.specs.ShardRows.{Ask, ask_in, asks_again, asks_table, heard, index_shown, is_news, refuses, says, tries, wants_table, was_seen};
 ghost use Rattle.protocol_model.specs.Messages.{letter_of};
+ghost use Rattle.protocol_model.specs.Refusals.{cause_view, lack_view};
+ghost use Rattle.shard_requests.specs.Asks.{ask_view};
 ghost use Rattle.shard_node.specs.Plans.{Follows, IsPlanned};
 ghost use Rattle.shard_node.specs.State.{shard_view};
 
@@ -18,8 +21,11 @@ use bson_values::Memory;
 use chunk_table::{Table, Version};
 use cluster_base::{Namespace, NodeId, Time, moment_time};
 use node_traits::MailList;
-use protocol_model::{At, Body, Message, Stale, TableAsk};
-use shard_requests::{ask_in, is_news, is_parked, later, table_records, wants_table};
+use protocol_model::{At, Body, Cause, Message, TableAsk};
+use shard_requests::{
+    Ask as Asked, NoTable, ask_in, is_news, is_parked, later, refused_by, table_records,
+    wants_table,
+};
 use std::alloc::Global;
 use std::sync::Arc;
 
@@ -63,6 +69,14 @@ impl ShardNode {
         })
     }
 
+    // Returns the message that a request is not served.
+    fn refusal(&self, time: Time, ask: &Asked<'_>, cause: Cause) -> Message
+        ensures { letter_of result ≡ says (shard_view self.now) ask.now.id.router.0 time.0 (refused
+            (of_request (ask_view ask.now).id (ask_view ask.now).turn (index_shown (ask_view ask.now).first)) (cause_view cause)) }
+    {
+        self.message(ask.id.router, time, Body::Refused(refused_by(ask, cause)))
+    }
+
     // Returns the plan for a request that was sent with an older table: it is not served.
     pub(crate) fn plan_stale(&self, time: Time, message: &Message, met: Version) -> StepPlan
         requires time { time.0 ≡ heard (shard_view self.now) (letter_of message.now) }
@@ -75,12 +89,7 @@ impl ShardNode {
         let Some(ask) = ask_in(&message.body) else {
             return StepPlan::of_time(self.alloc, time);
         };
-        let stale = Stale {
-            id: ask.id,
-            turn: ask.turn,
-            met,
-        };
-        let told = self.message(ask.id.router, time, Body::Stale(stale));
+        let told = self.refusal(time, &ask, Cause::Stale { met });
         StepPlan::of_message(self.alloc, time, told)
     }
 
@@ -172,6 +181,60 @@ impl ShardNode {
             mail,
             records,
             change: Change::Learn(table),
+        })
+    }
+
+    // Returns to its router that the table of a request that waits can't be had, if it waits for this one, after other messages. Returns `Memory` if memory
+    // runs out.
+    fn refuse(
+        &self,
+        time: Time,
+        missing: &NoTable,
+        parked: &Message,
+        mail: &mut MailList<Message>,
+    ) -> Result<(), Memory>
+        ensures { OnOk result (map letter_of mail.new ≡ map letter_of mail.old
+            ++ flat_map (refuses (shard_view self.now) time.0 missing.now.node.0 (lack_view missing.now.lack))
+            (filter (wants_table missing.now.namespace) (letter_of parked.now ∷ []))) }
+    {
+        if !wants_table(parked, &missing.namespace) {
+            return Ok(());
+        }
+        let Some(ask) = ask_in(&parked.body) else {
+            return Ok(());
+        };
+        let cause = Cause::Lack {
+            node: missing.node,
+            lack: missing.lack,
+        };
+        mail.push(self.refusal(time, &ask, cause))
+    }
+
+    // Returns what the routers of all that waited for a table that can't be had learn, in order. Returns `Memory` if memory runs out.
+    fn refusals(&self, time: Time, missing: &NoTable) -> Result<MailList<Message>, Memory>
+        ensures { IfOk result (λ mail. map letter_of mail
+            ≡ flat_map (refuses (shard_view self.now) time.0 missing.now.node.0 (lack_view missing.now.lack))
+            (filter (wants_table missing.now.namespace) (shard_view self.now).parked)) }
+    {
+        let mut mail = MailList::new(self.alloc);
+        for message in &self.parked {
+            self.refuse(time, missing, message, &mut mail)?;
+        }
+        Ok(mail)
+    }
+
+    // Returns the plan for a table that can't be had: what waited for it waits no longer, and its routers learn why. Returns `Memory` if memory runs out.
+    pub(crate) fn plan_no_table(&self, time: Time, missing: NoTable) -> Result<StepPlan, Memory>
+        ensures planned { (m : Letter) → m.body ≡ refused (of_table missing.namespace false no_time) (is_lack missing.node.0 (lack_view missing.lack))
+            → time.0 ≡ heard (shard_view self.now) m → IfOk result (λ p. IsPlanned (shard_view self.now) (letter_input m) p) }
+        ensures follows { IfOk result (λ p. Follows self.now p) }
+    {
+        let mail = self.refusals(time, &missing)?;
+        Ok(StepPlan {
+            time,
+            mail,
+            records: Vec::new(self.alloc),
+            change: Change::Release(missing.namespace),
         })
     }
 }

@@ -7,7 +7,7 @@ ghost use Rattle.chunk_table.specs.Tables.{table_of};
 ghost use Rattle.chunk_table.specs.Verdicts.{fits, verdict_of};
 ghost use Rattle.command_replies.specs.Kinds.{given_view};
 ghost use Rattle.node_model.specs.Service.{Serves};
-ghost use Rattle.node_traits.specs.Effects.{last_time};
+ghost use Rattle.node_model.specs.Lacks.{last_time};
 ghost use Rattle.node_traits.specs.Letters as letters;
 ghost use Rattle.node_traits.specs.Letters.{Letter, letter_input};
 ghost use Rattle.node_traits.specs.ShardRows.{Ask, ask_in, heard, was_seen};

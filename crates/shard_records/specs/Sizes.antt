@@ -1,4 +1,4 @@
--- Which records are written: each document in them has at most 100 levels and 300,000,000 bytes, and one that moves at most 16,777,216.
+-- Which records are written: each document in them has at most 100 levels and 400,000,000 bytes, and one that moves at most 16,777,216.
 use Rattle.std.specs.Prelude.{◌≤◌, ◌<◌, ◌^◌, length, Option, Some, None}
 use Rattle.std.specs.List.{AllByRecursion}
 use Rattle.bson_model.specs.Tree.{Datum, Fields, document_depth}

@@ -31,7 +31,7 @@ use value_compare::{Key, Reply};
 pub(crate) const NEWEST_FORMAT: u8 = 0x01;
 
 /// Writes the record's one encoding in the newest format after the bytes. Each document in the record has at most 100
-/// levels and 300,000,000 bytes.
+/// levels and 400,000,000 bytes.
 ///
 /// # Errors
 /// `Memory` if memory runs out, and then the bytes are as they were.
@@ -48,7 +48,7 @@ pub fn write_record(kept: &Record, out: &mut Vec<u8>) -> Result<(), Memory>
 }
 
 /// Writes the one encoding, in the newest format, of the record of an entry of these parts after the bytes, and copies no document.
-/// Each document in it has at most 100 levels and 300,000,000 bytes, that of a key with it.
+/// Each document in it has at most 100 levels and 400,000,000 bytes, that of a key with it.
 ///
 /// # Errors
 /// `Memory` if memory runs out, and then the bytes are as they were.

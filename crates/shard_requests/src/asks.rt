@@ -51,7 +51,7 @@ pub fn ask_in(body: &Body) -> Option<Ask<'_>>
         | Body::WriteDone(_)
         | Body::HalfAsk(_)
         | Body::ReadRows(_)
-        | Body::Stale(_)
+        | Body::Refused(_)
         | Body::TimeAsk(_)
         | Body::TimeTold(_) => None,
     }

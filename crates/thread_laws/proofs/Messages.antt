@@ -9,12 +9,13 @@ use Rattle.cluster_base.proofs.identity.RequestId.TheSendSync.{the_field_send as
 use Rattle.cluster_base.proofs.namespace.Namespace.TheSendSync.{the_send as Namespace-send}
 use Rattle.cluster_base.proofs.time.Time.TheSendSync.{the_field_send as Time-send}
 use Rattle.command_replies.proofs.answer.ClientNumber.TheSendSync.{the_field_send as ClientNumber-send}
+use Rattle.command_replies.proofs.refusal.Refusal.TheSendSync.{the_field_send as Refusal-send, the_field_sync as Refusal-sync}
 use Rattle.ghost_list.proofs.list.GhostList.TheSendSync.{the_send as GhostList-send}
 use Rattle.opmsg_frames.proofs.request.Form.TheSendSync.{the_field_send as Form-send}
-use Rattle.protocol_model.proofs.body.Stale.TheSendSync.{the_field_send as Stale-send}
 use Rattle.protocol_model.proofs.reads.HalfFault.TheSendSync.{the_field_send as HalfFault-send}
 use Rattle.protocol_model.proofs.reads.TimeAsk.TheSendSync.{the_field_send as TimeAsk-send}
 use Rattle.protocol_model.proofs.reads.TimeTold.TheSendSync.{the_field_send as TimeTold-send}
+use Rattle.protocol_model.proofs.refused.Refused.TheSendSync.{the_field_send as Refused-send}
 use Rattle.protocol_model.proofs.splits.SplitDone.TheSendSync.{the_field_send as SplitDone-send}
 use Rattle.protocol_model.proofs.tables.At.TheSendSync.{the_field_send as At-send}
 use Rattle.protocol_model.proofs.tables.TableAsk.TheSendSync.{the_field_send as TableAsk-send}
@@ -66,7 +67,7 @@ pub Outcome-send : IsSend Outcome.the_field.row
 Outcome-send = search (sendable, crosses, Key-send, Key-sync, Code-send) depth 30
 
 pub StatementOutcome-send : IsSend StatementOutcome.the_field.row
-StatementOutcome-send = search (sendable, crosses, Time-send, Outcome-send) depth 30
+StatementOutcome-send = search (sendable, crosses, Time-send, Outcome-send, Refusal-send, Refusal-sync) depth 30
 
 pub Done-send : IsSend Done.the_field.row
 Done-send = search (sendable, crosses, StatementOutcome-send) depth 30
@@ -96,7 +97,7 @@ Body-send = search (
   ReadAsk-send,
   HalfAsk-send,
   ReadRows-send,
-  Stale-send,
+  Refused-send,
   TimeAsk-send,
   TimeTold-send,
 ) depth 30

@@ -20,6 +20,7 @@ use Rattle.write_runs.proofs.run.Run.TheSendSync.{the_field_send as Run-send}
 use Rattle.thread_laws.proofs.Chunks.{Catalogue-send, RouteCache-send}
 use Rattle.thread_laws.proofs.History.{Book-send, Collection-send}
 use Rattle.protocol_model.proofs.reads.HalfFault.TheSendSync.{the_field_send as HalfFault-send}
+use Rattle.protocol_model.proofs.refused.Try.TheSendSync.{the_field_send as Try-send}
 use Rattle.thread_laws.proofs.Messages.{Head-send, Message-send, Statement-send, StatementOutcome-send}
 use Rattle.thread_laws.proofs.Pipelines.{Half-send, Half-sync, Merge-send, Pipeline-send, Rows-send, Shelf-send}
 use Rattle.thread_laws.proofs.Values.{Document-send, Document-sync, Key-send, OpWords-send, OpWords-sync, Reply-send}
@@ -73,7 +74,7 @@ pub OpenRead-send : IsSend OpenRead.the_field.row
 OpenRead-send = search (sendable, crosses, Time-send, Parts-send, Telling-send) depth 30
 
 pub OpenWrite-send : IsSend OpenWrite.the_field.row
-OpenWrite-send = search (sendable, crosses, WriteKind-send, ClientNumber-send, Statement-send, StatementOutcome-send, Run-send) depth 30
+OpenWrite-send = search (sendable, crosses, WriteKind-send, ClientNumber-send, Statement-send, StatementOutcome-send, Try-send, Run-send) depth 30
 
 pub Work-send : IsSend Work.the_field.row
 Work-send = search (sendable, crosses, OpenWrite-send, OpenRead-send, Key-send) depth 30
@@ -82,7 +83,7 @@ pub Part-send : IsSend Part.the_field.row
 Part-send = search (sendable, crosses, NodeId-send, Rows-send, HalfFault-send) depth 30
 
 pub OpenRequest-send : IsSend OpenRequest.the_field.row
-OpenRequest-send = search (sendable, crosses, Head-send, Namespace-send, NodeId-send, Wait-send, Target-send, Part-send, Work-send) depth 30
+OpenRequest-send = search (sendable, crosses, Head-send, Try-send, Namespace-send, NodeId-send, Wait-send, Target-send, Part-send, Work-send) depth 30
 
 pub OpenList-send : IsSend OpenList.the_field.row
 OpenList-send = search (sendable, crosses, OpenRequest-send) depth 30

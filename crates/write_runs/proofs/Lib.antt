@@ -7,4 +7,6 @@ mod Outcomes
 mod Placing
 mod Sends
 mod Steps
+mod Trying
+mod Turned
 mod Views

@@ -11,7 +11,7 @@ use Rattle.node_model.specs.States.{Run}
 use Rattle.protocol_model.specs.Statements.{statement_view}
 use Rattle.protocol_model.specs.declared.statement.Statement.{Statement}
 use Rattle.reply_model.specs.Exchanges.{number_for}
-use Rattle.reply_model.specs.Outcomes.{StatementOutcome, has_outcome}
+use Rattle.reply_model.specs.Outcomes.{StatementOutcome, Try, has_outcome}
 use Rattle.write_runs.specs.Marks.{in_one_of, is_new}
 use Rattle.write_runs.specs.Runs.{runs_view}
 use Rattle.write_runs.specs.declared.run.Run as program
@@ -55,20 +55,20 @@ none_sent : (statements : List letters.Statement) → filter (λ (s : letters.St
 none_sent [] = refl
 none_sent (s ∷ statements) = ap (λ l. s ∷ l) (none_sent statements)
 
-module _ (statements : List letters.Statement) (answers : List (Option StatementOutcome)) where
-  pub unsent_any : (runs : List Run) → unsent false statements (record { answers = answers; runs = runs }) ≡ filter (is_new answers runs) statements
+module _ (statements : List letters.Statement) (answers : List (Option StatementOutcome)) (tries : List (List Try)) where
+  pub unsent_any : (runs : List Run) → unsent false statements (record { answers = answers; tries = tries; runs = runs }) ≡ filter (is_new answers runs) statements
   unsent_any runs = twice (λ (s : letters.Statement). not (has_outcome answers s.number.index)) (λ (s : letters.Statement). not (is_sent runs s)) statements
 
   -- where a write waits for no run
   pub unsent_new : (ordered : Bool) (runs : List program.Run) → (ordered && not (length runs == 0)) ≡ false
-      → unsent ordered statements (record { answers = answers; runs = runs_view runs }) ≡ filter (is_new answers (runs_view runs)) statements
+      → unsent ordered statements (record { answers = answers; tries = tries; runs = runs_view runs }) ≡ filter (is_new answers (runs_view runs)) statements
   unsent_new false runs none = unsent_any (runs_view runs)
   unsent_new true [] none = sym (none_sent (unanswered statements answers)) ∙ unsent_any []
   unsent_new true (run ∷ runs) none = absurd (cc (sym (ap (λ b. not b) (eqb-suc-zero (length runs))) ∙ none))
 
   -- where it waits for one nothing is sent
   pub unsent_none : (ordered : Bool) (runs : List program.Run) → (ordered && not (length runs == 0)) ≡ true
-      → unsent ordered statements (record { answers = answers; runs = runs_view runs }) ≡ []
+      → unsent ordered statements (record { answers = answers; tries = tries; runs = runs_view runs }) ≡ []
   unsent_none false runs waits = absurd (cc waits)
   unsent_none true [] waits = absurd (cc waits)
   unsent_none true (run ∷ runs) waits = refl

@@ -12,60 +12,81 @@ use Rattle.chunk_model.specs.Verdicts.{sent_by}
 use Rattle.chunk_table.specs.Shards.{shard_number}
 use Rattle.cluster_base.specs.declared.identity.NodeId.{NodeId}
 use Rattle.node_model.specs.Letters.{Statement}
-use Rattle.node_model.specs.RouterRequests.{all_runs, indices_of, is_on, owner_of_statement, run_of, shards_for}
+use Rattle.node_model.specs.RouterRequests.{all_runs, indices_of, is_on, run_of, shard_for, shards_for}
 use Rattle.node_model.specs.States.{Run}
+use Rattle.reply_model.specs.Outcomes.{Try}
 use Rattle.write_runs.proofs.Steps.{next_cut}
-use Rattle.write_runs.specs.Places.{indices_to, place_view, placed, runs_to, shards_among}
+use Rattle.write_runs.specs.Places.{all_placed, indices_to, place_view, runs_to, shards_among}
 use Rattle.write_runs.specs.declared.places.Place.{Place}
 
 -- BY THE STATEMENTS
 
-module _ (t : Table) where
-  shards_placed : (statements : List Statement) → shards_among (map (placed t) statements) ≡ shards_for t statements
-  shards_placed [] = refl
-  shards_placed (s ∷ statements) = by_owner (owner_of_statement t s) (shards_placed statements)
+module _ (t : Table) (tries : List (List Try)) where
+  -- the place of a statement, if it has a shard, and those of others
+  abbrev with_place : ℕ → Option ℕ → List (ℕ × ℕ) → List (ℕ × ℕ)
+  with_place index owner places = elim owner as (λ (o : Option ℕ). List (ℕ × ℕ)) [ None ↦ places | Some shard ↦ (index, shard) ∷ places ]
+
+  pub placed_both : (s : Statement) (statements : List Statement) → all_placed t tries (s ∷ statements) ≡ all_placed t tries (s ∷ []) ++ all_placed t tries statements
+  placed_both s statements = by_owner (shard_for t tries s)
     where
-      by_owner : (owner : Option ℕ) → shards_among (map (placed t) statements) ≡ shards_for t statements
-          → (elim owner as (λ (o : Option ℕ). List ℕ) [
-            | None ↦ shards_among (map (placed t) statements)
-            | Some shard ↦ shard ∷ filter (λ other. not (other == shard)) (shards_among (map (placed t) statements))
-          ]) ≡ (elim owner as (λ (o : Option ℕ). List ℕ) [
-            | None ↦ shards_for t statements
-            | Some shard ↦ shard ∷ filter (λ other. not (other == shard)) (shards_for t statements)
+      by_owner : (owner : Option ℕ) → with_place s.number.index owner (all_placed t tries statements) ≡ with_place s.number.index owner [] ++ all_placed t tries statements
+      by_owner None = refl
+      by_owner (Some shard) = refl
+
+  pub placed_there : (s : Statement) (shard : ℕ) → shard_for t tries s ≡ Some shard → all_placed t tries (s ∷ []) ≡ (s.number.index, shard) ∷ []
+  placed_there s shard owned = ap (λ (o : Option ℕ). with_place s.number.index o []) owned
+
+  pub placed_nowhere : (s : Statement) → shard_for t tries s ≡ None → all_placed t tries (s ∷ []) ≡ []
+  placed_nowhere s none = ap (λ (o : Option ℕ). with_place s.number.index o []) none
+
+  shards_placed : (statements : List Statement) → shards_among (all_placed t tries statements) ≡ shards_for t tries statements
+  shards_placed [] = refl
+  shards_placed (s ∷ statements) = by_owner (shard_for t tries s) (shards_placed statements)
+    where
+      by_owner : (owner : Option ℕ) → shards_among (all_placed t tries statements) ≡ shards_for t tries statements
+          → shards_among (with_place s.number.index owner (all_placed t tries statements)) ≡ (elim owner as (λ (o : Option ℕ). List ℕ) [
+            | None ↦ shards_for t tries statements
+            | Some shard ↦ shard ∷ filter (λ other. not (other == shard)) (shards_for t tries statements)
           ])
       by_owner None same = same
       by_owner (Some shard) same = ap (λ l. shard ∷ filter (λ other. not (other == shard)) l) same
 
-  indices_placed : (shard : ℕ) (statements : List Statement)
-      → indices_to shard (map (placed t) statements) ≡ indices_of (filter (λ (s : Statement). is_on shard (owner_of_statement t s)) statements)
+  abbrev going : ℕ → List Statement → List Statement
+  going shard statements = filter (λ (s : Statement). is_on shard (shard_for t tries s)) statements
+
+  indices_placed : (shard : ℕ) (statements : List Statement) → indices_to shard (all_placed t tries statements) ≡ indices_of (going shard statements)
   indices_placed shard [] = refl
-  indices_placed shard (s ∷ statements) = by_test (is_on shard (owner_of_statement t s)) (indices_placed shard statements)
+  indices_placed shard (s ∷ statements) = by_owner (shard_for t tries s) (indices_placed shard statements)
     where
-      by_test : (b : Bool)
-          → indices_to shard (map (placed t) statements) ≡ indices_of (filter (λ (x : Statement). is_on shard (owner_of_statement t x)) statements)
-          → map (λ (p : ℕ × Option ℕ). p.0) (if b then placed t s ∷ filter (λ (p : ℕ × Option ℕ). is_on shard p.1) (map (placed t) statements)
-          else filter (λ (p : ℕ × Option ℕ). is_on shard p.1) (map (placed t) statements))
-          ≡ indices_of (if b then s ∷ filter (λ (x : Statement). is_on shard (owner_of_statement t x)) statements
-          else filter (λ (x : Statement). is_on shard (owner_of_statement t x)) statements)
-      by_test true same = ap (λ l. s.number.index ∷ l) same
-      by_test false same = same
+      by_test : (b : Bool) → indices_to shard (all_placed t tries statements) ≡ indices_of (going shard statements) → (n : ℕ)
+          → map (λ (p : ℕ × ℕ). p.0) (if b then (s.number.index, n) ∷ filter (λ (p : ℕ × ℕ). p.1 == shard) (all_placed t tries statements)
+          else filter (λ (p : ℕ × ℕ). p.1 == shard) (all_placed t tries statements))
+          ≡ indices_of (if b then s ∷ going shard statements else going shard statements)
+      by_test true same n = ap (λ l. s.number.index ∷ l) same
+      by_test false same n = same
+
+      by_owner : (owner : Option ℕ) → indices_to shard (all_placed t tries statements) ≡ indices_of (going shard statements)
+          → indices_to shard (with_place s.number.index owner (all_placed t tries statements))
+          ≡ indices_of (if is_on shard owner then s ∷ going shard statements else going shard statements)
+      by_owner None same = same
+      by_owner (Some n) same = by_test (n == shard) same n
 
   abbrev run_with : ℕ → List ℕ → Run
   run_with shard indices = record { shard = shard; sent = sent_by t shard; indices = indices }
 
-  each_run : (places : List (ℕ × Option ℕ)) (statements : List Statement) → places ≡ map (placed t) statements → (shards : List ℕ)
-      → runs_to t shards places ≡ map (λ shard. run_of t shard (filter (λ (s : Statement). is_on shard (owner_of_statement t s)) statements)) shards
+  each_run : (places : List (ℕ × ℕ)) (statements : List Statement) → places ≡ all_placed t tries statements → (shards : List ℕ)
+      → runs_to t shards places ≡ map (λ shard. run_of t shard (filter (λ (s : Statement). is_on shard (shard_for t tries s)) statements)) shards
   each_run places statements are [] = refl
   each_run places statements are (shard ∷ shards) =
       ap (λ (l : List ℕ). run_with shard l ∷ runs_to t shards places)
       (ap (λ ps. indices_to shard ps) are ∙ indices_placed shard statements)
-      ∙ ap (λ (l : List Run). run_of t shard (filter (λ (s : Statement). is_on shard (owner_of_statement t s)) statements) ∷ l) (each_run places statements are shards)
+      ∙ ap (λ (l : List Run). run_of t shard (going shard statements) ∷ l) (each_run places statements are shards)
 
   -- the runs to the shards of all places are all runs
-  pub runs_placed : (places : List (ℕ × Option ℕ)) (statements : List Statement) → places ≡ map (placed t) statements
-      → runs_to t (shards_among places) places ≡ all_runs t statements
+  pub runs_placed : (places : List (ℕ × ℕ)) (statements : List Statement) → places ≡ all_placed t tries statements
+      → runs_to t (shards_among places) places ≡ all_runs t tries statements
   runs_placed places statements are =
-      ap (λ shards. runs_to t shards places) (ap (λ ps. shards_among ps) are ∙ shards_placed statements) ∙ each_run places statements are (shards_for t statements)
+      ap (λ shards. runs_to t shards places) (ap (λ ps. shards_among ps) are ∙ shards_placed statements) ∙ each_run places statements are (shards_for t tries statements)
 
 -- SHARDS, EACH ONCE
 
@@ -89,10 +110,10 @@ found_skips found shard has (r ∷ shards) = by_test (r == shard) refl (found_sk
         later ∙ sym (ap (λ (b : Bool). if not b then r ∷ others found shards else others found shards) (ap (λ n. has_shard found n) (eqb-true r shard same) ∙ has))
     by_test false other later = ap (λ l. if not (has_shard found r) then r ∷ l else l) later
 
-equal_back : (a b : ℕ) → (a == b) ≡ true → (b == a) ≡ true
+pub equal_back : (a b : ℕ) → (a == b) ≡ true → (b == a) ≡ true
 equal_back a b same = (Decides-eqb b a).1 (sym (eqb-true a b same))
 
-differ_back : (a b : ℕ) → (a == b) ≡ false → (b == a) ≡ false
+pub differ_back : (a b : ℕ) → (a == b) ≡ false → (b == a) ≡ false
 differ_back a b other = by_test (b == a) refl
   where
     by_test : (t : Bool) → (b == a) ≡ t → (b == a) ≡ false

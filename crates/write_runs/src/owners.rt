@@ -13,12 +13,14 @@ ghost use Rattle.protocol_model.specs.Statements as protocol;
 ghost use Rattle.protocol_model.specs.Statements.{statement_view};
 ghost use Rattle.statement_views.specs.Views.{operation_view};
 ghost use Rattle.value_model.specs.Keys.{is_key};
+ghost use Rattle.write_runs.specs.Runs.{all_tries_view};
 
+use crate::tries::{reaches, tries_at};
 use bson_values::{Memory, Value};
 use chunk_table::Table;
 use cluster_base::NodeId;
 use match_expr::key_asked_in;
-use protocol_model::{NewChange, Operation, Statement};
+use protocol_model::{NewChange, Operation, Statement, Try};
 use std::alloc::Global;
 use value_compare::{Key, OpWords, key_of};
 
@@ -81,11 +83,7 @@ fn writes_key(operation: &Operation)
 /// Returns the shard that has the key that a statement writes: that of all keys, or else that of the chunk with the key. Returns
 /// `Memory` if memory runs out.
 #[tactic(auto, using(crate::proofs::Keys::owner_by_key, crate::proofs::Keys::owner_by_sole))]
-pub(crate) fn owner_of_statement(
-    alloc: Global,
-    table: &Table,
-    statement: &Statement,
-) -> Result<NodeId, Memory>
+fn owner_of_statement(alloc: Global, table: &Table, statement: &Statement) -> Result<NodeId, Memory>
     ensures { (given : Option ClientNumber) (id : identities.RequestId) → IfOk result (λ shard.
         requested.owner_of_statement table.now (statement_view given id statement.now) ≡ Some shard.0) }
 {
@@ -95,4 +93,21 @@ pub(crate) fn owner_of_statement(
     }
     let key = key_of_operation(alloc, &statement.operation)?;
     Ok(table.owner_now(&key))
+}
+
+/// Returns the shard that a statement can be sent to by a table: the one that has the key that it writes, where the table is not older than what its last try
+/// met. Returns `Memory` if memory runs out.
+pub(crate) fn shard_for(
+    alloc: Global,
+    table: &Table,
+    tries: &[Vec<Try>],
+    statement: &Statement,
+) -> Result<Option<NodeId>, Memory>
+    ensures { (given : Option ClientNumber) (id : identities.RequestId) → IfOk result (λ shard.
+        requested.shard_for table.now (all_tries_view tries.now) (statement_view given id statement.now) ≡ option_map (λ s. s.0) shard) }
+{
+    if !reaches(table, tries_at(tries, statement.index)) {
+        return Ok(None);
+    }
+    Ok(Some(owner_of_statement(alloc, table, statement)?))
 }

@@ -1,53 +1,71 @@
-//! Statements that are to be sent, with the shards that have what they write.
+//! Statements that are to be sent, with the shards that they can be sent to.
 
-ghost use Rattle.std.specs.Prelude.{◌≡◌, ◌==◌, IfOk, Option, filter, map};
+ghost use Rattle.std.specs.Prelude.{◌≡◌, ◌==◌, ◌++◌, ◌∷◌, [], IfOk, OnOk, Option, filter, map};
 ghost use Rattle.std.specs.List.{list_any};
 ghost use Rattle.base_model.specs.Identities.{RequestId};
 ghost use Rattle.chunk_table.specs.Shards.{shard_number};
 ghost use Rattle.command_model.specs.Writes.{ClientNumber};
 ghost use Rattle.protocol_model.specs.Statements.{statement_view};
 ghost use Rattle.write_runs.specs.Marks.{AreMarks, in_one_of, is_new};
-ghost use Rattle.write_runs.specs.Places.{indices_to, place_view, placed, runs_to, shards_among};
-ghost use Rattle.write_runs.specs.Runs.{answers_view, runs_view};
+ghost use Rattle.write_runs.specs.Places.{all_placed, indices_to, place_view, runs_to, shards_among};
+ghost use Rattle.write_runs.specs.Runs.{all_tries_view, answers_view, runs_view};
 
-use crate::owners::owner_of_statement;
+use crate::owners::shard_for;
 use crate::run::Run;
 use crate::unsent::is_new;
 use bson_values::Memory;
 use chunk_table::{Sent, Table};
 use cluster_base::NodeId;
-use protocol_model::{Statement, StatementOutcome};
+use protocol_model::{Statement, StatementOutcome, Try};
 use std::alloc::Global;
 
-/// A statement by its index, and the shard that has what it writes.
+/// A statement by its index, and the shard that it can be sent to.
 #[derive(Clone, Copy, Debug, PartialEq, Eq)]
 pub(crate) struct Place {
     pub(crate) index: u32,
     pub(crate) shard: NodeId,
 }
 
-/// Returns the statements that have no outcome and are in none of these runs, by their marks, each with the shard that has by a table what it writes. Returns
+/// Appends the place of a statement, if it can be sent by a table. Returns `Memory` if memory runs out.
+fn add_place(
+    alloc: Global,
+    places: &mut Vec<Place>,
+    table: &Table,
+    tries: &[Vec<Try>],
+    statement: &Statement,
+) -> Result<(), Memory>
+    ensures { (given : Option ClientNumber) (id : RequestId) → OnOk result (map place_view places.new.items ≡ map place_view places.old.items
+        ++ all_placed table.now (all_tries_view tries.now) (statement_view given id statement.now ∷ [])) }
+{
+    if let Some(shard) = shard_for(alloc, table, tries, statement)? {
+        places.push(Place {
+            index: statement.index,
+            shard,
+        })?;
+    }
+    Ok(())
+}
+
+/// Returns the statements that have no outcome and are in none of these runs, by their marks, and that can be sent by a table, each with its shard. Returns
 /// `Memory` if memory runs out.
 pub(crate) fn places_of(
     alloc: Global,
     table: &Table,
     statements: &[Statement],
     answers: &[Option<StatementOutcome>],
+    tries: &[Vec<Try>],
     runs: &[Run],
     marks: &[bool],
 ) -> Result<Vec<Place>, Memory>
     requires { AreMarks marks.now (in_one_of (runs_view runs.now)) }
     ensures { (given : Option ClientNumber) (id : RequestId) → IfOk result (λ places. map place_view places.items
-        ≡ map (placed table.now) (filter (is_new (answers_view answers.now) (runs_view runs.now)) (map (λ s. statement_view given id s) statements.now))) }
+        ≡ all_placed table.now (all_tries_view tries.now)
+        (filter (is_new (answers_view answers.now) (runs_view runs.now)) (map (λ s. statement_view given id s) statements.now))) }
 {
     let mut places = Vec::new(alloc);
     for statement in statements {
         if is_new(answers, runs, marks, statement) {
-            let shard = owner_of_statement(alloc, table, statement)?;
-            places.push(Place {
-                index: statement.index,
-                shard,
-            })?;
+            add_place(alloc, &mut places, table, tries, statement)?;
         }
     }
     Ok(places)

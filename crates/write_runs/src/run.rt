@@ -1,6 +1,7 @@
 //! Statements that are sent to a shard together.
 
 ghost use Rattle.std.specs.Prelude.{◌≡◌, ◌++◌, IfOk, OnOk};
+ghost use Rattle.node_model.specs.RouterRequests.{first_index};
 ghost use Rattle.write_runs.specs.Runs.{run_view, runs_view};
 
 use bson_values::Memory;
@@ -20,6 +21,16 @@ pub struct Run {
 }
 
 impl Run {
+    /// Returns the index of its first statement.
+    pub fn first(&self) -> u32
+        ensures { result ≡ first_index self.now.indices.items }
+    {
+        match self.indices.first() {
+            Some(index) => *index,
+            None => 0,
+        }
+    }
+
     /// Returns a copy, or `Memory` if memory runs out.
     pub fn copy(&self) -> Result<Run, Memory>
         ensures { IfOk result (λ run. run_view run ≡ run_view self.now) }

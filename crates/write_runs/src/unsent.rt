@@ -1,13 +1,14 @@
 //! Which statements of a write are to be sent, and which are in a run.
 
-ghost use Rattle.std.specs.Prelude.{◌≡◌, ◌≢◌, ◌==◌, ◌&&◌, [], IfOk, Option, false, true, length, map, not};
+ghost use Rattle.std.specs.Prelude.{◌≡◌, ◌≢◌, ◌==◌, ◌&&◌, [], IfOk, List, Option, false, true, filter, length, map, not};
 ghost use Rattle.std.specs.List.{list_any};
 ghost use Rattle.base_model.specs.Identities.{RequestId};
 ghost use Rattle.command_model.specs.Writes.{ClientNumber};
 ghost use Rattle.node_model.specs.RouterRequests as requested;
 ghost use Rattle.protocol_model.specs.Statements.{statement_view};
 ghost use Rattle.write_runs.specs.Marks.{AreMarks, in_one_of, is_new};
-ghost use Rattle.write_runs.specs.Runs.{answers_view, course_view, run_view, runs_view};
+ghost use Rattle.reply_model.specs.Outcomes.{Try};
+ghost use Rattle.write_runs.specs.Runs.{answers_view, course_by, run_view, runs_view};
 
 use crate::answered::has_outcome;
 use crate::marks::{is_in_run, is_in_runs, marks_of, marks_of_run};
@@ -66,16 +67,75 @@ pub fn are_unsent(
     answers: &[Option<StatementOutcome>],
     runs: &[Run],
 ) -> Result<bool, Memory>
-    ensures none { (given : Option ClientNumber) (id : RequestId) → IfOk result (λ some. some ≡ false →
-        requested.unsent ordered (map (λ s. statement_view given id s) statements.now) (course_view answers.now runs.now) ≡ []) }
-    ensures some { (given : Option ClientNumber) (id : RequestId) → IfOk result (λ some. some ≡ true →
-        requested.unsent ordered (map (λ s. statement_view given id s) statements.now) (course_view answers.now runs.now) ≢ []) }
+    ensures none { (given : Option ClientNumber) (id : RequestId) (tries : List (List Try)) → IfOk result (λ some. some ≡ false →
+        requested.unsent ordered (map (λ s. statement_view given id s) statements.now) (course_by answers.now tries runs.now) ≡ []) }
+    ensures some { (given : Option ClientNumber) (id : RequestId) (tries : List (List Try)) → IfOk result (λ some. some ≡ true →
+        requested.unsent ordered (map (λ s. statement_view given id s) statements.now) (course_by answers.now tries runs.now) ≢ []) }
 {
     if waits(ordered, runs) {
         return Ok(false);
     }
     let marks = marks_of(alloc, statements.len(), runs)?;
     Ok(are_new(answers, runs, &marks, statements))
+}
+
+/// Returns the indices of the statements that are not answered, in order, or `Memory` if memory runs out.
+pub fn unanswered_indices(
+    alloc: Global,
+    statements: &[Statement],
+    answers: &[Option<StatementOutcome>],
+) -> Result<Vec<u32>, Memory>
+    ensures { (given : Option ClientNumber) (id : RequestId) → IfOk result (λ indices. indices.items
+        ≡ requested.indices_of (requested.unanswered (map (λ s. statement_view given id s) statements.now) (answers_view answers.now))) }
+{
+    let mut indices = Vec::new(alloc);
+    for statement in statements {
+        if !has_outcome(answers, statement.index) {
+            indices.push(statement.index)?;
+        }
+    }
+    Ok(indices)
+}
+
+/// Returns the indices of the statements that have no outcome and are in none of these runs, by their marks, in order. Returns `Memory` if memory runs out.
+fn new_indices(
+    alloc: Global,
+    statements: &[Statement],
+    answers: &[Option<StatementOutcome>],
+    runs: &[Run],
+    marks: &[bool],
+) -> Result<Vec<u32>, Memory>
+    requires { AreMarks marks.now (in_one_of (runs_view runs.now)) }
+    ensures { (given : Option ClientNumber) (id : RequestId) → IfOk result (λ indices. indices.items ≡ requested.indices_of
+        (filter (is_new (answers_view answers.now) (runs_view runs.now)) (map (λ s. statement_view given id s) statements.now))) }
+{
+    let mut indices = Vec::new(alloc);
+    for statement in statements {
+        if is_new(answers, runs, marks, statement) {
+            indices.push(statement.index)?;
+        }
+    }
+    Ok(indices)
+}
+
+/// Returns the indices of the statements that are to be sent, in order: that are not answered and in none of these runs; of an ordered write only where there
+/// are no runs. Returns `Memory` if memory runs out.
+pub fn unsent_indices(
+    alloc: Global,
+    ordered: bool,
+    statements: &[Statement],
+    answers: &[Option<StatementOutcome>],
+    runs: &[Run],
+) -> Result<Vec<u32>, Memory>
+    ensures { (given : Option ClientNumber) (id : RequestId) (tries : List (List Try)) → IfOk result (λ indices. indices.items ≡ requested.indices_of
+        (requested.unsent ordered (map (λ s. statement_view given id s) statements.now) (course_by answers.now tries runs.now))) }
+{
+    if waits(ordered, runs) {
+        return Ok(Vec::new(alloc));
+    }
+    let marks = marks_of(alloc, statements.len(), runs)?;
+    let indices = new_indices(alloc, statements, answers, runs, &marks)?;
+    Ok(indices)
 }
 
 /// Returns the statements of a run, in order; their documents are shared. Returns `Memory` if memory runs out.

@@ -1,22 +1,23 @@
-use Rattle.std.proofs.Common.{sym, ◌∙◌}
-use Rattle.write_runs.proofs.Nexts.{one_left, one_taken, place_is}
+use Rattle.std.proofs.Common.{sym, ◌∙◌, map}
+use Rattle.write_runs.proofs.Nexts.{one_left, one_taken}
+use Rattle.write_runs.proofs.Placing.{placed_both}
 use Rattle.write_runs.specs.Marks.{is_new}
-use Rattle.write_runs.specs.Places.{place_view, placed}
-use Rattle.write_runs.specs.Runs.{answers_view, runs_view}
+use Rattle.write_runs.specs.Places.{all_placed, place_view}
+use Rattle.write_runs.specs.Runs.{all_tries_view, answers_view, runs_view}
 use Rattle.write_runs.proofs.places.places_of.Goals as goal
-use Rattle.write_runs.proofs.places.places_of.Goals.{then-is_new+in_ok-shard+in_ok-push, else-is_new}
+use Rattle.write_runs.proofs.places.places_of.Goals.{then-is_new+in_ok-add_place, else-is_new}
 
 pub loop-statement-preserved : goal.loop-statement-preserved
 loop-statement-preserved c = λ given id.
     elim c.if-is_new.branch [
-      | then-is_new+in_ok-shard+in_ok-push w ↦
+      | then-is_new+in_ok-add_place w ↦
           rw w.places-is (one_taken given id c.args.statements.now c.loop-statement.statement-index c.statement-item.result c.loop-statement-test.true c.statement-item.is
-          (placed c.args.table.now) place_view (is_new (answers_view c.args.answers.now) (runs_view c.args.runs.now)) c.loop-statement.places.items w.push.new.self.items _ _
-          w.in_ok-push.ensures.items (sym (c.is_new.ensures given id) ∙ w.if-is_new.true)
-          (place_is given id c.args.statements.now c.loop-statement.statement-index c.statement-item.result c.loop-statement-test.true c.statement-item.is
-          c.args.table.now _ (w.in_ok-shard.ensures given id)) (c.loop-statement.invariant given id))
+          (λ l. all_placed c.args.table.now (all_tries_view c.args.tries.now) l) (placed_both c.args.table.now (all_tries_view c.args.tries.now))
+          (is_new (answers_view c.args.answers.now) (runs_view c.args.runs.now)) (map place_view c.loop-statement.places.items) (map place_view w.add_place.new.places.items) _
+          (w.in_ok-add_place.ensures given id) (sym (c.is_new.ensures given id) ∙ w.if-is_new.true) (c.loop-statement.invariant given id))
       | else-is_new w ↦
           rw w.places-is (one_left given id c.args.statements.now c.loop-statement.statement-index c.statement-item.result c.loop-statement-test.true c.statement-item.is
-          (placed c.args.table.now) place_view (is_new (answers_view c.args.answers.now) (runs_view c.args.runs.now)) c.loop-statement.places.items _
+          (λ l. all_placed c.args.table.now (all_tries_view c.args.tries.now) l) (placed_both c.args.table.now (all_tries_view c.args.tries.now))
+          (is_new (answers_view c.args.answers.now) (runs_view c.args.runs.now)) (map place_view c.loop-statement.places.items) _
           (sym (c.is_new.ensures given id) ∙ w.if-is_new.false) (c.loop-statement.invariant given id))
     ]

@@ -3,11 +3,11 @@ use Rattle.base_model.specs.Identities.{RequestId}
 use Rattle.command_model.specs.Writes.{ClientNumber}
 use Rattle.node_model.specs.RouterRequests.{indices_of, run_to, unanswered}
 use Rattle.protocol_model.specs.Statements.{statement_view}
-use Rattle.write_runs.specs.Runs.{answers_view}
+use Rattle.write_runs.specs.Runs.{all_tries_view, answers_view}
 use Rattle.write_runs.proofs.sending.run_to.Given as goal
 
 abbrev pub invariant-loop-statement : goal.invariant-loop-statement
 invariant-loop-statement l = (given : Option ClientNumber) (id : RequestId) →
     l.indices.items
-    ++ indices_of (run_to l.table l.shard.0 (unanswered (map (λ s. statement_view given id s) (drop l.statement-index l.statements)) (answers_view l.answers)))
-    ≡ indices_of (run_to l.table l.shard.0 (unanswered (map (λ s. statement_view given id s) l.statements) (answers_view l.answers)))
+    ++ indices_of (run_to l.table (all_tries_view l.tries) l.shard.0 (unanswered (map (λ s. statement_view given id s) (drop l.statement-index l.statements)) (answers_view l.answers)))
+    ≡ indices_of (run_to l.table (all_tries_view l.tries) l.shard.0 (unanswered (map (λ s. statement_view given id s) l.statements) (answers_view l.answers)))

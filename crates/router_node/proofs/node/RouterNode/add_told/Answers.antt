@@ -9,6 +9,6 @@ returns c = λ time. record {
   fate = Leaves;
   fates = c.in_ok-push.ensures.items;
   is = refl;
-  mail = sym (append-nil (map (λ m. letter_of m) c.args.learned.now.mail));
-  replies = c.in_ok-add_reply.ensures ∙ ap (λ (l : List ToLink). c.args.learned.now.replies ++ l) (c.in_ok-reply.ensures time);
+  mail = sym (append-nil (map (λ m. letter_of m) c.args.all.now.mail));
+  replies = c.in_ok-add_reply.ensures ∙ ap (λ (l : List ToLink). c.args.all.now.replies ++ l) (c.in_ok-reply.ensures time);
 }

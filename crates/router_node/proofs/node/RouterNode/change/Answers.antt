@@ -6,7 +6,7 @@ use Rattle.node_model.specs.RouterRequests.{id_of}
 use Rattle.router_cursors.specs.CursorLists.{advanced, closed_all, cursors_of}
 use Rattle.router_node.specs.RouterStates.{router_of}
 use Rattle.router_node.specs.StepPlans.{FollowsBy, changed}
-use Rattle.router_node.proofs.Changed.{becomes, opens_gains, opens_notes, opens_reaches, opens_told}
+use Rattle.router_node.proofs.Changed.{becomes, opens_gains, opens_goes, opens_reaches, opens_told}
 use Rattle.router_node.specs.declared.step_plan.Change.{Change}
 use Rattle.router_node.proofs.node.RouterNode.change.Goals as goal
 
@@ -34,14 +34,13 @@ returns-in-Reaches-clause-state c =
     (c.reach.ensures.opens r.me r.life follows.1 follows.2 ∙ opens_reaches r c.args.time.0 c.in-Reaches.count follows.1 follows.2 c.in-Reaches.wait c.in-Reaches.targets) refl refl refl
     ∙ ap (λ (x : Change). changed r c.args.time.0 c.args.begun c.args.moment x) (sym c.in-Reaches.is)
 
-pub returns-in-Notes-clause-state : goal.returns-in-Notes-clause-state
-returns-in-Notes-clause-state c =
+pub returns-in-Goes-clause-state : goal.returns-in-Goes-clause-state
+returns-in-Goes-clause-state c =
     let r = router_of c.args.self.now in
-    let follows = subst (λ (x : Change). FollowsBy r c.args.begun x) c.in-Notes.is c.requires.follows in
-    becomes r.me r.shards c.args.time.0 r.life c.args.begun c.args.moment _ _ _ _ _ _ _ _ _ _ _ _ c.set_answers.ensures.taken refl
-    (c.set_answers.ensures.opens r.me r.life follows.1 follows.2 follows.3 follows.4 follows.5 follows.6 follows.7
-    ∙ opens_notes r c.args.time.0 c.in-Notes.count follows.1 follows.6 c.in-Notes.wait c.in-Notes.answers c.in-Notes.runs follows.2 follows.3 follows.4 follows.5 follows.7) refl refl refl
-    ∙ ap (λ (x : Change). changed r c.args.time.0 c.args.begun c.args.moment x) (sym c.in-Notes.is)
+    let follows = subst (λ (x : Change). FollowsBy r c.args.begun x) c.in-Goes.is c.requires.follows in
+    becomes r.me r.shards c.args.time.0 r.life c.args.begun c.args.moment _ _ _ _ _ _ _ _ _ _ _ _ c.stay.ensures.taken refl
+    (c.stay.ensures.opens r.me r.life follows.1 follows.2 ∙ opens_goes r c.args.time.0 c.in-Goes.count follows.1 follows.2 c.in-Goes.stay) refl refl refl
+    ∙ ap (λ (x : Change). changed r c.args.time.0 c.args.begun c.args.moment x) (sym c.in-Goes.is)
 
 pub returns-in-Learns-clause-state : goal.returns-in-Learns-clause-state
 returns-in-Learns-clause-state c =

@@ -1,7 +1,7 @@
 use Rattle.std.proofs.Common.{◌≡◌}
 use Rattle.std.proofs.lemmas.Result.{IfOk-weaker}
 use Rattle.node_model.specs.RouterNext as nexts
-use Rattle.protocol_model.specs.Bodies.{at_view}
+use Rattle.protocol_model.specs.Tables.{at_view}
 use Rattle.router_requests.specs.Askers.{asker_view}
 use Rattle.router_requests.specs.Nexts.{next_view}
 use Rattle.router_requests.specs.Works.{open_view}

@@ -7,7 +7,8 @@ use Rattle.protocol_model.specs.Heads.{head_request}
 use Rattle.protocol_model.specs.Messages.{letter_of}
 use Rattle.read_parts.specs.Parts.{target_view}
 use Rattle.read_parts.specs.declared.parts.Target.{Target}
-use Rattle.router_requests.specs.Nexts.{runs_in, write_next}
+use Rattle.router_requests.specs.Fates.{runs_in}
+use Rattle.router_requests.specs.Nexts.{write_next}
 use Rattle.router_requests.specs.Works.{wait_view, work_view}
 use Rattle.router_requests.specs.declared.writes.WriteNext.{WriteNext}
 use Rattle.write_runs.specs.Runs.{runs_view}

@@ -3,18 +3,12 @@ use Rattle.node_model.specs.Letters.{Body}
 use Rattle.node_model.specs.RouterRows as rows
 use Rattle.protocol_model.specs.Bodies.{body_view}
 use Rattle.router_node.specs.RouterStates.{router_of}
-use Rattle.router_node.proofs.Heard.{heard_late}
 use Rattle.router_node.proofs.Started.{skipped}
 use Rattle.router_node.proofs.node.RouterNode.plan_body.Goals as goal
 
-pub returns-in-Stale : goal.returns-in-Stale
-returns-in-Stale c = λ m from is late.
-    let r = router_of c.args.self.now in
-    heard_late r m c.late.result c.args.time.0 late c.late.ensures (subst (λ (b : Body). rows.IsLate r m.sender b) (sym (is ∙ ap body_view c.in-Stale.is)) tt)
-
 pub returns-in-TableAsk : goal.returns-in-TableAsk
 returns-in-TableAsk c = λ m from is late.
-    skipped (router_of c.args.self.now) c.late-in-TableAsk.result m (subst (λ (b : Body). rows.TellsNothing b) (sym (is ∙ ap body_view c.in-TableAsk.is)) tt) c.late-in-TableAsk.ensures
+    skipped (router_of c.args.self.now) c.late.result m (subst (λ (b : Body). rows.TellsNothing b) (sym (is ∙ ap body_view c.in-TableAsk.is)) tt) c.late.ensures
 
 pub returns-in-SplitAsk : goal.returns-in-SplitAsk
 returns-in-SplitAsk c = λ m from is late.

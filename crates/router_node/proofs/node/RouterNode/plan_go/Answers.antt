@@ -8,9 +8,11 @@ use Rattle.node_traits.specs.Ids.{id_view}
 use Rattle.node_traits.specs.declared.outputs.ToLink.{ToLink}
 use Rattle.protocol_model.specs.Messages.{letter_of}
 use Rattle.protocol_model.specs.declared.message.Message.{Message}
+use Rattle.protocol_model.specs.declared.refused.Try.{Try}
 use Rattle.router_requests.specs.Askers.{asker_view}
 use Rattle.router_requests.specs.Nexts.{read_next, sent_open}
 use Rattle.router_requests.specs.Works.{open_view, read_view, stages_of, telling_view}
+use Rattle.write_runs.specs.Runs.{tries_view}
 use Rattle.router_node.specs.RouterStates.{router_of}
 use Rattle.router_node.specs.StepPlans.{Hears}
 use Rattle.router_node.specs.declared.step_plan.Change.TheVariants.{Reaches}
@@ -36,7 +38,7 @@ returns c = λ m is late.
     let reaches : nexts.begins_work r (requested.heard r m) q (requested.reached (requested.heard r m) q.work) ≡ read_next q (requested.reached (requested.heard r m) q.work) s =
     subst (λ (t : ℕ). nexts.begins_work r t q (requested.reached t q.work) ≡ read_next q (requested.reached t q.work) s) late
     (reads_on r (asker_view c.asker.result) time c.asker.ensures q read at (requested.reached time q.work) known s c.table_of.ensures (c.at_reached.ensures.come c.requires.come)
-    (c.at_reached.ensures.read ∙ ap (λ (w : states.Work). requested.reached time w) (sym c.requires.work)) (c.in_ok-sends.ensures q refl refl)) in
+    (c.at_reached.ensures.read ∙ ap (λ (w : states.Work). requested.reached time w) (sym c.requires.work)) (c.in_ok-sends.ensures q refl refl (sym (ap (λ (l : List Try). tries_view l) c.deref.ensures.value)))) in
     heard_by r m c.hears_all.result time late change letters []
     (subst (λ (ls : List Letter). Hears r time change ls [] c.hears_all.result) (ap (λ (ms : List Message). map letter_of ms) c.in_ok-mail.ensures)
     (subst (λ (rs : List ToLink). Hears r time change (map letter_of c.in_ok-mail.mail) rs c.hears_all.result) c.new-replies.ensures c.hears_all.ensures))

@@ -23,7 +23,7 @@ returns-in-Waits c =
     let work = work_view (requested.id_of r c.args.count) c.args.work in
     let q = opened_request (started r) c.args.asked.link c.args.asked.number request c.args.namespace work in
     let begins = begins_so (started r) (asker_view c.asker-asker.result) r.time c.asker-asker.ensures q c.args.count (λ (i : RequestId). work_view i c.args.work)
-    (option_map (λ t. t.now) c.table_of-table.result) c.in_ok-begun.begun c.table_of-table.ensures (c.in_ok-begun.ensures q (sym c.requires.next) refl) in
+    (option_map (λ t. t.now) c.table_of-table.result) c.in_ok-begun.begun c.table_of-table.ensures (c.in_ok-begun.ensures q (sym c.requires.next) refl refl) in
     c.plan_waits.ensures work (record {
       plan = subst (λ (k : ℕ). requested.plan_of (started r) (requested.id_of r k) request.more (command_of request) ≡ requested.needs c.args.namespace work) c.requires.next c.requires.plan;
       begins = subst (λ (b : Begun). nexts.begins_work (started r) r.time q work ≡ begun_next (started r) r.time q work b) c.in-Waits.is begins;
@@ -37,7 +37,7 @@ returns-in-Writes c =
     let work = work_view (requested.id_of r c.args.count) c.args.work in
     let q = opened_request (started r) c.args.asked.link c.args.asked.number request c.args.namespace work in
     let begins = begins_so (started r) (asker_view c.asker-asker.result) r.time c.asker-asker.ensures q c.args.count (λ (i : RequestId). work_view i c.args.work)
-    (option_map (λ t. t.now) c.table_of-table.result) c.in_ok-begun.begun c.table_of-table.ensures (c.in_ok-begun.ensures q (sym c.requires.next) refl) in
+    (option_map (λ t. t.now) c.table_of-table.result) c.in_ok-begun.begun c.table_of-table.ensures (c.in_ok-begun.ensures q (sym c.requires.next) refl refl) in
     c.plan_begun.ensures work refl (record {
       plan = subst (λ (k : ℕ). requested.plan_of (started r) (requested.id_of r k) request.more (command_of request) ≡ requested.needs c.args.namespace work) c.requires.next c.requires.plan;
       begins = subst (λ (b : Begun). nexts.begins_work (started r) r.time q work ≡ begun_next (started r) r.time q work b) c.in-Writes.is begins;

@@ -7,8 +7,8 @@ use Rattle.node_model.specs.RouterRequests as requested
 use Rattle.node_traits.specs.Ids.{id_view}
 use Rattle.protocol_model.specs.Statements.{done_view}
 use Rattle.protocol_model.specs.declared.statement.StatementOutcome.{StatementOutcome}
-use Rattle.router_requests.specs.Works.{open_view, statements_of}
-use Rattle.write_runs.specs.Runs.{answers_view, course_view}
+use Rattle.router_requests.specs.Works.{open_view, statements_of, write_course}
+use Rattle.write_runs.specs.Runs.{answers_view}
 use Rattle.router_node.specs.RouterStates.{router_of}
 use Rattle.router_node.proofs.Heard.{heard_late}
 use Rattle.router_node.proofs.Fates.{dones_no_news}
@@ -22,7 +22,7 @@ returns-in-None c = λ m is late.
     let write = c.args.write.now in
     let dones = map done_view c.args.dones.now in
     heard_late r m c.late.result c.args.time.0 late c.late.ensures
-    (dones_no_news r m (id_view c.args.id) q dones (kind_view write.kind) write.ordered (statements_of (requested.id_of r q.count) write) (course_view write.answers.items write.runs.items)
+    (dones_no_news r m (id_view c.args.id) q dones (kind_view write.kind) write.ordered (statements_of (requested.id_of r q.count) write) (write_course write)
     c.requires.open is c.requires.work
     (subst (λ (l : List (Option StatementOutcome)). nexts.noted write.ordered (answers_view l) dones ≡ answers_view l) c.deref.ensures.value (c.in_ok-noted.ensures.none c.in-None.is)))
 

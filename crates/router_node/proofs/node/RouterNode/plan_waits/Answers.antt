@@ -36,12 +36,16 @@ returns c = λ needed begun.
       link = c.args.asked.link;
       number = number;
       head = c.args.asked.head;
+      arrived = n.moment;
+      limit = c.args.asked.limit;
+      tries = c.new.result;
       namespace = c.args.namespace;
       wait = c.args.wait;
-      told = c.new.result;
+      told = c.new-2.result;
       targets = c.args.targets;
-      parts = c.new-2.result;
+      parts = c.new-3.result;
       work = c.args.work;
+      limited = c.new-arg-5-1.given.0;
     } in
     let b : Held = c.in_ok-opened.opened in
     let is : b.value ≡ o = c.in_ok-opened.ensures.ok in
@@ -56,6 +60,6 @@ returns c = λ needed begun.
     (sym (ap (λ (ms : List Message). map letter_of ms) c.in_ok-mail.ensures))
     (took_open r link number request namespace needed (becomes number)
     (subst (λ (z : ℤ). Begins r link z request namespace needed (becomes z)) (sym same) begun) b letters
-    (ap (λ (q : states.Open). nexts.stays q letters) (opens_so r o needed c.requires.next c.new.ensures.items c.new-2.ensures.items)
+    (ap (λ (q : states.Open). nexts.stays q letters) (opens_so r o needed c.requires.next refl c.new.ensures.items c.new-2.ensures.items c.new-3.ensures.items)
     ∙ ap (λ (x : OpenRequest). nexts.stays (open_view r.me r.life x) letters) (sym is))))
     c.starts.ensures)

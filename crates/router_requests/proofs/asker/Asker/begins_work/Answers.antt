@@ -7,7 +7,7 @@ use Rattle.router_requests.specs.Askers.{asker_view}
 use Rattle.router_requests.proofs.asker.Asker.begins_work.Goals as goal
 
 pub returns-in_ok-begins_asking-in-Sharding : goal.returns-in_ok-begins_asking-in-Sharding
-returns-in_ok-begins_asking-in-Sharding c = λ q same of.
+returns-in_ok-begins_asking-in-Sharding c = λ q same of untried.
     let r = asker_view c.args.self in
     rw c.in-Sharding.is
     (ap (λ (n : List ℕ). nexts.stays (nexts.with_work q states.for_catalogue [] states.sharding) (requested.says r 0 c.args.time.0 (table_ask n true no_time) ∷ [])) of
@@ -15,7 +15,7 @@ returns-in_ok-begins_asking-in-Sharding c = λ q same of.
     ∙ c.in_ok-begins_asking-in-Sharding.ensures q states.sharding)
 
 pub returns-in_ok-begins_asking-in-Splitting : goal.returns-in_ok-begins_asking-in-Splitting
-returns-in_ok-begins_asking-in-Splitting c = λ q same of.
+returns-in_ok-begins_asking-in-Splitting c = λ q same of untried.
     let r = asker_view c.args.self in
     let middle = c.in-Splitting.middle in
     rw c.in-Splitting.is

@@ -9,20 +9,14 @@ use Rattle.router_requests.specs.declared.fates.Fate.{Fate}
 use Rattle.router_requests.specs.Order.{Held}
 use Rattle.router_requests.specs.declared.work.OpenRequest.{OpenRequest}
 use Rattle.router_requests.proofs.Places.{rises_removed}
-use Rattle.router_requests.proofs.Turns.{settled_leaves, settled_past, settled_put, settled_stays}
+use Rattle.router_requests.proofs.Turns.{settled_leaves, settled_past, settled_put}
 use Rattle.router_requests.proofs.Waits.{rises_at}
 use Rattle.router_requests.proofs.list.OpenList.settle_at.Goals as goal
 
 pub invariant_of-self : goal.invariant_of-self
 invariant_of-self c =
     let inside : c.args.place < length c.args.self.now.requests.items = omega (arith, c.if-place-len.false, c.len.ensures, c.args.self.now.requests.ok.0) in record {
-      rising = rises_at 0 c.args.self.now.taken c.args.place c.args.self.now.requests.items c.index_mut.result.now c.deref_mut.result.now c.wait_for.new.self c.args.self.now.rising inside c.index_mut.ensures.value c.deref_mut.ensures.value c.wait_for.ensures.count;
-    }
-
-pub invariant_of-self-in-Writes : goal.invariant_of-self-in-Writes
-invariant_of-self-in-Writes c =
-    let inside : c.args.place < length c.args.self.now.requests.items = omega (arith, c.if-place-len.false, c.len.ensures, c.args.self.now.requests.ok.0) in record {
-      rising = rises_at 0 c.args.self.now.taken c.args.place c.args.self.now.requests.items c.index_mut-in-Writes.result.now c.deref_mut-in-Writes.result.now c.wait_for_runs.new.self c.args.self.now.rising inside c.index_mut-in-Writes.ensures.value c.deref_mut-in-Writes.ensures.value c.wait_for_runs.ensures.count;
+      rising = rises_at 0 c.args.self.now.taken c.args.place c.args.self.now.requests.items c.index_mut.result.now c.deref_mut.result.now c.stay.new.self c.args.self.now.rising inside c.index_mut.ensures.value c.deref_mut.ensures.value c.stay.ensures.count;
     }
 
 pub invariant_of-self-in-Leaves : goal.invariant_of-self-in-Leaves
@@ -40,29 +34,10 @@ returns-in-Stays-clause-opens c = λ router life fates.
     let items = c.args.self.now.requests.items in
     let inside : c.args.place < length items = omega (arith, c.if-place-len.false, c.len.ensures, c.args.self.now.requests.ok.0) in
     let plus : c.args.place + 1 ≡ suc c.args.place = omega arith in
-    ap (λ n. settled (λ (q : Held). open_view router life q.value) n items fates) plus
-    ∙ settled_stays (λ (q : Held). open_view router life q.value) items c.args.place fates inside
-    ∙ ap (λ (f : Fate). settled (λ (q : Held). open_view router life q.value) c.args.place items (f ∷ fates)) (sym c.in-Stays.is)
-
-pub returns-in-Reads-clause-opens : goal.returns-in-Reads-clause-opens
-returns-in-Reads-clause-opens c = λ router life fates.
-    let items = c.args.self.now.requests.items in
-    let inside : c.args.place < length items = omega (arith, c.if-place-len.false, c.len.ensures, c.args.self.now.requests.ok.0) in
-    let plus : c.args.place + 1 ≡ suc c.args.place = omega arith in
-    ap (λ n. settled (λ (q : Held). open_view router life q.value) n (slice_set items c.args.place (with_value c.index_mut.result.now c.wait_for.new.self)) fates) plus
-    ∙ settled_put (λ (q : Held). open_view router life q.value) items c.args.place c.index_mut.result.now (with_value c.index_mut.result.now c.wait_for.new.self) c.args.fate fates inside c.index_mut.ensures.value
+    ap (λ n. settled (λ (q : Held). open_view router life q.value) n (slice_set items c.args.place (with_value c.index_mut.result.now c.stay.new.self)) fates) plus
+    ∙ settled_put (λ (q : Held). open_view router life q.value) items c.args.place c.index_mut.result.now (with_value c.index_mut.result.now c.stay.new.self) c.args.fate fates inside c.index_mut.ensures.value
     (ap (λ (x : OpenRequest). fate_of (open_view router life x) c.args.fate) (sym c.deref_mut.ensures.value)
-    ∙ ap (λ (f : Fate). fate_of (open_view router life c.deref_mut.result.now) f) c.in-Reads.is ∙ ap (λ (q : Open). q ∷ []) (sym (c.wait_for.ensures.waits router life)))
-
-pub returns-in-Writes-clause-opens : goal.returns-in-Writes-clause-opens
-returns-in-Writes-clause-opens c = λ router life fates.
-    let items = c.args.self.now.requests.items in
-    let inside : c.args.place < length items = omega (arith, c.if-place-len.false, c.len.ensures, c.args.self.now.requests.ok.0) in
-    let plus : c.args.place + 1 ≡ suc c.args.place = omega arith in
-    ap (λ n. settled (λ (q : Held). open_view router life q.value) n (slice_set items c.args.place (with_value c.index_mut-in-Writes.result.now c.wait_for_runs.new.self)) fates) plus
-    ∙ settled_put (λ (q : Held). open_view router life q.value) items c.args.place c.index_mut-in-Writes.result.now (with_value c.index_mut-in-Writes.result.now c.wait_for_runs.new.self) c.args.fate fates inside c.index_mut-in-Writes.ensures.value
-    (ap (λ (x : OpenRequest). fate_of (open_view router life x) c.args.fate) (sym c.deref_mut-in-Writes.ensures.value)
-    ∙ ap (λ (f : Fate). fate_of (open_view router life c.deref_mut-in-Writes.result.now) f) c.in-Writes.is ∙ ap (λ (q : Open). q ∷ []) (sym (c.wait_for_runs.ensures.waits router life)))
+    ∙ ap (λ (f : Fate). fate_of (open_view router life c.deref_mut.result.now) f) c.in-Stays.is ∙ ap (λ (q : Open). q ∷ []) (sym (c.stay.ensures.stays router life)))
 
 pub returns-in-Leaves-clause-opens : goal.returns-in-Leaves-clause-opens
 returns-in-Leaves-clause-opens c = λ router life fates.

@@ -27,10 +27,6 @@ pub returns-in-ReadRows-clause-planned : goal.returns-in-ReadRows-clause-planned
 returns-in-ReadRows-clause-planned c = λ m body timed.
     skip_planned _ m c.of_time-in-ReadRows.result c.args.body _ c.in-ReadRows.is tt body (ap (λ t. t.0) c.of_time-in-ReadRows.ensures.time) c.of_time-in-ReadRows.ensures.change c.of_time-in-ReadRows.ensures.records c.of_time-in-ReadRows.ensures.mail
 
-pub returns-in-Stale-clause-planned : goal.returns-in-Stale-clause-planned
-returns-in-Stale-clause-planned c = λ m body timed.
-    skip_planned _ m c.of_time-in-Stale.result c.args.body _ c.in-Stale.is tt body (ap (λ t. t.0) c.of_time-in-Stale.ensures.time) c.of_time-in-Stale.ensures.change c.of_time-in-Stale.ensures.records c.of_time-in-Stale.ensures.mail
-
 pub returns-clause-planned : goal.returns-clause-planned
 returns-clause-planned c = λ m body timed.
     skip_planned _ m c.of_time-in-TimeTold.result c.args.body _ c.in-TimeTold.is tt body (ap (λ t. t.0) c.of_time-in-TimeTold.ensures.time) c.of_time-in-TimeTold.ensures.change c.of_time-in-TimeTold.ensures.records c.of_time-in-TimeTold.ensures.mail

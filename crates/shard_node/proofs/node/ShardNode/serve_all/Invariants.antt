@@ -1,6 +1,6 @@
 use Rattle.std.proofs.Common.{◌≡◌, ◌<◌, ◌+◌, [], drop, length, map}
 use Rattle.command_replies.specs.Kinds.{given_view}
-use Rattle.node_traits.specs.Effects.{last_time}
+use Rattle.node_model.specs.Lacks.{last_time}
 use Rattle.node_traits.specs.Ids.{id_view}
 use Rattle.protocol_model.specs.Statements.{done_view, statement_view}
 use Rattle.shard_store.specs.Plans.{IsPlan, made_by, planned_in, time_of}

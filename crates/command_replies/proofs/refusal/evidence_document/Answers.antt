@@ -1,5 +1,0 @@
-use Rattle.std.proofs.Common.{rules}
-use Rattle.command_replies.proofs.refusal.evidence_document.Goals as goal
-
-pub returns-in-Greatest : goal.returns-in-Greatest
-returns-in-Greatest c = search rules
