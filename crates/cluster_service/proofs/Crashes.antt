@@ -107,7 +107,7 @@ first_leaves_all first shows tells place moment left_at noted noted' befores aft
   together = λ shown told. inl (refl, leave told);
 }
 
-module _ {N D : Type 0} (state : N → NodeState) (tells : Bool) (content : D → List ℕ) (moment : D → ℕ) (left_at : D → ℕ → Outcomes) (fault_count : D → ℕ)
+module _ {N D : Type 0} (state : N → NodeState) (steps : N → ℕ) (tells : Bool) (content : D → List ℕ) (moment : D → ℕ) (left_at : D → ℕ → Outcomes) (fault_count : D → ℕ)
     (place : D → List ℕ) (first w : World) (told : IsTrue tells) where
   -- what is said of a log is said of its disk
   pub at_place : (at : ℕ) (disk : D) (old new : JournalView D) → LeavesAlso moment left_at disk old.disk (IsOfWorld first at)
@@ -135,7 +135,7 @@ module _ {N D : Type 0} (state : N → NodeState) (tells : Bool) (content : D �
   -- and so of all disks
   pub seats_leave : (disks : List D) (olds news : List (Seat N (JournalView D)))
       → LeaveSuch moment left_at (IsOfWorld first) disks (map (λ s. s.log.disk) olds) → length olds ≡ length news
-      → EachLeaves (seat_since state (journal_facts tells content moment left_at fault_count place) (since_then olds first)) news w
+      → EachLeaves (seat_since state steps (journal_facts tells content moment left_at fault_count place) (since_then olds first)) news w
       → LeaveSuch moment left_at (λ at file. IsOfTheWay first w at file) disks (map (λ s. s.log.disk) news)
   seats_leave disks olds news early len leave =
       each_place (λ at. at) disks olds news early len (λ at s got old began. (leave at s got told).0 old began)

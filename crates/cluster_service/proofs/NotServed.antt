@@ -100,6 +100,7 @@ module _ (source : SourceCall) (sink : SinkCall) (tells : Bool) (files_after : L
       fault = None;
       rounds = [];
       end = first;
+      none_missed = refl;
       took = took;
       put_all = put;
       frames = ends 0 [] refl;
@@ -123,6 +124,7 @@ module _ (source : SourceCall) (sink : SinkCall) (tells : Bool) (files_after : L
       lines = [];
       left = [];
       end = first;
+      none_missed = refl;
       took = took;
       put_all = put;
       parts = refl;

@@ -29,30 +29,31 @@ use Rattle.cluster_service.specs.declared.status.Status.{Status}
 use Rattle.cluster_service.specs.declared.status.Status.TheVariants as statuses
 use Rattle.cluster_service.proofs.Counts.{one_rose_as}
 
-module _ {N D : Type 0} (state : N → NodeState) (tells : Bool) (content : D → List ℕ) (moment : D → ℕ) (left_at : D → ℕ → Outcomes) (fault_count : D → ℕ)
+module _ {N D : Type 0} (state : N → NodeState) (steps : N → ℕ) (tells : Bool) (content : D → List ℕ) (moment : D → ℕ) (left_at : D → ℕ → Outcomes) (fault_count : D → ℕ)
     (place : D → List ℕ) where
   -- nodes in the states of a world, with journals that store what these do, are those of the world
   pub held_from : (nodes : List N) (journals : List (JournalView D)) (held : List Held) → map state nodes ≡ map (λ h. h.state) held
-      → AreOpenWith tells content journals held
-      → AreHeld (seat_view state (journal_facts tells content moment left_at fault_count place)) (seats_of nodes journals) held
-  held_from [] [] [] same are = tt
-  held_from [] [] (h ∷ held) same are = absurd are
-  held_from [] (journal ∷ journals) [] same are = absurd are
-  held_from [] (journal ∷ journals) (h ∷ held) same are = absurd (cc same)
-  held_from (node ∷ nodes) journals [] same are = absurd (cc same)
-  held_from (node ∷ nodes) [] (h ∷ held) same are = absurd are
-  held_from (node ∷ nodes) (journal ∷ journals) (h ∷ held) same are = (
+      → AreOpenWith tells content journals held → AllByRecursion (λ (h : Held). h.steps ≡ 0) held
+      → AreHeld (seat_view state steps (journal_facts tells content moment left_at fault_count place)) (seats_of nodes journals) held
+  held_from [] [] [] same are none = tt
+  held_from [] [] (h ∷ held) same are none = absurd are
+  held_from [] (journal ∷ journals) [] same are none = absurd are
+  held_from [] (journal ∷ journals) (h ∷ held) same are none = absurd (cc same)
+  held_from (node ∷ nodes) journals [] same are none = absurd (cc same)
+  held_from (node ∷ nodes) [] (h ∷ held) same are none = absurd are
+  held_from (node ∷ nodes) (journal ∷ journals) (h ∷ held) same are none = (
     record {
       same = cc same;
+      counted = omega (arith, none.0);
       written = are.0.0.listed;
       keeps = record { readable = are.0.1; found = λ told. are.0.0.stands };
     },
-    held_from nodes journals held (cc same) are.1,
+    held_from nodes journals held (cc same) are.1 none.1,
   )
 
   -- where the logs keep what the journals keep, so do the files
   pub kept_in_files : (seats : List (Seat N (JournalView D))) (nodes : List Held)
-      → AreKept (seat_view state (journal_facts tells content moment left_at fault_count place)) seats nodes
+      → AreKept (seat_view state steps (journal_facts tells content moment left_at fault_count place)) seats nodes
       → IsTrue tells → AreJournals (map content (map (λ s. s.log.disk) seats)) nodes
   kept_in_files [] [] kept told = tt
   kept_in_files (s ∷ seats) (h ∷ nodes) kept told =

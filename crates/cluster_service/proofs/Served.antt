@@ -39,18 +39,18 @@ routers_there first_router first may at far below =
     subst (λ (n : ℕ). IsRouter first.nodes n) there (may.routers (at - first_router) (subst (λ (n : ℕ). n < length first.nodes) (sym there) below))
 
 pub opened_as : {N L M I : Type 0} (f : NodeFacts N L M I) (first_router : ℕ) (first : World) (seats : List (Seat N L))
-    → AreHeld (seat_view f.state f.facts) seats first.nodes
+    → AreHeld (seat_view f.state f.steps f.facts) seats first.nodes
     → RoutersFrom first_router first.nodes → OpenedAs f (since_then seats first) first_router seats first
 opened_as f first_router first seats held routers = record {
   logs = refl;
-  nodes = held_since f.state f.facts (since_then seats first) seats first.nodes held;
-  crashes = start_leaves f.state f.facts seats first;
+  nodes = held_since f.state f.steps f.facts (since_then seats first) seats first.nodes held;
+  crashes = start_leaves f.state f.steps f.facts seats first;
   are_routers = routers;
 }
 
 -- a world with these nodes, in which nothing happened yet
 abbrev pub world_of : List Held → World
-world_of nodes = record { nodes = nodes; sent = []; asked = []; answered = []; given = []; changed = []; now = 0 }
+world_of nodes = record { nodes = nodes; sent = []; asked = []; answered = []; given = []; learned = []; missed = []; away = []; changed = []; now = 0 }
 
 -- THE END
 

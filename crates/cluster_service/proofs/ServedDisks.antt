@@ -79,6 +79,7 @@ none_served meaning bytes first tells failed files moment left_at befores afters
   events = [];
   end = first;
   run = stands first;
+  none_missed = refl;
   journals = λ never. are;
   journals_up_to = λ told at file got. (first, no_more at first, journal_there files first.nodes (are told) at file got);
   crashes = λ never. left;
@@ -96,6 +97,7 @@ headline_as meaning bytes first tells failed other files leaves leaves_up_to lin
   events = h.events;
   end = h.end;
   run = h.run;
+  none_missed = h.none_missed;
   journals = λ never. h.journals (λ is. never (so is));
   journals_up_to = h.journals_up_to;
   crashes = λ never. h.crashes (λ is. never (so is));
@@ -105,7 +107,7 @@ headline_as meaning bytes first tells failed other files leaves leaves_up_to lin
 }
 
 -- after more steps, or none
-module _ {N D : Type 0} (state : N → NodeState) (tells : Bool) (content : D → List ℕ) (moment : D → ℕ) (left_at : D → ℕ → Outcomes)
+module _ {N D : Type 0} (state : N → NodeState) (steps : N → ℕ) (tells : Bool) (content : D → List ℕ) (moment : D → ℕ) (left_at : D → ℕ → Outcomes)
     (fault_count : D → ℕ) (place : D → List ℕ) (first : World) (w : World) (told : IsTrue tells) where
   up_to_places : (node : ℕ → ℕ) (disks : List D) (olds : List (Seat N (JournalView D))) (all : List (Placed N (JournalView D)))
       → LeaveSuch moment left_at (λ at. IsOfWorld first (node at)) disks (map (λ s. s.log.disk) olds) → length olds ≡ length all
@@ -121,19 +123,19 @@ module _ {N D : Type 0} (state : N → NodeState) (tells : Bool) (content : D �
     (let k = kept zero p refl o.log refl in
         leaves_then moment left_at disk disk p.seat.log.disk (λ file. ⊥) (λ file. IsOfTheWay first k.0 (node zero) file)
         (λ file. (v : World) × IsUpTo (node zero) w v × IsOfTheWay first v (node zero) file) (left_alone moment left_at disk (λ file. ⊥))
-        (at_place state tells content moment left_at fault_count place first k.0 told (node zero) disk o.log p.seat.log early.0 k.2)
+        (at_place state steps tells content moment left_at fault_count place first k.0 told (node zero) disk o.log p.seat.log early.0 k.2)
         (λ file never. absurd never) (λ file is. (k.0, k.1, is))),
     up_to_places (λ at. node (suc at)) disks olds all early.1 (omega (arith, len)) (λ at. kept (suc at)),
   )
 
-module _ {N D : Type 0} (state : N → NodeState) (tells : Bool) (content : D → List ℕ) (moment : D → ℕ) (left_at : D → ℕ → Outcomes)
+module _ {N D : Type 0} (state : N → NodeState) (steps : N → ℕ) (tells : Bool) (content : D → List ℕ) (moment : D → ℕ) (left_at : D → ℕ → Outcomes)
     (fault_count : D → ℕ) (place : D → List ℕ) (first : World) (seats : List (Seat N (JournalView D)))
-    (held : AreHeld (seat_view state (journal_facts tells content moment left_at fault_count place)) seats first.nodes) where
+    (held : AreHeld (seat_view state steps (journal_facts tells content moment left_at fault_count place)) seats first.nodes) where
   -- the nodes are as they were
   pub same_files : IsTrue tells → AreJournals (map content (map (λ s. s.log.disk) seats)) first.nodes
   same_files told =
-      kept_in_files state tells content moment left_at fault_count place seats first.nodes
-      (held_kept (seat_view state (journal_facts tells content moment left_at fault_count place)) seats first.nodes held) told
+      kept_in_files state steps tells content moment left_at fault_count place seats first.nodes
+      (held_kept (seat_view state steps (journal_facts tells content moment left_at fault_count place)) seats first.nodes held) told
 
   pub same_leave : (disks : List D) → (IsTrue tells → LeaveSuch moment left_at (IsOfWorld first) disks (map (λ s. s.log.disk) seats))
       → LeaveTheWay first tells moment left_at disks (map (λ s. s.log.disk) seats) first
@@ -141,7 +143,7 @@ module _ {N D : Type 0} (state : N → NodeState) (tells : Bool) (content : D �
       all_weaker moment left_at (IsOfWorld first) (λ at file. IsOfTheWay first first at file) disks (map (λ s. s.log.disk) seats)
       (λ at file stands. of_the_first first first at file (leads_nowhere first) stands) (early told)
 
-  module _ {M I : Type 0} (steps : N → ℕ) (letter : M → Letter) (meaning : I → Input) (placed : List (Placed N (JournalView D))) (events : List Event) (w : World)
+  module _ {M I : Type 0} (letter : M → Letter) (meaning : I → Input) (placed : List (Placed N (JournalView D))) (events : List Event) (w : World)
       (run : Run first events w) (from : AreFrom 0 placed)
       (ends : AllByRecursion (λ p. Ends (node_facts state steps letter meaning (journal_facts tells content moment left_at fault_count place))
       (since_then seats first) w p) placed) (count : length placed ≡ length seats) where
@@ -200,7 +202,7 @@ module _ {N D : Type 0} (state : N → NodeState) (tells : Bool) (content : D �
           → LeaveUpTo first tells moment left_at befores disks w
       served_leave_up_to befores early told =
           subst (λ (ds : List D). LeaveSuch moment left_at (λ at file. (v : World) × IsUpTo at w v × IsOfTheWay first v at file) befores ds) (sym are)
-          (up_to_places state tells content moment left_at fault_count place first w told (λ at. at) befores seats placed (early told) (sym count)
+          (up_to_places state steps tells content moment left_at fault_count place first w told (λ at. at) befores seats placed (early told) (sym count)
           (λ at p got old began.
           let l = (each_was (node_facts state steps letter meaning (journal_facts tells content moment left_at fault_count place))
           (since_then seats first) w placed from ends at p got).crash in
@@ -217,7 +219,7 @@ module _ {N D : Type 0} (state : N → NodeState) (tells : Bool) (content : D �
 
         files_of : (nodes : List Held) (all : List (Placed N (JournalView D)))
             → ((at : ℕ) (p : Placed N (JournalView D)) → slice_get all at ≡ Some p → (h : Held) × ((slice_get nodes at ≡ Some h)
-            × Keeps (seat_since state (journal_facts tells content moment left_at fault_count place) (since_then seats first) p.seat) h.kept))
+            × Keeps (seat_since state steps (journal_facts tells content moment left_at fault_count place) (since_then seats first) p.seat) h.kept))
             → length nodes ≡ length all → IsTrue tells → AreJournals (map content (map (λ p. p.seat.log.disk) all)) nodes
         files_of [] [] each long told = tt
         files_of [] (p ∷ all) each long told = absurd (omega (arith, long))
@@ -225,7 +227,7 @@ module _ {N D : Type 0} (state : N → NodeState) (tells : Bool) (content : D �
         files_of (h ∷ nodes) (p ∷ all) each long told =
             let there = each zero p refl in
             let same : there.0 ≡ h = sym (cc there.1.0) in
-            let is = subst (λ (x : Held). Keeps (seat_since state (journal_facts tells content moment left_at fault_count place) (since_then seats first) p.seat) x.kept) same there.1.1 in
+            let is = subst (λ (x : Held). Keeps (seat_since state steps (journal_facts tells content moment left_at fault_count place) (since_then seats first) p.seat) x.kept) same there.1.1 in
             (record { stands = is.found told told; readable = is.readable }, files_of nodes all (λ at. each (suc at)) (omega (arith, long)) told)
 
         served_files : IsTrue tells → AreJournals (map content disks) w.nodes
@@ -238,7 +240,7 @@ module _ {N D : Type 0} (state : N → NodeState) (tells : Bool) (content : D �
             (none_failed_at (journal_facts tells content moment left_at fault_count place) placed never at p got) in
             (s.held, (s.here, s.keeps)))
             (run_count first events w run
-            ∙ (sym (held_len (seat_view state (journal_facts tells content moment left_at fault_count place)) seats first.nodes held) ∙ sym count))
+            ∙ (sym (held_len (seat_view state steps (journal_facts tells content moment left_at fault_count place)) seats first.nodes held) ∙ sym count))
             told)
 
         seat_at : (all : List (Placed N (JournalView D))) (at : ℕ) (s : Seat N (JournalView D)) → slice_get (map (λ p. p.seat) all) at ≡ Some s
@@ -252,18 +254,18 @@ module _ {N D : Type 0} (state : N → NodeState) (tells : Bool) (content : D �
         served_leave befores early told =
             subst (λ (ds : List D). LeaveSuch moment left_at (λ at file. IsOfTheWay first w at file) befores ds)
             (mapped_twice (λ (s : Seat N (JournalView D)). s.log.disk) (λ (p : Placed N (JournalView D)). p.seat) placed ∙ sym are)
-            (seats_leave state tells content moment left_at fault_count place first w told befores seats (map (λ p. p.seat) placed) (early told)
+            (seats_leave state steps tells content moment left_at fault_count place first w told befores seats (map (λ p. p.seat) placed) (early told)
             (sym count ∙ sym (length-map placed (λ p. p.seat)))
             (λ at s got.
             let there = seat_at placed at s got in
-            subst (λ (x : Seat N (JournalView D)). (seat_since state (journal_facts tells content moment left_at fault_count place) (since_then seats first) x).leaves at w)
+            subst (λ (x : Seat N (JournalView D)). (seat_since state steps (journal_facts tells content moment left_at fault_count place) (since_then seats first) x).leaves at w)
             there.1.1
             ((each_was (node_facts state steps letter meaning (journal_facts tells content moment left_at fault_count place))
             (since_then seats first) w placed from ends at there.0 there.1.0).stays
             (none_failed_at (journal_facts tells content moment left_at fault_count place) placed never at there.0 there.1.0)).leaves))
 
   -- the server ended
-  pub some_served : {M I S : Type 0} (steps : N → ℕ) (letter : M → Letter) (meaning : I → Input) (bytes : LinkFacts S)
+  pub some_served : {M I S : Type 0} (letter : M → Letter) (meaning : I → Input) (bytes : LinkFacts S)
       (placed : List (Placed N (JournalView D))) (links : List (Spoken S)) (disks befores : List D) (failed : Type 0) → IsFirst first → AreFrom 0 placed
       → length placed ≡ length seats → disks ≡ map (λ p. p.seat.log.disk) placed → (IsTrue (some_failed placed) → failed)
       → Served (node_facts state steps letter meaning (journal_facts tells content moment left_at fault_count place)) bytes
@@ -271,14 +273,15 @@ module _ {N D : Type 0} (state : N → NodeState) (tells : Bool) (content : D �
       → (IsTrue tells → LeaveSuch moment left_at (IsOfWorld first) befores (map (λ s. s.log.disk) seats))
       → ServerHeadline meaning bytes first tells failed (map content disks) (LeaveTheWay first tells moment left_at befores disks)
       (LeaveUpTo first tells moment left_at befores disks) links
-  some_served steps letter meaning bytes placed links disks befores failed begins from count are where_it s early = record {
+  some_served letter meaning bytes placed links disks befores failed begins from count are where_it s early = record {
     events = s.events;
     end = s.world;
     run = s.run;
-    journals = λ never. served_files steps letter meaning placed s.events s.world s.run from s.nodes count disks are (λ some. never (where_it some));
-    journals_up_to = served_up_to steps letter meaning placed s.events s.world s.run from s.nodes count disks are;
-    crashes = λ never. served_leave steps letter meaning placed s.events s.world s.run from s.nodes count disks are (λ some. never (where_it some)) befores early;
-    crashes_up_to = served_leave_up_to steps letter meaning placed s.events s.world s.run from s.nodes count disks are befores early;
+    none_missed = s.none_missed;
+    journals = λ never. served_files letter meaning placed s.events s.world s.run from s.nodes count disks are (λ some. never (where_it some));
+    journals_up_to = served_up_to letter meaning placed s.events s.world s.run from s.nodes count disks are;
+    crashes = λ never. served_leave letter meaning placed s.events s.world s.run from s.nodes count disks are (λ some. never (where_it some)) befores early;
+    crashes_up_to = served_leave_up_to letter meaning placed s.events s.world s.run from s.nodes count disks are befores early;
     history = one_history first begins (wholes s.events) s.world (run_whole first s.world s.events s.run);
     served = s.links_are;
   }

@@ -25,7 +25,7 @@ along_turn : {X : Type 0} (R S : X → X → Type 0) → ((a b : X) → R a b �
 along_turn R S turn first [] last same = same
 along_turn R S turn first (next ∷ more) last along = (turn first next along.0, along_turn R S turn next more last along.1)
 
-module _ {N D : Type 0} (state : N → NodeState) (tells : Bool) (content : D → List ℕ) (moment : D → ℕ) (left_at : D → ℕ → Outcomes) (fault_count : D → ℕ)
+module _ {N D : Type 0} (state : N → NodeState) (steps : N → ℕ) (tells : Bool) (content : D → List ℕ) (moment : D → ℕ) (left_at : D → ℕ → Outcomes) (fault_count : D → ℕ)
     (place : D → List ℕ) where
   abbrev disks_in : List (Seat N (JournalView D)) → List D
   disks_in seats = map (λ s. s.log.disk) seats
@@ -60,7 +60,7 @@ module _ {N D : Type 0} (state : N → NodeState) (tells : Bool) (content : D �
 
   module _ (first w : World) (noted noted' : List Note) (disks : List D) (olds news : List (Seat N (JournalView D)))
       (early : IsTrue tells → LeaveSuch moment left_at (IsOfWorld first) disks (disks_in olds)) (len : length olds ≡ length news) (shows : Bool)
-      (leave : LeaveKept (seat_since state (journal_facts tells content moment left_at fault_count place) (since_then olds first))
+      (leave : LeaveKept (seat_since state steps (journal_facts tells content moment left_at fault_count place) (since_then olds first))
       (hosted shows (journal_facts tells content moment left_at fault_count place) (since_noted olds first noted) noted' news) w) where
     abbrev Moves : (disks : List D) → Cut World → Cut World → Type 0
     Moves ds a b = OneMove left_at LeadsTo (AreOfOne Stands) ds a b
@@ -96,6 +96,6 @@ module _ {N D : Type 0} (state : N → NodeState) (tells : Bool) (content : D �
     -- what the hosted nodes leave their disks do
     pub seats_leave_all : LeaveAll first shows tells place moment left_at noted noted' disks (disks_in news) w
     seats_leave_all = record {
-      each = λ told. seats_leave state tells content moment left_at fault_count place first w told disks olds news (early told) len leave.each;
+      each = λ told. seats_leave state steps tells content moment left_at fault_count place first w told disks olds news (early told) len leave.each;
       together = λ shown told. inr (by_cuts shown told);
     }

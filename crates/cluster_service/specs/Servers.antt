@@ -1,6 +1,6 @@
 -- What one call says of the connections that it served on threads, and of the disks that it hands back (own).
 use Rattle.std.specs.Prelude.{◌≡◌, ℕ, Bool, IsTrue, List, Some, map}
-use Rattle.std.specs.List.{slice_get}
+use Rattle.std.specs.List.{AllByRecursion, slice_get}
 use Rattle.outside.specs.Disks.{Outcomes}
 use Rattle.outside.specs.declared.exchange.Spoken.{Spoken}
 use Rattle.node_model.specs.Letters.{Input}
@@ -34,7 +34,7 @@ abbrev pub LeaveUpTo : {D : Type 0} → (first : World) → Bool → (D → ℕ)
 LeaveUpTo first tells moment left_at befores afters end =
     IsTrue tells → LeaveSuch moment left_at (λ at file. (v : World) × IsUpTo at end v × IsOfTheWay first v at file) befores afters
 
--- From the first world on there is a run of the nodes, which makes one legal history with all calls before. On each link, each request was taken in a step of
+-- From the first world on there is a run of the nodes, in which none misses a step, and which makes one legal history with all calls before. On each link, each request was taken in a step of
 -- the run, and its reply returned by one, in the steps that are named; and these replies were written. The disks store the journals; but where a disk failed
 -- each may be several steps of its node further: those of one append. `tells` is whether the files of the disks are observable, `failed` whether a disk
 -- failed, and `leaves` gives the files after a crash at any moment of the call, of the world up to which the run may proceed, and `leaves_up_to` those of worlds
@@ -44,6 +44,7 @@ pub record ServerHeadline {I S : Type 0} (meaning : I → Input) (bytes : LinkFa
   pub events : List Event
   pub end : World
   pub run : Run first events end
+  pub none_missed : end.missed ≡ first.missed
   pub journals : ¬ failed → IsTrue tells → AreJournals files end.nodes
   pub journals_up_to : IsTrue tells → AreJournalsUpTo files end
   pub crashes : ¬ failed → leaves end
@@ -58,12 +59,14 @@ pub data IsServerEnd : Status → Type 0 where
   at_memory : IsServerEnd OutOfMemory
   at_accept : IsServerEnd AcceptFailed
 
--- Nodes in these states, with these journals, are those of some world: its journals store the same, and its nodes from this number on are routers.
+-- Nodes in these states, with these journals, are those of some world, in which none has taken a step: its journals store the same, and its nodes from this
+-- number on are routers.
 pub record AreOfSomeWorld {D : Type 0} (first_router : ℕ) (tells : Bool) (content : D → List ℕ) (states : List NodeState)
     (journals : List (JournalView D)) : Type 0 where
   pub nodes : List Held
   pub same : states ≡ map (λ h. h.state) nodes
   pub are : AreOpenWith tells content journals nodes
+  pub counts : AllByRecursion (λ (h : Held). h.steps ≡ 0) nodes
   pub routers : RoutersFrom first_router nodes
 
 -- so are nodes with their logs

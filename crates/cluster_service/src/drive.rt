@@ -56,10 +56,10 @@ pub fn drive<
     requires open { AreOpen L.facts.is_open seats.old.items }
     ensures driven { AreAskedAsRead N.asks → IsTrue L.facts.tells → (first : World) → MayPlay (first_router_of command) first →
         HaveParts (O.part opener.now) first.nodes →
-        AreHeld (seat_view N.state L.facts) seats.old.items first.nodes →
+        AreHeld (seat_view N.state N.steps L.facts) seats.old.items first.nodes →
         IsDriven command first (source_call S.tells S.left S.fault_count input.old input.new) (sink_call K.tells K.held K.fault_count out.old out.new)
-        (C.gives clock.now) (AreKept (seat_view N.state L.facts) seats.new.items)
-        (LeaveKept (seat_since N.state L.facts (since_then seats.old.items first))
+        (C.gives clock.now) (AreKept (seat_view N.state N.steps L.facts) seats.new.items)
+        (LeaveKept (seat_since N.state N.steps L.facts (since_then seats.old.items first))
         (hosted K.tells L.facts (since_noted seats.old.items first (K.noted out.old)) (K.noted out.new) seats.new.items))
         (AreAcknowledgedBy L.facts K.tells (output_of command first) first (K.noted out.new) (K.held out.old) seats.new.items)
         result.status result.rest }

@@ -102,13 +102,13 @@ where
     R: Threads + Wait + Sync,
     requires few { vec_len seats ≤ 64 }
     requires somewhere { AreSeatedSomewhere (1 + server.shards)
-        (seat_view N.state (journal_facts D.tells D.content D.moment D.left_at D.fault_count D.place)) seats.items }
+        (seat_view N.state N.steps (journal_facts D.tells D.content D.moment D.left_at D.fault_count D.place)) seats.items }
     requires small { AllByRecursion (λ seat. N.steps seat.node < 2 ^ 56) seats.items }
     requires open { AllByRecursion (λ seat. IsTrue seat.log.is_open) seats.items }
     requires back { back.items ≡ [] }
     requires room { vec_len seats ≤ vec_capacity back }
     ensures headline { (first : World) → MayPlay (1 + server.shards) first →
-        AreHeld (seat_view N.state (journal_facts D.tells D.content D.moment D.left_at D.fault_count D.place)) seats.items first.nodes → (disks : List D) →
+        AreHeld (seat_view N.state N.steps (journal_facts D.tells D.content D.moment D.left_at D.fault_count D.place)) seats.items first.nodes → (disks : List D) →
         (IsTrue D.tells → LeaveSuch D.moment D.left_at (λ at file. Stands file (spellings (journal_at first.nodes at))) disks (map (λ seat. seat.log.disk) seats.items)) →
         ServerHeadline N.meaning (link_facts A.Link.Source.tells A.Link.Source.left A.Link.Sink.tells A.Link.Sink.held A.Link.is_closed)
         first D.tells (result.status ≡ statuses.DiskFailed)

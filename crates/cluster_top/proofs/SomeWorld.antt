@@ -93,6 +93,7 @@ unmapped (k ∷ kept) are = (are.0, unmapped kept are.1)
 -- The node of a number, in its state, which stores these records; there are so many shards after the first.
 record IsHeldAs (others n : ℕ) (records : List (List ℕ)) (state : NodeState) : Type 0 where
   held : Held
+  none : held.steps ≡ 0
   same : state ≡ held.state
   stores : spellings held.kept ≡ records
   readable : AreReadable held.kept
@@ -114,7 +115,8 @@ one_held : (others n : ℕ) (records : List (List ℕ)) (state : NodeState) → 
 one_held others n records state o =
     let kept = kept_all (part_at others n) o.d o.replayed.records o.replayed.leads in
     record {
-      held = record { state = opened o.time o.d; kept = kept.0 };
+      held = record { state = opened o.time o.d; kept = kept.0; steps = 0 };
+      none = refl;
       same = o.is;
       stores = sym (spelled_kept kept.0) ∙ ap (λ (rs : List Record). map (spelled 1) rs) kept.1 ∙ o.replayed.encoded;
       readable = unmapped kept.0 (subst (λ (rs : List Record). AllByRecursion IsReadable rs) (sym kept.1) o.replayed.readable);
@@ -128,12 +130,13 @@ record AreHeldAs {D : Type 0} (tells : Bool) (content : D → List ℕ) (others 
   nodes : List Held
   same : states ≡ map (λ h. h.state) nodes
   are : AreOpenWith tells content journals nodes
+  counts : AllByRecursion (λ (h : Held). h.steps ≡ 0) nodes
   routers : (at : ℕ) → others + 2 ≤ n + at → at < length nodes → IsRouter nodes at
 
 module _ {D : Type 0} (facts : DiskFacts D) where
   all_held : (others n : ℕ) (disks : List D) (journals : List (JournalView D)) (found : List (List (List ℕ))) (states : List NodeState)
       → InThrees (IsOpenedOn facts) disks journals found → AreOpened others n found states → AreHeldAs facts.tells facts.content others n journals states
-  all_held others n [] [] [] [] on opens = record { nodes = []; same = refl; are = tt; routers = λ at far below. absurd (omega (arith, below)) }
+  all_held others n [] [] [] [] on opens = record { nodes = []; same = refl; are = tt; counts = tt; routers = λ at far below. absurd (omega (arith, below)) }
   all_held others n [] [] [] (s ∷ states) on opens = absurd opens
   all_held others n [] [] (records ∷ found) states on opens = absurd on
   all_held others n [] (j ∷ journals) found states on opens = absurd on
@@ -150,6 +153,7 @@ module _ {D : Type 0} (facts : DiskFacts D) where
           (subst (λ (rs : List (List ℕ)). IsOpenWith facts.tells facts.content j rs) (sym one.stores) on.0.has, one.readable),
           later.are,
         );
+        counts = (one.none, later.counts);
         routers = each one later;
       }
     where
@@ -157,7 +161,7 @@ module _ {D : Type 0} (facts : DiskFacts D) where
           → (at : ℕ) → others + 2 ≤ n + at → at < length (one.held ∷ later.nodes) → IsRouter (one.held ∷ later.nodes) at
       each one later zero far below =
           let r = one.router (omega (arith, far)) in
-          (r.0, one.held.kept, ap (λ (s : NodeState). Some (record { state = s; kept = one.held.kept })) r.1)
+          (r.0, one.held.kept, one.held.steps, ap (λ (s : NodeState). Some (record { state = s; kept = one.held.kept; steps = one.held.steps })) r.1)
       each one later (suc at) far below = later.routers at (omega (arith, far)) (omega (arith, below))
 
   pub some_world : (shards : ℕ) → 0 < shards → (disks : List D) (journals : List (JournalView D)) (found : List (List (List ℕ))) (states : List NodeState)
@@ -165,4 +169,4 @@ module _ {D : Type 0} (facts : DiskFacts D) where
       → AreOfSomeWorld (1 + shards) facts.tells facts.content states journals
   some_world shards some disks journals found states on opens =
       let all = all_held (shards - 1) 0 disks journals found states on opens in
-      record { nodes = all.nodes; same = all.same; are = all.are; routers = λ at far below. all.routers at (omega (arith, far, some)) below }
+      record { nodes = all.nodes; same = all.same; are = all.are; counts = all.counts; routers = λ at far below. all.routers at (omega (arith, far, some)) below }

@@ -99,6 +99,7 @@ all_served f bytes routers next seats ended notes spoken run heard since first o
       events = r.events;
       world = r.world;
       run = r.run;
+      none_missed = r.none_missed;
       nodes = r.nodes;
       links_are = links_served f first.now r.events r.world bytes 0 next spoken notes heard r.noted;
     }

@@ -77,13 +77,14 @@ WereServed meaning bytes first events w from [] = Unit {0}
 WereServed meaning bytes first events w from (s ∷ spoken) =
     (h : WasServed meaning bytes first events w from s) × WereServed meaning bytes first events w (h.link + 1) spoken
 
--- From a world whose nodes they were at the start there is one run to a world in which these are the nodes, with their logs; it took what was said on the
--- links.
+-- From a world whose nodes they were at the start there is one run, in which no step was missed, to a world in which these are the nodes, with their logs; it
+-- took what was said on the links.
 pub record Served {N L M I S : Type 0} (f : NodeFacts N L M I) (bytes : LinkFacts S) (since : Since L) (first : World)
     (ended : List (Placed N L)) (links : List (Spoken S)) : Type 0 where
   pub events : List Event
   pub world : World
   pub run : Run first events world
+  pub none_missed : world.missed ≡ first.missed
   pub nodes : AllByRecursion (λ p. Ends f since world p) ended
   pub links_are : WereServed f.meaning bytes first.now events world 0 links
 

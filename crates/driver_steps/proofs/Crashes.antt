@@ -161,9 +161,9 @@ module _ {N L : Type 0} where
       → slice_get (map (λ (z : Seat N L). z.log) seats) at ≡ Some old → s.log ≡ old
   same_log seats at s old got began = let both : Some s.log ≡ Some old = sym (logs_there seats at s got) ∙ began in cc both
 
-module _ {N L : Type 0} (state : N → NodeState) (facts : LogFacts L) where
+module _ {N L : Type 0} (state : N → NodeState) (steps : N → ℕ) (facts : LogFacts L) where
   -- nothing happened since then
-  pub start_leaves : (seats : List (Seat N L)) (w : World) → EachLeaves (seat_since state facts (since_then seats w)) seats w
+  pub start_leaves : (seats : List (Seat N L)) (w : World) → EachLeaves (seat_since state steps facts (since_then seats w)) seats w
   start_leaves seats w at s got tells = (
     λ old began. subst (λ (l : L). LeavesKept facts w l s.log at w) (same_log seats at s old got began)
         (record {
@@ -179,36 +179,38 @@ module _ {N L : Type 0} (state : N → NodeState) (facts : LogFacts L) where
 
   module _ (since : Since L) where
     -- of nodes of which nothing was said of crashes
-    pub held_since : (seats : List (Seat N L)) (held : List Held) → AreHeld (seat_view state facts) seats held
-        → AreHeld (seat_since state facts since) seats held
+    pub held_since : (seats : List (Seat N L)) (held : List Held) → AreHeld (seat_view state steps facts) seats held
+        → AreHeld (seat_since state steps facts since) seats held
     held_since [] [] are = tt
     held_since [] (h ∷ held) are = absurd are
     held_since (s ∷ seats) [] are = absurd are
     held_since (s ∷ seats) (h ∷ held) are = (
       record {
         same = are.0.same;
+        counted = are.0.counted;
         written = are.0.written;
         keeps = record { readable = are.0.keeps.readable; found = are.0.keeps.found };
       },
       held_since seats held are.1,
     )
 
-    pub held_plain : (seats : List (Seat N L)) (held : List Held) → AreHeld (seat_since state facts since) seats held
-        → AreHeld (seat_view state facts) seats held
+    pub held_plain : (seats : List (Seat N L)) (held : List Held) → AreHeld (seat_since state steps facts since) seats held
+        → AreHeld (seat_view state steps facts) seats held
     held_plain [] [] are = tt
     held_plain [] (h ∷ held) are = absurd are
     held_plain (s ∷ seats) [] are = absurd are
     held_plain (s ∷ seats) (h ∷ held) are = (
       record {
         same = are.0.same;
+        counted = are.0.counted;
         written = are.0.written;
         keeps = record { readable = are.0.keeps.readable; found = are.0.keeps.found };
       },
       held_plain seats held are.1,
     )
 
-    pub kept_plain : (seats : List (Seat N L)) (held : List Held) → AreKept (seat_since state facts since) seats held
-        → AreKept (seat_view state facts) seats held
+    pub kept_plain : (seats : List (Seat N L)) (held : List Held) → AreKept (seat_since state steps facts since) seats held
+        → AreKept (seat_view state steps facts) seats held
     kept_plain [] [] are = tt
     kept_plain [] (h ∷ held) are = absurd are
     kept_plain (s ∷ seats) [] are = absurd are
@@ -222,11 +224,11 @@ module _ {N L : Type 0} (state : N → NodeState) (facts : LogFacts L) where
     moments_there (x ∷ seats) zero s m got of = cc
     moments_there (x ∷ seats) (suc at) s m got of = moments_there seats at s m got of
 
-    module _ (seats : List (Seat N L)) (w : World) (are : AreHeld (seat_since state facts since) seats w.nodes)
+    module _ (seats : List (Seat N L)) (w : World) (are : AreHeld (seat_since state steps facts since) seats w.nodes)
         (durable : (at : ℕ) (s : Seat N L) → slice_get seats at ≡ Some s → IsDurable facts s.log) where
       no_less_now : (at : ℕ) (s : Seat N L) → slice_get seats at ≡ Some s → IsTrue facts.tells → LeavesNoLess facts w (facts.moment s.log) s.log at w
       no_less_now at s got tells =
-          let place : HeldAt (seat_since state facts since s) w.nodes at = held_at (seat_since state facts since) seats w.nodes at s are got in
+          let place : HeldAt (seat_since state steps facts since s) w.nodes at = held_at (seat_since state steps facts since) seats w.nodes at s are got in
           record {
             came = leads_nowhere w;
             later = omega arith;
@@ -241,8 +243,8 @@ module _ {N L : Type 0} (state : N → NodeState) (facts : LogFacts L) where
           }
 
       -- where all disks are noted while all logs are durable, a crash from then on leaves no less than what the nodes keep
-      pub note_leaves : (length : ℕ) → EachLeaves (seat_since state facts since) seats w
-          → EachLeaves (seat_since state facts
+      pub note_leaves : (length : ℕ) → EachLeaves (seat_since state steps facts since) seats w
+          → EachLeaves (seat_since state steps facts
           (with_notes since (record { world = w; moments = map (λ (z : Seat N L). facts.moment z.log) seats; length = length } ∷ since.noted))) seats w
       note_leaves length all at s got tells = ((all at s got tells).0, noted_by)
         where

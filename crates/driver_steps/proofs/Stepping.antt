@@ -1,5 +1,5 @@
 -- A step of a node is a step of the world.
-use Rattle.std.proofs.Common.{◌≡◌, ◌⊎◌, inl, inr, ℕ, ◌≤◌, List, [], ◌∷◌, ◌++◌, Bool, true, false, IsTrue, refl, sym, ap, subst, ◌∙◌}
+use Rattle.std.proofs.Common.{◌≡◌, ◌⊎◌, inl, inr, ℕ, ◌+◌, ◌≤◌, List, [], ◌∷◌, ◌++◌, Bool, true, false, IsTrue, refl, sym, ap, subst, ◌∙◌, arith}
 use Rattle.std.specs.Prelude.{Some, if◌then◌else◌}
 use Rattle.std.specs.List.{slice_get, slice_set}
 use Rattle.outside.specs.Causes.{Rose}
@@ -9,10 +9,11 @@ use Rattle.node_model.specs.Journal.{Kept}
 use Rattle.node_model.specs.Letters.{Letter, Input, Reply, Effect}
 use Rattle.node_model.specs.States.{NodeState}
 use Rattle.node_model.specs.Steps.{Step}
+use Rattle.node_model.specs.Lacks.{is_last}
 use Rattle.node_model.specs.World.{Held, World, Event, Moves, after, answered_by, is_given, tick, journal_at}
 use Rattle.node_model.proofs.Journals.{journal_got, journal_here}
 use Rattle.node_traits.specs.Calls.{IsWhole, LeavesThen, LogCall, log_call}
-use Rattle.node_traits.specs.Effects.{AreReadable, ByStepFault, StepBroken, StepDone, put_by, puts_of, spellings}
+use Rattle.node_traits.specs.Effects.{AreReadable, ByStepFault, StepBroken, StepDone, is_at_last, put_by, puts_of, spellings, steps_after}
 use Rattle.node_traits.specs.declared.outputs.StepFault.{StepFault}
 use Rattle.node_traits.specs.declared.outputs.StepFault.TheVariants.{Disk, Steps, Memory}
 use Rattle.node_traits.specs.declared.outputs.ToLink.{ToLink}
@@ -22,6 +23,7 @@ use Rattle.driver_steps.specs.Seats.{SeatView, HaveRisen, Hosted, Keeps, AreHeld
 use Rattle.driver_steps.specs.Worlds.{puts_given}
 use Rattle.driver_steps.specs.Moves.{HasStepped, IsBroken, IsEvent}
 use Rattle.driver_steps.specs.OneSeat.{BreaksAt, BreaksOn, NamesFault, StandsAt, StepsAt, StepsOn}
+use Rattle.driver_steps.proofs.Counts.{goes_with_fewer}
 use Rattle.driver_steps.proofs.Crashes.{all_leave, leads_by, leads_nowhere, leaves_on, leaves_step, spellings_append}
 use Rattle.driver_steps.proofs.Seats.{HeldAt, fault_rose, faults_same, get_set, held_at, held_set, held_still, held_kept, kept_set, kept_still, none_fell_at}
 
@@ -56,11 +58,14 @@ puts_moved w at i v m = (
 
 -- ONE NODE
 
-module _ (s t : SeatView) (w : World) (at : ℕ) (i : Input) (f : Effect) (stands : StandsAt s w at) (readable : AreReadable f.written)
-    (same : IsTrue t.tells → IsTrue s.tells) (leaves : (x : World) → LeadsTo w x → journal_at w.nodes at ≡ stands.held.kept
+one_more : (held steps now : ℕ) → held ≤ steps → now ≡ steps + 1 → held + 1 ≤ now
+one_more held steps now less one = omega (arith, less, one)
+
+module _ (s t : SeatView) (w : World) (at : ℕ) (i : Input) (f : Effect) (stands : StandsAt s w at) (goes : is_last s.steps s.state i ≡ false)
+    (readable : AreReadable f.written) (same : IsTrue t.tells → IsTrue s.tells) (leaves : (x : World) → LeadsTo w x → journal_at w.nodes at ≡ stands.held.kept
     → journal_at x.nodes at ≡ stands.held.kept ++ f.written → t.leaves at x) where
   abbrev held_by : NodeState → Held
-  held_by new = record { state = new; kept = stands.held.kept ++ f.written }
+  held_by new = record { state = new; kept = stands.held.kept ++ f.written; steps = stands.held.steps + 1 }
 
   abbrev after_by : NodeState → World
   after_by new = tick (after (is_given w at i) at stands.held f new)
@@ -71,13 +76,15 @@ module _ (s t : SeatView) (w : World) (at : ℕ) (i : Input) (f : Effect) (stand
     f = f;
     new = new;
     here = stands.here;
+    goes = goes_with_fewer stands.held.steps s.steps stands.held.state i stands.is.counted
+        (subst (λ (x : NodeState). is_last s.steps x i ≡ false) (sym stands.is.same) goes);
     step = subst (λ (x : NodeState). Step x i f new) (sym stands.is.same) step;
     then = refl;
   }
 
   leaves_to : (new : NodeState) → Step s.state i f new → (e : Event) → IsEvent w at i e → t.leaves at (after_by new)
   leaves_to new step e event =
-      leaves (after_by new) (leads_by e w (after_by new) (event (after_by new) (moves_to new step))) (journal_got w.nodes at stands.held stands.here)
+      leaves (after_by new) (leads_by e w (after_by new) (event (after_by new) (inl (moves_to new step)))) (journal_got w.nodes at stands.held stands.here)
       (journal_here w.nodes at stands.held (held_by new) stands.here)
 
   grown_with : (records : List (List ℕ)) → (IsTrue t.tells → records ≡ s.records ++ spellings f.written) → IsTrue t.tells
@@ -86,9 +93,9 @@ module _ (s t : SeatView) (w : World) (at : ℕ) (i : Input) (f : Effect) (stand
       grown told ∙ (ap (λ (l : List (List ℕ)). l ++ spellings f.written) (stands.is.written (same told))
       ∙ sym (spellings_append stands.held.kept f.written))
 
-  pub stepped : (mail : List Letter) (replies : List ToLink) → Step s.state i f t.state → f.mail ≡ mail → replies ≡ puts_of f.replies
-      → (IsTrue t.tells → t.records ≡ s.records ++ spellings f.written) → (s.holds s.records → t.holds t.records) → StepsAt t w at i mail replies
-  stepped mail replies step sent told grown kept =
+  pub stepped : (mail : List Letter) (replies : List ToLink) → t.steps ≡ s.steps + 1 → Step s.state i f t.state → f.mail ≡ mail
+      → replies ≡ puts_of f.replies → (IsTrue t.tells → t.records ≡ s.records ++ spellings f.written) → (s.holds s.records → t.holds t.records) → StepsAt t w at i mail replies
+  stepped mail replies one step sent told grown kept =
       let written : (IsTrue t.tells → t.records ≡ spellings (stands.held.kept ++ f.written)) = grown_with t.records grown in
       record {
         end = after_by t.state;
@@ -97,6 +104,7 @@ module _ (s t : SeatView) (w : World) (at : ℕ) (i : Input) (f : Effect) (stand
         here = get_set w.nodes at stands.held (held_by t.state) stands.here;
         is = record {
           same = refl;
+          counted = one_more stands.held.steps s.steps t.steps stands.is.counted one;
           written = written;
           keeps = record {
             readable = readable_append stands.held.kept f.written stands.is.keeps.readable readable;
@@ -143,21 +151,22 @@ module _ (s t : SeatView) (w : World) (at : ℕ) (i : Input) (f : Effect) (stand
   broken new step call whole (inl before) = record { breaks = broken_at new step (inl before); whole = whole }
   broken new step call whole (inr behind) = record { breaks = broken_at new step (inr behind); whole = whole }
 
-module _ {N L : Type 0} (state : N → NodeState) (facts : LogFacts L) where
+module _ {N L : Type 0} (state : N → NodeState) (steps : N → ℕ) (facts : LogFacts L) where
   abbrev pub view_since : Since L → Seat N L → SeatView
-  view_since since seat = seat_since state facts since seat
+  view_since since seat = seat_since state steps facts since seat
 
   pub since_on : (since : Since L) (s : Seat N L) (at : ℕ) (v w : World) → (view_since since s).leaves at v → LeadsTo v w → (view_since since s).leaves at w
   since_on since s at v w all on = leaves_on facts since s.log at v w all on
 
-  -- a node in the same state with the same log is there too
-  pub same_stands : (since : Since L) (w : World) (at : ℕ) (s t : Seat N L) → (state t.node ≡ state s.node) × (t.log ≡ s.log)
-      → StandsAt (view_since since s) w at → StandsAt (view_since since t) w at
-  same_stands since w at s t (same, unchanged) stands = record {
+  -- a node in the same state with the same log is there too, where it counts no fewer steps
+  pub same_stands : (since : Since L) (w : World) (at : ℕ) (s t : Seat N L) → steps s.node ≤ steps t.node
+      → (state t.node ≡ state s.node) × (t.log ≡ s.log) → StandsAt (view_since since s) w at → StandsAt (view_since since t) w at
+  same_stands since w at s t no_fewer (same, unchanged) stands = record {
     held = stands.held;
     here = stands.here;
     is = record {
       same = stands.is.same ∙ sym same;
+      counted = omega (arith, stands.is.counted, no_fewer);
       written = λ tells. ap facts.records unchanged ∙ stands.is.written tells;
       keeps = record {
         readable = stands.is.keeps.readable;
@@ -181,24 +190,24 @@ module _ {N L : Type 0} (state : N → NodeState) (facts : LogFacts L) where
     leaves_by more whole x on was is =
         leaves_step facts since s.log t.log at w x stands.held.kept more stands.leaves whole on stands.is.written was is
 
-    pub seat_stepped : (mail : List Letter) (replies : List ToLink)
+    pub seat_stepped : (mail : List Letter) (replies : List ToLink) → is_last (steps s.node) (state s.node) i ≡ false → steps t.node ≡ steps s.node + 1
         → StepDone (state s.node) i mail replies (log_call facts s.log t.log) (state t.node)
         → (facts.holds s.log (facts.records s.log) → facts.holds t.log (facts.records t.log))
         → StepsOn (log_call facts s.log t.log) (view_since since t) w at i mail replies
     unfolding stepped
-    seat_stepped mail replies d kept = record {
-      steps = stepped (view_since since s) (view_since since t) w at i d.effect stands d.readable (λ tells. tells)
-          (leaves_by d.effect.written d.kept.whole) mail replies d.step d.sent d.told d.kept.grown kept;
+    seat_stepped mail replies goes one d kept = record {
+      steps = stepped (view_since since s) (view_since since t) w at i d.effect stands goes d.readable (λ tells. tells)
+          (leaves_by d.effect.written d.kept.whole) mail replies one d.step d.sent d.told d.kept.grown kept;
       whole = d.kept.whole;
     }
 
-    pub seat_failed : (fault : StepFault) → Fails fault i s t
-        → ByStepFault fault (λ faults. BreaksOn (log_call facts s.log t.log) (view_since since t) w at i) (StandsAt (view_since since t) w at)
-    seat_failed (Disk faults) b =
-        broken (view_since since s) (view_since since t) w at i b.effect stands b.readable (λ tells. tells) (leaves_by b.effect.written b.left.whole)
+    pub seat_failed : (fault : StepFault) → is_last (steps s.node) (state s.node) i ≡ is_at_last fault → steps t.node ≡ steps_after fault (steps s.node)
+        → Fails fault i s t → ByStepFault fault (λ faults. BreaksOn (log_call facts s.log t.log) (view_since since t) w at i) (StandsAt (view_since since t) w at)
+    seat_failed (Disk faults) goes count b =
+        broken (view_since since s) (view_since since t) w at i b.effect stands goes b.readable (λ tells. tells) (leaves_by b.effect.written b.left.whole)
         b.new b.step (log_call facts s.log t.log) b.left.whole b.left.left
-    seat_failed Steps unchanged = same_stands since w at s t unchanged stands
-    seat_failed Memory unchanged = same_stands since w at s t unchanged stands
+    seat_failed Steps goes count unchanged = same_stands since w at s t (omega (arith, count)) unchanged stands
+    seat_failed Memory goes count unchanged = same_stands since w at s t (omega (arith, count)) unchanged stands
 
   pub unchanged_by : (fault : StepFault) (i : Input) (s t : Seat N L) → Fails fault i s t
       → ByStepFault fault (λ faults. Unit {0}) ((state t.node ≡ state s.node) × (t.log ≡ s.log))
@@ -234,15 +243,15 @@ module _ {S : Type 0} (view : S → SeatView) (on : (s : S) (at : ℕ) (v w : Wo
   new_held : (end : World) (m : Moves w at i end) (h : Held) → slice_get end.nodes at ≡ Some h
       → end.nodes ≡ slice_set w.nodes at h
   new_held end m h here =
-      let all : end.nodes ≡ slice_set w.nodes at (record { state = m.new; kept = m.old.kept ++ m.f.written }) = ap (λ (x : World). x.nodes) m.then in
-      let new : Some (record { state = m.new; kept = m.old.kept ++ m.f.written }) ≡ Some h =
-      sym (get_set w.nodes at m.old (record { state = m.new; kept = m.old.kept ++ m.f.written }) m.here)
+      let all : end.nodes ≡ slice_set w.nodes at (record { state = m.new; kept = m.old.kept ++ m.f.written; steps = m.old.steps + 1 }) = ap (λ (x : World). x.nodes) m.then in
+      let new : Some (record { state = m.new; kept = m.old.kept ++ m.f.written; steps = m.old.steps + 1 }) ≡ Some h =
+      sym (get_set w.nodes at m.old (record { state = m.new; kept = m.old.kept ++ m.f.written; steps = m.old.steps + 1 }) m.here)
       ∙ (sym (ap (λ (l : List Held). slice_get l at) all) ∙ here) in
       all ∙ ap (λ (x : Held). slice_set w.nodes at x) (cc new)
 
   leave_all : (end : World) → Moves w at i end → ((e : Event) → IsEvent w at i e → (view t).leaves at end) → (e : Event) → IsEvent w at i e
       → EachLeaves view (slice_set seats at t) end
-  leave_all end moves crashes e event = all_leave view on seats w end at t leave (leads_by e w end (event end moves)) (crashes e event)
+  leave_all end moves crashes e event = all_leave view on seats w end at t leave (leads_by e w end (event end (inl moves))) (crashes e event)
 
   -- the nodes and logs, of whose disks together P is said
   abbrev pub with_one : (P : World → Type 0) → Hosted S

@@ -2,9 +2,10 @@
 use Rattle.std.proofs.Common.{◌≡◌, inl, inr, List, [], ◌++◌, IsTrue, sym, ap, subst, ◌∙◌, arith}
 use Rattle.std.proofs.lemmas.Bool.{cases_lt}
 use Rattle.std.specs.Option.{option_map}
-use Rattle.std.specs.Prelude.{Err, IfErr, Ok, OnOk, Option, Result, Some, ℕ}
+use Rattle.std.specs.Prelude.{◌+◌, ◌≤◌, false, Err, IfErr, Ok, OnOk, Option, Result, Some, ℕ}
 use Rattle.outside.specs.Logs.{LogFacts}
 use Rattle.node_model.specs.Letters.{Input, Letter}
+use Rattle.node_model.specs.Lacks.{is_last}
 use Rattle.node_model.specs.States.{NodeState}
 use Rattle.node_replay.specs.Durable.{DurableState}
 use Rattle.node_traits.specs.Calls.{Appended, IsWhole, log_call}
@@ -38,101 +39,119 @@ module _ {L : Type 0} (facts : LogFacts L) where
     whole = reread_whole old mid new more a.whole a.grown r;
   }
 
-module _ {N L : Type 0} (state : N → NodeState) (facts : LogFacts L) where
+module _ {N L : Type 0} (state : N → NodeState) (steps : N → ℕ) (facts : LogFacts L) where
   found_again : (m t : L) → IsReread facts m t → IsTrue facts.tells → facts.holds t (facts.records t)
   found_again m t r told = subst (λ (l : List (List ℕ)). facts.holds t l) (sym (r.same told)) r.holds
 
+  -- it stopped, and counts no fewer steps now than it had taken then
+  abbrev pub Stopped : (i : Option Input) (s t : Seat N L) → Type 0
+  Stopped i s t = (x : IsStopped state steps facts i s t) × (x.count ≤ steps t.node)
+
   -- it took a step, and its log was read again
-  pub stopped_in_step : (i : Input) (mail : List Letter) (replies : List ToLink) (s m t : Seat N L)
-      → StepDone (state s.node) i mail replies (log_call facts s.log m.log) (state m.node) → IsReread facts m.log t.log
-      → IsStopped state facts (Some i) s t
-  stopped_in_step i mail replies s m t d r = record {
-    more = d.effect.written;
-    how = stores_step i d.effect (state m.node) d.step;
-    readable = d.readable;
-    kept = reread_call facts s.log m.log t.log (spellings d.effect.written) d.kept r;
-    holds = found_again m.log t.log r;
-  }
+  pub stopped_in_step : (i : Input) (mail : List Letter) (replies : List ToLink) (s m t : Seat N L) → is_last (steps s.node) (state s.node) i ≡ false
+      → StepDone (state s.node) i mail replies (log_call facts s.log m.log) (state m.node) → steps m.node ≡ steps s.node + 1
+      → IsReread facts m.log t.log → steps t.node ≡ steps m.node → Stopped (Some i) s t
+  stopped_in_step i mail replies s m t goes d one r same = (
+    record {
+      more = d.effect.written;
+      count = steps s.node + 1;
+      how = stores_step i d.effect (state m.node) goes d.step;
+      readable = d.readable;
+      kept = reread_call facts s.log m.log t.log (spellings d.effect.written) d.kept r;
+      holds = found_again m.log t.log r;
+    },
+    omega (arith, one, same),
+  )
 
   -- it took none
-  pub stopped_alone : (i : Option Input) (s m t : Seat N L) → m.log ≡ s.log → IsReread facts m.log t.log → IsStopped state facts i s t
-  stopped_alone i s m t same r = record {
-    more = [];
-    how = stores_none i;
-    readable = tt;
-    kept = reread_call facts s.log m.log t.log [] (subst (λ (l : L). Appended (log_call facts s.log l) []) (sym same) (left_alone facts s.log)) r;
-    holds = found_again m.log t.log r;
-  }
+  pub stopped_alone : (i : Option Input) (s m t : Seat N L) → m.log ≡ s.log → steps s.node ≤ steps m.node → IsReread facts m.log t.log
+      → steps t.node ≡ steps m.node → Stopped i s t
+  stopped_alone i s m t same no_fewer r counted = (
+    record {
+      more = [];
+      count = steps s.node;
+      how = stores_none i;
+      readable = tt;
+      kept = reread_call facts s.log m.log t.log [] (subst (λ (l : L). Appended (log_call facts s.log l) []) (sym same) (left_alone facts s.log)) r;
+      holds = found_again m.log t.log r;
+    },
+    omega (arith, no_fewer, counted),
+  )
 
-  pub broken_in_step : (i : Input) (s t : Seat N L) → StepBroken (state s.node) i (log_call facts s.log t.log) → IsStoppedAtDisk state facts (Some i) s t
-  broken_in_step i s t b = record {
+  pub broken_in_step : (i : Input) (s t : Seat N L) → is_last (steps s.node) (state s.node) i ≡ false
+      → StepBroken (state s.node) i (log_call facts s.log t.log) → IsStoppedAtDisk state steps facts (Some i) s t
+  broken_in_step i s t goes b = record {
     more = b.effect.written;
-    how = stores_step i b.effect b.new b.step;
+    count = steps s.node + 1;
+    how = stores_step i b.effect b.new goes b.step;
     readable = b.readable;
     left = λ told. b.left.left;
     whole = b.left.whole;
   }
 
   -- a disk failed while the log was read again
-  at_disk : (i : Option Input) (s t : Seat N L) → IsStopped state facts i s t → IsStoppedAtDisk state facts i s t
+  at_disk : (i : Option Input) (s t : Seat N L) → IsStopped state steps facts i s t → IsStoppedAtDisk state steps facts i s t
   at_disk i s t x = record {
     more = x.more;
+    count = x.count;
     how = x.how;
     readable = x.readable;
     left = λ told. inr (subst (λ (l : List (List ℕ)). facts.holds t.log l) (x.kept.grown told) (x.holds told));
     whole = x.kept.whole;
   }
 
-  pub stopped_by : (fault : StepFault) (i : Option Input) (s t : Seat N L) → IsStopped state facts i s t
-      → ByStepFault fault (λ faults. IsStoppedAtDisk state facts i s t) (IsStopped state facts i s t)
+  pub stopped_by : (fault : StepFault) (i : Option Input) (s t : Seat N L) → IsStopped state steps facts i s t
+      → ByStepFault fault (λ faults. IsStoppedAtDisk state steps facts i s t) (IsStopped state steps facts i s t)
   stopped_by (Disk faults) i s t x = at_disk i s t x
   stopped_by Steps i s t x = x
   stopped_by Memory i s t x = x
 
   -- it was opened again on the records that its log has
-  pub started_on : (empty : DurableState) (i : Option Input) (s m t : Seat N L) → IsStopped state facts i s t → IsReread facts m.log t.log
-      → (IsTrue facts.tells → IsOpenedAs empty (facts.records m.log) (state t.node)) → IsStartedAgain state facts empty i s t
-  started_on empty i s m t x r opened = record {
+  pub started_on : (empty : DurableState) (i : Option Input) (s m t : Seat N L) → Stopped i s t → IsReread facts m.log t.log
+      → (IsTrue facts.tells → IsOpenedAs empty (facts.records m.log) (state t.node)) → IsStartedAgain state steps facts empty i s t
+  started_on empty i s m t (x, counted) r opened = record {
     stopped = x;
+    counted = counted;
     opened = λ told. subst (λ (l : List (List ℕ)). IsOpenedAs empty l (state t.node)) (sym (r.same told)) (opened told);
   }
 
   -- what the result of starting it again says, where it had stopped
   module _ {X : Type 0} (i : Option Input) (s now : Seat N L) (told : Result X StepFault) where
-    pub again_started : (empty : DurableState) (result : Result X StepFault) (m t : Seat N L) → told ≡ result → now ≡ t → IsStopped state facts i s t
+    pub again_started : (empty : DurableState) (result : Result X StepFault) (m t : Seat N L) → told ≡ result → now ≡ t → Stopped i s t
         → IsReread facts m.log t.log → OnOk result (IsTrue facts.tells → IsOpenedAs empty (facts.records m.log) (state t.node))
-        → OnOk told (IsStartedAgain state facts empty i s now)
+        → OnOk told (IsStartedAgain state steps facts empty i s now)
     again_started empty (Ok x) m t same at stopped r opened =
-        subst (λ (n : Result X StepFault). OnOk n (IsStartedAgain state facts empty i s now)) (sym same)
-        (subst (λ (n : Seat N L). IsStartedAgain state facts empty i s n) (sym at) (started_on empty i s m t stopped r opened))
+        subst (λ (n : Result X StepFault). OnOk n (IsStartedAgain state steps facts empty i s now)) (sym same)
+        (subst (λ (n : Seat N L). IsStartedAgain state steps facts empty i s n) (sym at) (started_on empty i s m t stopped r opened))
     again_started empty (Err fault) m t same at stopped r opened =
-        subst (λ (n : Result X StepFault). OnOk n (IsStartedAgain state facts empty i s now)) (sym same) tt
+        subst (λ (n : Result X StepFault). OnOk n (IsStartedAgain state steps facts empty i s now)) (sym same) tt
 
     abbrev Failed : Result X StepFault → Seat N L → Type 0
-    Failed result t = IfErr result (λ e. ByStepFault e (λ faults. IsStoppedAtDisk state facts i s t) (IsStopped state facts i s t))
+    Failed result t = IfErr result (λ e. ByStepFault e (λ faults. IsStoppedAtDisk state steps facts i s t) (IsStopped state steps facts i s t))
 
     failed_as : (result : Result X StepFault) (t : Seat N L) → told ≡ result → now ≡ t → Failed result t → Failed told now
     failed_as result t same at failed =
         subst (λ (n : Result X StepFault). Failed n now) (sym same) (subst (λ (n : Seat N L). Failed result n) (sym at) failed)
 
-    pub again_failed : (result : Result X StepFault) (t : Seat N L) → told ≡ result → now ≡ t → IsStopped state facts i s t → Failed told now
+    pub again_failed : (result : Result X StepFault) (t : Seat N L) → told ≡ result → now ≡ t → Stopped i s t → Failed told now
     again_failed (Ok x) t same at stopped = failed_as (Ok x) t same at tt
-    again_failed (Err fault) t same at stopped = failed_as (Err fault) t same at (stopped_by fault i s t stopped)
+    again_failed (Err fault) t same at stopped = failed_as (Err fault) t same at (stopped_by fault i s t stopped.0)
 
-    pub stopped_at_disk : (faults : ℕ) (t : Seat N L) → told ≡ Err (Disk faults) → now ≡ t → IsStoppedAtDisk state facts i s t → Failed told now
+    pub stopped_at_disk : (faults : ℕ) (t : Seat N L) → told ≡ Err (Disk faults) → now ≡ t → IsStoppedAtDisk state steps facts i s t → Failed told now
     stopped_at_disk faults t same at broken = failed_as (Err (Disk faults)) t same at broken
 
   -- the input was given to it
-  module _ {I : Type 0} (meaning : I → Input) (input : Option I) (given : I) (is : input ≡ Some given) (s m t : Seat N L) where
+  module _ {I : Type 0} (meaning : I → Input) (input : Option I) (given : I) (is : input ≡ Some given) (s m t : Seat N L)
+      (goes : is_last (steps s.node) (state s.node) (meaning given) ≡ false) where
     named : option_map (λ (j : I). meaning j) input ≡ Some (meaning given)
     named = ap (λ (o : Option I). option_map (λ (j : I). meaning j) o) is
 
     pub given_in_step : (mail : List Letter) (replies : List ToLink)
-        → StepDone (state s.node) (meaning given) mail replies (log_call facts s.log m.log) (state m.node) → IsReread facts m.log t.log
-        → IsStopped state facts (option_map (λ (j : I). meaning j) input) s t
-    given_in_step mail replies d r =
-        subst (λ (o : Option Input). IsStopped state facts o s t) (sym named) (stopped_in_step (meaning given) mail replies s m t d r)
+        → StepDone (state s.node) (meaning given) mail replies (log_call facts s.log m.log) (state m.node) → steps m.node ≡ steps s.node + 1
+        → IsReread facts m.log t.log → steps t.node ≡ steps m.node → Stopped (option_map (λ (j : I). meaning j) input) s t
+    given_in_step mail replies d one r same =
+        subst (λ (o : Option Input). Stopped o s t) (sym named) (stopped_in_step (meaning given) mail replies s m t goes d one r same)
 
     pub broken_by : StepBroken (state s.node) (meaning given) (log_call facts s.log t.log)
-        → IsStoppedAtDisk state facts (option_map (λ (j : I). meaning j) input) s t
-    broken_by b = subst (λ (o : Option Input). IsStoppedAtDisk state facts o s t) (sym named) (broken_in_step (meaning given) s t b)
+        → IsStoppedAtDisk state steps facts (option_map (λ (j : I). meaning j) input) s t
+    broken_by b = subst (λ (o : Option Input). IsStoppedAtDisk state steps facts o s t) (sym named) (broken_in_step (meaning given) s t goes b)

@@ -1,5 +1,5 @@
 -- A node that stops and is started again: of all nodes, and then it is opened.
-use Rattle.std.proofs.Common.{◌≡◌, inl, inr, ℕ, List, [], ◌∷◌, ◌++◌, Bool, IsTrue, refl, sym, ap, subst, ◌∙◌, append-nil}
+use Rattle.std.proofs.Common.{◌≡◌, inl, inr, ℕ, ◌+◌, ◌≤◌, List, [], ◌∷◌, ◌++◌, Bool, IsTrue, refl, sym, ap, subst, ◌∙◌, append-nil, arith}
 use Rattle.std.specs.Prelude.{Option, Some, None}
 use Rattle.std.specs.List.{slice_get, slice_set}
 use Rattle.outside.specs.Logs.{LogFacts}
@@ -8,11 +8,11 @@ use Rattle.node_model.specs.Exchanges.{Answered}
 use Rattle.node_model.specs.Journal.{Kept}
 use Rattle.node_model.specs.Letters.{Input, opened_input, moment_input, nothing}
 use Rattle.node_model.specs.States.{NodeState}
-use Rattle.node_model.specs.World.{Held, World, Event, Moves, after, is_given, tick, journal_at, begins, opened_event}
+use Rattle.node_model.specs.World.{Held, World, Event, Moves, Meets, after, is_given, tick, journal_at, begins, opened_event}
 use Rattle.node_model.proofs.Journals.{journal_got, journal_here}
 use Rattle.node_replay.specs.Durable.{DurableState}
 use Rattle.node_replay.specs.Openings.{opened_on}
-use Rattle.node_replay.specs.Restarts.{EventOrStop, Occurs, RunWithStops, cut_off, occurs, restarts, stops, proceeds, stays, restart_event, stop_event, whole_event}
+use Rattle.node_replay.specs.Restarts.{EventOrStop, Occurs, RunWithStops, after_start, cut_off, occurs, restarts, stops, proceeds, stays, restart_event, stop_event, whole_event}
 use Rattle.restart_laws.proofs.ReachedCalls.{reached_nodes_may_restart, reached_nodes_may_stop}
 use Rattle.node_traits.specs.Calls.{IsWhole, log_call}
 use Rattle.node_traits.specs.Effects.{AreReadable, ByStepFault, spellings}
@@ -26,6 +26,7 @@ use Rattle.driver_steps.specs.Seats.{AreDurableWhileOpen, AreHeld, AreHeldOrKept
 use Rattle.driver_steps.specs.Together.{hosted}
 use Rattle.driver_steps.specs.Worlds.{NetworkView, StandsFor, puts_given}
 use Rattle.driver_steps.specs.declared.seat.Seat.{Seat}
+use Rattle.driver_steps.proofs.Counts.{goes_with_fewer, move_misses_none}
 use Rattle.driver_steps.proofs.Crashes.{all_leave, leads_through, leaves_step, spellings_append}
 use Rattle.driver_steps.proofs.Seats.{HeldAt, held_at, held_kept, held_set, kept_set, kept_still}
 use Rattle.driver_steps.proofs.Stepping.{readable_append, since_on}
@@ -33,19 +34,20 @@ use Rattle.driver_steps.proofs.Together.{stored_with, together_grows}
 
 -- THE WORLD
 
--- the node at a place stops, and these records more are stored: the world then, by the state in which it is started
-pub record Stopping (w : World) (at : ℕ) (h : Held) (more : List Kept) (e : Option Event) : Type 0 where
+-- the node at a place stops, and these records more are stored, after so many steps: the world then, by the state in which it is started
+pub record Stopping (w : World) (at : ℕ) (h : Held) (more : List Kept) (count : ℕ) (e : Option Event) : Type 0 where
   pub stop : EventOrStop
   pub which : StopsBy at e stop
   pub then : NodeState → World
   pub occurs : (new : NodeState) → opened_on h.state (h.kept ++ more) ≡ Some new → Occurs w stop (then new)
-  pub nodes : (new : NodeState) → (then new).nodes ≡ slice_set w.nodes at (record { state = new; kept = h.kept ++ more })
+  pub nodes : (new : NodeState) → (then new).nodes ≡ slice_set w.nodes at (record { state = new; kept = h.kept ++ more; steps = count })
   pub sent : (new : NodeState) → (then new).sent ≡ w.sent
+  pub missed : (new : NodeState) → (then new).missed ≡ w.missed
   pub given : (new : NodeState) → puts_given (then new).answered ≡ puts_given w.answered
   pub some : (new : NodeState) × (opened_on h.state (h.kept ++ more) ≡ Some new)
 
 module _ (part : ℕ → DurableState) (w : World) (at : ℕ) (h : Held) (may : MayStop part w) (here : slice_get w.nodes at ≡ Some h) where
-  by_none : (e : Option Event) → Stopping w at h [] e
+  by_none : (e : Option Event) → Stopping w at h [] h.steps e
   by_none e =
       let whole : h.kept ++ [] ≡ h.kept = append-nil h.kept in
       let again = reached_nodes_may_restart may.others may.routers at w h may.reached here in
@@ -54,45 +56,58 @@ module _ (part : ℕ → DurableState) (w : World) (at : ℕ) (h : Held) (may : 
       record {
         stop = restart_event at;
         which = by_itself e;
-        then = λ new. tick (after (is_given w at (moment_input 0)) at h nothing new);
-        occurs = λ new opens. restarts w (tick (after (is_given w at (moment_input 0)) at h nothing new)) at (record {
+        then = λ new. tick (after_start (is_given w at (moment_input 0)) at h h.steps nothing new);
+        occurs = λ new opens. restarts w (tick (after_start (is_given w at (moment_input 0)) at h h.steps nothing new)) at (record {
           old = h;
           new = new;
+          steps = h.steps;
           here = here;
           opens = ap (λ (l : List Kept). opened_on h.state l) (sym whole) ∙ opens;
+          counts = inl refl;
           then = refl;
         });
         nodes = λ new. refl;
         sent = λ new. append-nil w.sent;
+        missed = λ new. refl;
         given = λ new. ap (λ (l : List Answered). puts_given l) (append-nil w.answered);
         some = (again.1.new, ap (λ (l : List Kept). opened_on h.state l) whole ∙ (ap (λ (x : Held). opened_on x.state x.kept) (sym one) ∙ again.1.opens));
       }
 
-  pub stopping : (e : Option Event) (i : Option Input) (more : List Kept) → StopsWith h.state i more → MayGive w at e i → Stopping w at h more e
-  stopping e i _ (stores_none _) gives = by_none e
-  stopping None _ _ (stores_step i f reached step) gives = absurd gives
-  stopping (Some e) _ _ (stores_step i f reached step) gives =
+  pub stopping : (e : Option Event) (i : Option Input) (more : List Kept) (count : ℕ) → StopsWith h.state h.steps i more count → MayGive w at e i
+      → Stopping w at h more count e
+  stopping e i _ _ (stores_none _) gives = by_none e
+  stopping None _ _ _ (stores_step i f reached goes step) gives = absurd gives
+  stopping (Some e) _ _ _ (stores_step i f reached goes step) gives =
       let m : Moves w at i (tick (after (is_given w at i) at h f reached)) =
-      record { old = h; f = f; new = reached; here = here; step = step; then = refl } in
+      record { old = h; f = f; new = reached; here = here; goes = goes; step = step; then = refl } in
       record {
         stop = stop_event at e;
         which = by_step e;
-        then = λ new. tick (after (is_given (is_given w at i) at (moment_input 0)) at h (cut_off f) new);
-        occurs = λ new opens. stops w (tick (after (is_given (is_given w at i) at (moment_input 0)) at h (cut_off f) new)) at e i gives (record {
+        then = λ new. tick (after_start (is_given (is_given w at i) at (moment_input 0)) at h (h.steps + 1) (cut_off f) new);
+        occurs = λ new opens. stops w (tick (after_start (is_given (is_given w at i) at (moment_input 0)) at h (h.steps + 1) (cut_off f) new)) at e i gives (record {
           old = h;
           f = f;
           reached = reached;
           new = new;
           here = here;
+          goes = goes;
           step = step;
           opens = opens;
           then = refl;
         });
         nodes = λ new. refl;
         sent = λ new. append-nil w.sent;
+        missed = λ new. refl;
         given = λ new. ap (λ (l : List Answered). puts_given l) (append-nil w.answered);
         some = reached_nodes_may_stop may.others may.routers at w (tick (after (is_given w at i) at h f reached)) e i may.reached gives m;
       }
+
+-- it stops so after fewer steps too, and has taken no more of them then
+stops_with_fewer : (fewer steps : ℕ) (s : NodeState) (i : Option Input) (more : List Kept) (count : ℕ) → fewer ≤ steps → StopsWith s steps i more count
+    → (less : ℕ) × (less ≤ count) × StopsWith s fewer i more less
+stops_with_fewer fewer steps s i _ _ no_more (stores_none _) = (fewer, no_more, stores_none i)
+stops_with_fewer fewer steps s _ _ _ no_more (stores_step i f reached goes step) =
+    (fewer + 1, omega (arith, no_more), stores_step i f reached (goes_with_fewer fewer steps s i no_more goes) step)
 
 -- the last world of a fault is the end
 up_to_same : (fault : StepFault) (end last : World) (more : Type 0) → last ≡ end → IsUpTo fault end last more
@@ -102,15 +117,15 @@ up_to_same Memory end last more same = same
 
 -- NODES WITH THEIR LOGS
 
-module _ {N L : Type 0} (facts : LogFacts L) (state : N → NodeState) (shows : Bool) (since : Since L) (seats : List (Seat N L)) (at : ℕ) (s t : Seat N L)
+module _ {N L : Type 0} (facts : LogFacts L) (state : N → NodeState) (steps : N → ℕ) (shows : Bool) (since : Since L) (seats : List (Seat N L)) (at : ℕ) (s t : Seat N L)
     (before now : List Note) (length : ℕ) (got : slice_get seats at ≡ Some s) (are : AreOpen facts.is_open seats)
     (durable : AreDurableWhileOpen facts (slice_set seats at t))
     (taken : IsTrue shows → now ≡ (before ++ notes_of facts length (slice_set seats at t)) ++ notes_of facts length (slice_set seats at t))
     (same : facts.place t.log ≡ facts.place s.log) (told : IsTrue facts.tells) (part : ℕ → DurableState) (w : World) (e : Option Event) (i : Option Input)
-    (may : MayStop part w) (gives : MayGive w at e i) (held : AreHeld (seat_since state facts since) seats w.nodes)
-    (leave : LeaveKept (seat_since state facts since) (hosted shows facts since before seats) w) where
+    (may : MayStop part w) (gives : MayGive w at e i) (held : AreHeld (seat_since state steps facts since) seats w.nodes)
+    (leave : LeaveKept (seat_since state steps facts since) (hosted shows facts since before seats) w) where
   abbrev view : Seat N L → SeatView
-  view = seat_since state facts since
+  view = seat_since state steps facts since
 
   abbrev now_hosted : Hosted (Seat N L)
   now_hosted = hosted shows facts since now (slice_set seats at t)
@@ -118,11 +133,14 @@ module _ {N L : Type 0} (facts : LogFacts L) (state : N → NodeState) (shows : 
   there : HeldAt (view s) w.nodes at
   there = held_at view seats w.nodes at s held got
 
-  stopping_with : (more : List Kept) → StopsWith (state s.node) i more → Stopping w at there.old more e
-  stopping_with more stores =
-      stopping part w at there.old may there.here e i more (subst (λ (x : NodeState). StopsWith x i more) (sym there.is.same) stores) gives
+  stopping_with : (more : List Kept) (count : ℕ) → StopsWith (state s.node) (steps s.node) i more count
+      → (less : ℕ) × (less ≤ count) × Stopping w at there.old more less e
+  stopping_with more count stores =
+      let fewer = stops_with_fewer there.old.steps (steps s.node) there.old.state i more count there.is.counted
+      (subst (λ (x : NodeState). StopsWith x (steps s.node) i more count) (sym there.is.same) stores) in
+      (fewer.0, fewer.1, stopping part w at there.old may there.here e i more fewer.0 fewer.2 gives)
 
-  module _ (more : List Kept) (x : Stopping w at there.old more e) (whole : IsWhole (log_call facts s.log t.log) (spellings more)) (new : NodeState)
+  module _ (more : List Kept) (count : ℕ) (x : Stopping w at there.old more count e) (whole : IsWhole (log_call facts s.log t.log) (spellings more)) (new : NodeState)
       (opens : opened_on there.old.state (there.old.kept ++ more) ≡ Some new) where
     abbrev then : World
     then = x.then new
@@ -132,21 +150,21 @@ module _ {N L : Type 0} (facts : LogFacts L) (state : N → NodeState) (shows : 
 
     stop_leaves : LeaveKept view now_hosted then
     stop_leaves = record {
-      each = all_leave view (since_on state facts since) seats w then at t leave.each led
+      each = all_leave view (since_on state steps facts since) seats w then at t leave.each led
           (leaves_step facts since s.log t.log at w then there.old.kept more (leave.each at s got) whole led there.is.written
           (journal_got w.nodes at there.old there.here)
           (ap (λ (l : List Held). journal_at l at) (x.nodes new)
-          ∙ journal_here w.nodes at there.old (record { state = new; kept = there.old.kept ++ more }) there.here));
+          ∙ journal_here w.nodes at there.old (record { state = new; kept = there.old.kept ++ more; steps = count }) there.here));
       together = λ shown tells.
-          together_grows facts state since seats at s t before now length tells got durable (taken shown) w then more are held led whole
-          (stored_with facts state since seats at s t before now length tells got durable (taken shown) w then there.old new more there.here (x.nodes new)
+          together_grows facts state steps since seats at s t before now length tells got durable (taken shown) w then more are held led whole
+          (stored_with facts state steps since seats at s t before now length tells got durable (taken shown) w then there.old new count more there.here (x.nodes new)
           (there.is.written tells)) same (leave.together shown tells);
     }
 
     stop_kept : AreReadable more → (IsTrue facts.tells → facts.holds t.log (facts.records s.log ++ spellings more)) → AreKept view (slice_set seats at t) then.nodes
     stop_kept readable holds =
         subst (λ (l : List Held). AreKept view (slice_set seats at t) l) (sym (x.nodes new))
-        (kept_set view seats w.nodes at t (record { state = new; kept = there.old.kept ++ more }) (held_kept view seats w.nodes held)
+        (kept_set view seats w.nodes at t (record { state = new; kept = there.old.kept ++ more; steps = count }) (held_kept view seats w.nodes held)
         (record {
           readable = readable_append there.old.kept more there.is.keeps.readable readable;
           found = λ tells. subst (λ (l : List (List ℕ)). facts.holds t.log l)
@@ -164,6 +182,7 @@ module _ {N L : Type 0} (facts : LogFacts L) (state : N → NodeState) (shows : 
       end = then;
       which = (x.stop, x.which, (whole_event (opened_event at) ∷ [], refl));
       run = runs_then;
+      none_missed = x.missed new;
       kept = stop_kept readable holds;
       last = then;
       up_to = up_to_same fault then then _ refl;
@@ -177,6 +196,7 @@ module _ {N L : Type 0} (facts : LogFacts L) (state : N → NodeState) (shows : 
       end = w;
       which = (x.stop, x.which, (x.stop ∷ whole_event (opened_event at) ∷ [], refl));
       run = stays w;
+      none_missed = refl;
       kept = kept_still view seats w.nodes at t there.old (held_kept view seats w.nodes held) there.here (record {
         readable = there.is.keeps.readable;
         found = λ tells. subst (λ (l : List (List ℕ)). facts.holds t.log l) (there.is.written tells) (holds tells);
@@ -187,10 +207,11 @@ module _ {N L : Type 0} (facts : LogFacts L) (state : N → NodeState) (shows : 
     }
 
   -- it stopped, and was started again
-  pub node_started : IsStartedAgain state facts (part at) i s t → HasStarted view now_hosted w at e
+  pub node_started : IsStartedAgain state steps facts (part at) i s t → HasStarted view now_hosted w at e
   node_started a =
       let more = a.stopped.more in
-      let x : Stopping w at there.old more e = stopping_with more a.stopped.how in
+      let fewer = stopping_with more a.stopped.count a.stopped.how in
+      let x : Stopping w at there.old more fewer.0 e = fewer.2 in
       let written : facts.records t.log ≡ spellings (there.old.kept ++ more) =
       a.stopped.kept.grown told ∙ (ap (λ (l : List (List ℕ)). l ++ spellings more) (there.is.written told) ∙ sym (spellings_append there.old.kept more)) in
       let readable : AreReadable (there.old.kept ++ more) = readable_append there.old.kept more there.is.keeps.readable a.stopped.readable in
@@ -201,34 +222,38 @@ module _ {N L : Type 0} (facts : LogFacts L) (state : N → NodeState) (shows : 
         started = x.then (state t.node);
         which = x.which;
         occurs = x.occurs (state t.node) opens;
+        none_missed = x.missed (state t.node);
         nodes = subst (λ (l : List Held). AreHeld view (slice_set seats at t) l) (sym (x.nodes (state t.node)))
-            (held_set view seats w.nodes at t (record { state = state t.node; kept = there.old.kept ++ more }) held (record {
+            (held_set view seats w.nodes at t (record { state = state t.node; kept = there.old.kept ++ more; steps = fewer.0 }) held (record {
               same = refl;
+              counted = omega (arith, fewer.1, a.counted);
               written = λ tells. written;
               keeps = record {
                 readable = readable;
                 found = λ tells. subst (λ (l : List (List ℕ)). facts.holds t.log l) written (a.stopped.holds tells);
               };
             }));
-        crashes = stop_leaves more x a.stopped.kept.whole (state t.node) opens;
+        crashes = stop_leaves more fewer.0 x a.stopped.kept.whole (state t.node) opens;
         sent = x.sent (state t.node);
         given = x.given (state t.node);
       }
 
-  failed_stopped : (fault : StepFault) → IsStopped state facts i s t → HasFailed view now_hosted w (BeginToStop at e) fault
+  failed_stopped : (fault : StepFault) → IsStopped state steps facts i s t → HasFailed view now_hosted w (BeginToStop at e) fault
   failed_stopped fault a =
-      let x : Stopping w at there.old a.more e = stopping_with a.more a.how in
-      failed_behind a.more x a.kept.whole x.some.0 x.some.1 fault a.readable
+      let fewer = stopping_with a.more a.count a.how in
+      let x : Stopping w at there.old a.more fewer.0 e = fewer.2 in
+      failed_behind a.more fewer.0 x a.kept.whole x.some.0 x.some.1 fault a.readable
       (λ tells. subst (λ (l : List (List ℕ)). facts.holds t.log l) (a.kept.grown tells) (a.holds tells))
 
   -- it was not
-  pub node_failed : (fault : StepFault) → ByStepFault fault (λ faults. IsStoppedAtDisk state facts i s t) (IsStopped state facts i s t)
+  pub node_failed : (fault : StepFault) → ByStepFault fault (λ faults. IsStoppedAtDisk state steps facts i s t) (IsStopped state steps facts i s t)
       → HasFailed view now_hosted w (BeginToStop at e) fault
   node_failed (Disk faults) d =
-      let x : Stopping w at there.old d.more e = stopping_with d.more d.how in
+      let fewer = stopping_with d.more d.count d.how in
+      let x : Stopping w at there.old d.more fewer.0 e = fewer.2 in
       elim (d.left told) [
-        | inl without ↦ failed_before d.more x d.whole x.some.0 x.some.1 faults (λ tells. without)
-        | inr with_it ↦ failed_behind d.more x d.whole x.some.0 x.some.1 (Disk faults) d.readable (λ tells. with_it)
+        | inl without ↦ failed_before d.more fewer.0 x d.whole x.some.0 x.some.1 faults (λ tells. without)
+        | inr with_it ↦ failed_behind d.more fewer.0 x d.whole x.some.0 x.some.1 (Disk faults) d.readable (λ tells. with_it)
       ]
   node_failed Steps a = failed_stopped Steps a
   node_failed Memory a = failed_stopped Memory a
@@ -250,10 +275,10 @@ module _ {S : Type 0} (view : S → SeatView) (hosts hosts_after : Hosted S) (ha
   opens_to : (v : World) → Moves h.started at opened_input v → RunWithStops w (stop_and_open at h.stop) v
   opens_to v moves =
       proceeds w h.started v h.stop (whole_event (opened_event at) ∷ []) h.occurs
-      (proceeds h.started v v (whole_event (opened_event at)) [] (occurs h.started v (opened_event at) (begins h.started v at moves)) (stays v))
+      (proceeds h.started v v (whole_event (opened_event at)) [] (occurs h.started v (opened_event at) (begins h.started v at (inl moves))) (stays v))
 
   is_opening : IsEvent h.started at opened_input (opened_event at)
-  is_opening v moves = begins h.started v at moves
+  is_opening v meets = begins h.started v at meets
 
   pub opened_again : (network : NetworkView) → HasMoved view hosts_after network handed h.started next at opened_input
       → HasStartedAgain view hosts_after network handed w next at e
@@ -262,6 +287,7 @@ module _ {S : Type 0} (view : S → SeatView) (hosts hosts_after : Hosted S) (ha
     end = m.end;
     which = h.which;
     run = opens_to m.end m.moves;
+    none_missed = move_misses_none h.started at opened_input m.end m.moves ∙ h.none_missed;
     stands = m.stands (opened_event at) is_opening;
   }
 
@@ -278,6 +304,7 @@ module _ {S : Type 0} (view : S → SeatView) (hosts hosts_after : Hosted S) (ha
       end = end;
       which = (h.stop, h.which, (whole_event (opened_event at) ∷ [], refl));
       run = proceeds w h.started end h.stop [] h.occurs (subst (λ (v : World). RunWithStops h.started [] v) (sym same) (stays h.started));
+      none_missed = ap (λ (v : World). v.missed) same ∙ h.none_missed;
       kept = kept;
       last = last;
       up_to = up_to_same fault end last _ is_last;
@@ -288,6 +315,7 @@ module _ {S : Type 0} (view : S → SeatView) (hosts hosts_after : Hosted S) (ha
       end = end;
       which = (h.stop, h.which, ([], refl));
       run = opens_to end moves;
+      none_missed = move_misses_none h.started at opened_input end moves ∙ h.none_missed;
       kept = kept;
       last = last;
       up_to = up_to_same fault end last _ is_last;
@@ -302,13 +330,14 @@ module _ {S : Type 0} (view : S → SeatView) (hosts hosts_after : Hosted S) (ha
     end = end;
     which = (h.stop, h.which, (whole_event (opened_event at) ∷ [], refl));
     run = proceeds w h.started end h.stop [] h.occurs (subst (λ (v : World). RunWithStops h.started [] v) (sym same) (stays h.started));
+    none_missed = ap (λ (v : World). v.missed) same ∙ h.none_missed;
     kept = kept;
     last = last;
     up_to = inr (
       whole_event (opened_event at),
       (h.stop, h.which, ([], refl)),
       subst (λ (v : World). Occurs v (whole_event (opened_event at)) last) (sym same)
-          (occurs h.started last (opened_event at) (begins h.started last at moves)),
+          (occurs h.started last (opened_event at) (begins h.started last at (inl moves))),
     );
     crashes = leave;
   }

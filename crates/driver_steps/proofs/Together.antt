@@ -1,5 +1,5 @@
 -- One step more, and what a crash leaves of all disks together.
-use Rattle.std.proofs.Common.{◌≡◌, ◌⊎◌, inl, inr, ℕ, zero, suc, ◌<◌, ◌≤◌, List, [], ◌∷◌, ◌++◌, map, Bool, IsTrue, refl, sym, ap, subst, arith, ◌∙◌}
+use Rattle.std.proofs.Common.{◌≡◌, ◌⊎◌, inl, inr, ℕ, zero, suc, ◌+◌, ◌<◌, ◌≤◌, List, [], ◌∷◌, ◌++◌, map, Bool, IsTrue, refl, sym, ap, subst, arith, ◌∙◌}
 use Rattle.std.proofs.Common.{append_assoc}
 use Rattle.std.proofs.lemmas.Bool.{cases_lt}
 use Rattle.std.proofs.lemmas.List.{map-append}
@@ -229,40 +229,40 @@ module _ {N L : Type 0} (facts : LogFacts L) where
       subst (λ (l : L). IsSafe facts l) s.2 (durable at s.0 s.1 (open_at facts.is_open seats at s.0 are s.1) told)
 
   -- the records of the logs are what the journals store
-  stored_held : (state : N → NodeState) (since : Since L) (seats : List (Seat N L)) (held : List Held) → IsTrue facts.tells
-      → AreHeld (seat_since state facts since) seats held → map facts.records (logs_of seats) ≡ map (λ (h : Held). spellings h.kept) held
-  stored_held state since [] [] told are = refl
-  stored_held state since [] (h ∷ held) told are = absurd are
-  stored_held state since (s ∷ seats) [] told are = absurd are
-  stored_held state since (s ∷ seats) (h ∷ held) told are =
-      ap (λ (js : List (List (List ℕ))). facts.records s.log ∷ js) (stored_held state since seats held told are.1)
+  stored_held : (state : N → NodeState) (steps : N → ℕ) (since : Since L) (seats : List (Seat N L)) (held : List Held) → IsTrue facts.tells
+      → AreHeld (seat_since state steps facts since) seats held → map facts.records (logs_of seats) ≡ map (λ (h : Held). spellings h.kept) held
+  stored_held state steps since [] [] told are = refl
+  stored_held state steps since [] (h ∷ held) told are = absurd are
+  stored_held state steps since (s ∷ seats) [] told are = absurd are
+  stored_held state steps since (s ∷ seats) (h ∷ held) told are =
+      ap (λ (js : List (List (List ℕ))). facts.records s.log ∷ js) (stored_held state steps since seats held told are.1)
       ∙ ap (λ (j : List (List ℕ)). j ∷ map (λ (x : Held). spellings x.kept) held) (are.0.written told)
 
   -- the start of a call, where the sink has a first cut
-  pub together_begins : (state : N → NodeState) (since : Since L) (seats : List (Seat N L)) (first : World) (before now : List Note) (length : ℕ)
-      → IsTrue facts.tells → AreOpen facts.is_open seats → AreDurableWhileOpen facts seats → AreHeld (seat_since state facts since) seats first.nodes
+  pub together_begins : (state : N → NodeState) (steps : N → ℕ) (since : Since L) (seats : List (Seat N L)) (first : World) (before now : List Note) (length : ℕ)
+      → IsTrue facts.tells → AreOpen facts.is_open seats → AreDurableWhileOpen facts seats → AreHeld (seat_since state steps facts since) seats first.nodes
       → now ≡ (before ++ notes_of facts length seats) ++ notes_of facts length seats → TogetherSince facts (since_noted seats first before) now seats first
-  together_begins state since seats first before now length told are durable held taken = record {
+  together_begins state steps since seats first before now length told are durable held taken = record {
     notes = notes_of facts length seats ++ notes_of facts length seats;
     taken = taken ∙ append_assoc before (notes_of facts length seats) (notes_of facts length seats);
     leave = begins facts (logs_of seats) first (notes_of facts length seats) (notes_of facts length seats) (safe_logs told seats are durable)
-        (stored_held state since seats first.nodes told held) (row_is (map facts.place (logs_of seats)) seats length refl)
+        (stored_held state steps since seats first.nodes told held) (row_is (map facts.place (logs_of seats)) seats length refl)
         (row_is (map facts.place (logs_of seats)) seats length refl);
     durable = durable;
   }
 
   -- and what each disk leaves alone
-  pub leave_at_start : (state : N → NodeState) (shows : Bool) (seats : List (Seat N L)) (first : World) (before now : List Note) (length : ℕ)
-      → AreOpen facts.is_open seats → AreDurableWhileOpen facts seats → AreHeld (seat_since state facts (since_noted seats first before)) seats first.nodes
+  pub leave_at_start : (state : N → NodeState) (steps : N → ℕ) (shows : Bool) (seats : List (Seat N L)) (first : World) (before now : List Note) (length : ℕ)
+      → AreOpen facts.is_open seats → AreDurableWhileOpen facts seats → AreHeld (seat_since state steps facts (since_noted seats first before)) seats first.nodes
       → (IsTrue shows → now ≡ (before ++ notes_of facts length seats) ++ notes_of facts length seats)
-      → LeaveKept (seat_since state facts (since_noted seats first before)) (hosted shows facts (since_noted seats first before) now seats) first
-  leave_at_start state shows seats first before now length are durable held taken = record {
-    each = start_leaves state facts seats first;
+      → LeaveKept (seat_since state steps facts (since_noted seats first before)) (hosted shows facts (since_noted seats first before) now seats) first
+  leave_at_start state steps shows seats first before now length are durable held taken = record {
+    each = start_leaves state steps facts seats first;
     together = λ shown told.
-        together_begins state (since_noted seats first before) seats first before now length told are durable held (taken shown);
+        together_begins state steps (since_noted seats first before) seats first before now length told are durable held (taken shown);
   }
 
-  module _ (state : N → NodeState) (since : Since L) (seats : List (Seat N L)) (at : ℕ) (s t : Seat N L) (before now : List Note) (length : ℕ)
+  module _ (state : N → NodeState) (steps : N → ℕ) (since : Since L) (seats : List (Seat N L)) (at : ℕ) (s t : Seat N L) (before now : List Note) (length : ℕ)
       (told : IsTrue facts.tells) (got : slice_get seats at ≡ Some s)
       (durable : AreDurableWhileOpen facts (slice_set seats at t))
       (taken : now ≡ (before ++ notes_of facts length (slice_set seats at t)) ++ notes_of facts length (slice_set seats at t)) where
@@ -280,7 +280,7 @@ module _ {N L : Type 0} (facts : LogFacts L) where
         (got_map facts.place (logs_of seats) at s.log (got_map (λ (z : Seat N L). z.log) seats at s got))
 
     -- records were appended to its log, or were to be
-    module _ (v w : World) (more : List Kept) (are : AreOpen facts.is_open seats) (held : AreHeld (seat_since state facts since) seats v.nodes)
+    module _ (v w : World) (more : List Kept) (are : AreOpen facts.is_open seats) (held : AreHeld (seat_since state steps facts since) seats v.nodes)
         (led : LeadsTo v w) (whole : IsWhole (log_call facts s.log t.log) (spellings more))
         (stored : stored_in w ≡ slice_set (stored_in v) at (facts.records s.log ++ spellings more)) (same : facts.place t.log ≡ facts.place s.log)
         (together : TogetherSince facts since before seats v) where
@@ -297,26 +297,26 @@ module _ {N L : Type 0} (facts : LogFacts L) where
         leave = subst (λ (logs : List L). Leave facts since.logs logs since.world w (together.notes ++ (row ++ row))) logs_set
             (goes_on facts since.logs (logs_of seats) at s.log t.log (spellings more) since.world v w together.notes row row
             (got_map (λ (z : Seat N L). z.log) seats at s got) (safe_logs told seats are together.durable) (whole told) led
-            (stored_held state since seats v.nodes told held) stored together.leave (places_set same) is_row is_row);
+            (stored_held state steps since seats v.nodes told held) stored together.leave (places_set same) is_row is_row);
         durable = durable;
       }
 
     -- what the journals store where that of the node at a place has more
-    pub stored_with : (v w : World) (old : Held) (new : NodeState) (more : List Kept) → slice_get v.nodes at ≡ Some old
-        → w.nodes ≡ slice_set v.nodes at (record { state = new; kept = old.kept ++ more }) → facts.records s.log ≡ spellings old.kept
+    pub stored_with : (v w : World) (old : Held) (new : NodeState) (count : ℕ) (more : List Kept) → slice_get v.nodes at ≡ Some old
+        → w.nodes ≡ slice_set v.nodes at (record { state = new; kept = old.kept ++ more; steps = count }) → facts.records s.log ≡ spellings old.kept
         → stored_in w ≡ slice_set (stored_in v) at (facts.records s.log ++ spellings more)
-    stored_with v w old new more here nodes written =
+    stored_with v w old new count more here nodes written =
         ap (λ (l : List Held). map (λ (h : Held). spellings h.kept) l) nodes
-        ∙ (map_set (λ (h : Held). spellings h.kept) v.nodes at (record { state = new; kept = old.kept ++ more })
+        ∙ (map_set (λ (h : Held). spellings h.kept) v.nodes at (record { state = new; kept = old.kept ++ more; steps = count })
         ∙ ap (λ (j : List (List ℕ)). slice_set (stored_in v) at j)
         (spellings_append old.kept more ∙ ap (λ (j : List (List ℕ)). j ++ spellings more) (sym written)))
 
-    module _ (v w : World) (i : Input) (are : AreOpen facts.is_open seats) (held : AreHeld (seat_since state facts since) seats v.nodes)
+    module _ (v w : World) (i : Input) (are : AreOpen facts.is_open seats) (held : AreHeld (seat_since state steps facts since) seats v.nodes)
         (moves : Moves v at i w) (led : LeadsTo v w) (whole : IsWhole (log_call facts s.log t.log) (spellings moves.f.written))
         (same : facts.place t.log ≡ facts.place s.log) (together : TogetherSince facts since before seats v) where
       stored_old : facts.records s.log ≡ spellings moves.old.kept
       stored_old =
-          let place : HeldAt (seat_since state facts since s) v.nodes at = held_at (seat_since state facts since) seats v.nodes at s held got in
+          let place : HeldAt (seat_since state steps facts since s) v.nodes at = held_at (seat_since state steps facts since) seats v.nodes at s held got in
           let both : Some place.old ≡ Some moves.old = sym place.here ∙ moves.here in
           let one : place.old ≡ moves.old = cc both in
           place.is.written told ∙ ap (λ (h : Held). spellings h.kept) one
@@ -325,7 +325,7 @@ module _ {N L : Type 0} (facts : LogFacts L) where
       pub together_steps : TogetherSince facts since now (slice_set seats at t) w
       together_steps =
           together_grows v w moves.f.written are held led whole
-          (stored_with v w moves.old moves.new moves.f.written moves.here (ap (λ (x : World). x.nodes) moves.then) stored_old) same together
+          (stored_with v w moves.old moves.new (moves.old.steps + 1) moves.f.written moves.here (ap (λ (x : World). x.nodes) moves.then) stored_old) same together
 
     -- its log is as it was
     pub together_stays : (w : World) → t.log ≡ s.log → TogetherSince facts since before seats w → TogetherSince facts since now (slice_set seats at t) w
@@ -342,41 +342,41 @@ module _ {N L : Type 0} (facts : LogFacts L) where
             sym (set_same (logs_of seats) at s.log (got_map (λ (z : Seat N L). z.log) seats at s got))
             ∙ (ap (λ (l : L). slice_set (logs_of seats) at l) (sym same) ∙ logs_set)
 
-  module _ (state : N → NodeState) (shows : Bool) (since : Since L) (seats : List (Seat N L)) (at : ℕ) (s t : Seat N L) (before now : List Note) (length : ℕ)
+  module _ (state : N → NodeState) (steps : N → ℕ) (shows : Bool) (since : Since L) (seats : List (Seat N L)) (at : ℕ) (s t : Seat N L) (before now : List Note) (length : ℕ)
       (got : slice_get seats at ≡ Some s) (are : AreOpen facts.is_open seats) (durable : AreDurableWhileOpen facts (slice_set seats at t))
       (taken : IsTrue shows → now ≡ (before ++ notes_of facts length (slice_set seats at t)) ++ notes_of facts length (slice_set seats at t))
-      (same : facts.place t.log ≡ facts.place s.log) (w : World) (i : Input) (held : AreHeld (seat_since state facts since) seats w.nodes)
-      (leave : LeaveKept (seat_since state facts since) (hosted shows facts since before seats) w) where
+      (same : facts.place t.log ≡ facts.place s.log) (w : World) (i : Input) (held : AreHeld (seat_since state steps facts since) seats w.nodes)
+      (leave : LeaveKept (seat_since state steps facts since) (hosted shows facts since before seats) w) where
     abbrev now_hosted : Hosted (Seat N L)
     now_hosted = hosted shows facts since now (slice_set seats at t)
 
     -- the node at a place took a step
     pub node_stepped : (mail : List Letter) (replies : List ToLink)
-        → StepsOn (log_call facts s.log t.log) (seat_since state facts since t) w at i mail replies
-        → HasStepped (seat_since state facts since) now_hosted w at i mail replies
+        → StepsOn (log_call facts s.log t.log) (seat_since state steps facts since t) w at i mail replies
+        → HasStepped (seat_since state steps facts since) now_hosted w at i mail replies
     node_stepped mail replies o =
-        all_stepped (seat_since state facts since) (since_on state facts since) seats w at t i held leave.each now_hosted.together mail replies o.steps
+        all_stepped (seat_since state steps facts since) (since_on state steps facts since) seats w at t i held leave.each now_hosted.together mail replies o.steps
         (λ e event shown told.
-        together_steps state since seats at s t before now length told got durable (taken shown) w o.steps.end i are held o.steps.moves
-        (leads_by e w o.steps.end (event o.steps.end o.steps.moves)) o.whole same (leave.together shown told))
+        together_steps state steps since seats at s t before now length told got durable (taken shown) w o.steps.end i are held o.steps.moves
+        (leads_by e w o.steps.end (event o.steps.end (inl o.steps.moves))) o.whole same (leave.together shown told))
 
     -- it did not
     pub node_failed : (fault : StepFault)
-        → ByStepFault fault (λ faults. BreaksOn (log_call facts s.log t.log) (seat_since state facts since t) w at i) (StandsAt (seat_since state facts since t) w at)
+        → ByStepFault fault (λ faults. BreaksOn (log_call facts s.log t.log) (seat_since state steps facts since t) w at i) (StandsAt (seat_since state steps facts since t) w at)
         → ByStepFault fault (λ faults. Unit {0}) ((state t.node ≡ state s.node) × (t.log ≡ s.log))
-        → ByStepFault fault (λ faults. IsBroken (seat_since state facts since) now_hosted w at i)
-        (AreHeld (seat_since state facts since) (slice_set seats at t) w.nodes × LeaveKept (seat_since state facts since) now_hosted w)
+        → ByStepFault fault (λ faults. IsBroken (seat_since state steps facts since) now_hosted w at i)
+        (AreHeld (seat_since state steps facts since) (slice_set seats at t) w.nodes × LeaveKept (seat_since state steps facts since) now_hosted w)
     node_failed (Disk faults) o unchanged =
-        all_broken (seat_since state facts since) (since_on state facts since) seats w at t i held leave.each now_hosted.together o.breaks
+        all_broken (seat_since state steps facts since) (since_on state steps facts since) seats w at t i held leave.each now_hosted.together o.breaks
         (λ e event shown told.
-        together_steps state since seats at s t before now length told got durable (taken shown) w o.breaks.last i are held o.breaks.moves
-        (leads_by e w o.breaks.last (event o.breaks.last o.breaks.moves)) o.whole same (leave.together shown told))
+        together_steps state steps since seats at s t before now length told got durable (taken shown) w o.breaks.last i are held o.breaks.moves
+        (leads_by e w o.breaks.last (event o.breaks.last (inl o.breaks.moves))) o.whole same (leave.together shown told))
     node_failed Steps o unchanged =
-        all_as_before (seat_since state facts since) (since_on state facts since) seats w at t i held leave.each now_hosted.together o
-        (λ shown told. together_stays state since seats at s t before now length told got durable (taken shown) w unchanged.1 (leave.together shown told))
+        all_as_before (seat_since state steps facts since) (since_on state steps facts since) seats w at t i held leave.each now_hosted.together o
+        (λ shown told. together_stays state steps since seats at s t before now length told got durable (taken shown) w unchanged.1 (leave.together shown told))
     node_failed Memory o unchanged =
-        all_as_before (seat_since state facts since) (since_on state facts since) seats w at t i held leave.each now_hosted.together o
-        (λ shown told. together_stays state since seats at s t before now length told got durable (taken shown) w unchanged.1 (leave.together shown told))
+        all_as_before (seat_since state steps facts since) (since_on state steps facts since) seats w at t i held leave.each now_hosted.together o
+        (λ shown told. together_stays state steps since seats at s t before now length told got durable (taken shown) w unchanged.1 (leave.together shown told))
 
   -- notes that are no cut
   pub together_noted : (since : Since L) (before more : List Note) (seats : List (Seat N L)) (w : World) → TogetherSince facts since before seats w

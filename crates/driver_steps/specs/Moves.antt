@@ -2,16 +2,16 @@
 use Rattle.std.specs.Prelude.{◌≡◌, ◌⊎◌, ℕ, ◌+◌, ◌≤◌, Some, List, [], ◌∷◌, ◌++◌, length}
 use Rattle.std.specs.List.{slice_get, AllByRecursion}
 use Rattle.node_model.specs.Letters.{Letter, Input}
-use Rattle.node_model.specs.World.{World, Moves, Event, client_event, deliver_event, moment_event, opened_event, Happens, Run}
+use Rattle.node_model.specs.World.{World, Moves, Meets, Event, client_event, deliver_event, moment_event, opened_event, Happens, Run}
 use Rattle.node_traits.specs.Effects.{ByStepFault}
 use Rattle.node_traits.specs.declared.outputs.StepFault.{StepFault}
 use Rattle.node_traits.specs.declared.outputs.ToLink.{ToLink}
 use Rattle.driver_steps.specs.Seats.{Hosted, SeatView, AreHeld, AreKept, AreHeldOrKept, LeaveKept}
 use Rattle.driver_steps.specs.Worlds.{NetworkView, puts_given, StandsFor}
 
--- a step of the node at a place on the input is this event
+-- that the input comes to the node at a place is this event
 abbrev pub IsEvent : World → (at : ℕ) → Input → Event → Type 0
-IsEvent before at i e = (v : World) → Moves before at i v → Happens before e v
+IsEvent before at i e = (v : World) → Meets before at i v → Happens before e v
 
 -- The node at a place took a step on the input, whichever event that is, and gave out these messages and replies.
 pub record HasStepped {S : Type 0} (view : S → SeatView) (hosted : Hosted S) (before : World) (at : ℕ) (i : Input) (mail : List Letter)
@@ -59,18 +59,20 @@ pub record IsCutShort {S : Type 0} (view : S → SeatView) (hosted : Hosted S) (
   pub missing : List ToLink
   pub given : puts_given end.answered ≡ (handed ++ replies) ++ missing
 
--- An event happened.
+-- An event happened, and no step was missed.
 pub record HasHappened {S : Type 0} (view : S → SeatView) (hosted : Hosted S) (network : NetworkView) (handed : List ToLink) (before : World) (next : ℕ)
     (e : Event) : Type 0 where
   pub end : World
   pub happens : Happens before e end
+  pub none_missed : end.missed ≡ before.missed
   pub stands : StandsFor view hosted network handed end next
 
--- These events happened, one after another.
+-- These events happened, one after another, and no step was missed.
 pub record HasRun {S : Type 0} (view : S → SeatView) (hosted : Hosted S) (network : NetworkView) (handed : List ToLink) (before : World) (next : ℕ)
     (events : List Event) : Type 0 where
   pub end : World
   pub run : Run before events end
+  pub none_missed : end.missed ≡ before.missed
   pub stands : StandsFor view hosted network handed end next
 
 -- these are the first of all these events, as far as they go
@@ -86,14 +88,15 @@ IsDelivery (opened_event at) = ⊥
 abbrev pub AreDeliveries : List Event → Type 0
 AreDeliveries events = AllByRecursion IsDelivery events
 
--- Events happened, of which P holds, and then a fault came: replies may be missing, and of what waits nothing is said. Where a disk failed a
--- crash may have left what one event more leaves, with which P holds too.
+-- Events happened, of which P holds, and no step was missed, and then a fault came: replies may be missing, and of what waits nothing is said. Where a disk
+-- failed a crash may have left what one event more leaves, with which P holds too.
 pub record HasStopped {S : Type 0} (view : S → SeatView) (hosted : Hosted S) (replies handed : List ToLink) (before : World) (P : List Event → Type 0)
     (fault : StepFault) : Type 0 where
   pub events : List Event
   pub end : World
   pub which : P events
   pub run : Run before events end
+  pub none_missed : end.missed ≡ before.missed
   pub nodes : AreHeldOrKept fault view hosted end.nodes
   pub last : World
   pub up_to : IsUpTo fault end last ((e : Event) × P (events ++ e ∷ []) × Happens end e last)
@@ -105,10 +108,12 @@ pub record HasStopped {S : Type 0} (view : S → SeatView) (hosted : Hosted S) (
 abbrev pub DeliversOrLoses : World → (which receiver : ℕ) → World → Type 0
 DeliversOrLoses before which receiver end = Happens before (deliver_event receiver which) end ⊎ ((end ≡ before) × (length before.nodes ≤ receiver))
 
+-- that, and no step was missed
 pub record HasDelivered {S : Type 0} (view : S → SeatView) (hosted : Hosted S) (network : NetworkView) (handed : List ToLink) (before : World)
     (next which receiver : ℕ) : Type 0 where
   pub end : World
   pub delivers : DeliversOrLoses before which receiver end
+  pub none_missed : end.missed ≡ before.missed
   pub stands : StandsFor view hosted network handed end next
 
 -- Messages are delivered in order of sending, each once, from a place among all that were sent up to a later one; those too that are
@@ -120,9 +125,10 @@ pub data Settles : World → (next : ℕ) → List Event → World → (later : 
   loses_next : (u w : World) (next later : ℕ) (m : Letter) (events : List Event) → slice_get u.sent next ≡ Some m → length u.nodes ≤ m.receiver
       → Settles u (next + 1) events w later → Settles u next events w later
 
--- All that waited was delivered, and nothing waits.
+-- All that waited was delivered, no step was missed, and nothing waits.
 pub record HasSettled {S : Type 0} (view : S → SeatView) (hosted : Hosted S) (network : NetworkView) (handed : List ToLink) (before : World) (next : ℕ) : Type 0 where
   pub events : List Event
   pub end : World
   pub settles : Settles before next events end (length end.sent)
+  pub none_missed : end.missed ≡ before.missed
   pub stands : StandsFor view hosted network handed end (length end.sent)

@@ -1,5 +1,5 @@
 -- A node that stops, and is started again on its journal, while a driver goes on (own).
-use Rattle.std.specs.Prelude.{◌≡◌, ℕ, IsTrue, List, [], ◌∷◌, ◌++◌, Option, Some, None}
+use Rattle.std.specs.Prelude.{◌≡◌, ℕ, ◌+◌, ◌≤◌, IsTrue, List, [], ◌∷◌, ◌++◌, false, Option, Some, None}
 use Rattle.std.specs.List.{slice_get}
 use Rattle.outside.specs.Disks.{LeavesOnly}
 use Rattle.outside.specs.Logs.{LogFacts, WithOrWithout}
@@ -7,6 +7,7 @@ use Rattle.node_model.specs.Journal.{Kept}
 use Rattle.node_model.specs.Letters.{Input, Effect}
 use Rattle.node_model.specs.States.{NodeState}
 use Rattle.node_model.specs.Steps.{Step}
+use Rattle.node_model.specs.Lacks.{is_last}
 use Rattle.node_model.specs.World.{Held, World, Event, opened_event}
 use Rattle.node_replay.specs.Durable.{DurableState, empty_of}
 use Rattle.node_replay.specs.Openings.{opened_on}
@@ -34,29 +35,34 @@ abbrev pub IsOpenedAs : (empty : DurableState) → (records : List (List ℕ)) �
 IsOpenedAs empty records state =
     (s : NodeState) (kept : List Kept) → empty_of s ≡ empty → AreReadable kept → records ≡ spellings kept → opened_on s kept ≡ Some state
 
--- what a node stores with which it stops: nothing, or the records of a step on the input
-pub data StopsWith (s : NodeState) : Option Input → List Kept → Type 0 where
-  stores_none : (i : Option Input) → StopsWith s i []
-  stores_step : (i : Input) (f : Effect) (reached : NodeState) → Step s i f reached → StopsWith s (Some i) f.written
+-- What a node stores with which it stops, and how many steps it has taken then: nothing, and as many as before; or the records of a step on the input, which is
+-- not its last one, and one more.
+pub data StopsWith (s : NodeState) (steps : ℕ) : Option Input → List Kept → (after : ℕ) → Type 0 where
+  stores_none : (i : Option Input) → StopsWith s steps i [] steps
+  stores_step : (i : Input) (f : Effect) (reached : NodeState) → is_last steps s i ≡ false → Step s i f reached
+      → StopsWith s steps (Some i) f.written (steps + 1)
 
 -- the node stopped, and its log has what it stored with it
-pub record IsStopped {N L : Type 0} (state : N → NodeState) (facts : LogFacts L) (i : Option Input) (old new : Seat N L) : Type 0 where
+pub record IsStopped {N L : Type 0} (state : N → NodeState) (steps : N → ℕ) (facts : LogFacts L) (i : Option Input) (old new : Seat N L) : Type 0 where
   pub more : List Kept
-  pub how : StopsWith (state old.node) i more
+  pub count : ℕ
+  pub how : StopsWith (state old.node) (steps old.node) i more count
   pub readable : AreReadable more
   pub kept : Appended (log_call facts old.log new.log) (spellings more)
   pub holds : IsTrue facts.tells → facts.holds new.log (facts.records new.log)
 
--- and it was opened again
-pub record IsStartedAgain {N L : Type 0} (state : N → NodeState) (facts : LogFacts L) (empty : DurableState) (i : Option Input) (old new : Seat N L)
-    : Type 0 where
-  pub stopped : IsStopped state facts i old new
+-- and it was opened again, and counts its steps on
+pub record IsStartedAgain {N L : Type 0} (state : N → NodeState) (steps : N → ℕ) (facts : LogFacts L) (empty : DurableState) (i : Option Input)
+    (old new : Seat N L) : Type 0 where
+  pub stopped : IsStopped state steps facts i old new
+  pub counted : stopped.count ≤ steps new.node
   pub opened : IsTrue facts.tells → IsOpenedAs empty (facts.records new.log) (state new.node)
 
 -- a disk failed: the log has what was to be stored, or not
-pub record IsStoppedAtDisk {N L : Type 0} (state : N → NodeState) (facts : LogFacts L) (i : Option Input) (old new : Seat N L) : Type 0 where
+pub record IsStoppedAtDisk {N L : Type 0} (state : N → NodeState) (steps : N → ℕ) (facts : LogFacts L) (i : Option Input) (old new : Seat N L) : Type 0 where
   pub more : List Kept
-  pub how : StopsWith (state old.node) i more
+  pub count : ℕ
+  pub how : StopsWith (state old.node) (steps old.node) i more count
   pub readable : AreReadable more
   pub left : IsTrue facts.tells → WithOrWithout (facts.holds new.log) (facts.records old.log) (spellings more)
   pub whole : IsWhole (log_call facts old.log new.log) (spellings more)
@@ -93,12 +99,13 @@ stop_and_open at e = e ∷ whole_event (opened_event at) ∷ []
 abbrev pub BeginToStop : (at : ℕ) → Option Event → List EventOrStop → Type 0
 BeginToStop at e events = (x : EventOrStop) × StopsBy at e x × BeginWith events (stop_and_open at x)
 
--- The node at a place stopped and was started again: what it sent or returned in the step in which it stopped was dropped.
+-- The node at a place stopped and was started again, and no step was missed: what it sent or returned in the step in which it stopped was dropped.
 pub record HasStarted {S : Type 0} (view : S → SeatView) (hosted : Hosted S) (before : World) (at : ℕ) (e : Option Event) : Type 0 where
   pub stop : EventOrStop
   pub started : World
   pub which : StopsBy at e stop
   pub occurs : Occurs before stop started
+  pub none_missed : started.missed ≡ before.missed
   pub nodes : AreHeld view hosted.seats started.nodes
   pub crashes : LeaveKept view hosted started
   pub sent : started.sent ≡ before.sent
@@ -111,15 +118,17 @@ pub record HasStartedAgain {S : Type 0} (view : S → SeatView) (hosted : Hosted
   pub end : World
   pub which : StopsBy at e stop
   pub run : RunWithStops before (stop_and_open at stop) end
+  pub none_missed : end.missed ≡ before.missed
   pub stands : StandsFor view hosted network handed end next
 
--- Events occurred, of which P holds, and then a fault came: the logs keep what the journals keep, and of the nodes nothing is said. Where a disk failed
--- a crash may have left what one event more leaves, with which P holds too.
+-- Events occurred, of which P holds, and no step was missed, and then a fault came: the logs keep what the journals keep, and of the nodes nothing is said.
+-- Where a disk failed a crash may have left what one event more leaves, with which P holds too.
 pub record HasFailed {S : Type 0} (view : S → SeatView) (hosted : Hosted S) (before : World) (P : List EventOrStop → Type 0) (fault : StepFault) : Type 0 where
   pub events : List EventOrStop
   pub end : World
   pub which : P events
   pub run : RunWithStops before events end
+  pub none_missed : end.missed ≡ before.missed
   pub kept : AreKept view hosted.seats end.nodes
   pub last : World
   pub up_to : IsUpTo fault end last ((e : EventOrStop) × P (events ++ e ∷ []) × Occurs end e last)

@@ -1,5 +1,5 @@
 -- Nodes with their logs, as the nodes of a world with what their journals keep (own).
-use Rattle.std.specs.Prelude.{◌≡◌, ℕ, ◌+◌, ◌-◌, ◌^◌, Bool, IsTrue, List, [], ◌∷◌, ◌++◌, map, Some, Result, Ok, Err}
+use Rattle.std.specs.Prelude.{◌≡◌, ℕ, ◌+◌, ◌≤◌, ◌-◌, ◌^◌, Bool, IsTrue, List, [], ◌∷◌, ◌++◌, map, Some, Result, Ok, Err}
 use Rattle.std.specs.List.{slice_get, AllByRecursion}
 use Rattle.outside.specs.Devices.{NoneFell, OneRose}
 use Rattle.outside.specs.Logs.{IsDurable, LogFacts}
@@ -12,19 +12,21 @@ use Rattle.node_traits.specs.declared.outputs.StepFault.{StepFault}
 use Rattle.driver_steps.specs.Crashes.{Since, leaves_kept}
 use Rattle.driver_steps.specs.declared.seat.Seat.{Seat}
 
--- What contracts see of a node with its log: its state; whether the log's records are observable, and these; whether an opening of the log
--- would find a list; and what is said of crashes, at a place among the nodes of a world.
+-- What contracts see of a node with its log: its state, and how many steps it has taken; whether the log's records are observable, and these; whether an
+-- opening of the log would find a list; and what is said of crashes, at a place among the nodes of a world.
 pub record SeatView : Type 1 where
   pub state : NodeState
+  pub steps : ℕ
   pub tells : Bool
   pub records : List (List ℕ)
   pub holds : List (List ℕ) → Type 0
   pub leaves : (at : ℕ) → World → Type 0
 
 -- of crashes nothing
-abbrev pub seat_view : {N L : Type 0} → (N → NodeState) → LogFacts L → Seat N L → SeatView
-seat_view state_of facts seat = record {
+abbrev pub seat_view : {N L : Type 0} → (N → NodeState) → (N → ℕ) → LogFacts L → Seat N L → SeatView
+seat_view state_of steps_of facts seat = record {
   state = state_of seat.node;
+  steps = steps_of seat.node;
   tells = facts.tells;
   records = facts.records seat.log;
   holds = facts.holds seat.log;
@@ -32,9 +34,10 @@ seat_view state_of facts seat = record {
 }
 
 -- of crashes what they leave since then
-abbrev pub seat_since : {N L : Type 0} → (N → NodeState) → LogFacts L → Since L → Seat N L → SeatView
-seat_since state_of facts since seat = record {
+abbrev pub seat_since : {N L : Type 0} → (N → NodeState) → (N → ℕ) → LogFacts L → Since L → Seat N L → SeatView
+seat_since state_of steps_of facts since seat = record {
   state = state_of seat.node;
+  steps = steps_of seat.node;
   tells = facts.tells;
   records = facts.records seat.log;
   holds = facts.holds seat.log;
@@ -46,9 +49,10 @@ pub record Keeps (seat : SeatView) (kept : List Kept) : Type 0 where
   pub readable : AreReadable kept
   pub found : IsTrue seat.tells → seat.holds (spellings kept)
 
--- the node is in this state, and its log has what its journal stores
+-- The node is in this state, and its log has what its journal stores. It has taken no fewer steps: a step for which it found no memory counts.
 pub record IsHeld (seat : SeatView) (held : Held) : Type 0 where
   pub same : held.state ≡ seat.state
+  pub counted : held.steps ≤ seat.steps
   pub written : IsTrue seat.tells → seat.records ≡ spellings held.kept
   pub keeps : Keeps seat held.kept
 

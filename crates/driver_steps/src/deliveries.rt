@@ -34,16 +34,16 @@ pub fn deliver<R: Threads + Sync, N: Node, L: Log, K: Witness<L::Of>>(
 ) -> Result<(), StepFault>
     requires { AreOpen L.facts.is_open seats.old.items }
     ensures delivered { (since : Since L) (w : World) (next which : ℕ) (handed : List ToLink) →
-        StandsFor (seat_since N.state L.facts since) (hosted K.tells L.facts since (K.noted out.old) seats.old.items)
+        StandsFor (seat_since N.state N.steps L.facts since) (hosted K.tells L.facts since (K.noted out.old) seats.old.items)
         (network_view (λ m. N.Mail.letter m) network.old) handed w next →
         slice_get w.sent which ≡ Some (N.Mail.letter message) →
-        OnOk result (HasDelivered (seat_since N.state L.facts since) (hosted K.tells L.facts since (K.noted out.new) seats.new.items)
+        OnOk result (HasDelivered (seat_since N.state N.steps L.facts since) (hosted K.tells L.facts since (K.noted out.new) seats.new.items)
         (network_view (λ m. N.Mail.letter m) network.new) handed w next which (N.Mail.letter message).receiver) }
     ensures stopped { (since : Since L) (w : World) (next which : ℕ) (handed : List ToLink) →
-        StandsFor (seat_since N.state L.facts since) (hosted K.tells L.facts since (K.noted out.old) seats.old.items)
+        StandsFor (seat_since N.state N.steps L.facts since) (hosted K.tells L.facts since (K.noted out.old) seats.old.items)
         (network_view (λ m. N.Mail.letter m) network.old) handed w next →
         slice_get w.sent which ≡ Some (N.Mail.letter message) →
-        IfErr result (λ e. HasStopped (seat_since N.state L.facts since) (hosted K.tells L.facts since (K.noted out.new) seats.new.items)
+        IfErr result (λ e. HasStopped (seat_since N.state N.steps L.facts since) (hosted K.tells L.facts since (K.noted out.new) seats.new.items)
         network.new.replies.items handed w (λ events. BeginWith events (deliver_event (N.Mail.letter message).receiver which ∷ [])) e) }
     ensures len { vec_len seats.new ≡ vec_len seats.old }
     ensures open { UnlessDiskFailed result (AreOpen L.facts.is_open seats.new.items) }
@@ -82,14 +82,14 @@ pub fn settle<R: Threads + Sync, N: Node, L: Log, K: Witness<L::Of>>(
 ) -> Result<(), StepFault>
     requires { AreOpen L.facts.is_open seats.old.items }
     ensures settled { (since : Since L) (w : World) (next : ℕ) (handed : List ToLink) →
-        StandsFor (seat_since N.state L.facts since) (hosted K.tells L.facts since (K.noted out.old) seats.old.items)
+        StandsFor (seat_since N.state N.steps L.facts since) (hosted K.tells L.facts since (K.noted out.old) seats.old.items)
         (network_view (λ m. N.Mail.letter m) network.old) handed w next →
-        OnOk result (HasSettled (seat_since N.state L.facts since) (hosted K.tells L.facts since (K.noted out.new) seats.new.items)
+        OnOk result (HasSettled (seat_since N.state N.steps L.facts since) (hosted K.tells L.facts since (K.noted out.new) seats.new.items)
         (network_view (λ m. N.Mail.letter m) network.new) handed w next) }
     ensures stopped { (since : Since L) (w : World) (next : ℕ) (handed : List ToLink) →
-        StandsFor (seat_since N.state L.facts since) (hosted K.tells L.facts since (K.noted out.old) seats.old.items)
+        StandsFor (seat_since N.state N.steps L.facts since) (hosted K.tells L.facts since (K.noted out.old) seats.old.items)
         (network_view (λ m. N.Mail.letter m) network.old) handed w next →
-        IfErr result (λ e. HasStopped (seat_since N.state L.facts since) (hosted K.tells L.facts since (K.noted out.new) seats.new.items)
+        IfErr result (λ e. HasStopped (seat_since N.state N.steps L.facts since) (hosted K.tells L.facts since (K.noted out.new) seats.new.items)
         network.new.replies.items handed w AreDeliveries e) }
     ensures len { vec_len seats.new ≡ vec_len seats.old }
     ensures open { UnlessDiskFailed result (AreOpen L.facts.is_open seats.new.items) }

@@ -34,7 +34,7 @@ use outside::log::{Log, LogFault};
 use outside::witness::Witness;
 use std::alloc::Global;
 
-/// The records of the log are read again, and the node is opened on them.
+/// The records of the log are read again, and the node is opened on them. It counts its steps on.
 ///
 /// # Errors
 /// `StepFault::Disk` only if the disk of the log met a fault.
@@ -47,6 +47,7 @@ fn start_again<N: Node, L: Log, O: Opens<N, L>>(
     requires { IsTrue (L.facts.is_open seat.old.log) }
     ensures reread { IsReread L.facts seat.old.log seat.new.log }
     ensures opened { OnOk result (IsTrue L.facts.tells → IsOpenedAs (O.part opener.now at) (L.facts.records seat.old.log) (N.state seat.new.node)) }
+    ensures counted { N.steps seat.new.node ≡ N.steps seat.old.node }
     ensures open { UnlessDiskFailed result (IsTrue (L.facts.is_open seat.new.log)) }
     ensures faults { TellsFault result (L.facts.fault_count seat.old.log) (L.facts.fault_count seat.new.log) }
     ensures place { L.facts.place seat.new.log ≡ L.facts.place seat.old.log }
@@ -57,7 +58,8 @@ fn start_again<N: Node, L: Log, O: Opens<N, L>>(
         Err(LogFault::Memory) => return Err(StepFault::Memory),
     };
     match opener.node(alloc, at, records) {
-        Ok(node) => {
+        Ok(mut node) => {
+            node.keep_count(&seat.node);
             seat.node = node;
             Ok(())
         }
@@ -78,10 +80,10 @@ fn stop_seat<N: Node, L: Log, O: Opens<N, L>>(
     input: Option<N::Input>,
 ) -> Result<(), StepFault>
     requires { IsTrue (L.facts.is_open seat.old.log) }
-    ensures started { OnOk result (IsStartedAgain N.state L.facts (O.part opener.now at) (option_map (λ i. N.meaning i) input) seat.old seat.new) }
+    ensures started { OnOk result (IsStartedAgain N.state N.steps L.facts (O.part opener.now at) (option_map (λ i. N.meaning i) input) seat.old seat.new) }
     ensures failed { IfErr result (λ e. ByStepFault e
-        (λ faults. IsStoppedAtDisk N.state L.facts (option_map (λ i. N.meaning i) input) seat.old seat.new)
-        (IsStopped N.state L.facts (option_map (λ i. N.meaning i) input) seat.old seat.new)) }
+        (λ faults. IsStoppedAtDisk N.state N.steps L.facts (option_map (λ i. N.meaning i) input) seat.old seat.new)
+        (IsStopped N.state N.steps L.facts (option_map (λ i. N.meaning i) input) seat.old seat.new)) }
     ensures open { UnlessDiskFailed result (IsTrue (L.facts.is_open seat.new.log)) }
     ensures faults { TellsFault result (L.facts.fault_count seat.old.log) (L.facts.fault_count seat.new.log) }
     ensures place { L.facts.place seat.new.log ≡ L.facts.place seat.old.log }
@@ -113,14 +115,14 @@ fn stop_node<N: Node, L: Log, K: Witness<L::Of>, O: Opens<N, L>>(
     requires open { AreOpen L.facts.is_open seats.old.items }
     ensures started { IsTrue L.facts.tells → (since : Since L) (w : World) (e : Option Event) →
         MayStop (O.part opener.now) w → MayGive w at e (option_map (λ i. N.meaning i) input) →
-        AreHeld (seat_since N.state L.facts since) seats.old.items w.nodes →
-        LeaveKept (seat_since N.state L.facts since) (hosted K.tells L.facts since (K.noted out.old) seats.old.items) w →
-        OnOk result (HasStarted (seat_since N.state L.facts since) (hosted K.tells L.facts since (K.noted out.new) seats.new.items) w at e) }
+        AreHeld (seat_since N.state N.steps L.facts since) seats.old.items w.nodes →
+        LeaveKept (seat_since N.state N.steps L.facts since) (hosted K.tells L.facts since (K.noted out.old) seats.old.items) w →
+        OnOk result (HasStarted (seat_since N.state N.steps L.facts since) (hosted K.tells L.facts since (K.noted out.new) seats.new.items) w at e) }
     ensures failed { IsTrue L.facts.tells → (since : Since L) (w : World) (e : Option Event) →
         MayStop (O.part opener.now) w → MayGive w at e (option_map (λ i. N.meaning i) input) →
-        AreHeld (seat_since N.state L.facts since) seats.old.items w.nodes →
-        LeaveKept (seat_since N.state L.facts since) (hosted K.tells L.facts since (K.noted out.old) seats.old.items) w →
-        IfErr result (HasFailed (seat_since N.state L.facts since) (hosted K.tells L.facts since (K.noted out.new) seats.new.items) w (BeginToStop at e)) }
+        AreHeld (seat_since N.state N.steps L.facts since) seats.old.items w.nodes →
+        LeaveKept (seat_since N.state N.steps L.facts since) (hosted K.tells L.facts since (K.noted out.old) seats.old.items) w →
+        IfErr result (HasFailed (seat_since N.state N.steps L.facts since) (hosted K.tells L.facts since (K.noted out.new) seats.new.items) w (BeginToStop at e)) }
     ensures len { vec_len seats.new ≡ vec_len seats.old }
     ensures open { UnlessDiskFailed result (AreOpen L.facts.is_open seats.new.items) }
 
@@ -165,15 +167,15 @@ pub fn restart<N: Node, L: Log, K: Witness<L::Of>, O: Opens<N, L>>(
     requires open { AreOpen L.facts.is_open seats.old.items }
     ensures started { IsTrue L.facts.tells → (since : Since L) (w : World) (next : ℕ) (handed : List ToLink) (e : Option Event) →
         MayStop (O.part opener.now) w → MayGive w at e (option_map (λ i. N.meaning i) input) →
-        StandsFor (seat_since N.state L.facts since) (hosted K.tells L.facts since (K.noted out.old) seats.old.items)
+        StandsFor (seat_since N.state N.steps L.facts since) (hosted K.tells L.facts since (K.noted out.old) seats.old.items)
         (network_view (λ m. N.Mail.letter m) network.old) handed w next →
-        OnOk result (HasStartedAgain (seat_since N.state L.facts since) (hosted K.tells L.facts since (K.noted out.new) seats.new.items)
+        OnOk result (HasStartedAgain (seat_since N.state N.steps L.facts since) (hosted K.tells L.facts since (K.noted out.new) seats.new.items)
         (network_view (λ m. N.Mail.letter m) network.new) handed w next at e) }
     ensures failed { IsTrue L.facts.tells → (since : Since L) (w : World) (next : ℕ) (handed : List ToLink) (e : Option Event) →
         MayStop (O.part opener.now) w → MayGive w at e (option_map (λ i. N.meaning i) input) →
-        StandsFor (seat_since N.state L.facts since) (hosted K.tells L.facts since (K.noted out.old) seats.old.items)
+        StandsFor (seat_since N.state N.steps L.facts since) (hosted K.tells L.facts since (K.noted out.old) seats.old.items)
         (network_view (λ m. N.Mail.letter m) network.old) handed w next →
-        IfErr result (HasFailed (seat_since N.state L.facts since) (hosted K.tells L.facts since (K.noted out.new) seats.new.items) w (BeginToStop at e)) }
+        IfErr result (HasFailed (seat_since N.state N.steps L.facts since) (hosted K.tells L.facts since (K.noted out.new) seats.new.items) w (BeginToStop at e)) }
     ensures len { vec_len seats.new ≡ vec_len seats.old }
     ensures open { UnlessDiskFailed result (AreOpen L.facts.is_open seats.new.items) }
 

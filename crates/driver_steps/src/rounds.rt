@@ -28,15 +28,15 @@ pub fn open_all<N: Node, L: Log, K: Witness<L::Of>>(
 ) -> Result<(), StepFault>
     requires { AreOpen L.facts.is_open seats.old.items }
     ensures opened { (since : Since L) (w : World) (next : ℕ) (handed : List ToLink) →
-        StandsFor (seat_since N.state L.facts since) (hosted K.tells L.facts since (K.noted out.old) seats.old.items)
+        StandsFor (seat_since N.state N.steps L.facts since) (hosted K.tells L.facts since (K.noted out.old) seats.old.items)
         (network_view (λ m. N.Mail.letter m) network.old) handed w next →
-        OnOk result (HasRun (seat_since N.state L.facts since) (hosted K.tells L.facts since (K.noted out.new) seats.new.items)
+        OnOk result (HasRun (seat_since N.state N.steps L.facts since) (hosted K.tells L.facts since (K.noted out.new) seats.new.items)
         (network_view (λ m. N.Mail.letter m) network.new) handed w next
         (openings 0 (vec_len seats.old))) }
     ensures stopped { (since : Since L) (w : World) (next : ℕ) (handed : List ToLink) →
-        StandsFor (seat_since N.state L.facts since) (hosted K.tells L.facts since (K.noted out.old) seats.old.items)
+        StandsFor (seat_since N.state N.steps L.facts since) (hosted K.tells L.facts since (K.noted out.old) seats.old.items)
         (network_view (λ m. N.Mail.letter m) network.old) handed w next →
-        IfErr result (λ e. HasStopped (seat_since N.state L.facts since) (hosted K.tells L.facts since (K.noted out.new) seats.new.items)
+        IfErr result (λ e. HasStopped (seat_since N.state N.steps L.facts since) (hosted K.tells L.facts since (K.noted out.new) seats.new.items)
         network.new.replies.items handed w (λ events. BeginWith events (openings 0 (vec_len seats.old))) e) }
     ensures len { vec_len seats.new ≡ vec_len seats.old }
     ensures open { UnlessDiskFailed result (AreOpen L.facts.is_open seats.new.items) }
@@ -72,15 +72,15 @@ pub fn give_moments<N: Node, L: Log, K: Witness<L::Of>>(
 ) -> Result<(), StepFault>
     requires { AreOpen L.facts.is_open seats.old.items }
     ensures given { (since : Since L) (w : World) (next : ℕ) (handed : List ToLink) →
-        StandsFor (seat_since N.state L.facts since) (hosted K.tells L.facts since (K.noted out.old) seats.old.items)
+        StandsFor (seat_since N.state N.steps L.facts since) (hosted K.tells L.facts since (K.noted out.old) seats.old.items)
         (network_view (λ m. N.Mail.letter m) network.old) handed w next →
-        OnOk result (HasRun (seat_since N.state L.facts since) (hosted K.tells L.facts since (K.noted out.new) seats.new.items)
+        OnOk result (HasRun (seat_since N.state N.steps L.facts since) (hosted K.tells L.facts since (K.noted out.new) seats.new.items)
         (network_view (λ m. N.Mail.letter m) network.new) handed w next
         (moments_given 0 (vec_len seats.old) moment)) }
     ensures stopped { (since : Since L) (w : World) (next : ℕ) (handed : List ToLink) →
-        StandsFor (seat_since N.state L.facts since) (hosted K.tells L.facts since (K.noted out.old) seats.old.items)
+        StandsFor (seat_since N.state N.steps L.facts since) (hosted K.tells L.facts since (K.noted out.old) seats.old.items)
         (network_view (λ m. N.Mail.letter m) network.old) handed w next →
-        IfErr result (λ e. HasStopped (seat_since N.state L.facts since) (hosted K.tells L.facts since (K.noted out.new) seats.new.items)
+        IfErr result (λ e. HasStopped (seat_since N.state N.steps L.facts since) (hosted K.tells L.facts since (K.noted out.new) seats.new.items)
         network.new.replies.items handed w (λ events. BeginWith events (moments_given 0 (vec_len seats.old) moment)) e) }
     ensures len { vec_len seats.new ≡ vec_len seats.old }
     ensures open { UnlessDiskFailed result (AreOpen L.facts.is_open seats.new.items) }
@@ -118,14 +118,14 @@ pub fn give_moment<N: Node, L: Log, K: Witness<L::Of>>(
     requires at { at < vec_len seats.old }
     requires open { AreOpen L.facts.is_open seats.old.items }
     ensures given { (since : Since L) (w : World) (next : ℕ) (handed : List ToLink) →
-        StandsFor (seat_since N.state L.facts since) (hosted K.tells L.facts since (K.noted out.old) seats.old.items)
+        StandsFor (seat_since N.state N.steps L.facts since) (hosted K.tells L.facts since (K.noted out.old) seats.old.items)
         (network_view (λ m. N.Mail.letter m) network.old) handed w next →
-        OnOk result (HasHappened (seat_since N.state L.facts since) (hosted K.tells L.facts since (K.noted out.new) seats.new.items)
+        OnOk result (HasHappened (seat_since N.state N.steps L.facts since) (hosted K.tells L.facts since (K.noted out.new) seats.new.items)
         (network_view (λ m. N.Mail.letter m) network.new) handed w next (moment_event at moment)) }
     ensures stopped { (since : Since L) (w : World) (next : ℕ) (handed : List ToLink) →
-        StandsFor (seat_since N.state L.facts since) (hosted K.tells L.facts since (K.noted out.old) seats.old.items)
+        StandsFor (seat_since N.state N.steps L.facts since) (hosted K.tells L.facts since (K.noted out.old) seats.old.items)
         (network_view (λ m. N.Mail.letter m) network.old) handed w next →
-        IfErr result (λ e. HasStopped (seat_since N.state L.facts since) (hosted K.tells L.facts since (K.noted out.new) seats.new.items)
+        IfErr result (λ e. HasStopped (seat_since N.state N.steps L.facts since) (hosted K.tells L.facts since (K.noted out.new) seats.new.items)
         network.new.replies.items handed w (λ events. BeginWith events (moment_event at moment ∷ [])) e) }
     ensures len { vec_len seats.new ≡ vec_len seats.old }
     ensures open { UnlessDiskFailed result (AreOpen L.facts.is_open seats.new.items) }
@@ -161,16 +161,16 @@ pub fn ask<N: Node, L: Log, K: Witness<L::Of>>(
     requires at { at < vec_len seats.old }
     requires open { AreOpen L.facts.is_open seats.old.items }
     ensures asked { (since : Since L) (w : World) (next : ℕ) (handed : List ToLink) →
-        StandsFor (seat_since N.state L.facts since) (hosted K.tells L.facts since (K.noted out.old) seats.old.items)
+        StandsFor (seat_since N.state N.steps L.facts since) (hosted K.tells L.facts since (K.noted out.old) seats.old.items)
         (network_view (λ m. N.Mail.letter m) network.old) handed w next
         → IsRouter w.nodes at →
-        OnOk result (HasHappened (seat_since N.state L.facts since) (hosted K.tells L.facts since (K.noted out.new) seats.new.items)
+        OnOk result (HasHappened (seat_since N.state N.steps L.facts since) (hosted K.tells L.facts since (K.noted out.new) seats.new.items)
         (network_view (λ m. N.Mail.letter m) network.new) handed w next (client_event at link number (N.asks request))) }
     ensures stopped { (since : Since L) (w : World) (next : ℕ) (handed : List ToLink) →
-        StandsFor (seat_since N.state L.facts since) (hosted K.tells L.facts since (K.noted out.old) seats.old.items)
+        StandsFor (seat_since N.state N.steps L.facts since) (hosted K.tells L.facts since (K.noted out.old) seats.old.items)
         (network_view (λ m. N.Mail.letter m) network.old) handed w next
         → IsRouter w.nodes at →
-        IfErr result (λ e. HasStopped (seat_since N.state L.facts since) (hosted K.tells L.facts since (K.noted out.new) seats.new.items)
+        IfErr result (λ e. HasStopped (seat_since N.state N.steps L.facts since) (hosted K.tells L.facts since (K.noted out.new) seats.new.items)
         network.new.replies.items handed w (λ events. BeginWith events (client_event at link number (N.asks request) ∷ [])) e) }
     ensures len { vec_len seats.new ≡ vec_len seats.old }
     ensures open { UnlessDiskFailed result (AreOpen L.facts.is_open seats.new.items) }

@@ -29,14 +29,14 @@ pub fn step_seat<N: Node, L: Log>(
 ) -> Result<Outputs<N::Mail>, StepFault>
     requires open { IsTrue (L.facts.is_open seat.old.log) }
     ensures stepped { (since : Since L) (w : World) (at : ℕ) →
-        StandsAt (seat_since N.state L.facts since seat.old) w at →
-        IfOk result (λ outputs. StepsOn (log_call L.facts seat.old.log seat.new.log) (seat_since N.state L.facts since seat.new) w at
+        StandsAt (seat_since N.state N.steps L.facts since seat.old) w at →
+        IfOk result (λ outputs. StepsOn (log_call L.facts seat.old.log seat.new.log) (seat_since N.state N.steps L.facts since seat.new) w at
         (N.meaning input) (map (λ message. N.Mail.letter message) outputs.mail) outputs.replies) }
     ensures failed { (since : Since L) (w : World) (at : ℕ) →
-        StandsAt (seat_since N.state L.facts since seat.old) w at →
+        StandsAt (seat_since N.state N.steps L.facts since seat.old) w at →
         IfErr result (λ e. ByStepFault e
-        (λ faults. BreaksOn (log_call L.facts seat.old.log seat.new.log) (seat_since N.state L.facts since seat.new) w at (N.meaning input))
-        (StandsAt (seat_since N.state L.facts since seat.new) w at)) }
+        (λ faults. BreaksOn (log_call L.facts seat.old.log seat.new.log) (seat_since N.state N.steps L.facts since seat.new) w at (N.meaning input))
+        (StandsAt (seat_since N.state N.steps L.facts since seat.new) w at)) }
     ensures unchanged { IfErr result (λ e. ByStepFault e
         (λ faults. Unit {0})
         ((N.state seat.new.node ≡ N.state seat.old.node) × (seat.new.log ≡ seat.old.log))) }
@@ -70,17 +70,17 @@ pub fn step_node<N: Node, L: Log, K: Witness<L::Of>>(
     requires at { at < vec_len seats.old }
     requires open { AreOpen L.facts.is_open seats.old.items }
     ensures stepped { (since : Since L) (w : World) →
-        AreHeld (seat_since N.state L.facts since) seats.old.items w.nodes →
-        LeaveKept (seat_since N.state L.facts since) (hosted K.tells L.facts since (K.noted out.old) seats.old.items) w →
-        IfOk result (λ outputs. HasStepped (seat_since N.state L.facts since) (hosted K.tells L.facts since (K.noted out.new) seats.new.items) w at
+        AreHeld (seat_since N.state N.steps L.facts since) seats.old.items w.nodes →
+        LeaveKept (seat_since N.state N.steps L.facts since) (hosted K.tells L.facts since (K.noted out.old) seats.old.items) w →
+        IfOk result (λ outputs. HasStepped (seat_since N.state N.steps L.facts since) (hosted K.tells L.facts since (K.noted out.new) seats.new.items) w at
         (N.meaning input) (map (λ message. N.Mail.letter message) outputs.mail) outputs.replies) }
     ensures failed { (since : Since L) (w : World) →
-        AreHeld (seat_since N.state L.facts since) seats.old.items w.nodes →
-        LeaveKept (seat_since N.state L.facts since) (hosted K.tells L.facts since (K.noted out.old) seats.old.items) w →
+        AreHeld (seat_since N.state N.steps L.facts since) seats.old.items w.nodes →
+        LeaveKept (seat_since N.state N.steps L.facts since) (hosted K.tells L.facts since (K.noted out.old) seats.old.items) w →
         IfErr result (λ e. ByStepFault e
-        (λ faults. IsBroken (seat_since N.state L.facts since) (hosted K.tells L.facts since (K.noted out.new) seats.new.items) w at (N.meaning input))
-        (AreHeld (seat_since N.state L.facts since) seats.new.items w.nodes
-        × LeaveKept (seat_since N.state L.facts since) (hosted K.tells L.facts since (K.noted out.new) seats.new.items) w)) }
+        (λ faults. IsBroken (seat_since N.state N.steps L.facts since) (hosted K.tells L.facts since (K.noted out.new) seats.new.items) w at (N.meaning input))
+        (AreHeld (seat_since N.state N.steps L.facts since) seats.new.items w.nodes
+        × LeaveKept (seat_since N.state N.steps L.facts since) (hosted K.tells L.facts since (K.noted out.new) seats.new.items) w)) }
     ensures len { vec_len seats.new ≡ vec_len seats.old }
     ensures open { UnlessDiskFailed result (AreOpen L.facts.is_open seats.new.items) }
     ensures falls { OnOk result (left_of N.steps seats.new.items + 1 ≡ left_of N.steps seats.old.items) }
@@ -121,14 +121,14 @@ pub fn happen<N: Node, L: Log, K: Witness<L::Of>>(
     requires at { at < vec_len seats.old }
     requires open { AreOpen L.facts.is_open seats.old.items }
     ensures moved { (since : Since L) (w : World) (next : ℕ) (handed : List ToLink) →
-        StandsFor (seat_since N.state L.facts since) (hosted K.tells L.facts since (K.noted out.old) seats.old.items)
+        StandsFor (seat_since N.state N.steps L.facts since) (hosted K.tells L.facts since (K.noted out.old) seats.old.items)
         (network_view (λ m. N.Mail.letter m) network.old) handed w next →
-        OnOk result (HasMoved (seat_since N.state L.facts since) (hosted K.tells L.facts since (K.noted out.new) seats.new.items)
+        OnOk result (HasMoved (seat_since N.state N.steps L.facts since) (hosted K.tells L.facts since (K.noted out.new) seats.new.items)
         (network_view (λ m. N.Mail.letter m) network.new) handed w next at (N.meaning input)) }
     ensures cut { (since : Since L) (w : World) (next : ℕ) (handed : List ToLink) →
-        StandsFor (seat_since N.state L.facts since) (hosted K.tells L.facts since (K.noted out.old) seats.old.items)
+        StandsFor (seat_since N.state N.steps L.facts since) (hosted K.tells L.facts since (K.noted out.old) seats.old.items)
         (network_view (λ m. N.Mail.letter m) network.old) handed w next →
-        IfErr result (λ e. IsCutShort (seat_since N.state L.facts since) (hosted K.tells L.facts since (K.noted out.new) seats.new.items)
+        IfErr result (λ e. IsCutShort (seat_since N.state N.steps L.facts since) (hosted K.tells L.facts since (K.noted out.new) seats.new.items)
         network.new.replies.items handed w at (N.meaning input) e) }
     ensures len { vec_len seats.new ≡ vec_len seats.old }
     ensures open { UnlessDiskFailed result (AreOpen L.facts.is_open seats.new.items) }

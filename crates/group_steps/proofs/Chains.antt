@@ -1,10 +1,12 @@
 -- Steps that are taken one after another, in memory and in a world.
-use Rattle.std.proofs.Common.{◌≡◌, inl, inr, ℕ, List, [], ◌∷◌, ◌++◌, IsTrue, refl, sym, ap, subst, ◌∙◌, append-nil, append_assoc}
+use Rattle.std.proofs.Common.{◌≡◌, inl, inr, ℕ, ◌+◌, ◌≤◌, List, [], ◌∷◌, ◌++◌, length, false, IsTrue, refl, sym, ap, subst, ◌∙◌, append-nil, append_assoc, arith}
+use Rattle.std.proofs.Common.{length-append}
 use Rattle.std.specs.Prelude.{Some}
 use Rattle.std.specs.List.{slice_get}
 use Rattle.outside.specs.Logs.{LogFacts, WithOrWithout}
 use Rattle.node_model.specs.Journal.{Kept}
 use Rattle.node_model.specs.Letters.{Effect}
+use Rattle.node_model.specs.Lacks.{is_last}
 use Rattle.node_model.specs.States.{NodeState}
 use Rattle.node_model.specs.Steps.{Step}
 use Rattle.node_model.specs.World.{Held, World, Moves, after, is_given, tick}
@@ -17,6 +19,7 @@ use Rattle.driver_steps.specs.declared.seat.Seat.{Seat}
 use Rattle.driver_steps.specs.Crashes.{Since, LeadsTo, leaves_kept}
 use Rattle.driver_steps.specs.OneSeat.{StandsAt}
 use Rattle.driver_steps.specs.Seats.{SeatView, seat_since}
+use Rattle.driver_steps.proofs.Counts.{goes_with_fewer}
 use Rattle.driver_steps.proofs.Crashes.{leaves_on, leaves_step, spellings_append}
 use Rattle.driver_steps.proofs.Seats.{get_set}
 use Rattle.driver_steps.proofs.Stepping.{readable_append}
@@ -26,33 +29,45 @@ use Rattle.group_steps.specs.Groups.{BreaksAll, Leads, leads_nowhere, leads_on, 
 -- IN MEMORY
 
 -- one step more
-leads_then : (s t u : NodeState) (p : Part) (parts : List Part) (f : Effect) (written : List Kept) → Leads s parts written t → Step t p.input f u
-    → f.mail ≡ p.mail → p.replies ≡ puts_of f.replies → AreReadable f.written → Leads s (parts ++ p ∷ []) (written ++ f.written) u
-leads_then _ _ u p _ f _ (leads_nowhere s) step sent told readable =
-    subst (λ (l : List Kept). Leads s (p ∷ []) l u) (append-nil f.written) (leads_on s u u p [] f [] step sent told readable (leads_nowhere u))
-leads_then _ _ u p _ f _ (leads_on s r t q parts g written first mail replies are more) step sent told readable =
-    subst (λ (l : List Kept). Leads s (q ∷ (parts ++ p ∷ [])) l u) (sym (append_assoc g.written written f.written))
-    (leads_on s r u q (parts ++ p ∷ []) g (written ++ f.written) first mail replies are
-    (leads_then r t u p parts f written more step sent told readable))
+leads_then : (s t u : NodeState) (n now : ℕ) (p : Part) (parts : List Part) (f : Effect) (written : List Kept) → Leads s n parts written t
+    → n + length parts ≤ now → is_last now t p.input ≡ false → Step t p.input f u → f.mail ≡ p.mail → p.replies ≡ puts_of f.replies → AreReadable f.written
+    → Leads s n (parts ++ p ∷ []) (written ++ f.written) u
+leads_then _ _ u _ now p _ f _ (leads_nowhere s n) within goes step sent told readable =
+    subst (λ (l : List Kept). Leads s n (p ∷ []) l u) (append-nil f.written)
+    (leads_on s u u n p [] f [] (goes_with_fewer n now s p.input (omega (arith, within)) goes) step sent told readable (leads_nowhere u (n + 1)))
+leads_then _ _ u _ now p _ f _ (leads_on s r t n q parts g written before first mail replies are more) within goes step sent told readable =
+    subst (λ (l : List Kept). Leads s n (q ∷ (parts ++ p ∷ [])) l u) (sym (append_assoc g.written written f.written))
+    (leads_on s r u n q (parts ++ p ∷ []) g (written ++ f.written) before first mail replies are
+    (leads_then r t u (n + 1) now p parts f written more (omega (arith, within)) goes step sent told readable))
 
-leads_readable : (s t : NodeState) (parts : List Part) (written : List Kept) → Leads s parts written t → AreReadable written
-leads_readable _ _ _ _ (leads_nowhere s) = tt
-leads_readable _ _ _ _ (leads_on s r t q parts g written first mail replies are more) =
-    readable_append g.written written are (leads_readable r t parts written more)
+leads_readable : (s t : NodeState) (n : ℕ) (parts : List Part) (written : List Kept) → Leads s n parts written t → AreReadable written
+leads_readable _ _ _ _ _ (leads_nowhere s n) = tt
+leads_readable _ _ _ _ _ (leads_on s r t n q parts g written before first mail replies are more) =
+    readable_append g.written written are (leads_readable r t (n + 1) parts written more)
 
 -- no step was taken yet
-pub collects_none : (s : NodeState) (records : List (List ℕ)) → records ≡ [] → Collects s [] records s
-collects_none s records none = record { written = []; leads = leads_nowhere s; spelled = none }
+pub collects_none : (s : NodeState) (n : ℕ) (records : List (List ℕ)) → records ≡ [] → Collects s n [] records s n
+collects_none s n records none = record { written = []; leads = leads_nowhere s n; counted = omega arith; spelled = none }
+
+-- and one was not, which may count
+pub collects_still : (s t : NodeState) (n before now : ℕ) (parts : List Part) (records : List (List ℕ)) → Collects s n parts records t before → before ≤ now
+    → Collects s n parts records t now
+collects_still s t n before now parts records c no_fewer =
+    record { written = c.written; leads = c.leads; counted = omega (arith, c.counted, no_fewer); spelled = c.spelled }
 
 -- a step was taken, whose records were appended to the others
-pub collects_then : (s t u : NodeState) (parts : List Part) (p : Part) (call : LogCall) → IsTrue call.tells → Collects s parts call.before t
-    → StepDone t p.input p.mail p.replies call u → Collects s (parts ++ p ∷ []) call.after u
-collects_then s t u parts p call tells c d = record {
-  written = c.written ++ d.effect.written;
-  leads = leads_then s t u p parts d.effect c.written c.leads d.step d.sent d.told d.readable;
-  spelled = d.kept.grown tells ∙ (ap (λ (l : List (List ℕ)). l ++ spellings d.effect.written) c.spelled
-      ∙ sym (spellings_append c.written d.effect.written));
-}
+pub collects_then : (s t u : NodeState) (n before now : ℕ) (parts : List Part) (p : Part) (call : LogCall) → IsTrue call.tells
+    → Collects s n parts call.before t before → is_last before t p.input ≡ false → now ≡ before + 1 → StepDone t p.input p.mail p.replies call u
+    → Collects s n (parts ++ p ∷ []) call.after u now
+collects_then s t u n before now parts p call tells c goes one d =
+    let count : length (parts ++ p ∷ []) ≡ length parts + 1 = length-append parts (p ∷ []) in
+    record {
+      written = c.written ++ d.effect.written;
+      leads = leads_then s t u n before p parts d.effect c.written c.leads c.counted goes d.step d.sent d.told d.readable;
+      counted = omega (arith, count, one, c.counted);
+      spelled = d.kept.grown tells ∙ (ap (λ (l : List (List ℕ)). l ++ spellings d.effect.written) c.spelled
+          ∙ sym (spellings_append c.written d.effect.written));
+    }
 
 -- IN A WORLD
 
@@ -62,46 +77,55 @@ record Reached (at : ℕ) (w : World) (parts : List Part) (h : Held) : Type 0 wh
   moves : MovesAll at w parts end
   here : slice_get end.nodes at ≡ Some h
 
-same_held : (old : Held) (s : NodeState) → old.state ≡ s → old ≡ record { state = s; kept = old.kept ++ [] }
+same_held : (old : Held) (s : NodeState) → old.state ≡ s → old ≡ record { state = s; kept = old.kept ++ []; steps = old.steps + 0 }
 same_held old s same =
-    ap (λ (x : NodeState). record { state = x; kept = old.kept }) same
-    ∙ ap (λ (k : List Kept). record { state = s; kept = k }) (sym (append-nil old.kept))
+    let none : old.steps ≡ old.steps + 0 = omega arith in
+    ap (λ (x : NodeState). record { state = x; kept = old.kept; steps = old.steps }) same
+    ∙ (ap (λ (k : List Kept). record { state = s; kept = k; steps = old.steps }) (sym (append-nil old.kept))
+    ∙ ap (λ (n : ℕ). record { state = s; kept = old.kept ++ []; steps = n }) none)
 
-reach : (at : ℕ) (w : World) (s u : NodeState) (parts : List Part) (written : List Kept) (old : Held) → slice_get w.nodes at ≡ Some old → old.state ≡ s
-    → Leads s parts written u → Reached at w parts (record { state = u; kept = old.kept ++ written })
-reach at w _ _ _ _ old here same (leads_nowhere s) =
+reach : (at : ℕ) (w : World) (s u : NodeState) (n : ℕ) (parts : List Part) (written : List Kept) (old : Held) → slice_get w.nodes at ≡ Some old → old.state ≡ s
+    → old.steps ≤ n → Leads s n parts written u
+    → Reached at w parts (record { state = u; kept = old.kept ++ written; steps = old.steps + length parts })
+reach at w _ _ _ _ _ old here same counted (leads_nowhere s n) =
     record { end = w; moves = moves_none w; here = here ∙ ap (λ (h : Held). Some h) (same_held old s same) }
-reach at w _ _ _ _ old here same (leads_on s t u p parts f written step sent told readable more) =
-    let mid : Held = record { state = t; kept = old.kept ++ f.written } in
+reach at w _ _ _ _ _ old here same counted (leads_on s t u n p parts f written goes step sent told readable more) =
+    let mid : Held = record { state = t; kept = old.kept ++ f.written; steps = old.steps + 1 } in
     let v : World = tick (after (is_given w at p.input) at old f t) in
     let m : Moves w at p.input v = record {
       old = old;
       f = f;
       new = t;
       here = here;
+      goes = goes_with_fewer old.steps n old.state p.input counted (subst (λ (x : NodeState). is_last n x p.input ≡ false) (sym same) goes);
       step = subst (λ (x : NodeState). Step x p.input f t) (sym same) step;
       then = refl;
     } in
-    let r : Reached at v parts (record { state = u; kept = (old.kept ++ f.written) ++ written }) =
-    reach at v t u parts written mid (get_set w.nodes at old mid here) refl more in
-    subst (λ (k : List Kept). Reached at w (p ∷ parts) (record { state = u; kept = k })) (append_assoc old.kept f.written written)
-    (record { end = r.end; moves = moves_on w v r.end p parts m sent told r.moves; here = r.here })
+    let r : Reached at v parts (record { state = u; kept = (old.kept ++ f.written) ++ written; steps = (old.steps + 1) + length parts }) =
+    reach at v t u (n + 1) parts written mid (get_set w.nodes at old mid here) refl (omega (arith, counted)) more in
+    let count : (old.steps + 1) + length parts ≡ old.steps + length (p ∷ parts) = omega arith in
+    subst (λ (c : ℕ). Reached at w (p ∷ parts) (record { state = u; kept = old.kept ++ (f.written ++ written); steps = c })) count
+    (subst (λ (k : List Kept). Reached at w (p ∷ parts) (record { state = u; kept = k; steps = (old.steps + 1) + length parts }))
+    (append_assoc old.kept f.written written)
+    (record { end = r.end; moves = moves_on w v r.end p parts m sent told r.moves; here = r.here }))
 
 -- the records of the steps are appended
-module _ {N L : Type 0} (state : N → NodeState) (facts : LogFacts L) (since : Since L) (w : World) (at : ℕ) (s t : Seat N L) (parts : List Part)
-    (records : List (List ℕ)) (stands : StandsAt (seat_since state facts since s) w at) (c : Collects (state s.node) parts records (state t.node)) where
+module _ {N L : Type 0} (state : N → NodeState) (steps : N → ℕ) (facts : LogFacts L) (since : Since L) (w : World) (at : ℕ) (s t : Seat N L) (parts : List Part)
+    (records : List (List ℕ)) (stands : StandsAt (seat_since state steps facts since s) w at)
+    (c : Collects (state s.node) (steps s.node) parts records (state t.node) (steps t.node)) where
   abbrev now : Held
-  now = record { state = state t.node; kept = stands.held.kept ++ c.written }
+  now = record { state = state t.node; kept = stands.held.kept ++ c.written; steps = stands.held.steps + length parts }
 
   abbrev view : SeatView
-  view = seat_since state facts since t
+  view = seat_since state steps facts since t
 
   reached : Reached at w parts now
-  reached = reach at w (state s.node) (state t.node) parts c.written stands.held stands.here stands.is.same c.leads
+  reached =
+      reach at w (state s.node) (state t.node) (steps s.node) parts c.written stands.held stands.here stands.is.same stands.is.counted c.leads
 
   are_readable : AreReadable now.kept
   are_readable =
-      readable_append stands.held.kept c.written stands.is.keeps.readable (leads_readable (state s.node) (state t.node) parts c.written c.leads)
+      readable_append stands.held.kept c.written stands.is.keeps.readable (leads_readable (state s.node) (state t.node) (steps s.node) parts c.written c.leads)
 
   -- what the journal stores after all of them
   all_stored : IsTrue facts.tells → facts.records s.log ++ spellings c.written ≡ spellings now.kept
@@ -128,6 +152,7 @@ module _ {N L : Type 0} (state : N → NodeState) (facts : LogFacts L) (since : 
         here = reached.here;
         is = record {
           same = refl;
+          counted = omega (arith, stands.is.counted, c.counted);
           written = written;
           keeps = record {
             readable = are_readable;

@@ -62,22 +62,22 @@ on_means letter meaning all (p ∷ parts) on =
     ((on.0.0, among_means meaning all p.input.value on.0.0 on.0.1), on_means letter meaning all parts on.1)
 
 -- the records of the steps were not appended
-pub group_broken : {N L M I : Type 0} (state : N → NodeState) (facts : LogFacts L) (letter : M → Letter) (meaning : I → Input) (inputs : List I)
+pub group_broken : {N L M I : Type 0} (state : N → NodeState) (steps : N → ℕ) (facts : LogFacts L) (letter : M → Letter) (meaning : I → Input) (inputs : List I)
     (s t : Seat N L) (parts : List (Part M I)) (records : List (List ℕ)) (fault : StepFault)
-    → Collects (state s.node) (parts_of letter meaning parts) records (state t.node) → AreOn inputs parts
-    → ByStepFault fault (λ faults. LeftOff (log_call facts s.log t.log) records) (t.log ≡ s.log) → AreBroken state facts meaning inputs s t
-group_broken state facts letter meaning inputs s t parts records fault c on left = record {
+    → Collects (state s.node) (steps s.node) (parts_of letter meaning parts) records (state t.node) (steps t.node) → AreOn inputs parts
+    → ByStepFault fault (λ faults. LeftOff (log_call facts s.log t.log) records) (t.log ≡ s.log) → AreBroken state steps facts meaning inputs s t
+group_broken state steps facts letter meaning inputs s t parts records fault c on left = record {
   parts = parts_of letter meaning parts;
   on = on_means letter meaning inputs parts on;
-  breaks = λ since w at stands. breaks_all state facts since w at s t (parts_of letter meaning parts) records stands c fault left;
+  breaks = λ since w at stands. breaks_all state steps facts since w at s t (parts_of letter meaning parts) records stands c fault left;
 }
 
 -- THE START
 
-pub none_collected : {M I : Type 0} (letter : M → Letter) (meaning : I → Input) (parts : List (Part M I)) (s : NodeState) (records : List (List ℕ))
-    → parts ≡ [] → records ≡ [] → Collects s (parts_of letter meaning parts) records s
-none_collected {M} {I} letter meaning parts s records none empty =
-    subst (λ (l : List (Part M I)). Collects s (parts_of letter meaning l) records s) (sym none) (collects_none s records empty)
+pub none_collected : {M I : Type 0} (letter : M → Letter) (meaning : I → Input) (parts : List (Part M I)) (s : NodeState) (n : ℕ) (records : List (List ℕ))
+    → parts ≡ [] → records ≡ [] → Collects s n (parts_of letter meaning parts) records s n
+none_collected {M} {I} letter meaning parts s n records none empty =
+    subst (λ (l : List (Part M I)). Collects s n (parts_of letter meaning l) records s n) (sym none) (collects_none s n records empty)
 
 pub none_on : {M I : Type 0} (inputs : List I) (parts : List (Part M I)) → parts ≡ [] → AreOn inputs parts
 none_on {M} {I} inputs parts none = subst (λ (l : List (Part M I)). AreOn inputs l) (sym none) tt

@@ -1,5 +1,5 @@
 -- Steps that are taken in memory, and a log that collects the records which they write (own).
-use Rattle.std.specs.Prelude.{◌≡◌, ℕ, List, true}
+use Rattle.std.specs.Prelude.{◌≡◌, ℕ, ◌+◌, ◌≤◌, List, length, true}
 use Rattle.outside.specs.Logs.{LogFacts}
 use Rattle.node_model.specs.Journal.{Kept}
 use Rattle.node_model.specs.States.{NodeState}
@@ -10,10 +10,12 @@ use Rattle.group_steps.specs.Groups.{Leads, Part}
 use Rattle.group_steps.specs.declared.fault.GroupFault.{GroupFault}
 use Rattle.group_steps.specs.declared.fault.GroupFault.TheVariants.{Disk, Memory}
 
--- these steps lead from one state of a node to another, and these are the records that they write
-pub record Collects (old : NodeState) (parts : List Part) (records : List (List ℕ)) (new : NodeState) : Type 0 where
+-- these steps lead from one state of a node, which has taken so many, to another, where it has taken no fewer than these too; and these are the records that
+-- they write
+pub record Collects (old : NodeState) (before : ℕ) (parts : List Part) (records : List (List ℕ)) (new : NodeState) (after : ℕ) : Type 0 where
   pub written : List Kept
-  pub leads : Leads old parts written new
+  pub leads : Leads old before parts written new
+  pub counted : before + length parts ≤ after
   pub spelled : records ≡ spellings written
 
 -- what contracts say about a log in memory: records can always be appended, and of openings and crashes nothing is said

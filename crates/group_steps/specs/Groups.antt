@@ -1,8 +1,9 @@
 -- Steps of a node that are taken one after another in memory, and whose records are then appended at once (own).
-use Rattle.std.specs.Prelude.{◌≡◌, ◌⊎◌, ℕ, List, [], ◌∷◌, ◌++◌, Some}
+use Rattle.std.specs.Prelude.{◌≡◌, ◌⊎◌, ℕ, ◌+◌, List, [], ◌∷◌, ◌++◌, false, Some}
 use Rattle.std.specs.List.{slice_get}
 use Rattle.node_model.specs.Journal.{Kept}
 use Rattle.node_model.specs.Letters.{Letter, Input, Effect}
+use Rattle.node_model.specs.Lacks.{is_last}
 use Rattle.node_model.specs.States.{NodeState}
 use Rattle.node_model.specs.Steps.{Step}
 use Rattle.node_model.specs.World.{Held, World, Moves}
@@ -17,11 +18,12 @@ pub record Part : Type 0 where
   pub mail : List Letter
   pub replies : List ToLink
 
--- these steps lead from one state of a node to another, and write this
-pub data Leads : NodeState → List Part → (written : List Kept) → NodeState → Type 0 where
-  leads_nowhere : (s : NodeState) → Leads s [] [] s
-  leads_on : (s t u : NodeState) (p : Part) (parts : List Part) (f : Effect) (written : List Kept) → Step s p.input f t → f.mail ≡ p.mail
-      → p.replies ≡ puts_of f.replies → AreReadable f.written → Leads t parts written u → Leads s (p ∷ parts) (f.written ++ written) u
+-- these steps lead from one state of a node, which has taken so many, to another, and write this; none of them is its last one
+pub data Leads : NodeState → (steps : ℕ) → List Part → (written : List Kept) → NodeState → Type 0 where
+  leads_nowhere : (s : NodeState) (n : ℕ) → Leads s n [] [] s
+  leads_on : (s t u : NodeState) (n : ℕ) (p : Part) (parts : List Part) (f : Effect) (written : List Kept) → is_last n s p.input ≡ false → Step s p.input f t
+      → f.mail ≡ p.mail → p.replies ≡ puts_of f.replies → AreReadable f.written → Leads t (n + 1) parts written u
+      → Leads s n (p ∷ parts) (f.written ++ written) u
 
 -- the node at a place of a world takes these steps, one after another, whichever events they are, and gives out these messages and replies
 pub data MovesAll (at : ℕ) : World → List Part → World → Type 0 where

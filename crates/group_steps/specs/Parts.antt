@@ -48,8 +48,9 @@ ByGroupFault (Disk faults) failed unchanged = failed faults
 ByGroupFault Memory failed unchanged = unchanged
 
 -- The node took steps on some of the inputs in memory, and their records could not be appended: all of them are stored, or none is.
-pub record AreBroken {N L I : Type 0} (state : N → NodeState) (facts : LogFacts L) (meaning : I → Input) (inputs : List I) (old new : Seat N L) : Type 0 where
+pub record AreBroken {N L I : Type 0} (state : N → NodeState) (steps : N → ℕ) (facts : LogFacts L) (meaning : I → Input) (inputs : List I) (old new : Seat N L)
+    : Type 0 where
   pub parts : List groups.Part
   pub on : AllByRecursion (λ (p : groups.Part). Among p.input (map meaning inputs)) parts
-  pub breaks : (since : Since L) (w : World) (at : ℕ) → StandsAt (seat_since state facts since old) w at
-      → BreaksAll (seat_since state facts since new) w at parts
+  pub breaks : (since : Since L) (w : World) (at : ℕ) → StandsAt (seat_since state steps facts since old) w at
+      → BreaksAll (seat_since state steps facts since new) w at parts

@@ -51,9 +51,9 @@ fn step_on<N: Node, D: Disk>(
     parts: &mut Vec<Part<N::Mail, N::Input>>,
     input: N::Input,
 ) -> Result<(), StepFault>
-    ensures led { (s : NodeState) →
-        Collects s (parts_of (λ m. N.Mail.letter m) N.meaning parts.old.items) collected.old.records (N.state node.old) →
-        Collects s (parts_of (λ m. N.Mail.letter m) N.meaning parts.new.items) collected.new.records (N.state node.new) }
+    ensures led { (s : NodeState) (n : ℕ) →
+        Collects s n (parts_of (λ m. N.Mail.letter m) N.meaning parts.old.items) collected.old.records (N.state node.old) (N.steps node.old) →
+        Collects s n (parts_of (λ m. N.Mail.letter m) N.meaning parts.new.items) collected.new.records (N.state node.new) (N.steps node.new) }
     ensures on { (inputs : List N.Input) → Among input inputs → AreOn inputs parts.old.items → AreOn inputs parts.new.items }
     ensures taken { OnOk result (map (λ p. p.input.value) parts.new.items ≡ map (λ p. p.input.value) parts.old.items ++ input ∷ []) }
     ensures not_taken { OnErr result (parts.new.items ≡ parts.old.items) }
@@ -85,7 +85,8 @@ fn collect<N: Node, D: Disk>(
     disk: &D,
     inputs: &mut VecDeque<N::Input>,
 ) -> (Group<N::Mail, N::Input>, Records)
-    ensures led { Collects (N.state node.old) (parts_of (λ m. N.Mail.letter m) N.meaning result.0.parts.items) result.1 (N.state node.new) }
+    ensures led { Collects (N.state node.old) (N.steps node.old) (parts_of (λ m. N.Mail.letter m) N.meaning result.0.parts.items) result.1
+        (N.state node.new) (N.steps node.new) }
     ensures on { AreOn inputs.old.items result.0.parts.items }
     ensures out { AreTakenOut inputs.old.items result.0.parts.items result.0.fault inputs.new.items }
     ensures left { AreLeft inputs.old.items inputs.new.items }
@@ -123,9 +124,9 @@ pub fn step_group<N: Node, L: Log>(
     inputs: &mut VecDeque<N::Input>,
 ) -> Result<Group<N::Mail, N::Input>, GroupFault>
     requires open { IsTrue (L.facts.is_open seat.old.log) }
-    ensures taken { (since : Since L) (w : World) (at : ℕ) → StandsAt (seat_since N.state L.facts since seat.old) w at →
-        IfOk result (λ g. TakesAll (seat_since N.state L.facts since seat.new) w at (parts_of (λ m. N.Mail.letter m) N.meaning g.parts.items)) }
-    ensures broken { OnErr result (AreBroken N.state L.facts N.meaning inputs.old.items seat.old seat.new) }
+    ensures taken { (since : Since L) (w : World) (at : ℕ) → StandsAt (seat_since N.state N.steps L.facts since seat.old) w at →
+        IfOk result (λ g. TakesAll (seat_since N.state N.steps L.facts since seat.new) w at (parts_of (λ m. N.Mail.letter m) N.meaning g.parts.items)) }
+    ensures broken { OnErr result (AreBroken N.state N.steps L.facts N.meaning inputs.old.items seat.old seat.new) }
 
     // Of the inputs.
     ensures on { IfOk result (λ g. AreOn inputs.old.items g.parts.items) }

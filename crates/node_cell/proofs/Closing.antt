@@ -144,7 +144,7 @@ module _ {N L M I : Type 0} (f : NodeFacts N L M I) (routers : ℕ) where
       by_halt : (halt : Option Halt) → MatchOption halt (IsAsKnown f old p.seat) (λ h. IsHalted f routers p.at seen h old p.seat)
           → MatchOption halt (StaysAt f since w p.at p.seat) (λ h. EndsHalted f since w p.at h p.seat)
       by_halt None known = record {
-        stands = same_stands f.state f.facts since w p.at old p.seat (sym known.state, sym known.log) here;
+        stands = same_stands f.state f.steps f.facts since w p.at old p.seat (omega (arith, known.steps)) (sym known.state, sym known.log) here;
         calm = subst (λ (l : L). IsCalmAt f.facts since.logs p.at l) known.log calm;
         is_open = known.is_open;
       }
@@ -205,6 +205,7 @@ module _ {N L M I : Type 0} (f : NodeFacts N L M I) (routers : ℕ) where
         events = c.events;
         world = c.world;
         run = h.is.run;
+        none_missed = h.is.none_missed;
         nodes = all_end since c.world (map f.letter v.seen) (all_map f.letter (λ m. WasSent c.world m) v.seen mine.saw.seen) 0 v.held ended
             (λ at s far got. ((mine.held at s got).stands, (mine.held at s got).calm))
             (λ at below far. run_stays first c.events c.world at h.is.run (opened.are_routers at far (omega (arith, below, many, long)))) all;

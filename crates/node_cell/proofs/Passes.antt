@@ -129,7 +129,7 @@ module _ {N L M I : Type 0} (f : NodeFacts N L M I) (routers : ℕ) (start : Lis
     first_splits : Goes f since first (length start) (record { words = s.words; homes = s.homes; views = set s.views id left ++ right ∷ [] })
     first_splits = record {
       course = next;
-      is = record { run = h.is.run; now = h.is.now; word = h.is.word; nodes = h.is.nodes; few = h.is.few; small = h.is.small; counted = h.is.counted };
+      is = record { run = h.is.run; none_missed = h.is.none_missed; now = h.is.now; word = h.is.word; nodes = h.is.nodes; few = h.is.few; small = h.is.small; counted = h.is.counted };
       fits = each_more (Fits f since first.now next) (set s.views id left) right (each_set (Fits f since first.now next) s.views id left others left_fits)
           (subst (λ (j : ℕ). Fits f since first.now next j right) (sym (length-set s.views id left)) right_fits);
     }
@@ -187,7 +187,7 @@ module _ {N L M I : Type 0} (f : NodeFacts N L M I) (routers : ℕ) (start : Lis
       (at_set s.views id j both u e) in
       record {
         course = next;
-        is = record { run = h.is.run; now = h.is.now; word = h.is.word; nodes = h.is.nodes; few = h.is.few; small = h.is.small; counted = h.is.counted };
+        is = record { run = h.is.run; none_missed = h.is.none_missed; now = h.is.now; word = h.is.word; nodes = h.is.nodes; few = h.is.few; small = h.is.small; counted = h.is.counted };
         fits = each_set (Fits f since first.now next) (set s.views id both) other nothing_seen others
             (none_held f since first.now next other [] [] [] (record { seen = tt; told = tt; taken = tt }));
       }
@@ -232,6 +232,7 @@ module _ {N L M I : Type 0} (f : NodeFacts N L M I) (routers : ℕ) (start : Lis
     course = at_first first;
     is = record {
       run = stands first;
+      none_missed = refl;
       now = omega arith;
       word = refl;
       nodes = sym (held_len (view_by f since) start first.nodes opened.nodes);

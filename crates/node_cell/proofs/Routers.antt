@@ -1,11 +1,11 @@
 -- A router stays one.
-use Rattle.std.proofs.Common.{◌≡◌, ℕ, zero, suc, List, [], ◌∷◌, ◌++◌, refl, sym, ap, subst, ◌∙◌}
+use Rattle.std.proofs.Common.{◌≡◌, inl, inr, ℕ, zero, suc, ◌+◌, List, [], ◌∷◌, ◌++◌, refl, sym, ap, subst, ◌∙◌}
 use Rattle.std.specs.Prelude.{Some}
 use Rattle.std.specs.List.{slice_get, slice_set}
 use Rattle.node_model.specs.Letters.{Input, Effect}
 use Rattle.node_model.specs.States.{Router, NodeState, router_state}
 use Rattle.node_model.specs.Steps.{Step, catalogue_step, shard_step, router_step, begin_step, other_step}
-use Rattle.node_model.specs.World.{Held, World, IsRouter, Moves, Event, Happens, comes, delivers, passes, begins as was_opened, Run, stands, goes}
+use Rattle.node_model.specs.World.{Held, World, IsRouter, Moves, Misses, Meets, steps_after, Event, Happens, comes, delivers, passes, begins as was_opened, Run, stands, goes}
 
 state_stays : (s : NodeState) (i : Input) (f : Effect) (t : NodeState) → Step s i f t → (r : Router) → s ≡ router_state r
     → (q : Router) × (t ≡ router_state q)
@@ -18,11 +18,11 @@ state_stays _ _ _ _ (other_step s m other) r is = (r, is)
 set_stays : (nodes : List Held) (place at : ℕ) (old h : Held) → slice_get nodes place ≡ Some old
     → ((r : Router) → old.state ≡ router_state r → (q : Router) × (h.state ≡ router_state q)) → IsRouter nodes at → IsRouter (slice_set nodes place h) at
 set_stays [] place at old h got stay is = absurd (cc got)
-set_stays (x ∷ nodes) zero zero old h got stay (r, kept, here) =
+set_stays (x ∷ nodes) zero zero old h got stay (r, kept, steps, here) =
     let same : x ≡ old = cc got in
     let state : old.state ≡ router_state r = ap (λ (y : Held). y.state) (sym same) ∙ cc here in
     let q = stay r state in
-    (q.0, h.kept, ap (λ (s : NodeState). Some (record { state = s; kept = h.kept })) q.1)
+    (q.0, h.kept, h.steps, ap (λ (s : NodeState). Some (record { state = s; kept = h.kept; steps = h.steps })) q.1)
 set_stays (x ∷ nodes) zero (suc at) old h got stay is = is
 set_stays (x ∷ nodes) (suc place) zero old h got stay is = is
 set_stays (x ∷ nodes) (suc place) (suc at) old h got stay is = set_stays nodes place at old h got stay is
@@ -30,14 +30,24 @@ set_stays (x ∷ nodes) (suc place) (suc at) old h got stay is = set_stays nodes
 move_stays : (w v : World) (place at : ℕ) (i : Input) → Moves w place i v → IsRouter w.nodes at → IsRouter v.nodes at
 move_stays w v place at i m is =
     subst (λ (x : World). IsRouter x.nodes at) (sym m.then)
-    (set_stays w.nodes place at m.old (record { state = m.new; kept = m.old.kept ++ m.f.written }) m.here
+    (set_stays w.nodes place at m.old (record { state = m.new; kept = m.old.kept ++ m.f.written; steps = m.old.steps + 1 }) m.here
     (λ r state. state_stays m.old.state i m.f m.new m.step r state) is)
 
+miss_stays : (w v : World) (place at : ℕ) (i : Input) → Misses w place i v → IsRouter w.nodes at → IsRouter v.nodes at
+miss_stays w v place at i m is =
+    subst (λ (x : World). IsRouter x.nodes at) (sym m.then)
+    (set_stays w.nodes place at m.old (record { state = m.old.state; kept = m.old.kept; steps = steps_after m.lack m.old.steps }) m.here
+    (λ r state. (r, state)) is)
+
+meets_stays : (w v : World) (place at : ℕ) (i : Input) → Meets w place i v → IsRouter w.nodes at → IsRouter v.nodes at
+meets_stays w v place at i (inl m) is = move_stays w v place at i m is
+meets_stays w v place at i (inr m) is = miss_stays w v place at i m is
+
 pub happens_stays : (w v : World) (e : Event) (at : ℕ) → Happens w e v → IsRouter w.nodes at → IsRouter v.nodes at
-happens_stays _ _ _ p (comes w v at link number request router m) is = move_stays w v at p _ m is
-happens_stays _ _ _ p (delivers w v at which letter got to m) is = move_stays w v at p _ m is
-happens_stays _ _ _ p (passes w v at moment m) is = move_stays w v at p _ m is
-happens_stays _ _ _ p (was_opened w v at m) is = move_stays w v at p _ m is
+happens_stays _ _ _ p (comes w v at link number request router m) is = meets_stays w v at p _ m is
+happens_stays _ _ _ p (delivers w v at which letter got to m) is = meets_stays w v at p _ m is
+happens_stays _ _ _ p (passes w v at moment m) is = meets_stays w v at p _ m is
+happens_stays _ _ _ p (was_opened w v at m) is = meets_stays w v at p _ m is
 
 pub run_stays : (u : World) (es : List Event) (w : World) (at : ℕ) → Run u es w → IsRouter u.nodes at → IsRouter w.nodes at
 run_stays _ _ _ at (stands w) is = is

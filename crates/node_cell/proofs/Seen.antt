@@ -1,12 +1,14 @@
 -- Steps of a group, and what was seen of them.
-use Rattle.std.proofs.Common.{◌≡◌, ℕ, zero, suc, List, [], ◌∷◌, ◌++◌, map, sym, ap, ◌∙◌, subst, append-nil, append_assoc}
-use Rattle.std.specs.Prelude.{Result, Ok, Err, OnOk}
+use Rattle.std.proofs.Common.{◌≡◌, ℕ, zero, suc, ◌+◌, ◌≤◌, length, arith, length-append, List, [], ◌∷◌, ◌++◌, map, sym, ap, ◌∙◌, subst, append-nil, append_assoc}
+use Rattle.std.specs.Prelude.{Option, Result, Ok, Err, OnOk}
 use Rattle.std.specs.List.{AllByRecursion}
+use Rattle.std.proofs.lemmas.List.{length-map}
 use Rattle.std.proofs.lemmas.Option.{none-some, same_Some}
 use Rattle.node_model.specs.Letters.{Letter, Input}
+use Rattle.node_traits.specs.declared.outputs.StepFault.{StepFault}
 use Rattle.node_traits.specs.declared.outputs.ToLink.{ToLink}
 use Rattle.group_steps.specs.declared.group.Part.{Part}
-use Rattle.group_steps.specs.Parts.{Among, AreLeft, AreOn}
+use Rattle.group_steps.specs.Parts.{Among, AreLeft, AreOn, AreTakenOut}
 use Rattle.history_model.proofs.Lists.{all_append, all_weaken}
 use Rattle.node_cell.specs.declared.view.View.{View}
 use Rattle.node_cell.specs.Courses.{NodeFacts}
@@ -149,3 +151,16 @@ pub deliveries_on : {M I : Type 0} (meaning : I → Input) (messages : List Lett
 deliveries_on {M} {I} meaning messages inputs steps all on =
     all_weaken (λ (s : Handed M I). Among s.taken.input inputs) (λ (s : Handed M I). Delivers meaning messages s.taken.input) steps
     (λ s there. all_at (λ i. Delivers meaning messages i) inputs there.0 s.taken.input there.1 all) on
+
+-- each step was taken on an input of its own
+pub out_count : {M I : Type 0} (inputs : List I) (parts : List (Part M I)) (fault : Option StepFault) (left : List I) → AreTakenOut inputs parts fault left
+    → length parts + length left ≤ length inputs
+out_count {M} {I} inputs parts fault left (lost, which, is) =
+    let all : length inputs ≡ length (map (λ (p : Part M I). p.input.value) parts ++ (lost ++ left)) = ap (λ (l : List I). length l) is in
+    omega (
+      arith,
+      all,
+      length-append (map (λ (p : Part M I). p.input.value) parts) (lost ++ left),
+      length-append lost left,
+      length-map parts (λ (p : Part M I). p.input.value),
+    )

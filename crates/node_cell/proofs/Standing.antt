@@ -51,7 +51,7 @@ module _ {N L M I : Type 0} (f : NodeFacts N L M I) (routers : ℕ) where
       record {
         old = here.old;
         held = here.held;
-        steps = λ since w stands. steps since w p.at (same_stands f.state f.facts since w p.at here.old p.seat (sym is.state, sym is.log) stands);
+        steps = λ since w stands. steps since w p.at (same_stands f.state f.steps f.facts since w p.at here.old p.seat (omega (arith, is.steps)) (sym is.state, sym is.log) stands);
         more = omega (arith, is.steps, counted);
         below = λ small. below (omega (arith, is.steps, small));
         calm = subst (λ (l : L). IsCalm f.facts l t.log) (sym is.log) calm;
@@ -72,7 +72,7 @@ module _ {N L M I : Type 0} (f : NodeFacts N L M I) (routers : ℕ) where
 
   -- and after a fault
   pub sits_halted : (p : Placed N L) (t : Seat N L) (v : View N L M I) (inputs : List I) (fault : GroupFault) → p.halt ≡ None → Sits f routers p v
-      → AreKnown f.meaning routers (map f.letter v.seen) p.at inputs → AreBroken f.state f.facts f.meaning inputs p.seat t
+      → AreKnown f.meaning routers (map f.letter v.seen) p.at inputs → AreBroken f.state f.steps f.facts f.meaning inputs p.seat t
       → ByGroupFault fault (λ faults. NamesFault faults (f.facts.fault_count p.seat.log) (f.facts.fault_count t.log)) (t.log ≡ p.seat.log)
       → f.facts.place t.log ≡ f.facts.place p.seat.log → Sits f routers (record { at = p.at; halt = Some (halt_by fault); seat = t }) v
   sits_halted p t v inputs (disk_failed faults) none here known broken rose place =
@@ -87,7 +87,7 @@ module _ {N L M I : Type 0} (f : NodeFacts N L M I) (routers : ℕ) where
               broken.parts (λ x there. all_at (λ i. IsKnown routers (map f.letter v.seen) p.at i) (map f.meaning inputs) there.0 x.input there.1 all) broken.on;
           failed = subst (λ (l : L). HasFailed f.facts faults l t.log) (sym is.log) (record { place = place; rose = rose });
           breaks = λ since w stands.
-              broken.breaks since w p.at (same_stands f.state f.facts since w p.at here.old p.seat (sym is.state, sym is.log) stands);
+              broken.breaks since w p.at (same_stands f.state f.steps f.facts since w p.at here.old p.seat (omega (arith, is.steps)) (sym is.state, sym is.log) stands);
         };
       }
   sits_halted p t v inputs no_memory none here known broken same place =

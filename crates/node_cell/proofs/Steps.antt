@@ -1,5 +1,5 @@
 -- Steps keep the rule.
-use Rattle.std.proofs.Common.{◌≡◌, ◌≢◌, ℕ, ◌+◌, ◌%◌, ◌<◌, ◌≤◌, ◌^◌, List, [], ◌∷◌, ◌++◌, map, length, set}
+use Rattle.std.proofs.Common.{◌≡◌, ◌≢◌, inl, ℕ, ◌+◌, ◌%◌, ◌<◌, ◌≤◌, ◌^◌, List, [], ◌∷◌, ◌++◌, map, length, set}
 use Rattle.std.proofs.Common.{refl, sym, ap, ◌∙◌, subst, arith, length-append, length-set}
 use Rattle.std.specs.Prelude.{⊤, Option, Some, slice_index}
 use Rattle.std.specs.List.{slice_get, slice_set, AllByRecursion}
@@ -53,7 +53,7 @@ module _ {N L M I : Type 0} (f : NodeFacts N L M I) (since : Since L) (first : W
           stands = record {
             held = has.stands.held;
             here = ap (λ (x : World). slice_get x.nodes k) moves.then
-                ∙ (get_set_other c.world.nodes at k (record { state = moves.new; kept = moves.old.kept ++ moves.f.written }) other ∙ has.stands.here);
+                ∙ (get_set_other c.world.nodes at k (record { state = moves.new; kept = moves.old.kept ++ moves.f.written; steps = moves.old.steps + 1 }) other ∙ has.stands.here);
             is = has.stands.is;
             leaves = leaves_on f.facts since s.log k c.world v has.stands.leaves (leads_by e c.world v happens);
           };
@@ -68,6 +68,7 @@ module _ {N L M I : Type 0} (f : NodeFacts N L M I) (since : Since L) (first : W
 -- the events lead from the first world to the last, and there are so many of them
 record IsUpTo (first : World) (many : ℕ) (events : List Event) (w : World) : Type 0 where
   run : Run first events w
+  none_missed : w.missed ≡ first.missed
   now : w.now ≡ first.now + length events
   nodes : length w.nodes ≡ many
 
@@ -109,9 +110,10 @@ module _ {N L M I : Type 0} (f : NodeFacts N L M I) (routers many : ℕ) (since 
       let tick : v.now ≡ u.now + 1 = ap (λ (x : World). x.now) m.then in
       record {
         run = run_then first events u (e ∷ []) v is.run (goes u v v e [] happens (stands v));
+        none_missed = ap (λ (x : World). x.missed) m.then ∙ is.none_missed;
         now = omega (arith, tick, long, is.now);
         nodes = ap (λ (x : World). length x.nodes) m.then
-            ∙ (length-set u.nodes at (record { state = m.new; kept = m.old.kept ++ m.f.written }) ∙ is.nodes);
+            ∙ (length-set u.nodes at (record { state = m.new; kept = m.old.kept ++ m.f.written; steps = m.old.steps + 1 }) ∙ is.nodes);
       }
 
   more_gone : (events : List Event) (u v w : World) (p : Part M I) (parts : List (Part M I)) (m : Moves u at (f.meaning p.input.value) v) (e : Event)
@@ -145,7 +147,7 @@ module _ {N L M I : Type 0} (f : NodeFacts N L M I) (routers many : ℕ) (since 
   all_gone [] events u _ is short router sent known (moves_none _) = none_gone events u is
   all_gone (p ∷ parts) events u w is short router sent known (moves_on _ v _ _ _ m mail replies rest) =
       let k = event_of routers u at seen sent router (f.meaning p.input.value) known.0 in
-      let happens : Happens u k.event v = k.is v m in
+      let happens : Happens u k.event v = k.is v (inl m) in
       let long : length (events ++ k.event ∷ []) ≡ length events + 1 = length-append events (k.event ∷ []) in
       more_gone events u v w p parts m k.event happens k.on mail replies is (omega (arith, short))
       (all_gone parts (events ++ k.event ∷ []) v w (one_up events u v (f.meaning p.input.value) k.event is m happens) (omega (arith, short, long))
@@ -159,7 +161,7 @@ pub moves_run : (routers at : ℕ) (u : World) (parts : List PartOf) (w : World)
 moves_run routers at _ _ _ seen (moves_none w) sent router known = ([], stands w)
 moves_run routers at _ _ _ seen (moves_on u v w p parts m mail replies more) sent router known =
     let k = event_of routers u at seen sent router p.input known.0 in
-    let happens : Happens u k.event v = k.is v m in
+    let happens : Happens u k.event v = k.is v (inl m) in
     let rest = moves_run routers at v parts w seen more
     (all_weaken (λ x. WasSent u x) (λ x. WasSent v x) seen (λ x was. sent_on u v m.f.mail (ap (λ (y : World). y.sent) m.then) x was) sent)
     (λ far. happens_stays u v k.event at happens (router far)) known.1 in
@@ -204,7 +206,7 @@ module _ {N L M I : Type 0} (f : NodeFacts N L M I) (routers nodes : ℕ) (since
       let some_more = sum_more c.counts g.at (f.steps may.old.node) count (length g.parts) has.count may.more in
       let short : length c.events + length g.parts < 2 ^ 64 = omega (arith, h.is.counted, h.is.few, small, some_more, same_long) in
       let gone = all_gone f routers nodes since first g.at id c.owner c.counts has.mine (map f.letter v.seen) g.parts c.events c.world step.end
-      (record { run = h.is.run; now = h.is.now; nodes = h.is.nodes }) short
+      (record { run = h.is.run; none_missed = h.is.none_missed; now = h.is.now; nodes = h.is.nodes }) short
       (λ far. run_stays first c.events c.world g.at h.is.run (there g.at far (omega (arith, inside, h.is.nodes))))
       (all_map f.letter (λ m. WasSent c.world m) v.seen mine.saw.seen) may.known step.moves in
       let course : Course = record { events = gone.events; world = w; owner = c.owner; counts = set c.counts g.at count } in
@@ -214,6 +216,7 @@ module _ {N L M I : Type 0} (f : NodeFacts N L M I) (routers nodes : ℕ) (since
         course = course;
         is = record {
           run = gone.is.run;
+          none_missed = gone.is.none_missed;
           now = gone.is.now;
           word = ap (λ (ws : List ℕ). set ws 0 ((slice_index s.words 0 + length g.parts) % 2 ^ 64)) h.is.word ∙ ap (λ (k : ℕ). k ∷ []) number;
           nodes = gone.is.nodes;

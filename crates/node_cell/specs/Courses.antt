@@ -31,7 +31,7 @@ abbrev pub node_facts : {N L M I : Type 0} → (N → NodeState) → (N → ℕ)
 node_facts state steps letter meaning facts = record { state = state; steps = steps; letter = letter; meaning = meaning; facts = facts }
 
 abbrev pub view_by : {N L M I : Type 0} → NodeFacts N L M I → Since L → Seat N L → SeatView
-view_by f since seat = seat_since f.state f.facts since seat
+view_by f since seat = seat_since f.state f.steps f.facts since seat
 
 abbrev pub WasSent : World → Letter → Type 0
 WasSent w m = (which : ℕ) × (slice_get w.sent which ≡ Some m)
@@ -97,9 +97,10 @@ pub record Fits {N L M I : Type 0} (f : NodeFacts N L M I) (since : Since L) (fi
   pub held : (at : ℕ) (s : Seat N L) → holder at v.held ≡ Some s → Has f since c id at s
   pub saw : Saw f first c.events c.world v
 
--- The events lead from the first world to the last, and there are so many of them: at most 2^62, since each is counted by its node.
+-- The events lead from the first world to the last, where no step was missed, and there are so many of them: at most 2^62, since each is counted by its node.
 pub record IsCourse (first : World) (many : ℕ) (words : List ℕ) (c : Course) : Type 0 where
   pub run : Run first c.events c.world
+  pub none_missed : c.world.missed ≡ first.missed
   pub now : c.world.now ≡ first.now + length c.events
   pub word : words ≡ length c.events ∷ []
   pub nodes : length c.world.nodes ≡ many

@@ -126,12 +126,13 @@ abbrev pub AreFrom : {N L : Type 0} → ℕ → List (Placed N L) → Type 0
 AreFrom k [] = Unit {0}
 AreFrom k (p ∷ all) = (p.at ≡ k) × AreFrom (k + 1) all
 
--- From each world that the nodes were those of at the start there is one run to a world in which these are the nodes, with their logs, in order of
--- their places; and all that was noted is so.
+-- From each world that the nodes were those of at the start there is one run, in which no step was missed, to a world in which these are the nodes, with their
+-- logs, in order of their places; and all that was noted is so.
 pub record Ran {N L M I : Type 0} (f : NodeFacts N L M I) (since : Since L) (first : World) (ended : List (Placed N L)) (notes : List (View N L M I)) : Type 0 where
   pub events : List Event
   pub world : World
   pub run : Run first events world
+  pub none_missed : world.missed ≡ first.missed
   pub nodes : AllByRecursion (λ p. Ends f since world p) ended
   pub noted : AllByRecursion (λ v. Saw f first.now events world v) notes
 

@@ -1,7 +1,8 @@
 //! Messages that are delivered together.
 
-ghost use Rattle.std.specs.Prelude.{◌≡◌, ◌≢◌, ◌<◌, [], length, map, IfOk, IfSome, OnOk};
+ghost use Rattle.std.specs.Prelude.{◌≡◌, ◌≢◌, ◌+◌, ◌<◌, ◌≤◌, [], length, map, vec_capacity, vec_len, IfOk, IfSome, OnOk};
 ghost use Rattle.std.specs.List.{AllByRecursion};
+ghost use Rattle.std.specs.VecDeque.{deque_len};
 ghost use Rattle.group_steps.specs.Parts.{AreLeft};
 ghost use Rattle.node_cell.specs.Courses.{node_facts};
 ghost use Rattle.node_cell.specs.Deliveries.{AreAdded, AreKnown, AreSeenFrom, AreStepsOn, Delivers};
@@ -116,8 +117,7 @@ fn learn_letters<N: Node, L: Log, K: Numbering>(
     Ok(all)
 }
 
-/// Adds the steps of a group to others, each with its number and a note that has seen it. Returns `Memory` if memory runs out, which needs no more where there
-/// is room for them.
+/// Adds the steps of a group to others, where there is room for them, each with its number and a note that has seen it.
 fn add_steps<N: Node, L: Log, K: Numbering>(
     book: &Book<N, L, K>,
     pass: &mut Pass<N, L>,
@@ -125,25 +125,24 @@ fn add_steps<N: Node, L: Log, K: Numbering>(
     first: u64,
     parts: Vec<Part<N::Mail, N::Input>>,
     steps: &mut Vec<Stepped<N, L, K>>,
-) -> Result<(), Memory>
+)
     requires table { pass.old.table_id ≡ K.table }
+    requires room { vec_len steps.old + vec_len parts ≤ vec_capacity steps.old }
     requires seen { AreSeenFrom (λ m. N.Mail.letter m) pass.old.me.0 first at parts.items }
     ensures table { pass.new.table_id ≡ K.table }
     ensures pass { pass.new.me ≡ pass.old.me }
     ensures added { AreAdded (map (λ p. p.input.value) parts.items) steps.old.items steps.new.items }
+    ensures len { vec_len steps.new ≡ vec_len steps.old + vec_len parts }
+    ensures capacity { vec_capacity steps.new ≡ vec_capacity steps.old }
 {
     let mut number = first;
     let mut left = VecDeque::from_vec(parts);
     'parts: while let Some(part) = left.pop_front() {
         let step = stepped(book, pass, number, at, part);
-        match steps.push(step) {
-            Ok(()) => {}
-            Err(_) => return Err(Memory),
-        }
+        steps.push_reserved(step);
         number = number.wrapping_add(1);
     }
     left.destroy_empty();
-    Ok(())
 }
 
 /// Takes a step on an input, unless the node takes no more steps. Its messages and replies come with a note that has seen the step.
@@ -189,17 +188,11 @@ pub(crate) fn take_one<N: Node, L: Log, K: Numbering>(
 ///
 /// # Errors
 /// A fault that each step after it would meet too.
-fn passed_over(
-    added: Result<(), Memory>,
-    fault: Option<StepFault>,
-) -> Result<Option<CellFault>, CellFault> {
-    match added {
-        Ok(()) => match fault {
-            None => Ok(None),
-            Some(StepFault::Memory) => Ok(Some(CellFault::NotTaken(StepFault::Memory))),
-            Some(e) => Err(CellFault::NotTaken(e)),
-        },
-        Err(_) => Ok(Some(CellFault::NotTaken(StepFault::Memory))),
+fn passed_over(fault: Option<StepFault>) -> Result<Option<CellFault>, CellFault> {
+    match fault {
+        None => Ok(None),
+        Some(StepFault::Memory) => Ok(Some(CellFault::NotTaken(StepFault::Memory))),
+        Some(e) => Err(CellFault::NotTaken(e)),
     }
 }
 
@@ -219,6 +212,7 @@ fn take_some<N: Node, L: Log, K: Numbering>(
     requires free { pass.old.me.1 ≡ [] }
     requires sits { Sits (node_facts N.state N.steps (λ m. N.Mail.letter m) N.meaning L.facts) K.routers placed.old pass.old.me.0 }
     requires known { AreKnown N.meaning K.routers (map (λ m. N.Mail.letter m) pass.old.me.0.seen) placed.old.at inputs.old.items }
+    requires room { vec_len steps.old + deque_len inputs.old ≤ vec_capacity steps.old }
     ensures table { pass.new.table_id ≡ K.table }
     ensures free { pass.new.me.1 ≡ [] }
     ensures sits { Sits (node_facts N.state N.steps (λ m. N.Mail.letter m) N.meaning L.facts) K.routers placed.new pass.new.me.0 }
@@ -227,13 +221,14 @@ fn take_some<N: Node, L: Log, K: Numbering>(
     ensures left { OnOk result (AreLeft inputs.old.items inputs.new.items) }
     ensures fewer { OnOk result (inputs.old.items ≢ [] → length inputs.new.items < length inputs.old.items) }
     ensures added { AreAdded inputs.old.items steps.old.items steps.new.items }
+    ensures room { OnOk result (vec_len steps.new + deque_len inputs.new ≤ vec_capacity steps.new) }
 {
     let at = placed.at;
     match take_group(alloc, book, pass, placed, inputs) {
         Ok((number, group)) => {
             let Group { parts, fault } = group;
-            let added = add_steps(book, pass, at, number, parts, steps);
-            passed_over(added, fault)
+            add_steps(book, pass, at, number, parts, steps);
+            passed_over(fault)
         }
         Err(halt) => Err(CellFault::Halted(halt)),
     }

@@ -1,6 +1,6 @@
 //! Groups of steps of a node, and their numbers.
 
-ghost use Rattle.std.specs.Prelude.{◌≡◌, ◌≢◌, ◌<◌, ◌++◌, [], length, map, None, Some, IfOk};
+ghost use Rattle.std.specs.Prelude.{◌≡◌, ◌≢◌, ◌+◌, ◌<◌, ◌≤◌, ◌++◌, [], length, map, None, Some, IfOk};
 ghost use Rattle.group_steps.specs.Parts.{AreLeft, AreOn};
 ghost use Rattle.node_cell.specs.Courses.{node_facts};
 ghost use Rattle.node_cell.specs.Deliveries.{AreKnown, AreSeenFrom, IsSeen};
@@ -66,6 +66,7 @@ fn take_steps<N: Node, L: Log, K: Numbering>(
     ensures taken { IfOk result (λ r. pass.new.me.0.taken ≡ pass.old.me.0.taken ++ taken_from r.0 placed.old.at r.1.parts.items) }
     ensures on { IfOk result (λ r. AreOn inputs.old.items r.1.parts.items) }
     ensures left { AreLeft inputs.old.items inputs.new.items }
+    ensures count { IfOk result (λ r. length r.1.parts.items + length inputs.new.items ≤ length inputs.old.items) }
     ensures fewer { IfOk result (λ r. inputs.old.items ≢ [] → length inputs.new.items < length inputs.old.items) }
 {
     let at = placed.at;
@@ -105,6 +106,7 @@ pub(crate) fn take_group<N: Node, L: Log, K: Numbering>(
     ensures seen { IfOk result (λ r. AreSeenFrom (λ m. N.Mail.letter m) pass.new.me.0 r.0 placed.old.at r.1.parts.items) }
     ensures on { IfOk result (λ r. AreOn inputs.old.items r.1.parts.items) }
     ensures left { IfOk result (λ r. AreLeft inputs.old.items inputs.new.items) }
+    ensures count { IfOk result (λ r. length r.1.parts.items + length inputs.new.items ≤ length inputs.old.items) }
     ensures fewer { IfOk result (λ r. inputs.old.items ≢ [] → length inputs.new.items < length inputs.old.items) }
 {
     if let Some(halt) = placed.halt {

@@ -124,7 +124,7 @@ fn put_reply(
 }
 
 /// Appends the reply with this number to a request: to OP_MSG an OP_MSG, to OP_QUERY an OP_REPLY (MongoDB Wire Protocol). The document has at most 104 levels
-/// and its encoding at most 300,000,000 bytes. Returns `Memory` if memory runs out; then the bytes are as before.
+/// and its encoding at most 400,000,000 bytes. Returns `Memory` if memory runs out; then the bytes are as before.
 pub fn write_reply(
     form: Form,
     id: i32,

@@ -1,5 +1,5 @@
 -- Two calls of a stream are like one call for all their bytes; and a count that rose and then did not fall has risen.
-use Rattle.std.proofs.Common.{◌≡◌, ℕ, ◌≤◌, List, [], ◌∷◌, ◌++◌, Bool, inl, inr, refl, arith, append_assoc, sym, ◌∙◌, ap, subst}
+use Rattle.std.proofs.Common.{◌≡◌, ℕ, ◌≤◌, List, [], ◌∷◌, ◌++◌, Bool, inl, inr, arith, append_assoc, sym, ◌∙◌, ap, subst}
 use Rattle.outside.specs.Causes.{Rose}
 use Rattle.outside.specs.Devices.{NoneFell, OneRose}
 use Rattle.outside.specs.Streams.{Took, Put}

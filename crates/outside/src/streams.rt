@@ -22,6 +22,9 @@ pub trait Source {
     // What a take does not change. Where the value is a sink too, this is the sink's content and its count of faults.
     ghost beside: { Self → List ℕ × ℕ } = { λ _. ([], 0) };
 
+    // What a take does not change of notes. Where the value is a sink too, these are the sink's.
+    ghost beside_notes: { Self → List Note } = { λ _. [] };
+
     /// Takes bytes into the front of `buf`, and returns their number. 0, for a `buf` with room, means the end of the stream. It may take fewer bytes than
     /// there is room for.
     ///
@@ -36,7 +39,8 @@ pub trait Source {
         ensures cause { OnErr result (Rose (fault_count self.old) (fault_count self.new)) }
         ensures calm { OnOk result (fault_count self.new ≡ fault_count self.old) }
         ensures later { fault_count self.old ≤ fault_count self.new }
-        ensures aside { beside self.new ≡ beside self.old };
+        ensures aside { beside self.new ≡ beside self.old }
+        ensures aside_notes { beside_notes self.new ≡ beside_notes self.old };
 }
 
 /// A stream that bytes are written to.
@@ -47,7 +51,7 @@ pub trait Sink {
     // The bytes written to it, where they are observable.
     ghost held: { Self → List ℕ };
 
-    // The disks that were noted, in order, where they are observable. Only a witness takes notes.
+    // The disks that were noted, in order, where they are observable. Only a witness, or a link to which disks are shown, takes notes.
     ghost noted: { Self → List Note } = { λ _. [] };
 
     // How many faults the sink has met.
@@ -77,6 +81,9 @@ pub trait Stream: Source + Sink {
     // A take does not change what was written and the faults of writes.
     ghost take_is_apart: { (l : Self) → Self.Source.beside l ≡ (Self.Sink.held l, Self.Sink.fault_count l) };
 
+    // Nor does it change the notes.
+    ghost take_keeps_notes: { (l : Self) → Self.Source.beside_notes l ≡ Self.Sink.noted l };
+
     // A write does not change what is left and the faults of takes.
     ghost put_is_apart: { (l : Self) → Self.Sink.beside l ≡ (Self.Source.left l, Self.Source.fault_count l) };
 }
@@ -91,6 +98,7 @@ pub trait Link: Stream {
         ensures closed { IsTrue (is_closed self.new) }
         ensures left { Self.Source.left self.new ≡ Self.Source.left self.old }
         ensures held { Self.Sink.held self.new ≡ Self.Sink.held self.old }
+        ensures noted { Self.Sink.noted self.new ≡ Self.Sink.noted self.old }
         ensures takes { Self.Source.fault_count self.new ≡ Self.Source.fault_count self.old }
         ensures puts { Self.Sink.fault_count self.new ≡ Self.Sink.fault_count self.old };
 }

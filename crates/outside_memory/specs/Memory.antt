@@ -1,6 +1,6 @@
 -- What the memory forms are, as values.
 use Rattle.std.specs.Prelude.{Bool, ℕ, ◌+◌, ◌-◌, min, List, [], ◌∷◌, ◌++◌, length, map, take, drop, replicate}
-use Rattle.outside.specs.Notes.{Note}
+use Rattle.outside.specs.Notes.{Note, Sight}
 use Rattle.outside_memory.specs.FaultPlan.{PlanState, fresh_plan, after_call, after_fault}
 use Rattle.outside_memory.specs.declared.call.Call.{Call}
 use Rattle.outside_memory.specs.declared.call.Call.TheVariants.{Cut, Sync}
@@ -29,11 +29,12 @@ pub record SinkState : Type 0 where
   pub plan : PlanState
   pub noted : List (DiskState × ℕ)
 
--- a link: where it takes from, where it puts to, and whether it was closed
+-- a link: where it takes from, where it puts to, whether it was closed, and the disks that were noted, as they were seen, each with the length of what it held
 pub record LinkState : Type 0 where
   pub source : SourceState
   pub sink : SinkState
   pub closed : Bool
+  pub seen : List (Sight × ℕ)
 
 -- an acceptor: the links that are still to come, in order, and the plan of its calls
 pub record AcceptorState : Type 0 where
@@ -51,6 +52,14 @@ note_of noted = record { place = noted.0.start; moment = length noted.0.calls; l
 -- the notes of a sink, in order
 abbrev pub notes_of : SinkState → List Note
 notes_of s = map note_of s.noted
+
+-- what is noted of a disk that was seen, beside a length
+abbrev pub sight_note : Sight × ℕ → Note
+sight_note seen = record { place = seen.0.place; moment = seen.0.moment; length = seen.1 }
+
+-- the notes of a link, in order
+abbrev pub link_notes : LinkState → List Note
+link_notes l = map sight_note l.seen
 
 -- how many bytes a source gives into a buffer of this length
 abbrev pub taken_count : SourceState → ℕ → ℕ

@@ -1,13 +1,16 @@
 //! A client's link in memory.
-ghost use Rattle.std.specs.Prelude.{refl, ◌≡◌, ◌+◌, ◌<◌, ◌≤◌, ◌++◌, ◌⊎◌, [], length, take, drop, true, false, IsTrue, IsErr, Ok, IfOk, OnOk, OnErr, if◌then◌else◌};
+ghost use Rattle.std.specs.Prelude.{refl, ◌≡◌, ◌+◌, ◌<◌, ◌≤◌, ◌++◌, ◌∷◌, ◌⊎◌, [], length, take, drop, true, false, IsTrue, IsErr, Ok, IfOk, OnOk, OnErr, if◌then◌else◌};
 ghost use Rattle.std.specs.Bool.{MatchBool};
 ghost use Rattle.outside.specs.Causes.{Rose};
 ghost use Rattle.outside_memory.specs.FaultPlan.{fresh_plan, fails_now, after_call, after_fault};
-ghost use Rattle.outside_memory.specs.Memory.{fresh_sink, taken_count, source_after, source_failed};
+ghost use Rattle.outside_memory.specs.Memory.{fresh_sink, link_notes, sight_note, taken_count, source_after, source_failed};
 
+use super::disk::MemDisk;
 use super::sink::MemSink;
 use super::source::MemSource;
+use ghost_list::GhostList;
 use outside::streams::{Failed, Link, Sink, Source, Stream};
+use outside::witness::{DiskLink, SeenDisk};
 use std::marker::Model;
 
 /// A link whose bytes come from memory, and that holds in memory what is put into it.
@@ -16,6 +19,8 @@ pub struct MemLink {
     source: MemSource,
     sink: MemSink,
     closed: bool,
+    // The disks that were noted, as they were seen, each with the length of what the link held.
+    seen: GhostList<SeenDisk<MemDisk>, usize>,
 }
 
 impl Model for MemLink {
@@ -23,7 +28,7 @@ impl Model for MemLink {
 
     ghost Value = { LinkState };
 
-    ghost view = { λ l. record { source = l.source; sink = l.sink; closed = l.closed } };
+    ghost view = { λ l. record { source = l.source; sink = l.sink; closed = l.closed; seen = l.seen.items } };
 }
 
 impl MemLink {
@@ -33,11 +38,13 @@ impl MemLink {
         ensures source { result.source ≡ record { left = bytes.items; plan = fresh_plan failing_takes.items } }
         ensures sink { result.sink ≡ fresh_sink failing_puts.items }
         ensures open { result.closed ≡ false }
+        ensures seen { result.seen ≡ [] }
     {
         MemLink {
             source: MemSource::new(bytes, failing_takes),
             sink: MemSink::new(failing_puts),
             closed: false,
+            seen: GhostList::new(),
         }
     }
 
@@ -58,6 +65,8 @@ impl Source for MemLink {
 
     ghost beside = { λ l. (l.sink.held, l.sink.plan.faults) };
 
+    ghost beside_notes = { link_notes };
+
     fn take(&mut self, buf: &mut [u8]) -> Result<usize, Failed>
         ensures count { IfOk result (λ n. n ≤ length buf.old) }
         ensures len { length buf.new ≡ length buf.old }
@@ -76,6 +85,7 @@ impl Source for MemLink {
         ensures rest { IfOk result (λ n. drop n buf.new ≡ drop n buf.old) }
         ensures unread { OnErr result (buf.new ≡ buf.old) }
         ensures sink { self.new.sink ≡ self.old.sink }
+        ensures seen { self.new.seen ≡ self.old.seen }
     {
         self.source.take(buf)
     }
@@ -85,6 +95,8 @@ impl Sink for MemLink {
     ghost tells = { true };
 
     ghost held = { λ l. l.sink.held };
+
+    ghost noted = { link_notes };
 
     ghost fault_count = { λ l. l.sink.plan.faults };
 
@@ -106,6 +118,7 @@ impl Sink for MemLink {
         ensures fault { OnErr result (self.new.sink.plan ≡ after_fault self.old.sink.plan) }
         ensures room { self.old.sink.room ≤ self.new.sink.room }
         ensures source { self.new.source ≡ self.old.source }
+        ensures seen { self.new.seen ≡ self.old.seen }
     {
         self.sink.put(piece)
     }
@@ -113,6 +126,8 @@ impl Sink for MemLink {
 
 impl Stream for MemLink {
     ghost take_is_apart = { λ _. refl };
+
+    ghost take_keeps_notes = { λ _. refl };
 
     ghost put_is_apart = { λ _. refl };
 }
@@ -126,7 +141,22 @@ impl Link for MemLink {
         // It only notes that it was closed: what is left can still be taken.
         ensures source { self.new.source ≡ self.old.source }
         ensures sink { self.new.sink ≡ self.old.sink }
+        ensures seen { self.new.seen ≡ self.old.seen }
     {
         self.closed = true;
+    }
+}
+
+impl DiskLink<MemDisk> for MemLink {
+    /// It keeps the note in a list that only proofs read.
+    fn note(&mut self, seen: &SeenDisk<MemDisk>)
+        ensures noted { link_notes self.new ≡ link_notes self.old ++ sight_note (seen.now, length self.old.sink.held) ∷ [] }
+
+        // Nothing else changes.
+        ensures source { self.new.source ≡ self.old.source }
+        ensures sink { self.new.sink ≡ self.old.sink }
+        ensures open { self.new.closed ≡ self.old.closed }
+    {
+        self.seen = self.seen.with(seen, &self.sink.bytes().len());
     }
 }

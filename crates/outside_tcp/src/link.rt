@@ -4,7 +4,9 @@ ghost use Rattle.std.specs.Prelude.{refl, ◌≡◌, ◌<◌, ◌≤◌, [], len
 ghost use Rattle.std.specs.Option.{is_none};
 ghost use Rattle.outside.specs.Causes.{Rose, next_count};
 
+use outside::disk::Disk;
 use outside::streams::{Failed, Link, Sink, Source, Stream};
+use outside::witness::{DiskLink, SeenDisk};
 use std::io::{Read, Write};
 
 /// A link over a connection. It counts the errors that it meets, those of taking and those of putting; its bytes are not observable. A write of no byte of a
@@ -111,6 +113,8 @@ impl<S: Read + Write + Drop> Sink for TcpLink<S> {
 impl<S: Read + Write + Drop> Stream for TcpLink<S> {
     ghost take_is_apart = { λ l. refl };
 
+    ghost take_keeps_notes = { λ l. refl };
+
     ghost put_is_apart = { λ l. refl };
 }
 
@@ -124,4 +128,12 @@ impl<S: Read + Write + Drop> Link for TcpLink<S> {
     {
         self.stream = None;
     }
+}
+
+impl<S: Read + Write + Drop, D: Disk> DiskLink<D> for TcpLink<S> {
+    /// Nothing is kept.
+    fn note(&mut self, _seen: &SeenDisk<D>)
+        ensures takes { self.new.takes ≡ self.old.takes }
+        ensures puts { self.new.puts ≡ self.old.puts }
+    {}
 }

@@ -95,14 +95,14 @@ module _ {N L : Type 0} (facts : LogFacts L) (seats : List (Seat N L)) (w : Worl
       noted_each notes notes' (more told) tells told noted (subst (λ (p : List (List ℕ)). AreNoted tells notes p noted) (sym same) are)
 
   -- the world models the hosted nodes as before
-  pub note_stands : (state : N → NodeState) (since : Since L) (network : NetworkView) (handed : List ToLink) (next : ℕ) (shows : Bool) (notes notes' : List Note)
+  pub note_stands : (state : N → NodeState) (steps : N → ℕ) (since : Since L) (network : NetworkView) (handed : List ToLink) (next : ℕ) (shows : Bool) (notes notes' : List Note)
       → AreDurable facts seats → (IsTrue shows → notes' ≡ notes ++ notes_of facts before seats)
-      → StandsFor (seat_since state facts since) (hosted shows facts since notes seats) network handed w next
-      → StandsFor (seat_since state facts (with_notes since (now_noted ∷ since.noted))) (hosted shows facts since notes' seats) network handed w next
-  note_stands state since network handed next shows notes notes' durable more s = record {
-    nodes = held_since state facts (with_notes since (now_noted ∷ since.noted)) seats w.nodes (held_plain state facts since seats w.nodes s.nodes);
+      → StandsFor (seat_since state steps facts since) (hosted shows facts since notes seats) network handed w next
+      → StandsFor (seat_since state steps facts (with_notes since (now_noted ∷ since.noted))) (hosted shows facts since notes' seats) network handed w next
+  note_stands state steps since network handed next shows notes notes' durable more s = record {
+    nodes = held_since state steps facts (with_notes since (now_noted ∷ since.noted)) seats w.nodes (held_plain state steps facts since seats w.nodes s.nodes);
     crashes = record {
-      each = note_leaves state facts since seats w s.nodes durable before s.crashes.each;
+      each = note_leaves state steps facts since seats w s.nodes durable before s.crashes.each;
       together = λ shown told. subst (λ (l : List Note). TogetherSince facts since l seats w) (sym (more shown))
           (together_noted facts since notes (notes_of facts before seats) seats w (s.crashes.together shown told));
     };
@@ -113,17 +113,18 @@ module _ {N L : Type 0} (facts : LogFacts L) (seats : List (Seat N L)) (w : Worl
   }
 
 -- so is a round that was served
-abbrev pub note_served : {N L : Type 0} (facts : LogFacts L) (seats : List (Seat N L)) (count : ℕ) (state : N → NodeState) (since : Since L) (network : NetworkView)
+abbrev pub note_served : {N L : Type 0} (facts : LogFacts L) (seats : List (Seat N L)) (count : ℕ) (state : N → NodeState) (steps : N → ℕ) (since : Since L) (network : NetworkView)
     (handed : List ToLink) (before : World) (next : ℕ) (r : Round) (shows : Bool) (notes notes' : List Note) → AreDurable facts seats
     → (IsTrue shows → notes' ≡ notes ++ notes_of facts count seats)
-    → (h : HasServed (seat_since state facts since) (hosted shows facts since notes seats) network handed before next r)
-    → HasServed (seat_since state facts (with_notes since (now_noted facts seats h.end count ∷ since.noted))) (hosted shows facts since notes' seats) network
+    → (h : HasServed (seat_since state steps facts since) (hosted shows facts since notes seats) network handed before next r)
+    → HasServed (seat_since state steps facts (with_notes since (now_noted facts seats h.end count ∷ since.noted))) (hosted shows facts since notes' seats) network
     handed before next r
-note_served facts seats count state since network handed before next r shows notes notes' durable more h = record {
+note_served facts seats count state steps since network handed before next r shows notes notes' durable more h = record {
   events = h.events;
   end = h.end;
   round = h.round;
-  stands = note_stands facts seats h.end count state since network handed (length h.end.sent) shows notes notes' durable more h.stands;
+  none_missed = h.none_missed;
+  stands = note_stands facts seats h.end count state steps since network handed (length h.end.sent) shows notes notes' durable more h.stands;
 }
 
 -- no note was taken yet
@@ -224,10 +225,10 @@ module _ (output : World → List ℕ → Type 0) (start : World) (held_before :
 
 -- AT THE END
 
-module _ {N L : Type 0} (state : N → NodeState) (facts : LogFacts L) (since : Since L) (noted : List Noted) (output : World → List ℕ → Type 0) (start : World)
+module _ {N L : Type 0} (state : N → NodeState) (steps : N → ℕ) (facts : LogFacts L) (since : Since L) (noted : List Noted) (output : World → List ℕ → Type 0) (start : World)
     (tells : Bool) (notes : List Note) (held_before : List ℕ) (seats : List (Seat N L)) (last : World) (put : List ℕ) where
   -- what was noted was kept since
-  pub acknowledged : EachLeaves (seat_since state facts (with_notes since noted)) seats last → AreNoted tells notes (places_of facts.place seats) noted
+  pub acknowledged : EachLeaves (seat_since state steps facts (with_notes since noted)) seats last → AreNoted tells notes (places_of facts.place seats) noted
       → (IsTrue tells → AreCovered output start noted held_before put last)
       → AreAcknowledgedBy facts tells output start notes held_before seats last put
   acknowledged leave are covered told files offset below =
@@ -254,9 +255,9 @@ module _ {N L : Type 0} (state : N → NodeState) (facts : LogFacts L) (since : 
       }
 
 -- notes say nothing of the start
-pub without_notes : {N L : Type 0} (state : N → NodeState) (facts : LogFacts L) (since : Since L) (noted : List Noted) (hosts : Hosted (Seat N L)) (w : World)
-    → since.noted ≡ [] → LeaveKept (seat_since state facts (with_notes since noted)) hosts w → LeaveKept (seat_since state facts since) hosts w
-without_notes state facts since noted hosts w none leave = record {
+pub without_notes : {N L : Type 0} (state : N → NodeState) (steps : N → ℕ) (facts : LogFacts L) (since : Since L) (noted : List Noted) (hosts : Hosted (Seat N L)) (w : World)
+    → since.noted ≡ [] → LeaveKept (seat_since state steps facts (with_notes since noted)) hosts w → LeaveKept (seat_since state steps facts since) hosts w
+without_notes state steps facts since noted hosts w none leave = record {
   each = λ at s got files. (
     (leave.each at s got files).0,
     λ k n moment had of. absurd (cc (subst (λ (l : List Noted). slice_get l k ≡ Some n) none had)),

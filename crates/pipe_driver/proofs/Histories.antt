@@ -11,7 +11,7 @@ use Rattle.node_model.specs.Schedule.{Round, serves}
 use Rattle.node_model.specs.World.{Held, World, Event, Run, journal_at, account_of}
 use Rattle.node_model.proofs.Schedules.{pipes_run, run_then}
 use Rattle.node_laws.proofs.Runs.{makes_one_history}
-use Rattle.node_laws.proofs.StepsKeep.{run_keeps}
+use Rattle.restart_laws.proofs.Kept.{events_keep}
 use Rattle.node_progress.specs.Firsts.{IsFirst}
 use Rattle.node_progress.proofs.Firsts.{first_true}
 use Rattle.pipe_driver.specs.Schedules.{Came, came_whole, came_opening, came_part}
@@ -63,11 +63,11 @@ module _ (source : SourceCall) (sink : SinkCall) (gives : ℕ → Type 0) (route
       → OneHistory (account_of piped.end)
   piped_history begins piped =
       let run = piped_run piped in
-      makes_one_history piped.end (run_keeps first piped.end run.0 (first_true first begins) run.1)
+      makes_one_history piped.end (events_keep first piped.end run.0 (first_true first begins) run.1)
 
   -- its changes of the catalogue are those that the catalogue's journal stores
   pub piped_changes : IsFirst first → (piped : IsPiped source sink gives router kept leaves owed first limit status rest)
       → changes_in piped.end.changed ≡ changes_kept (journal_at piped.end.nodes 0)
   piped_changes begins piped =
       let run = piped_run piped in
-      (run_keeps first piped.end run.0 (first_true first begins) run.1).0.good.dated
+      (events_keep first piped.end run.0 (first_true first begins) run.1).0.good.dated

@@ -1,5 +1,5 @@
 -- Openings: nothing is replied in them, and what comes after them.
-use Rattle.std.proofs.Common.{◌≡◌, ℕ, zero, suc, ◌+◌, List, [], ◌++◌, map, refl, sym, ap, ◌∙◌, append-nil}
+use Rattle.std.proofs.Common.{◌≡◌, inl, inr, ℕ, zero, suc, ◌+◌, List, [], ◌++◌, map, refl, sym, ap, ◌∙◌, append-nil}
 use Rattle.std.specs.List.{AllByRecursion}
 use Rattle.node_model.specs.Letters.{Letter, opened_input, Effect, Reply}
 use Rattle.node_model.specs.States.{NodeState}
@@ -40,7 +40,8 @@ opening_tells : (w v : World) (e : Event) → IsOpening e → Happens w e v → 
 opening_tells _ _ _ is (comes w v at link number request router m) = absurd is
 opening_tells _ _ _ is (delivers w v at which letter got to m) = absurd is
 opening_tells _ _ _ is (passes w v at moment m) = absurd is
-opening_tells _ _ _ is (was_opened w v at m) =
+opening_tells _ _ _ is (was_opened w v at (inr m)) = ap (λ (x : World). x.answered) m.then
+opening_tells _ _ _ is (was_opened w v at (inl m)) =
     ap (λ (x : World). x.answered) m.then
     ∙ (ap (λ (l : List Reply). w.answered ++ answered_by w.now l) (opened_tells m.old.state m.f m.new m.step) ∙ append-nil w.answered)
 

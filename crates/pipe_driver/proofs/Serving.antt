@@ -82,6 +82,7 @@ module _ {S : Type 0} (view : S → SeatView) (hosts : Hosted S) (gives : ℕ �
     whole = s.world;
     end = s.world;
     came = came_whole s.rounds s.events s.world s.next s.pipes;
+    none_missed = s.none_missed;
     one = s.one;
     put = s.put;
     asked = subst (λ (l : List Request). AreAsked consumed l) (sym (append-nil (requests_of s.rounds))) s.asked;
@@ -117,6 +118,7 @@ module _ {S : Type 0} (view : S → SeatView) (hosts : Hosted S) (gives : ℕ �
         next = 0;
         begins = begins;
         pipes = opens r.end run;
+        none_missed = r.none_missed;
         one = record { moments = tt; routers = tt; links = tt; numbers = tt };
         stands = subst (λ (l : List ToLink). StandsFor view hosts network l r.end 0) (ap puts_given (sym none)) r.stands;
         put = λ told. sym (ap (λ (l : List ToLink). held ++ bytes_of l) silent ∙ append-nil held);
@@ -134,6 +136,7 @@ module _ {S : Type 0} (view : S → SeatView) (hosts : Hosted S) (gives : ℕ �
     whole = first;
     end = s.end;
     came = came_opening s.events s.end (subst (λ (n : ℕ). BeginWith s.events (openings 0 n)) as_many s.which) s.run;
+    none_missed = s.none_missed;
     one = record { moments = tt; routers = tt; links = tt; numbers = tt };
     put = λ told. sym (ap (λ (l : List ToLink). held ++ bytes_of l) (since_none first first refl) ∙ append-nil held);
     asked = record { all = refl; each = tt };
@@ -196,6 +199,7 @@ module _ {S : Type 0} (view : S → SeatView) (hosts hosts_after : Hosted S) (be
     end = h.end;
     came = came_part s.rounds s.events h.events s.world h.end s.next moment q s.pipes given
         (part_in_round count h.events as_many h.which) h.run;
+    none_missed = h.none_missed ∙ s.none_missed;
     one = s.one;
     put = s.put;
     asked = asked_then;
@@ -258,6 +262,7 @@ module _ {S : Type 0} (view : S → SeatView) (hosts hosts_after : Hosted S) (be
       next = length h.end.sent;
       begins = s.begins;
       pipes = serves s.rounds (round_of router moment number asked) s.events h.events s.world h.end s.next s.pipes h.round;
+      none_missed = h.none_missed ∙ s.none_missed;
       one = rounds_one;
       stands = subst (λ (l : List ToLink). StandsFor after_view hosts_after (network_view letter new) l h.end (length h.end.sent)) (sym puts_are)
           (handed_on after_view letter hosts_after (puts_given s.world.answered) h.end (length h.end.sent) old new h.stands waits none);
@@ -284,6 +289,7 @@ module _ {S : Type 0} (view : S → SeatView) (hosts hosts_after : Hosted S) (be
       next = s.next;
       served = s.pipes;
       round = h.round;
+      none_missed = h.none_missed ∙ s.none_missed;
       one = rounds_one;
       part = bytes_of (puts_since first s.world) ++ part;
       earlier_put = (part, refl);

@@ -1,9 +1,9 @@
 -- What is put for answers since a world.
-use Rattle.std.proofs.Common.{◌≡◌, ℕ, List, [], ◌∷◌, ◌++◌, length, sym, ap, ◌∙◌, append_assoc, append-nil}
+use Rattle.std.proofs.Common.{◌≡◌, inl, inr, ℕ, List, [], ◌∷◌, ◌++◌, length, sym, ap, ◌∙◌, append_assoc, append-nil}
 use Rattle.std.specs.Prelude.{drop}
 use Rattle.node_model.specs.Exchanges.{Answered}
 use Rattle.node_model.specs.Letters.{Input}
-use Rattle.node_model.specs.World.{World, answered_by, Moves, Event, Happens, comes, delivers, passes, begins as was_opened}
+use Rattle.node_model.specs.World.{World, answered_by, Moves, Meets, Event, Happens, comes, delivers, passes, begins as was_opened}
 use Rattle.node_replay.specs.Restarts.{EventOrStop, Occurs, RunWithStops, occurs, proceeds, restarts, stays, stops}
 use Rattle.node_progress.proofs.Lives.{dropped}
 use Rattle.node_traits.specs.declared.outputs.ToLink.{ToLink}
@@ -19,11 +19,15 @@ GaveMore old new = (more : List Answered) × (new ≡ old ++ more)
 move_gives : (w v : World) (at : ℕ) (i : Input) → Moves w at i v → GaveMore w.answered v.answered
 move_gives w v at i m = (answered_by w.now m.f.replies, ap (λ (x : World). x.answered) m.then)
 
+meet_gives : (w v : World) (at : ℕ) (i : Input) → Meets w at i v → GaveMore w.answered v.answered
+meet_gives w v at i (inl m) = move_gives w v at i m
+meet_gives w v at i (inr m) = ([], ap (λ (x : World). x.answered) m.then ∙ sym (append-nil w.answered))
+
 happens_gives : (w v : World) (e : Event) → Happens w e v → GaveMore w.answered v.answered
-happens_gives _ _ _ (comes w v at link number request router m) = move_gives w v at _ m
-happens_gives _ _ _ (delivers w v at which letter got to m) = move_gives w v at _ m
-happens_gives _ _ _ (passes w v at moment m) = move_gives w v at _ m
-happens_gives _ _ _ (was_opened w v at m) = move_gives w v at _ m
+happens_gives _ _ _ (comes w v at link number request router m) = meet_gives w v at _ m
+happens_gives _ _ _ (delivers w v at which letter got to m) = meet_gives w v at _ m
+happens_gives _ _ _ (passes w v at moment m) = meet_gives w v at _ m
+happens_gives _ _ _ (was_opened w v at m) = meet_gives w v at _ m
 
 occurs_gives : (w v : World) (e : EventOrStop) → Occurs w e v → GaveMore w.answered v.answered
 occurs_gives _ _ _ (occurs w v e h) = happens_gives w v e h

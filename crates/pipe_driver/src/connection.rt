@@ -73,10 +73,10 @@ pub fn pipe<
     requires open { AreOpen L.facts.is_open seats.old.items }
     requires limit { limit ≤ most_taken }
     ensures piped { AreAskedAsRead N.asks → (first : World) → MayServe first router →
-        AreHeld (seat_view N.state L.facts) seats.old.items first.nodes →
+        AreHeld (seat_view N.state N.steps L.facts) seats.old.items first.nodes →
         IsPiped (source_call S.tells S.left S.fault_count input.old input.new) (sink_call K.tells K.held K.fault_count out.old out.new)
-        (C.gives clock.now) router (AreKept (seat_view N.state L.facts) seats.new.items)
-        (LeaveKept (seat_since N.state L.facts (since_then seats.old.items first))
+        (C.gives clock.now) router (AreKept (seat_view N.state N.steps L.facts) seats.new.items)
+        (LeaveKept (seat_since N.state N.steps L.facts (since_then seats.old.items first))
         (hosted K.tells L.facts (since_noted seats.old.items first (K.noted out.old)) (K.noted out.new) seats.new.items))
         (AreAcknowledgedBy L.facts K.tells (all_replies first) first (K.noted out.new) (K.held out.old) seats.new.items)
         first limit result.status result.rest }
@@ -123,13 +123,13 @@ fn serve<
     requires open { AreOpen L.facts.is_open seats.old.items }
     requires limit { limit ≤ most_taken }
     ensures piped { AreAskedAsRead N.asks → (since : Since L) (first : World) → MayServe first router →
-        Serving (seat_since N.state L.facts since) (hosted K.tells L.facts since (K.noted out.old) seats.old.items) (network_view (λ m. N.Mail.letter m) network)
+        Serving (seat_since N.state N.steps L.facts since) (hosted K.tells L.facts since (K.noted out.old) seats.old.items) (network_view (λ m. N.Mail.letter m) network)
         (C.gives clock.now) router first K.tells since.noted (K.held out.old) (K.held out.old) [] 0 →
         AreNoted K.tells (K.noted out.old) (places_of L.facts.place seats.old.items) since.noted →
         WithNotes K.tells (K.noted out.new) (places_of L.facts.place seats.new.items)
         (λ noted. IsPiped (source_call S.tells S.left S.fault_count input.old input.new) (sink_call K.tells K.held K.fault_count out.old out.new)
-        (C.gives clock.now) router (AreKept (seat_since N.state L.facts (with_notes since noted)) seats.new.items)
-        (LeaveKept (seat_since N.state L.facts (with_notes since noted)) (hosted K.tells L.facts since (K.noted out.new) seats.new.items))
+        (C.gives clock.now) router (AreKept (seat_since N.state N.steps L.facts (with_notes since noted)) seats.new.items)
+        (LeaveKept (seat_since N.state N.steps L.facts (with_notes since noted)) (hosted K.tells L.facts since (K.noted out.new) seats.new.items))
         (λ last put. IsTrue K.tells → AreCovered (all_replies first) first noted (K.held out.old) put last) first limit
         result.status result.rest) }
     ensures open { result.status ≢ statuses.DiskFailed → AreOpen L.facts.is_open seats.new.items }

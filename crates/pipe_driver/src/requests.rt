@@ -60,11 +60,11 @@ pub fn answer_one<
     requires count { replied < 2 ^ 63 }
     ensures served { AreAskedAsRead N.asks → (meant : wire.Request) → IsMeant request meant → wire.IsRequest meant →
         (since : Since L) (first : World) → MayServe first router → (held_before consumed : List ℕ) →
-        Serving (seat_since N.state L.facts since) (hosted K.tells L.facts since (K.noted out.old) seats.old.items) (network_view (λ m. N.Mail.letter m) network.old)
+        Serving (seat_since N.state N.steps L.facts since) (hosted K.tells L.facts since (K.noted out.old) seats.old.items) (network_view (λ m. N.Mail.letter m) network.old)
         (C.gives clock.now) router first K.tells since.noted held_before (K.held out.old) consumed replied →
         AreNoted K.tells (K.noted out.old) (places_of L.facts.place seats.old.items) since.noted →
         WithNotes K.tells (K.noted out.new) (places_of L.facts.place seats.new.items)
-        (λ noted. AfterOne result (seat_since N.state L.facts (with_notes since noted)) (hosted K.tells L.facts since (K.noted out.new) seats.new.items)
+        (λ noted. AfterOne result (seat_since N.state N.steps L.facts (with_notes since noted)) (hosted K.tells L.facts since (K.noted out.new) seats.new.items)
         (network_view (λ m. N.Mail.letter m) network.new)
         (C.gives clock.now) router first K.tells noted held_before (K.held out.new) (consumed ++ meant.bytes)) }
     ensures replied { IfOk result (λ after. after ≤ replied + 1) }
@@ -123,11 +123,11 @@ pub fn answer_all<
     requires fault { framer.old.fault ≡ None }
     requires count { replied ≤ framer.old.offset }
     ensures served { AreAskedAsRead N.asks → (since : Since L) (first : World) → MayServe first router → (held_before consumed : List ℕ) →
-        Serving (seat_since N.state L.facts since) (hosted K.tells L.facts since (K.noted out.old) seats.old.items) (network_view (λ m. N.Mail.letter m) network.old)
+        Serving (seat_since N.state N.steps L.facts since) (hosted K.tells L.facts since (K.noted out.old) seats.old.items) (network_view (λ m. N.Mail.letter m) network.old)
         (C.gives clock.now) router first K.tells since.noted held_before (K.held out.old) consumed replied →
         AreNoted K.tells (K.noted out.old) (places_of L.facts.place seats.old.items) since.noted →
         WithNotes K.tells (K.noted out.new) (places_of L.facts.place seats.new.items)
-        (λ noted. AfterRequests result (seat_since N.state L.facts (with_notes since noted)) (hosted K.tells L.facts since (K.noted out.new) seats.new.items)
+        (λ noted. AfterRequests result (seat_since N.state N.steps L.facts (with_notes since noted)) (hosted K.tells L.facts since (K.noted out.new) seats.new.items)
         (network_view (λ m. N.Mail.letter m) network.new)
         (C.gives clock.now) router first K.tells noted held_before (K.held out.new) (consumed ++ framer.old.bytes) framer.new.bytes) }
     ensures partial { OnOk result (outline framer.new.bytes ≡ partial_outline) }

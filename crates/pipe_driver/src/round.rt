@@ -42,16 +42,16 @@ pub fn serve_round<R: Threads + Sync, N: Node, L: Log, K: Witness<L::Of>>(
     requires open { AreOpen L.facts.is_open seats.old.items }
     ensures served { (since : Since L) (first : World) (rounds : List Round) (events : List Event) (w : World) (next : ℕ) (handed : List ToLink) →
         MayServe first router → Pipes first rounds events w next →
-        StandsFor (seat_since N.state L.facts since) (hosted K.tells L.facts since (K.noted out.old) seats.old.items)
+        StandsFor (seat_since N.state N.steps L.facts since) (hosted K.tells L.facts since (K.noted out.old) seats.old.items)
         (network_view (λ m. N.Mail.letter m) network.old) handed w next →
-        OnOk result (HasServed (seat_since N.state L.facts since) (hosted K.tells L.facts since (K.noted out.new) seats.new.items)
+        OnOk result (HasServed (seat_since N.state N.steps L.facts since) (hosted K.tells L.facts since (K.noted out.new) seats.new.items)
         (network_view (λ m. N.Mail.letter m) network.new) handed w next
         (round_of router moment number (N.asks request))) }
     ensures stopped { (since : Since L) (first : World) (rounds : List Round) (events : List Event) (w : World) (next : ℕ) (handed : List ToLink) →
         MayServe first router → Pipes first rounds events w next →
-        StandsFor (seat_since N.state L.facts since) (hosted K.tells L.facts since (K.noted out.old) seats.old.items)
+        StandsFor (seat_since N.state N.steps L.facts since) (hosted K.tells L.facts since (K.noted out.old) seats.old.items)
         (network_view (λ m. N.Mail.letter m) network.old) handed w next →
-        IfErr result (λ e. HasStopped (seat_since N.state L.facts since) (hosted K.tells L.facts since (K.noted out.new) seats.new.items)
+        IfErr result (λ e. HasStopped (seat_since N.state N.steps L.facts since) (hosted K.tells L.facts since (K.noted out.new) seats.new.items)
         network.new.replies.items handed w (IsPart (vec_len seats.old) (round_of router moment number (N.asks request))) e) }
     ensures len { vec_len seats.new ≡ vec_len seats.old }
     ensures open { UnlessDiskFailed result (AreOpen L.facts.is_open seats.new.items) }

@@ -22,7 +22,7 @@ use std::str;
 use value_compare::{Key, KeyFault, key_of};
 
 /// The most bytes of a document that can be written.
-const MOST_BYTES_WRITTEN: usize = 300_000_000;
+const MOST_BYTES_WRITTEN: usize = 400_000_000;
 
 /// Reads one byte.
 #[tactic(auto, unfolding(crate::specs::Readers::byte_at))]

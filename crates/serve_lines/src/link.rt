@@ -6,7 +6,8 @@ ghost use Rattle.outside.specs.Causes.{Rose, next_count};
 use crate::client::Part;
 use crate::turns::Turns;
 use outside::streams::{Acceptor, Failed, Link, Sink, Source, Stream};
-use outside_memory::{MemSink, MemSource};
+use outside::witness::{DiskLink, SeenDisk};
+use outside_memory::{MemDisk, MemSink, MemSource};
 use std::alloc::Global;
 use std::collections::VecDeque;
 use std::sync::Wait;
@@ -104,6 +105,8 @@ impl<R: Wait> Sink for TurnLink<'_, R> {
 impl<R: Wait> Stream for TurnLink<'_, R> {
     ghost take_is_apart = { λ l. refl };
 
+    ghost take_keeps_notes = { λ l. refl };
+
     ghost put_is_apart = { λ l. refl };
 }
 
@@ -113,6 +116,10 @@ impl<R: Wait> Link for TurnLink<'_, R> {
     fn close(&mut self) {
         self.closed = true;
     }
+}
+
+impl<R: Wait> DiskLink<MemDisk> for TurnLink<'_, R> {
+    fn note(&mut self, _seen: &SeenDisk<MemDisk>) {}
 }
 
 /// An acceptor of these links, in order. To accept one more is a fault, and so is to listen where it is refused.

@@ -1,11 +1,12 @@
 -- Deliveries in order of sending, but for those before.
 use Rattle.std.proofs.Common.{◌≡◌, ◌⊎◌, inl, inr, ℕ, zero, suc, ◌+◌, ◌-◌, ◌*◌, ◌<◌, ◌≤◌, ◌^◌, List, [], ◌∷◌, ◌++◌, length, refl, sym, ap, subst, ◌∙◌, arith}
-use Rattle.std.proofs.Common.{add-one, append-nil, length-append, true, false}
+use Rattle.std.proofs.Common.{add-one, append-nil, true, false}
 use Rattle.std.specs.Prelude.{Bool, Option, Some, ◌||◌}
 use Rattle.std.specs.List.{slice_get}
 use Rattle.std.proofs.lemmas.Option.{slice_get_within}
 use Rattle.node_model.specs.Letters.{Letter}
-use Rattle.node_model.specs.World.{World, Event, deliver_event, Happens, delivers, Run, stands, goes}
+use Rattle.node_model.specs.World.{World, Event, deliver_event, Happens, Run, stands, goes}
+use Rattle.node_progress.proofs.BagRuns.{sent_grows}
 use Rattle.node_traits.specs.declared.outputs.ToLink.{ToLink}
 use Rattle.driver_steps.specs.Seats.{Hosted, SeatView}
 use Rattle.driver_steps.specs.Worlds.{NetworkView, StandsFor}
@@ -65,7 +66,8 @@ passed_before except u ds (suc n) within all =
     (ap (λ (b : Bool). b || is_held except here.0) (delivered_at (suc n) ds n all (omega arith))))
 
 -- it is the one that is there
-pub passes_by : (sent : List Letter) (at : ℕ) (m n : Letter) (except : Option (List ℕ)) (ds : List Bool) → slice_get sent at ≡ Some m → slice_get sent at ≡ Some n
+pub passes_by : (sent : List Letter) (at : ℕ) (m n : Letter) (except : Option (List ℕ)) (ds : List Bool) → slice_get sent at ≡ Some m → slice_get sent at
+    ≡ Some n
     → is_passed except ds at m ≡ false → is_passed except ds at n ≡ false
 passes_by sent at m n except ds first second is =
     let both : Some m ≡ Some n = sym first ∙ second in
@@ -88,6 +90,7 @@ pub record IsSettling {S : Type 0} (view : S → SeatView) (hosts : Hosted S) (n
   pub events : List Event
   pub end : World
   pub settles : SettlesBut except before ds 0 events end es later
+  pub none_missed : end.missed ≡ before.missed
   pub within : later ≤ length end.sent
   pub stands : StandsFor view hosts network handed end 0
 
@@ -96,11 +99,7 @@ pub settling_none : {S : Type 0} (view : S → SeatView) (hosts : Hosted S) (net
     → IsSettling view hosts network handed u except ds ds first
 settling_none view hosts network handed u except ds first all within s =
     let inside : first ≤ length u.sent = omega (arith, within, delivered_length first ds all) in
-    record { events = []; end = u; settles = passed_before except u ds first inside all; within = inside; stands = s }
-
-deliver_grows : (u v : World) (at which : ℕ) → Happens u (deliver_event at which) v → length u.sent ≤ length v.sent
-deliver_grows _ _ _ _ (delivers u v at which m got to moves) =
-    subst (λ (x : World). length u.sent ≤ length x.sent) (sym moves.then) (omega (arith, length-append u.sent moves.f.mail))
+    record { events = []; end = u; settles = passed_before except u ds first inside all; none_missed = refl; within = inside; stands = s }
 
 module _ {S : Type 0} (view : S → SeatView) (hosts_after : Hosted S) (post_after : NetworkView) (handed : List ToLink) (u : World)
     (except : Option (List ℕ)) (ds es : List Bool) (later : ℕ) where
@@ -116,7 +115,8 @@ module _ {S : Type 0} (view : S → SeatView) (hosts_after : Hosted S) (post_aft
         end = d.end;
         settles = but_then except u ds 0 s.events s.end es later (deliver_event d.message.receiver later ∷ []) d.end (marked later es) (later + 1) s.settles
             (but_next s.end d.end d.end es (marked later es) later (later + 1) d.message [] d.got new h (but_none d.end (marked later es) (later + 1)));
-        within = omega (arith, slice_get_within s.end.sent later d.message d.got, deliver_grows s.end d.end d.message.receiver later h);
+        none_missed = d.none_missed ∙ s.none_missed;
+        within = omega (arith, slice_get_within s.end.sent later d.message d.got, sent_grows s.end d.end (deliver_event d.message.receiver later) h);
         stands = d.stands;
       }
       by_kind (inr (same, none)) = record {
@@ -125,6 +125,7 @@ module _ {S : Type 0} (view : S → SeatView) (hosts_after : Hosted S) (post_aft
         settles = subst (λ (x : World). SettlesBut except u ds 0 (s.events ++ []) x (marked later es) (later + 1)) (sym same)
             (but_then except u ds 0 s.events s.end es later [] s.end (marked later es) (later + 1) s.settles
             (but_lost s.end s.end es (marked later es) later (later + 1) d.message [] d.got new none (but_none s.end (marked later es) (later + 1))));
+        none_missed = d.none_missed ∙ s.none_missed;
         within = subst (λ (x : World). later + 1 ≤ length x.sent) (sym same) (omega (arith, slice_get_within s.end.sent later d.message d.got));
         stands = d.stands;
       }
@@ -137,6 +138,7 @@ module _ {S : Type 0} (view : S → SeatView) (hosts_after : Hosted S) (post_aft
         events = s.events;
         end = s.end;
         settles = passed_more except u ds 0 s.events s.end es later m s.settles got is;
+        none_missed = s.none_missed;
         within = omega (arith, slice_get_within s.end.sent later m got);
         stands = there;
       })
@@ -148,7 +150,7 @@ pub settling_cut : {S : Type 0} (view : S → SeatView) (hosts hosts_after : Hos
     → IsCut view hosts_after s.end (IsPartOfDelivery s.end later) status → IsCut view hosts_after u (IsPartOfSettling except u ds) status
 settling_cut view hosts hosts_after network handed u except ds es later status s c =
     cut_then view hosts_after u s.events s.end (IsPartOfDelivery s.end later) (IsPartOfSettling except u ds) status
-    (but_run except u ds 0 s.events s.end es later s.settles)
+    (but_run except u ds 0 s.events s.end es later s.settles) s.none_missed
     (λ more part. record {
       before = s.events;
       more = more;
@@ -162,17 +164,18 @@ settling_cut view hosts hosts_after network handed u except ds es later status s
     }) c
 
 -- a message was delivered, and memory ran out when it was noted
-pub delivered_cut : {S : Type 0} (view : S → SeatView) (hosts : Hosted S) (network : NetworkView) (handed : List ToLink) (w : World) (which : ℕ) (status : Status)
+pub delivered_cut : {S : Type 0} (view : S → SeatView) (hosts : Hosted S) (network : NetworkView) (handed : List ToLink) (w : World) (which : ℕ)
+    (status : Status)
     → HasDeliveredOne view hosts network handed w which → IsCut view hosts w (IsPartOfDelivery w which) status
 delivered_cut view hosts network handed w which status d = by_kind d.delivers
   where
     by_kind : DeliversOrLoses w which d.message.receiver d.end → IsCut view hosts w (IsPartOfDelivery w which) status
     by_kind (inl h) =
         cut_here view hosts w (deliver_event d.message.receiver which ∷ []) d.end (IsPartOfDelivery w which) status
-        (goes w d.end d.end (deliver_event d.message.receiver which) [] h (stands d.end))
+        (goes w d.end d.end (deliver_event d.message.receiver which) [] h (stands d.end)) d.none_missed
         (record { message = d.message; got = d.got; first = ([], refl) }) (still view hosts network handed d.end d.stands)
     by_kind (inr (same, none)) =
-        cut_here view hosts w [] d.end (IsPartOfDelivery w which) status (subst (λ (x : World). Run w [] x) (sym same) (stands w))
+        cut_here view hosts w [] d.end (IsPartOfDelivery w which) status (subst (λ (x : World). Run w [] x) (sym same) (stands w)) d.none_missed
         (record { message = d.message; got = d.got; first = (deliver_event d.message.receiver which ∷ [], refl) })
         (still view hosts network handed d.end d.stands)
 
@@ -196,5 +199,6 @@ settling_end view hosts network handed u except ds es later s past =
       events = s.events;
       end = s.end;
       settles = subst (λ (n : ℕ). SettlesBut except u ds 0 s.events s.end es n) end s.settles;
+      none_missed = s.none_missed;
       stands = s.stands;
     }

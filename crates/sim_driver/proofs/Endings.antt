@@ -55,7 +55,9 @@ module _ {S : Type 0} (view : S → SeatView) (hosts : Hosted S) (source : Sourc
     parts = ap (λ (b : List ℕ). b ++ left) p.all;
     each = p.each;
     most = omega (arith, most, length-append consumed left);
-    cause = as_cause known is p.lines p.out p.world (cause (all_played first_router first p.begins p.lines p.events p.world s p.out p.plays));
+    none_missed = p.none_missed;
+    cause = as_cause known is p.lines p.out p.world
+        (cause (all_played first_router first p.begins p.lines p.events p.world s p.out p.plays p.none_missed));
     files = held_kept view hosts.seats p.world.nodes p.stands.nodes;
     last = p.world;
     is_last = inl refl;
@@ -79,6 +81,7 @@ module _ {S : Type 0} (view : S → SeatView) (hosts : Hosted S) (source : Sourc
     parts = ap (λ (b : List ℕ). b ++ left) s.all;
     each = s.each;
     most = omega (arith, most, length-append consumed left);
+    none_missed = s.none_missed;
     cause = as_cause told is s.lines s.out s.end (by_cause told s.cause);
     files = s.kept;
     last = s.last;
@@ -144,7 +147,8 @@ ended_within view hosts source sink noted first_router first limit status bytes 
 -- what is said of the nodes' journals, said otherwise
 pub simulated_as : (source : SourceCall) (sink : SinkCall) (first_router : ℕ) (kept other : List Held → Type 0) (leaves leaves' : World → Type 0)
     (owed owed' : World → List ℕ → Type 0) (first : World) (limit : ℕ) (status : Status)
-    → ((nodes : List Held) → kept nodes → other nodes) → ((w : World) → leaves w → leaves' w) → ((w : World) (put : List ℕ) → leaves w → owed w put → owed' w put)
+    → ((nodes : List Held) → kept nodes → other nodes) → ((w : World) → leaves w → leaves' w) → ((w : World) (put : List ℕ) → leaves w → owed w put
+    → owed' w put)
     → IsSimulated source sink first_router kept leaves owed first limit status → IsSimulated source sink first_router other leaves' owed' first limit status
 simulated_as source sink first_router kept other leaves leaves' owed owed' first limit status says weaker pays s = record {
   taken = s.taken;
@@ -157,6 +161,7 @@ simulated_as source sink first_router kept other leaves leaves' owed owed' first
   parts = s.parts;
   each = s.each;
   most = s.most;
+  none_missed = s.none_missed;
   cause = s.cause;
   files = says s.end.nodes s.files;
   last = s.last;

@@ -1,5 +1,5 @@
 -- What the logs keep after a fault, and its status.
-use Rattle.std.proofs.Common.{◌≡◌, ◌⊎◌, inl, inr, List, [], ◌∷◌, ◌++◌, refl, sym, ap, subst, append_assoc}
+use Rattle.std.proofs.Common.{◌≡◌, ◌⊎◌, inl, inr, List, [], ◌∷◌, ◌++◌, refl, sym, ap, subst, ◌∙◌, append_assoc}
 use Rattle.node_model.specs.World.{World, Event, Happens, Run, stands, goes}
 use Rattle.node_model.proofs.Schedules.{run_then}
 use Rattle.node_replay.specs.Restarts.{EventOrStop, Occurs, occurs, stays, whole_event}
@@ -49,13 +49,14 @@ behind es more e Q has = subst (λ (l : List Event). Q l) (sym (append_assoc es 
 
 -- events, and then a fault of a step
 pub cut_behind : {S : Type 0} (view : S → SeatView) (hosts : Hosted S) (replies handed : List ToLink) (u : World) (es : List Event) (w : World)
-    (P Q : List Event → Type 0) (fault : StepFault) (status : Status) → status ≡ status_for fault → Run u es w
+    (P Q : List Event → Type 0) (fault : StepFault) (status : Status) → status ≡ status_for fault → Run u es w → w.missed ≡ u.missed
     → ((more : List Event) → P more → Q (es ++ more)) → HasStopped view hosts replies handed w P fault → IsCut view hosts u Q status
-cut_behind view hosts replies handed u es w P Q fault status is run all s = record {
+cut_behind view hosts replies handed u es w P Q fault status is run none all s = record {
   events = es ++ s.events;
   end = s.end;
   which = all s.events s.which;
   run = run_then u es w s.events s.end run s.run;
+  none_missed = s.none_missed ∙ none;
   kept = kept_at fault view hosts s.end s.nodes;
   last = s.last;
   is_last = last_of fault status is s.end s.last s.events (es ++ s.events) P Q (λ e has. behind es s.events e Q (all (s.events ++ e ∷ []) has)) s.up_to;
@@ -64,12 +65,13 @@ cut_behind view hosts replies handed u es w P Q fault status is run all s = reco
 
 -- events, and then a fault that is none of a step
 pub cut_here : {S : Type 0} (view : S → SeatView) (hosts : Hosted S) (u : World) (es : List Event) (w : World) (Q : List Event → Type 0) (status : Status)
-    → Run u es w → Q es → AreStill view hosts w → IsCut view hosts u Q status
-cut_here view hosts u es w Q status run which are = record {
+    → Run u es w → w.missed ≡ u.missed → Q es → AreStill view hosts w → IsCut view hosts u Q status
+cut_here view hosts u es w Q status run none which are = record {
   events = es;
   end = w;
   which = which;
   run = run;
+  none_missed = none;
   kept = held_kept view hosts.seats w.nodes are.nodes;
   last = w;
   is_last = inl refl;
@@ -77,12 +79,13 @@ cut_here view hosts u es w Q status run which are = record {
 }
 
 pub cut_then : {S : Type 0} (view : S → SeatView) (hosts : Hosted S) (u : World) (es : List Event) (w : World) (P Q : List Event → Type 0) (status : Status)
-    → Run u es w → ((more : List Event) → P more → Q (es ++ more)) → IsCut view hosts w P status → IsCut view hosts u Q status
-cut_then view hosts u es w P Q status run all c = record {
+    → Run u es w → w.missed ≡ u.missed → ((more : List Event) → P more → Q (es ++ more)) → IsCut view hosts w P status → IsCut view hosts u Q status
+cut_then view hosts u es w P Q status run none all c = record {
   events = es ++ c.events;
   end = c.end;
   which = all c.events c.which;
   run = run_then u es w c.events c.end run c.run;
+  none_missed = c.none_missed ∙ none;
   kept = c.kept;
   last = c.last;
   is_last = last_as status c.end c.last c.events (es ++ c.events) P Q (λ e has. behind es c.events e Q (all (c.events ++ e ∷ []) has)) c.is_last;
@@ -97,6 +100,7 @@ cut_as view hosts u P Q status says c = record {
   end = c.end;
   which = says c.events c.which;
   run = c.run;
+  none_missed = c.none_missed;
   kept = c.kept;
   last = c.last;
   is_last = last_as status c.end c.last c.events c.events P Q (λ e has. says (c.events ++ e ∷ []) has) c.is_last;
@@ -122,6 +126,7 @@ cut_in view hosts u P Q status says c = record {
   end = c.end;
   which = says c.events c.which;
   run = run_whole u c.end c.events c.run;
+  none_missed = c.none_missed;
   kept = c.kept;
   last = c.last;
   is_last = by_last c.is_last;
@@ -141,6 +146,7 @@ cut_in_as view hosts u P Q status says c = record {
   end = c.end;
   which = says c.events c.which;
   run = c.run;
+  none_missed = c.none_missed;
   kept = c.kept;
   last = c.last;
   is_last = by_last c.is_last;
@@ -159,6 +165,7 @@ cut_in_here view hosts u Q status which are = record {
   end = u;
   which = which;
   run = stays u;
+  none_missed = refl;
   kept = held_kept view hosts.seats u.nodes are.nodes;
   last = u;
   is_last = inl refl;
@@ -173,6 +180,7 @@ cut_in_stop view hosts u P fault status is h = record {
   end = h.end;
   which = h.which;
   run = h.run;
+  none_missed = h.none_missed;
   kept = h.kept;
   last = h.last;
   is_last = by_fault fault is h.up_to;

@@ -15,7 +15,8 @@ use Rattle.sim_driver.specs.Simulations.{input_ended, read_failed, write_failed,
 use Rattle.sim_driver.proofs.Plays.{first_reached, played_run, plays_run}
 
 module _ (first_router : ℕ) (first : World) where
-  all_run : (lines : List (List ℕ)) (put : List ℕ) (end : World) → AllPlayed first_router first lines put end → (events : List EventOrStop) × RunWithStops first events end
+  all_run : (lines : List (List ℕ)) (put : List ℕ) (end : World) → AllPlayed first_router first lines put end → (events : List EventOrStop)
+      × RunWithStops first events end
   all_run lines put end all = (all.events, plays_run first_router first lines all.events end all.script put all.played)
 
   came_run : (lines : List (List ℕ)) (left put : List ℕ) (end : World) → CameTo first_router first lines left put end
@@ -48,7 +49,8 @@ module _ (first_router : ℕ) (first : World) where
 -- whatever the script says, and however it ended
 module _ (source : SourceCall) (sink : SinkCall) (first_router : ℕ) (kept : List Held → Type 0) (leaves : World → Type 0)
     (owed : World → List ℕ → Type 0) (first : World) (limit : ℕ) (status : Status) where
-  pub simulated_run : (s : IsSimulated source sink first_router kept leaves owed first limit status) → (events : List EventOrStop) × RunWithStops first events s.end
+  pub simulated_run : (s : IsSimulated source sink first_router kept leaves owed first limit status) → (events : List EventOrStop)
+      × RunWithStops first events s.end
   simulated_run s =
       cause_run first_router first limit _ s.taken s.lines s.left s.put s.end status s.cause
 

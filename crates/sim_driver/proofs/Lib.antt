@@ -3,6 +3,7 @@ pub mod Deliveries
 pub mod Endings
 pub mod Faults
 pub mod Histories
+pub mod LineBags
 pub mod LinkAsks
 pub mod Marks
 pub mod NewLinks
@@ -11,6 +12,6 @@ pub mod Places
 pub mod PlayedLines
 pub mod Plays
 pub mod Reports
-pub mod Steps
 pub mod Settled
+pub mod Steps
 pub mod Stopped

@@ -1,5 +1,5 @@
 -- Lines that were played are a run, in which the router stays and no message is forgotten.
-use Rattle.std.proofs.Common.{◌≡◌, ℕ, zero, suc, ◌+◌, ◌<◌, ◌≤◌, List, [], ◌∷◌, ◌++◌, length, refl, sym, ap, subst, ◌∙◌, arith}
+use Rattle.std.proofs.Common.{◌≡◌, inl, inr, ℕ, zero, suc, ◌+◌, ◌<◌, ◌≤◌, List, [], ◌∷◌, ◌++◌, length, refl, sym, ap, subst, ◌∙◌, arith}
 use Rattle.std.proofs.Common.{length-append, append_assoc, append-nil}
 use Rattle.std.specs.Prelude.{Option, Some, None, Bool}
 use Rattle.std.specs.List.{slice_get, slice_set}
@@ -10,7 +10,7 @@ use Rattle.node_model.specs.Journal.{Kept}
 use Rattle.node_model.specs.Letters.{Input}
 use Rattle.node_model.specs.Requests.{Request}
 use Rattle.node_model.specs.States.{NodeState, Router, catalogue_state, new_router, router_state, shard_state}
-use Rattle.node_model.specs.World.{Held, World, IsRouter, Moves, Event, deliver_event, moment_event, Happens, comes, delivers, passes, begins as was_opened}
+use Rattle.node_model.specs.World.{Held, World, IsRouter, Meets, Event, deliver_event, moment_event, Happens, comes, delivers, passes, begins as was_opened}
 use Rattle.node_model.specs.World.{Run, stands, goes, shards_from, routers_from, start}
 use Rattle.node_model.specs.Schedule.{openings}
 use Rattle.node_replay.specs.Durable.{DurableState, durable_router, empty_of, empty_router}
@@ -19,6 +19,7 @@ use Rattle.restart_laws.specs.Calls.{Reached, next_call, this_call}
 use Rattle.restart_laws.proofs.Parts.{reached_parts}
 use Rattle.restart_laws.proofs.ReachedCalls.{calls_proceed, run_whole, stops_then}
 use Rattle.node_progress.specs.Firsts.{IsFirst, first_again, first_start}
+use Rattle.node_progress.proofs.BagRuns.{sent_grows}
 use Rattle.driver_steps.specs.Restarts.{HaveParts, MayStop, stop_and_open}
 use Rattle.pipe_driver.specs.Progress.{AreAsked}
 use Rattle.script_lines.specs.Lines.{Line, client_line}
@@ -62,22 +63,22 @@ count_set [] at h = refl
 count_set (x ∷ nodes) zero h = refl
 count_set (x ∷ nodes) (suc at) h = omega (arith, count_set nodes at h)
 
-move_count : (w v : World) (at : ℕ) (i : Input) → Moves w at i v → length v.nodes ≡ length w.nodes
-move_count w v at i m =
-    ap (λ (x : World). length x.nodes) m.then ∙ count_set w.nodes at (record { state = m.new; kept = m.old.kept ++ m.f.written })
+meet_count : (w v : World) (at : ℕ) (i : Input) → Meets w at i v → length v.nodes ≡ length w.nodes
+meet_count w v at i (inl m) = ap (λ (x : World). length x.nodes) m.then ∙ count_set w.nodes at _
+meet_count w v at i (inr m) = ap (λ (x : World). length x.nodes) m.then ∙ count_set w.nodes at _
 
 happens_count : (w v : World) (e : Event) → Happens w e v → length v.nodes ≡ length w.nodes
-happens_count _ _ _ (comes w v at link number request router m) = move_count w v at _ m
-happens_count _ _ _ (delivers w v at which letter got to m) = move_count w v at _ m
-happens_count _ _ _ (passes w v at moment m) = move_count w v at _ m
-happens_count _ _ _ (was_opened w v at m) = move_count w v at _ m
+happens_count _ _ _ (comes w v at link number request router m) = meet_count w v at _ m
+happens_count _ _ _ (delivers w v at which letter got to m) = meet_count w v at _ m
+happens_count _ _ _ (passes w v at moment m) = meet_count w v at _ m
+happens_count _ _ _ (was_opened w v at m) = meet_count w v at _ m
 
 occurs_count : (w v : World) (e : EventOrStop) → Occurs w e v → length v.nodes ≡ length w.nodes
 occurs_count _ _ _ (occurs w v e h) = happens_count w v e h
 occurs_count _ _ _ (restarts w v at m) =
-    ap (λ (x : World). length x.nodes) m.then ∙ count_set w.nodes at (record { state = m.new; kept = m.old.kept ++ [] })
+    ap (λ (x : World). length x.nodes) m.then ∙ count_set w.nodes at _
 occurs_count _ _ _ (stops w v at e i gives m) =
-    ap (λ (x : World). length x.nodes) m.then ∙ count_set w.nodes at (record { state = m.new; kept = m.old.kept ++ m.f.written })
+    ap (λ (x : World). length x.nodes) m.then ∙ count_set w.nodes at _
 
 pub run_count : (u : World) (es : List EventOrStop) (w : World) → RunWithStops u es w → length w.nodes ≡ length u.nodes
 run_count _ _ _ (stays w) = refl
@@ -86,10 +87,10 @@ run_count _ _ _ (proceeds u v w e es h run) = run_count v es w run ∙ occurs_co
 -- THE ROUTERS
 
 -- each node from a place on is a router
-from_is_router : (first shards at count : ℕ) → at < count → (r : Router) × (kept : List Kept)
-    × (slice_get (routers_from first shards count) at ≡ Some (record { state = router_state r; kept = kept }))
+from_is_router : (first shards at count : ℕ) → at < count → (r : Router) × (kept : List Kept) × (steps : ℕ)
+    × (slice_get (routers_from first shards count) at ≡ Some (record { state = router_state r; kept = kept; steps = steps }))
 from_is_router first shards at zero below = absurd (omega (arith, below))
-from_is_router first shards zero (suc count) below = (new_router first shards, [], refl)
+from_is_router first shards zero (suc count) below = (new_router first shards, [], 0, refl)
 from_is_router first shards (suc at) (suc count) below = from_is_router (first + 1) shards at count (omega (arith, below))
 
 from_length : (first shards count : ℕ) → length (routers_from first shards count) ≡ count
@@ -121,7 +122,7 @@ start_router others routers router below =
     let there : others + 2 + router ≡ suc (suc (others + router)) = omega arith in
     let at = after_shards (1 + 1) others router (routers_from (1 + others + 1) (others + 1) routers) in
     let is = from_is_router (1 + others + 1) (others + 1) router routers below in
-    subst (λ (n : ℕ). IsRouter (start others routers).nodes n) (sym there) (is.0, is.1, at ∙ is.2)
+    subst (λ (n : ℕ). IsRouter (start others routers).nodes n) (sym there) (is.0, is.1, is.2, at ∙ is.3)
 
 -- a script may be played from empty journals on
 pub start_may_play : (others routers : ℕ) → MayPlay (others + 2) (start others routers)
@@ -160,15 +161,16 @@ node_there (x ∷ nodes) (suc at) below = node_there nodes at (omega (arith, bel
 -- nodes that stay what they are
 router_by_part : (part : ℕ → DurableState) (nodes others : List Held) (at : ℕ) → HaveParts part nodes → HaveParts part others → IsRouter nodes at
     → at < length others → IsRouter others at
-router_by_part part nodes others at these those (r, kept, here) below =
+router_by_part part nodes others at these those (r, kept, steps, here) below =
     let other = node_there others at below in
-    by_state other.0.state other.0.kept other.1 (those at other.0 other.1 ∙ sym (these at (record { state = router_state r; kept = kept }) here))
+    by_state other.0.state other.0.kept other.0.steps other.1
+    (those at other.0 other.1 ∙ sym (these at (record { state = router_state r; kept = kept; steps = steps }) here))
   where
-    by_state : (state : NodeState) (mine : List Kept) → slice_get others at ≡ Some (record { state = state; kept = mine })
+    by_state : (state : NodeState) (mine : List Kept) (count : ℕ) → slice_get others at ≡ Some (record { state = state; kept = mine; steps = count })
         → empty_of state ≡ durable_router (empty_router r.me r.shards) → IsRouter others at
-    by_state (catalogue_state c) mine got is = absurd (cc is)
-    by_state (shard_state d) mine got is = absurd (cc is)
-    by_state (router_state q) mine got is = (q, mine, got)
+    by_state (catalogue_state c) mine count got is = absurd (cc is)
+    by_state (shard_state d) mine count got is = absurd (cc is)
+    by_state (router_state q) mine count got is = (q, mine, count, got)
 
 plays_routers : (part : ℕ → DurableState) (first_router : ℕ) (first : World) → IsFirst first → HaveParts part first.nodes → HasRouters first_router first
     → (lines : List (List ℕ)) (events : List EventOrStop) (w : World) (s : ScriptView) (out : List ℕ)
@@ -214,21 +216,12 @@ plays_script part first_router first begins parts there lines events w s out pla
 
 -- MESSAGES
 
-move_grows : (w v : World) (at : ℕ) (i : Input) → Moves w at i v → length w.sent ≤ length v.sent
-move_grows w v at i m = subst (λ (x : World). length w.sent ≤ length x.sent) (sym m.then) (omega (arith, length-append w.sent m.f.mail))
-
-happens_grows : (w v : World) (e : Event) → Happens w e v → length w.sent ≤ length v.sent
-happens_grows _ _ _ (comes w v at link number request router m) = move_grows w v at _ m
-happens_grows _ _ _ (delivers w v at which letter got to m) = move_grows w v at _ m
-happens_grows _ _ _ (passes w v at moment m) = move_grows w v at _ m
-happens_grows _ _ _ (was_opened w v at m) = move_grows w v at _ m
-
 run_grows : (u : World) (es : List Event) (w : World) → Run u es w → length u.sent ≤ length w.sent
 run_grows _ _ _ (stands w) = omega arith
-run_grows _ _ _ (goes u v w e es h run) = omega (arith, happens_grows u v e h, run_grows v es w run)
+run_grows _ _ _ (goes u v w e es h run) = omega (arith, sent_grows u v e h, run_grows v es w run)
 
 occurs_grows : (w v : World) (e : EventOrStop) → Occurs w e v → length w.sent ≤ length v.sent
-occurs_grows _ _ _ (occurs w v e h) = happens_grows w v e h
+occurs_grows _ _ _ (occurs w v e h) = sent_grows w v e h
 occurs_grows _ _ _ (restarts w v at m) =
     subst (λ (x : World). length w.sent ≤ length x.sent) (sym m.then) (omega (arith, length-append w.sent []))
 occurs_grows _ _ _ (stops w v at e i gives m) =
@@ -245,7 +238,7 @@ settles_marks except _ _ _ _ _ _ _ (but_passed u w ds es next later m events got
     settles_marks except u ds (next + 1) events w es later more most
 settles_marks except _ _ _ _ _ _ _ (but_next u v w ds es next later m events got new h more) most =
     settles_marks except v (marked next ds) (next + 1) events w es later more
-    (omega (arith, marked_length next (length u.sent) ds most (slice_get_within u.sent next m got), happens_grows u v (deliver_event m.receiver next) h))
+    (omega (arith, marked_length next (length u.sent) ds most (slice_get_within u.sent next m got), sent_grows u v (deliver_event m.receiver next) h))
 settles_marks except _ _ _ _ _ _ _ (but_lost u w ds es next later m events got new none more) most =
     settles_marks except u (marked next ds) (next + 1) events w es later more
     (marked_length next (length u.sent) ds most (slice_get_within u.sent next m got))
@@ -265,12 +258,12 @@ whole_marks u s _ _ _ _ _ most (closes router link bytes left requests fault w h
 whole_marks u s _ _ _ _ _ most (plays_deliver node k which w place h) =
     let there = place_at 0 node k u.sent which place in
     let inside : which < length u.sent = omega (arith, there.1, slice_get_within u.sent there.0 there.2 there.3) in
-    omega (arith, marked_length which (length u.sent) s.delivered most inside, happens_grows u w (deliver_event node which) h)
-whole_marks u s _ _ _ _ _ most (plays_moment node moment w h) = omega (arith, most, happens_grows u w (moment_event node moment) h)
+    omega (arith, marked_length which (length u.sent) s.delivered most inside, sent_grows u w (deliver_event node which) h)
+whole_marks u s _ _ _ _ _ most (plays_moment node moment w h) = omega (arith, most, sent_grows u w (moment_event node moment) h)
 whole_marks u s _ _ _ _ _ most (plays_settle except events w ds settles) =
     settles_marks except u s.delivered 0 events w ds (length w.sent) settles most
 whole_marks u s _ _ _ _ _ most (plays_next kind which m w place got h) =
-    omega (arith, marked_length which (length u.sent) s.delivered most (slice_get_within u.sent which m got), happens_grows u w (deliver_event m.receiver which) h)
+    omega (arith, marked_length which (length u.sent) s.delivered most (slice_get_within u.sent which m got), sent_grows u w (deliver_event m.receiver which) h)
 whole_marks u s _ _ _ _ _ most (loses_next kind which m place got none) =
     marked_length which (length u.sent) s.delivered most (slice_get_within u.sent which m got)
 

@@ -10,7 +10,7 @@ use Rattle.node_model.specs.Requests.{Request}
 use Rattle.node_model.specs.World.{World, Event, deliver_event, moment_event, Happens, Run, stands}
 use Rattle.node_model.specs.Schedule.{openings}
 use Rattle.node_model.proofs.Schedules.{run_then}
-use Rattle.node_replay.specs.Restarts.{EventOrStop, whole_event}
+use Rattle.node_replay.specs.Restarts.{EventOrStop, whole_event, RunWithStops}
 use Rattle.restart_laws.specs.Calls.{wholes}
 use Rattle.restart_laws.proofs.ReachedCalls.{run_whole}
 use Rattle.node_progress.specs.Completion.{AreAnswered}
@@ -18,14 +18,14 @@ use Rattle.node_progress.specs.Firsts.{IsFirst}
 use Rattle.node_progress.specs.UnderWay.{IsUnderWay}
 use Rattle.node_progress.proofs.AnsweredSince.{are_answered_since, lives_since, since_bag}
 use Rattle.node_laws.proofs.Facts.{IsOfRequest}
-use Rattle.node_progress.proofs.Bags.{Left, left_but, same_place}
-use Rattle.node_progress.proofs.BagRuns.{BagIn, IsNoDelivery, first_bag, goes_to_node, delivery_bag, event_keeps, events_keep}
+use Rattle.node_progress.proofs.BagRuns.{BagIn, first_bag}
+use Rattle.node_progress.proofs.NoneMissed.{first_none_missed, stops_more}
+use Rattle.node_progress.proofs.Places.{same_place}
 use Rattle.node_progress.proofs.Firsts.{first_true, first_rests, first_shards}
 use Rattle.node_progress.proofs.Lives.{TakenSince, taken_since}
 use Rattle.node_progress.proofs.Progress.{bag_under_way}
 use Rattle.node_progress.proofs.Answered.{are_answered}
-use Rattle.node_progress.proofs.Rounds.{openings_deliver_none, sent_before}
-use Rattle.pipe_driver.specs.Rounds.{replies_after}
+use Rattle.node_progress.proofs.Rounds.{openings_deliver_none}
 use Rattle.driver_steps.specs.Restarts.{stop_and_open}
 use Rattle.script_lines.specs.Lines.{Line, settle_line, Says, says_client, says_deliver, says_moment, says_settle, says_except, says_next, says_restart, says_kept, says_lost}
 use Rattle.sim_driver.specs.Plays.{client_events, events_on, SettlesBut, but_none, but_passed, but_next, but_lost, IsPlayed, plays_restart, plays_whole}
@@ -34,87 +34,12 @@ use Rattle.sim_driver.specs.Plays.{StopsNode, stops_between, stops_kept, stops_l
 use Rattle.sim_driver.specs.Scripts.{ScriptView, is_delivered, marked, new_script, printed, with_delivered}
 use Rattle.sim_driver.specs.Simulations.{Plays, plays_none, plays_more, AllPlayed, AreAnsweredAfterRestarts, EndInRestart, EndInSettle, HaveNoRestart, IsRestart, router_count}
 use Rattle.sim_driver.specs.Undelivered.{IsUndelivered}
-use Rattle.sim_driver.proofs.Plays.{plays_marks, plays_run, whole_run}
-
--- MARKS
-
-marked_here : (place : ℕ) (ds : List Bool) → is_delivered (marked place ds) place ≡ true
-marked_here zero [] = refl
-marked_here zero (d ∷ ds) = refl
-marked_here (suc place) [] = marked_here place []
-marked_here (suc place) (d ∷ ds) = marked_here place ds
-
-marked_other : (place n : ℕ) (ds : List Bool) → n ≢ place → is_delivered (marked place ds) n ≡ is_delivered ds n
-marked_other zero zero ds other = absurd (other refl)
-marked_other zero (suc n) [] other = refl
-marked_other zero (suc n) (d ∷ ds) other = refl
-marked_other (suc place) zero [] other = refl
-marked_other (suc place) zero (d ∷ ds) other = refl
-marked_other (suc place) (suc n) [] other = marked_other place n [] (λ e. other (ap suc e))
-marked_other (suc place) (suc n) (d ∷ ds) other = marked_other place n ds (λ e. other (ap suc e))
-
--- a mark that is set stays
-marked_stays : (place n : ℕ) (ds : List Bool) → is_delivered ds n ≡ true → is_delivered (marked place ds) n ≡ true
-marked_stays place n ds is = by_place (same_place n place)
-  where
-    by_place : (n ≡ place) ⊎ (n ≢ place) → is_delivered (marked place ds) n ≡ true
-    by_place (inl same) = ap (λ k. is_delivered (marked place ds) k) same ∙ marked_here place ds
-    by_place (inr other) = marked_other place n ds other ∙ is
-
-clients_deliver_none : (at link replied : ℕ) (requests : List Request) → AllByRecursion IsNoDelivery (client_events at link replied requests)
-clients_deliver_none at link replied [] = tt
-clients_deliver_none at link replied (q ∷ requests) = (tt, clients_deliver_none at link (replies_after q.more replied) requests)
+use Rattle.sim_driver.proofs.LineBags.{left_of, marked_here, marked_stays, others_bag, whole_bag}
+use Rattle.sim_driver.proofs.Plays.{played_run, plays_marks, plays_run, whole_run}
 
 abbrev first_byte : List ℕ → ℕ
 first_byte [] = 0
 first_byte (b ∷ bytes) = b
-
--- DELIVERIES
-
-module _ (lost : RequestId → Type 0) where
-  abbrev left_of : List Bool → Left
-  left_of ds = left_but (IsUndelivered ds) lost
-
-  marked_bag : (u v : World) (ds : List Bool) (at which : ℕ) → BagIn (left_of ds) u → Happens u (deliver_event at which) v
-      → BagIn (left_of (marked which ds)) v
-  marked_bag u v ds at which b h =
-      delivery_bag lost (IsUndelivered ds) (IsUndelivered (marked which ds)) u v at which b (λ n left. by_place n left (same_place n which))
-      (λ n le. marked_other which n ds (past n le (sent_before u v at which h)) ∙ b.bag.fresh n le) h
-    where
-      by_place : (n : ℕ) → IsUndelivered ds n → (n ≡ which) ⊎ (n ≢ which) → IsUndelivered (marked which ds) n ⊎ (n ≡ which)
-      by_place n left (inl same) = inr same
-      by_place n left (inr other) = inl (marked_other which n ds other ∙ left)
-
-      past : (n : ℕ) → length u.sent ≤ n → which < length u.sent → n ≢ which
-      past n le below same = omega (arith, le, below, same)
-
-  -- a message that goes to no node is none
-  never_lost : (u : World) (ds : List Bool) (n : ℕ) (m : Letter) → BagIn (left_of ds) u → slice_get u.sent n ≡ Some m → length u.nodes ≤ m.receiver → ⊥
-  never_lost u ds n m b got none = let here = goes_to_node (left_of ds) u n m b got in omega (arith, here, none)
-
-  but_bag : (except : Option (List ℕ)) (u : World) (ds : List Bool) (next : ℕ) (events : List Event) (w : World) (es : List Bool) (later : ℕ)
-      → SettlesBut except u ds next events w es later → BagIn (left_of ds) u → BagIn (left_of es) w
-  but_bag except _ _ _ _ _ _ _ (but_none w ds next) b = b
-  but_bag except _ _ _ _ _ _ _ (but_passed u w ds es next later m events got is more) b = but_bag except u ds (next + 1) events w es later more b
-  but_bag except _ _ _ _ _ _ _ (but_next u v w ds es next later m events got new h more) b =
-      but_bag except v (marked next ds) (next + 1) events w es later more (marked_bag u v ds m.receiver next b h)
-  but_bag except _ _ _ _ _ _ _ (but_lost u w ds es next later m events got new none more) b = absurd (never_lost u ds next m b got none)
-
-  -- LINES
-
-  whole_bag : (u : World) (s : ScriptView) (line : Line) (events : List Event) (w : World) (t : ScriptView) (closed : Option ℕ)
-      → IsPlayedWhole u s line events w t closed → BagIn (left_of s.delivered) u → BagIn (left_of t.delivered) w
-  whole_bag u s _ _ _ _ _ (plays_client router link bytes left requests w there frames run) b =
-      events_keep (left_of s.delivered) u (events_on s.first_router router link requests) w
-      (clients_deliver_none (s.first_router + router) link.number link.replied requests) b run
-  whole_bag u s _ _ _ _ _ (closes router link bytes left requests fault w there frames run) b =
-      events_keep (left_of s.delivered) u (events_on s.first_router router link requests) w
-      (clients_deliver_none (s.first_router + router) link.number link.replied requests) b run
-  whole_bag u s _ _ _ _ _ (plays_deliver node k which w place h) b = marked_bag u w s.delivered node which b h
-  whole_bag u s _ _ _ _ _ (plays_moment node moment w h) b = event_keeps (left_of s.delivered) u w (moment_event node moment) tt b h
-  whole_bag u s _ _ _ _ _ (plays_settle except events w delivered settles) b = but_bag except u s.delivered 0 events w delivered (length w.sent) settles b
-  whole_bag u s _ _ _ _ _ (plays_next kind which m w place got h) b = marked_bag u w s.delivered m.receiver which b h
-  whole_bag u s _ _ _ _ _ (loses_next kind which m place got none) b = absurd (never_lost u s.delivered which m b got none)
 
 -- LINES IN WHICH NO NODE STOPS
 
@@ -130,6 +55,11 @@ none_before : (lines : List (List ℕ)) (bytes : List ℕ) → HaveNoRestart (li
 none_before [] bytes none = (tt, none.0)
 none_before (l ∷ lines) bytes none = let r = none_before lines bytes none.1 in ((none.0, r.0), r.1)
 
+-- where no step was missed in all lines, none was in those before the last one, nor in the last one
+none_until : (first u w : World) (before events : List EventOrStop) → RunWithStops first before u → RunWithStops u events w → w.missed ≡ first.missed
+    → u.missed ≡ first.missed
+none_until first u w before events run more none = first_none_missed first u w (stops_more first u before run) (stops_more u w events more) none
+
 -- these lines were played by events, and no message was lost by a stop
 record PlaysWhole (first : World) (events : List EventOrStop) (w : World) (s : ScriptView) : Type 0 where
   whole : List Event
@@ -137,26 +67,28 @@ record PlaysWhole (first : World) (events : List EventOrStop) (w : World) (s : S
   bag : BagIn (left_of (λ id. ⊥) s.delivered) w
 
 plays_whole_lines : (first_router : ℕ) (first : World) → IsFirst first → (lines : List (List ℕ)) (events : List EventOrStop) (w : World) (s : ScriptView)
-    (out : List ℕ) → Plays first_router first lines events w s out → HaveNoRestart lines → PlaysWhole first events w s
-plays_whole_lines first_router first begins _ _ _ _ _ (plays_none w run) none = record {
+    (out : List ℕ) → Plays first_router first lines events w s out → HaveNoRestart lines → w.missed ≡ first.missed → PlaysWhole first events w s
+plays_whole_lines first_router first begins _ _ _ _ _ (plays_none w run) none kept = record {
   whole = openings 0 (length first.nodes);
   run = run;
-  bag = events_keep (left_of (λ id. ⊥) []) first (openings 0 (length first.nodes)) w (openings_deliver_none 0 (length first.nodes))
+  bag = others_bag (λ id. ⊥) first [] (openings 0 (length first.nodes)) w (openings_deliver_none 0 (length first.nodes))
       (record {
         true_there = first_true first begins;
         bag = first_bag (IsUndelivered []) first (first_rests first begins) (first_shards first begins) (λ n. refl);
-      }) run;
+      }) run kept;
 }
 plays_whole_lines first_router first begins _ _ _ _ _ (plays_more lines before _ u w s t out bytes line closed given played says
-    (plays_whole _ events _ _ _ is) gives) none =
-    let p = plays_whole_lines first_router first begins lines before u s out played (none_before lines bytes none).0 in
+    (plays_whole _ events _ _ _ is) gives) none kept =
+    let until = none_until first u w before (wholes events) (plays_run first_router first lines before u s out played)
+    (run_whole u w events (whole_run u s line events w t closed is)) kept in
+    let p = plays_whole_lines first_router first begins lines before u s out played (none_before lines bytes none).0 until in
     record {
       whole = p.whole ++ events;
       run = run_then first p.whole u events w p.run (whole_run u s line events w t closed is);
-      bag = whole_bag (λ id. ⊥) u s line events w t closed is p.bag;
+      bag = whole_bag (λ id. ⊥) u s line events w t closed is (kept ∙ sym until) p.bag;
     }
 plays_whole_lines first_router first begins _ _ _ _ _ (plays_more lines before _ u w s _ out bytes line closed given played says
-    (plays_restart _ node e delivered _ t _ stop run close) gives) none =
+    (plays_restart _ node e delivered _ t _ stop run close) gives) none kept =
     absurd ((none_before lines bytes none).1 (stop_says u s line node e delivered bytes stop says))
 
 plays_since : (first : World) → IsFirst first → (events : List EventOrStop) (w : World) (s : ScriptView) → PlaysWhole first events w s → TakenSince first w
@@ -164,9 +96,10 @@ plays_since first begins events w s p = taken_since first (first_true first begi
 
 -- after the lines of a script in which no node stops all that open requests wait for is under way
 pub scripts_are_under_way : (first_router : ℕ) (first : World) (lines : List (List ℕ)) (events : List EventOrStop) (w : World) (s : ScriptView) (out : List ℕ)
-    → IsFirst first → HaveNoRestart lines → Plays first_router first lines events w s out → IsUnderWay first (IsUndelivered s.delivered) w
-scripts_are_under_way first_router first lines events w s out begins none plays =
-    let p = plays_whole_lines first_router first begins lines events w s out plays none in
+    → IsFirst first → HaveNoRestart lines → Plays first_router first lines events w s out → w.missed ≡ first.missed
+    → IsUnderWay first (IsUndelivered s.delivered) w
+scripts_are_under_way first_router first lines events w s out begins none plays kept =
+    let p = plays_whole_lines first_router first begins lines events w s out plays none kept in
     bag_under_way (IsUndelivered s.delivered) w p.bag.true_there.0.book p.bag.true_there.0.good p.bag.bag first (plays_since first begins events w s p)
 
 -- SINCE A NODE WAS STARTED AGAIN
@@ -185,6 +118,7 @@ record PlaysSince (first_router : ℕ) (first : World) (lines : List (List ℕ))
   out : List ℕ
   parts : events ≡ early ++ wholes late
   played : Plays first_router first before early restarted script out
+  none_missed : restarted.missed ≡ first.missed
   then : Run restarted late w
   bag : BagIn (left_of (IsOfRequest restarted.asked) s.delivered) w
 
@@ -194,9 +128,11 @@ past_marks (d ∷ ds) zero le = absurd (omega (arith, le))
 past_marks (d ∷ ds) (suc n) le = past_marks ds n (omega (arith, le))
 
 -- from here on
-since_here : (first_router : ℕ) (first : World) → IsFirst first → (lines : List (List ℕ)) (events : List EventOrStop) (w : World) (s : ScriptView) (out : List ℕ)
-    → Plays first_router first lines events w s out → (lines ≡ []) ⊎ EndInRestart lines → PlaysSince first_router first lines events w s
-since_here first_router first begins lines events w s out plays last =
+since_here : (first_router : ℕ) (first : World) → IsFirst first → (lines : List (List ℕ)) (events : List EventOrStop) (w : World) (s : ScriptView)
+    (out : List ℕ)
+    → Plays first_router first lines events w s out → (lines ≡ []) ⊎ EndInRestart lines → w.missed ≡ first.missed
+    → PlaysSince first_router first lines events w s
+since_here first_router first begins lines events w s out plays last none =
     let most = plays_marks first_router first lines events w s out plays in
     record {
       before = lines;
@@ -211,8 +147,9 @@ since_here first_router first begins lines events w s out plays last =
       out = out;
       parts = sym (append-nil events);
       played = plays;
+      none_missed = none;
       then = stands w;
-      bag = since_bag first events w begins (plays_run first_router first lines events w s out plays) (IsUndelivered s.delivered)
+      bag = since_bag first events w begins (plays_run first_router first lines events w s out plays) none (IsUndelivered s.delivered)
           (λ n le. past_marks s.delivered n (omega (arith, most, le)));
     }
 
@@ -245,13 +182,15 @@ whole_says u s _ _ _ _ _ _ (loses_next kind which m place got none) (says_next _
     let other : 110 ≡ 114 = ap first_byte is in absurd (omega (arith, other))
 
 plays_since_restart : (first_router : ℕ) (first : World) → IsFirst first → (lines : List (List ℕ)) (events : List EventOrStop) (w : World) (s : ScriptView)
-    (out : List ℕ) → Plays first_router first lines events w s out → PlaysSince first_router first lines events w s
-plays_since_restart first_router first begins _ _ _ _ _ (plays_none w run) =
+    (out : List ℕ) → Plays first_router first lines events w s out → w.missed ≡ first.missed → PlaysSince first_router first lines events w s
+plays_since_restart first_router first begins _ _ _ _ _ (plays_none w run) none =
     since_here first_router first begins [] (wholes (openings 0 (length first.nodes))) w (new_script first_router (router_count first_router first)) []
-    (plays_none w run) (inl refl)
+    (plays_none w run) (inl refl) none
 plays_since_restart first_router first begins _ _ _ _ _ (plays_more lines before _ u w s t out bytes line closed given played says
-    (plays_whole _ events _ _ _ is) gives) =
-    let p = plays_since_restart first_router first begins lines before u s out played in
+    (plays_whole _ events _ _ _ is) gives) none =
+    let until = none_until first u w before (wholes events) (plays_run first_router first lines before u s out played)
+    (run_whole u w events (whole_run u s line events w t closed is)) none in
+    let p = plays_since_restart first_router first begins lines before u s out played until in
     record {
       before = p.before;
       after = p.after ++ bytes ∷ [];
@@ -266,15 +205,17 @@ plays_since_restart first_router first begins _ _ _ _ _ (plays_more lines before
       parts = ap (λ (l : List EventOrStop). l ++ wholes events) p.parts ∙ (append_assoc p.early (wholes p.late) (wholes events)
           ∙ ap (λ (l : List EventOrStop). p.early ++ l) (sym (wholes_append p.late events)));
       played = p.played;
+      none_missed = p.none_missed;
       then = run_then p.restarted p.late u events w p.then (whole_run u s line events w t closed is);
-      bag = whole_bag (IsOfRequest p.restarted.asked) u s line events w t closed is p.bag;
+      bag = whole_bag (IsOfRequest p.restarted.asked) u s line events w t closed is (none ∙ sym until) p.bag;
     }
 plays_since_restart first_router first begins _ _ _ _ _ (plays_more lines before _ u w s _ out bytes line closed given played says
-    (plays_restart _ node e delivered _ t _ stop run close) gives) =
-    since_here first_router first begins (lines ++ bytes ∷ []) (before ++ stop_and_open node e) w (with_delivered t delivered) (out ++ printed s.links given closed)
+    (plays_restart _ node e delivered _ t _ stop run close) gives) none =
+    since_here first_router first begins (lines ++ bytes ∷ []) (before ++ stop_and_open node e) w (with_delivered t delivered)
+    (out ++ printed s.links given closed)
     (plays_more lines before (stop_and_open node e) u w s (with_delivered t delivered) out bytes line closed given played says
     (plays_restart line node e delivered w t closed stop run close) gives)
-    (inr (lines, bytes, refl, stop_says u s line node e delivered bytes stop says))
+    (inr (lines, bytes, refl, stop_says u s line node e delivered bytes stop says)) none
 
 -- SETTLE
 
@@ -371,11 +312,13 @@ settle_whole u s _ _ _ _ _ is (plays_restart _ _ _ _ _ _ _ (stops_lost node k wh
 
 pub settled_scripts_are_answered : (first_router : ℕ) (first : World) (lines : List (List ℕ)) (before events : List EventOrStop) (u w : World)
     (s t : ScriptView) (out : List ℕ) (closed : Option ℕ) → IsFirst first → HaveNoRestart lines → Plays first_router first lines before u s out
-    → IsPlayed u s (settle_line None) events w t closed → AreAnswered first w
-settled_scripts_are_answered first_router first lines before events u w s t out closed begins none plays settles =
-    let p = plays_whole_lines first_router first begins lines before u s out plays none in
+    → IsPlayed u s (settle_line None) events w t closed → w.missed ≡ first.missed → AreAnswered first w
+settled_scripts_are_answered first_router first lines before events u w s t out closed begins none plays settles kept =
+    let until = none_until first u w before events (plays_run first_router first lines before u s out plays)
+    (played_run u s (settle_line None) events w t closed settles) kept in
+    let p = plays_whole_lines first_router first begins lines before u s out plays none until in
     let e = settle_whole u s (settle_line None) events w t closed refl settles in
-    let b = whole_bag (λ id. ⊥) u s (settle_line None) e.0 w t closed e.1 p.bag in
+    let b = whole_bag (λ id. ⊥) u s (settle_line None) e.0 w t closed e.1 (kept ∙ sym until) p.bag in
     are_answered first (IsUndelivered t.delivered) w b.true_there b.bag
     (taken_since first (first_true first begins) (p.whole ++ e.0) w
     (run_then first p.whole u e.0 w p.run (whole_run u s (settle_line None) e.0 w t closed e.1)))
@@ -383,22 +326,23 @@ settled_scripts_are_answered first_router first lines before events u w s t out 
 
 -- where the last line of a script is `settle`, every request is answered
 pub ends_answered : (first_router : ℕ) (first : World) → IsFirst first → (lines : List (List ℕ)) (events : List EventOrStop) (w : World) (s : ScriptView)
-    (out : List ℕ) → Plays first_router first lines events w s out → EndInSettle lines → HaveNoRestart lines → AreAnswered first w
-ends_answered first_router first begins _ _ _ _ _ (plays_none w run) (before, is) none =
+    (out : List ℕ) → Plays first_router first lines events w s out → EndInSettle lines → HaveNoRestart lines → w.missed ≡ first.missed
+    → AreAnswered first w
+ends_answered first_router first begins _ _ _ _ _ (plays_none w run) (before, is) none kept =
     absurd (omega (arith, length_push before (codes "settle"), ap (λ (l : List (List ℕ)). length l) is))
 ends_answered first_router first begins _ _ _ _ _ (plays_more lines earlier events u w s t out bytes line closed given played says is_played gives)
-    (before, is) none =
+    (before, is) none kept =
     let settle : line ≡ settle_line None = settles_alone bytes line says (same_from_push lines before bytes (codes "settle") is).1 in
     settled_scripts_are_answered first_router first lines earlier events u w s t out closed begins (none_before lines bytes none).0 played
-    (subst (λ l. IsPlayed u s l events w t closed) settle is_played)
+    (subst (λ l. IsPlayed u s l events w t closed) settle is_played) kept
 
 -- and where nodes stop, those that came since the last stop
 pub restarted_scripts_are_answered : (first_router : ℕ) (first : World) (lines : List (List ℕ)) (events : List EventOrStop) (w : World) (s : ScriptView)
-    (out : List ℕ) → IsFirst first → Plays first_router first lines events w s out → EndInSettle lines
+    (out : List ℕ) → IsFirst first → Plays first_router first lines events w s out → EndInSettle lines → w.missed ≡ first.missed
     → AreAnsweredAfterRestarts first_router first lines events w
-restarted_scripts_are_answered first_router first lines events w s out begins plays ends =
-    let p = plays_since_restart first_router first begins lines events w s out plays in
-    let good = (since_bag first p.early p.restarted begins (plays_run first_router first p.before p.early p.restarted p.script p.out p.played)
+restarted_scripts_are_answered first_router first lines events w s out begins plays ends none =
+    let p = plays_since_restart first_router first begins lines events w s out plays none in
+    let good = (since_bag first p.early p.restarted begins (plays_run first_router first p.before p.early p.restarted p.script p.out p.played) p.none_missed
     (λ n. Unit {0}) (λ n le. tt)).true_there in
     record {
       before = p.before;
@@ -419,12 +363,14 @@ restarted_scripts_are_answered first_router first lines events w s out begins pl
     }
 
 -- both, of all lines that were played
-unfoldable pub all_played : (first_router : ℕ) (first : World) → IsFirst first → (lines : List (List ℕ)) (events : List EventOrStop) (w : World) (s : ScriptView)
-    (out : List ℕ) → Plays first_router first lines events w s out → AllPlayed first_router first lines out w
-all_played first_router first begins lines events w s out plays = record {
+unfoldable pub all_played : (first_router : ℕ) (first : World) → IsFirst first → (lines : List (List ℕ)) (events : List EventOrStop) (w : World)
+    (s : ScriptView)
+    (out : List ℕ) → Plays first_router first lines events w s out → w.missed ≡ first.missed → AllPlayed first_router first lines out w
+all_played first_router first begins lines events w s out plays kept = record {
   events = events;
   script = s;
   played = plays;
-  answered = λ ends none. ends_answered first_router first begins lines events w s out plays ends none;
-  answered_after = λ ends. restarted_scripts_are_answered first_router first lines events w s out begins plays ends;
+  none_missed = kept;
+  answered = λ ends none. ends_answered first_router first begins lines events w s out plays ends none kept;
+  answered_after = λ ends. restarted_scripts_are_answered first_router first lines events w s out begins plays ends kept;
 }

@@ -91,6 +91,7 @@ module _ {S : Type 0} (view : S → SeatView) (hosts : Hosted S) (first_router :
         out = [];
         begins = begins;
         plays = plays_none r.end run;
+        none_missed = r.none_missed;
         stands = subst (λ (l : List ToLink). StandsFor view hosts network l r.end 0) (ap puts_given (sym none)) r.stands;
         put = λ told. sym (append-nil held);
         all = refl;
@@ -119,6 +120,7 @@ module _ {S : Type 0} (view : S → SeatView) (hosts : Hosted S) (first_router :
     end = s.end;
     out = [];
     cause = stops_by fault status is [] left [] s.end (opening_came left replies fault s);
+    none_missed = s.none_missed;
     put = λ told. sym (append-nil held);
     all = refl;
     each = tt;
@@ -152,6 +154,7 @@ module _ {S : Type 0} (view : S → SeatView) (hosts hosts_after : Hosted S) (be
     end = c.end;
     out = p.out;
     cause = cause;
+    none_missed = c.none_missed ∙ p.none_missed;
     put = p.put;
     all = p.all;
     each = p.each;
@@ -167,13 +170,15 @@ module _ {S : Type 0} (view : S → SeatView) (hosts hosts_after : Hosted S) (be
 
   -- the script stops where nothing is cut short, and of the line nothing was put
   stops_here : (others : List ℕ) (status : Status) (end : World) → StopsAt first_router first p.lines (bytes ++ newline ∷ others) p.out end status
-      → AreStill view hosts_after end → LeadsTo p.world end → Stopped view hosts_after first_router first tells noted held_before held consumed
+      → AreStill view hosts_after end → LeadsTo p.world end → end.missed ≡ p.world.missed → Stopped view hosts_after first_router first tells noted
+      held_before held consumed
       (bytes ++ newline ∷ others) status
-  stops_here others status end cause are on = record {
+  stops_here others status end cause are on none = record {
     lines = p.lines;
     end = end;
     out = p.out;
     cause = cause;
+    none_missed = none ∙ p.none_missed;
     put = p.put;
     all = p.all;
     each = p.each;
@@ -189,7 +194,8 @@ module _ {S : Type 0} (view : S → SeatView) (hosts hosts_after : Hosted S) (be
   unfolding all_played
   line_stopped others _ (bytes_refused refused are) =
       stops_here others statuses.BadInput p.world
-      (at_refused_line bytes others (next_line bytes others none) (all_played first_router first p.begins p.lines p.events p.world s p.out p.plays) refused) are (leads_nowhere p.world)
+      (at_refused_line bytes others (next_line bytes others none) (all_played first_router first p.begins p.lines p.events p.world s p.out p.plays
+      p.none_missed) refused) are (leads_nowhere p.world) refl
   line_stopped others _ (bytes_at_disk c) = stops_within others statuses.DiskFailed c (at_disk_fault (came_in others c.events c.end c.which c.run))
   line_stopped others _ (bytes_at_memory c) = stops_within others statuses.OutOfMemory c (at_no_memory (came_in others c.events c.end c.which c.run))
 
@@ -205,7 +211,8 @@ module _ {S : Type 0} (view : S → SeatView) (hosts hosts_after : Hosted S) (be
         stops_here others statuses.OutOfMemory h.played.end
         (at_no_memory (came_in others h.played.events h.played.end
         (part_read h.line h.played.events h.says (whole_is_part p.world s h.line h.played.events h.played.end t closed h.played.played)) h.played.run))
-        (still view hosts_after (network_view letter old) (puts_given p.world.answered) h.played.end h.played.stands) (h.played.events, h.played.run)
+        (still view hosts_after (network_view letter old) (puts_given p.world.answered) h.played.end h.played.stands)
+        (h.played.events, h.played.run) h.played.none_missed
 
     -- it is written after one note more of all disks
     line_few : IsTrue tells → length held ≤ length held_before + length p.out
@@ -228,7 +235,7 @@ module _ {S : Type 0} (view : S → SeatView) (hosts hosts_after : Hosted S) (be
         (printed s.links old.replies.items closed) (p.covered told) (
           p.lines ++ bytes ∷ [],
           all_played first_router first p.begins (p.lines ++ bytes ∷ []) (p.events ++ h.played.events) h.played.end t
-              (p.out ++ printed s.links old.replies.items closed) played_line,
+              (p.out ++ printed s.links old.replies.items closed) played_line (h.played.none_missed ∙ p.none_missed),
         )
         (leads_on first p.world h.played.end (p.events, plays_run first_router first p.lines p.events p.world s p.out p.plays) line_on) line_on (line_few told)
 
@@ -252,6 +259,7 @@ module _ {S : Type 0} (view : S → SeatView) (hosts hosts_after : Hosted S) (be
       begins = p.begins;
       plays = plays_more p.lines p.events h.played.events p.world h.played.end s t p.out bytes h.line closed old.replies.items p.plays h.says
           h.played.played gave;
+      none_missed = h.played.none_missed ∙ p.none_missed;
       stands = subst (λ (l : List ToLink). StandsFor after_view hosts_after (network_view letter new) l h.played.end 0) (sym gave)
           (handed_on after_view letter hosts_after (puts_given p.world.answered) h.played.end 0 old new h.played.stands waits silent);
       put = put_then tells held_before p.out held (printed s.links old.replies.items closed) held' p.put put;
@@ -288,6 +296,7 @@ module _ {S : Type 0} (view : S → SeatView) (hosts hosts_after : Hosted S) (be
         in_part = prefix;
         all = refl;
       });
+      none_missed = h.played.none_missed ∙ p.none_missed;
       put = put_then tells held_before p.out held part held' p.put put;
       all = p.all;
       each = p.each;
@@ -314,7 +323,8 @@ playing_full view hosts network first_router first tells noted held_before held 
   lines = p.lines;
   end = p.world;
   out = p.out;
-  cause = at_no_memory (came_lines p.lines left p.out p.world (all_played first_router first p.begins p.lines p.events p.world s p.out p.plays));
+  cause = at_no_memory (came_lines p.lines left p.out p.world (all_played first_router first p.begins p.lines p.events p.world s p.out p.plays p.none_missed));
+  none_missed = p.none_missed;
   put = p.put;
   all = p.all;
   each = p.each;

@@ -49,7 +49,8 @@ none_open s node router link is got shut = closes_none (λ r other same there.
 -- how the node stops in this line, whose message was marked
 module _ {S : Type 0} (view : S → SeatView) (hosts : Hosted S) (w : World) (s : ScriptView) (line : Line) (node : ℕ) (e : Option Event) (ds : List Bool)
     (stops : (x : EventOrStop) → StopsBy node e x → StopsNode w s line node x ds) where
-  pub returned : (network : NetworkView) (handed : List ToLink) (old new : ScriptView) (closed : Option ℕ) → old ≡ with_delivered s ds → HasReturned view hosts network handed w node e old new closed
+  pub returned : (network : NetworkView) (handed : List ToLink) (old new : ScriptView) (closed : Option ℕ) → old ≡ with_delivered s ds
+      → HasReturned view hosts network handed w node e old new closed
       → HasPlayed view hosts network handed w line s new closed
   returned network handed old new closed marks r =
       let x = unmarked s ds node new closed (subst (λ (v : ScriptView). ClosesLink v node new closed) marks r.closes) in
@@ -57,6 +58,7 @@ module _ {S : Type 0} (view : S → SeatView) (hosts : Hosted S) (w : World) (s 
         events = stop_and_open node r.again.stop;
         end = r.again.end;
         run = r.again.run;
+        none_missed = r.again.none_missed;
         played = subst (λ (v : ScriptView). IsPlayed w s line (stop_and_open node r.again.stop) r.again.end v closed) (sym x.2)
             (plays_restart line node r.again.stop ds r.again.end x.0 closed (stops r.again.stop r.again.which) r.again.run x.1);
         stands = r.again.stands;

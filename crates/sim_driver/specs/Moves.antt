@@ -19,13 +19,14 @@ use Rattle.pipe_driver.specs.declared.status.Status.TheVariants as statuses
 use Rattle.sim_driver.specs.Plays.{SettlesBut, client_events, is_passed}
 use Rattle.sim_driver.specs.Scripts.{ScriptView, ClosesLink, is_delivered, is_of_kind, marked, place_from, with_delivered}
 
--- the message at a place among all that were sent was delivered, or lost where it goes to no node
+-- the message at a place among all that were sent was delivered, or lost where it goes to no node, and no step was missed
 pub record HasDeliveredOne {S : Type 0} (view : S → SeatView) (hosted : Hosted S) (network : NetworkView) (handed : List ToLink) (before : World)
     (which : ℕ) : Type 0 where
   pub message : Letter
   pub end : World
   pub got : slice_get before.sent which ≡ Some message
   pub delivers : DeliversOrLoses before which message.receiver end
+  pub none_missed : end.missed ≡ before.missed
   pub stands : StandsFor view hosted network handed end 0
 
 -- the message at a place is delivered, or is about to be
@@ -42,12 +43,13 @@ pub data PassesOrDelivers {S : Type 0} (view : S → SeatView) (hosted : Hosted 
   has_delivered : (d : HasDeliveredOne view hosted network handed before which) → is_passed except old which d.message ≡ false → new ≡ marked which old
       → PassesOrDelivers view hosted network handed before except which old new
 
--- all that was not delivered was, but for the messages that are passed over
+-- all that was not delivered was, but for the messages that are passed over, and no step was missed
 pub record HasSettledBut {S : Type 0} (view : S → SeatView) (hosted : Hosted S) (network : NetworkView) (handed : List ToLink) (before : World)
     (except : Option (List ℕ)) (old new : List Bool) : Type 0 where
   pub events : List Event
   pub end : World
   pub settles : SettlesBut except before old 0 events end new (length end.sent)
+  pub none_missed : end.missed ≡ before.missed
   pub stands : StandsFor view hosted network handed end 0
 
 -- nothing happened
@@ -60,12 +62,13 @@ abbrev pub IsLastOf : Status → (events : List Event) → (List Event → Type 
 IsLastOf status events P end last =
     (last ≡ end) ⊎ ((status ≡ statuses.DiskFailed) × (e : Event) × P (events ++ e ∷ []) × Happens end e last)
 
--- Events happened, of which P holds, and then a fault came, with this status: the logs keep what the journals of that world keep.
+-- Events happened, of which P holds, and no step was missed, and then a fault came, with this status: the logs keep what the journals of that world keep.
 pub record IsCut {S : Type 0} (view : S → SeatView) (hosted : Hosted S) (before : World) (P : List Event → Type 0) (status : Status) : Type 0 where
   pub events : List Event
   pub end : World
   pub which : P events
   pub run : Run before events end
+  pub none_missed : end.missed ≡ before.missed
   pub kept : AreKept view hosted.seats end.nodes
   pub last : World
   pub is_last : IsLastOf status events P end last
@@ -76,7 +79,7 @@ abbrev pub HasFault : Option (FrameFault × ℕ) → Bool → Type 0
 HasFault None malformed = malformed ≡ false
 HasFault (Some fault) malformed = malformed ≡ true
 
--- the whole requests in the bytes of a link came to the router at a place
+-- the whole requests in the bytes of a link came to the router at a place, and no step was missed
 pub record HasAsked {S : Type 0} (view : S → SeatView) (hosted : Hosted S) (network : NetworkView) (handed : List ToLink) (before : World)
     (at link replied_before : ℕ) (bytes left : List ℕ) (replied : ℕ) (malformed : Bool) : Type 0 where
   pub requests : List Request
@@ -84,6 +87,7 @@ pub record HasAsked {S : Type 0} (view : S → SeatView) (hosted : Hosted S) (ne
   pub end : World
   pub frames : FramesFrom 0 bytes requests left fault
   pub run : Run before (client_events at link replied_before requests) end
+  pub none_missed : end.missed ≡ before.missed
   pub count : replied ≡ replies_behind replied_before requests
   pub ends : HasFault fault malformed
   pub stands : StandsFor view hosted network handed end 0

@@ -86,14 +86,14 @@ pub fn deliver_at<R: Threads + Sync, N: Node, L: Log, K: Witness<L::Of>>(
     requires at { at < deque_len network.old.waiting }
     requires open { AreOpen L.facts.is_open seats.old.items }
     ensures delivered { (since : Since L) (w : World) (handed : List ToLink) →
-        StandsFor (seat_since N.state L.facts since) (hosted K.tells L.facts since (K.noted out.old) seats.old.items) (network_view
+        StandsFor (seat_since N.state N.steps L.facts since) (hosted K.tells L.facts since (K.noted out.old) seats.old.items) (network_view
         (λ m. N.Mail.letter m) network.old) handed w 0 →
-        OnOk result (HasDeliveredOne (seat_since N.state L.facts since) (hosted K.tells L.facts since (K.noted out.new) seats.new.items)
+        OnOk result (HasDeliveredOne (seat_since N.state N.steps L.facts since) (hosted K.tells L.facts since (K.noted out.new) seats.new.items)
         (network_view (λ m. N.Mail.letter m) network.new) handed w at) }
     ensures cut { (since : Since L) (w : World) (handed : List ToLink) →
-        StandsFor (seat_since N.state L.facts since) (hosted K.tells L.facts since (K.noted out.old) seats.old.items) (network_view
+        StandsFor (seat_since N.state N.steps L.facts since) (hosted K.tells L.facts since (K.noted out.old) seats.old.items) (network_view
         (λ m. N.Mail.letter m) network.old) handed w 0 →
-        IfErr result (λ status. IsCut (seat_since N.state L.facts since) (hosted K.tells L.facts since (K.noted out.new) seats.new.items) w
+        IfErr result (λ status. IsCut (seat_since N.state N.steps L.facts since) (hosted K.tells L.facts since (K.noted out.new) seats.new.items) w
         (IsPartOfDelivery w at) status) }
     ensures len { vec_len seats.new ≡ vec_len seats.old }
     ensures open { result ≢ Err statuses.DiskFailed → AreOpen L.facts.is_open seats.new.items }
@@ -107,7 +107,8 @@ pub fn deliver_at<R: Threads + Sync, N: Node, L: Log, K: Witness<L::Of>>(
 
     // Of the logs' disks.
     ensures other { IfErr result (λ status. (status ≡ statuses.DiskFailed) ⊎ (status ≡ statuses.OutOfMemory)) }
-    ensures disk_fault { HaveRisenWhere (result ≡ Err statuses.DiskFailed) (faults_of L.facts.fault_count seats.old.items) (faults_of L.facts.fault_count seats.new.items) }
+    ensures disk_fault { HaveRisenWhere (result ≡ Err statuses.DiskFailed) (faults_of L.facts.fault_count seats.old.items)
+        (faults_of L.facts.fault_count seats.new.items) }
     ensures places { places_of L.facts.place seats.new.items ≡ places_of L.facts.place seats.old.items }
 {
     let message = match copy_at(alloc, &network.waiting, at) {
@@ -198,15 +199,15 @@ pub fn deliver_and_mark<R: Threads + Sync, N: Node, L: Log, K: Witness<L::Of>>(
     requires at { at < deque_len network.old.waiting }
     requires open { AreOpen L.facts.is_open seats.old.items }
     ensures delivered { (since : Since L) (w : World) (handed : List ToLink) →
-        StandsFor (seat_since N.state L.facts since) (hosted K.tells L.facts since (K.noted out.old) seats.old.items) (network_view
+        StandsFor (seat_since N.state N.steps L.facts since) (hosted K.tells L.facts since (K.noted out.old) seats.old.items) (network_view
         (λ m. N.Mail.letter m) network.old) handed w 0 →
-        OnOk result (HasDeliveredOne (seat_since N.state L.facts since) (hosted K.tells L.facts since (K.noted out.new) seats.new.items)
+        OnOk result (HasDeliveredOne (seat_since N.state N.steps L.facts since) (hosted K.tells L.facts since (K.noted out.new) seats.new.items)
         (network_view (λ m. N.Mail.letter m) network.new) handed w at) }
     ensures marked { OnOk result (delivered.new ≡ marked at delivered.old) }
     ensures cut { (since : Since L) (w : World) (handed : List ToLink) →
-        StandsFor (seat_since N.state L.facts since) (hosted K.tells L.facts since (K.noted out.old) seats.old.items) (network_view
+        StandsFor (seat_since N.state N.steps L.facts since) (hosted K.tells L.facts since (K.noted out.old) seats.old.items) (network_view
         (λ m. N.Mail.letter m) network.old) handed w 0 →
-        IfErr result (λ status. IsCut (seat_since N.state L.facts since) (hosted K.tells L.facts since (K.noted out.new) seats.new.items) w
+        IfErr result (λ status. IsCut (seat_since N.state N.steps L.facts since) (hosted K.tells L.facts since (K.noted out.new) seats.new.items) w
         (IsPartOfDelivery w at) status) }
     ensures len { vec_len seats.new ≡ vec_len seats.old }
     ensures open { result ≢ Err statuses.DiskFailed → AreOpen L.facts.is_open seats.new.items }
@@ -220,7 +221,8 @@ pub fn deliver_and_mark<R: Threads + Sync, N: Node, L: Log, K: Witness<L::Of>>(
 
     // Of the logs' disks.
     ensures other { IfErr result (λ status. (status ≡ statuses.DiskFailed) ⊎ (status ≡ statuses.OutOfMemory)) }
-    ensures disk_fault { HaveRisenWhere (result ≡ Err statuses.DiskFailed) (faults_of L.facts.fault_count seats.old.items) (faults_of L.facts.fault_count seats.new.items) }
+    ensures disk_fault { HaveRisenWhere (result ≡ Err statuses.DiskFailed) (faults_of L.facts.fault_count seats.old.items)
+        (faults_of L.facts.fault_count seats.new.items) }
     ensures places { places_of L.facts.place seats.new.items ≡ places_of L.facts.place seats.old.items }
 {
     match deliver_at(rt, alloc, seats, out, network, at) {
@@ -250,14 +252,14 @@ fn deliver_unless<R: Threads + Sync, N: Node, L: Log, K: Witness<L::Of>>(
     requires at { at < deque_len network.old.waiting }
     requires open { AreOpen L.facts.is_open seats.old.items }
     ensures delivered { (since : Since L) (w : World) (handed : List ToLink) →
-        StandsFor (seat_since N.state L.facts since) (hosted K.tells L.facts since (K.noted out.old) seats.old.items) (network_view
+        StandsFor (seat_since N.state N.steps L.facts since) (hosted K.tells L.facts since (K.noted out.old) seats.old.items) (network_view
         (λ m. N.Mail.letter m) network.old) handed w 0 →
-        OnOk result (PassesOrDelivers (seat_since N.state L.facts since) (hosted K.tells L.facts since (K.noted out.new) seats.new.items)
+        OnOk result (PassesOrDelivers (seat_since N.state N.steps L.facts since) (hosted K.tells L.facts since (K.noted out.new) seats.new.items)
         (network_view (λ m. N.Mail.letter m) network.new) handed w (option_map (λ k. k.now) except.entry) at delivered.old delivered.new) }
     ensures cut { (since : Since L) (w : World) (handed : List ToLink) →
-        StandsFor (seat_since N.state L.facts since) (hosted K.tells L.facts since (K.noted out.old) seats.old.items) (network_view
+        StandsFor (seat_since N.state N.steps L.facts since) (hosted K.tells L.facts since (K.noted out.old) seats.old.items) (network_view
         (λ m. N.Mail.letter m) network.old) handed w 0 →
-        IfErr result (λ status. IsCut (seat_since N.state L.facts since) (hosted K.tells L.facts since (K.noted out.new) seats.new.items) w
+        IfErr result (λ status. IsCut (seat_since N.state N.steps L.facts since) (hosted K.tells L.facts since (K.noted out.new) seats.new.items) w
         (IsPartOfDelivery w at) status) }
     ensures len { vec_len seats.new ≡ vec_len seats.old }
     ensures open { result ≢ Err statuses.DiskFailed → AreOpen L.facts.is_open seats.new.items }
@@ -271,7 +273,8 @@ fn deliver_unless<R: Threads + Sync, N: Node, L: Log, K: Witness<L::Of>>(
 
     // Of the logs' disks.
     ensures other { IfErr result (λ status. (status ≡ statuses.DiskFailed) ⊎ (status ≡ statuses.OutOfMemory)) }
-    ensures disk_fault { HaveRisenWhere (result ≡ Err statuses.DiskFailed) (faults_of L.facts.fault_count seats.old.items) (faults_of L.facts.fault_count seats.new.items) }
+    ensures disk_fault { HaveRisenWhere (result ≡ Err statuses.DiskFailed) (faults_of L.facts.fault_count seats.old.items)
+        (faults_of L.facts.fault_count seats.new.items) }
     ensures places { places_of L.facts.place seats.new.items ≡ places_of L.facts.place seats.old.items }
 {
     if is_passed(&network.waiting, at, except, delivered) {
@@ -301,14 +304,14 @@ pub fn settle_but<R: Threads + Sync, N: Node, L: Log, K: Witness<L::Of>>(
     requires open { AreOpen L.facts.is_open seats.old.items }
     requires first { AreDelivered first delivered.old }
     ensures settled { (since : Since L) (w : World) (handed : List ToLink) → length delivered.old ≤ length w.sent →
-        StandsFor (seat_since N.state L.facts since) (hosted K.tells L.facts since (K.noted out.old) seats.old.items) (network_view
+        StandsFor (seat_since N.state N.steps L.facts since) (hosted K.tells L.facts since (K.noted out.old) seats.old.items) (network_view
         (λ m. N.Mail.letter m) network.old) handed w 0 →
-        OnOk result (HasSettledBut (seat_since N.state L.facts since) (hosted K.tells L.facts since (K.noted out.new) seats.new.items)
+        OnOk result (HasSettledBut (seat_since N.state N.steps L.facts since) (hosted K.tells L.facts since (K.noted out.new) seats.new.items)
         (network_view (λ m. N.Mail.letter m) network.new) handed w (option_map (λ k. k.now) except.entry) delivered.old delivered.new) }
     ensures cut { (since : Since L) (w : World) (handed : List ToLink) → length delivered.old ≤ length w.sent →
-        StandsFor (seat_since N.state L.facts since) (hosted K.tells L.facts since (K.noted out.old) seats.old.items) (network_view
+        StandsFor (seat_since N.state N.steps L.facts since) (hosted K.tells L.facts since (K.noted out.old) seats.old.items) (network_view
         (λ m. N.Mail.letter m) network.old) handed w 0 →
-        IfErr result (λ status. IsCut (seat_since N.state L.facts since) (hosted K.tells L.facts since (K.noted out.new) seats.new.items) w
+        IfErr result (λ status. IsCut (seat_since N.state N.steps L.facts since) (hosted K.tells L.facts since (K.noted out.new) seats.new.items) w
         (IsPartOfSettling (option_map (λ k. k.now) except.entry) w delivered.old) status) }
     ensures len { vec_len seats.new ≡ vec_len seats.old }
     ensures open { result ≢ Err statuses.DiskFailed → AreOpen L.facts.is_open seats.new.items }
@@ -320,7 +323,8 @@ pub fn settle_but<R: Threads + Sync, N: Node, L: Log, K: Witness<L::Of>>(
 
     // Of the logs' disks.
     ensures other { IfErr result (λ status. (status ≡ statuses.DiskFailed) ⊎ (status ≡ statuses.OutOfMemory)) }
-    ensures disk_fault { HaveRisenWhere (result ≡ Err statuses.DiskFailed) (faults_of L.facts.fault_count seats.old.items) (faults_of L.facts.fault_count seats.new.items) }
+    ensures disk_fault { HaveRisenWhere (result ≡ Err statuses.DiskFailed) (faults_of L.facts.fault_count seats.old.items)
+        (faults_of L.facts.fault_count seats.new.items) }
     ensures places { places_of L.facts.place seats.new.items ≡ places_of L.facts.place seats.old.items }
 {
     let mut at = first;

@@ -61,21 +61,25 @@ pub fn answer_line<
     ensures answered { AreAskedAsRead N.asks → IsTrue L.facts.tells → (since : Since L) (first_router : ℕ) (first : World) →
         MayPlay first_router first → HaveParts (O.part opener.now) first.nodes →
         (held_before consumed : List ℕ) →
-        Playing (seat_since N.state L.facts since) (hosted K.tells L.facts since (K.noted out.old) seats.old.items) (network_view (λ m. N.Mail.letter m) network.old)
+        Playing (seat_since N.state N.steps L.facts since) (hosted K.tells L.facts since (K.noted out.old) seats.old.items)
+        (network_view (λ m. N.Mail.letter m) network.old)
         first_router first K.tells since.noted held_before (K.held out.old) (script_view script.old) consumed →
         AreNoted K.tells (K.noted out.old) (places_of L.facts.place seats.old.items) since.noted →
         OnOk result (WithNotes K.tells (K.noted out.new) (places_of L.facts.place seats.new.items)
-        (λ noted. Playing (seat_since N.state L.facts (with_notes since noted)) (hosted K.tells L.facts since (K.noted out.new) seats.new.items) (network_view
+        (λ noted. Playing (seat_since N.state N.steps L.facts (with_notes since noted)) (hosted K.tells L.facts since (K.noted out.new) seats.new.items)
+        (network_view
         (λ m. N.Mail.letter m) network.new)
         first_router first K.tells noted held_before (K.held out.new) (script_view script.new) (consumed ++ (line.now ++ newline ∷ [])))) }
     ensures stopped { AreAskedAsRead N.asks → IsTrue L.facts.tells → (since : Since L) (first_router : ℕ) (first : World) →
         MayPlay first_router first → HaveParts (O.part opener.now) first.nodes →
         (held_before consumed others : List ℕ) →
-        Playing (seat_since N.state L.facts since) (hosted K.tells L.facts since (K.noted out.old) seats.old.items) (network_view (λ m. N.Mail.letter m) network.old)
+        Playing (seat_since N.state N.steps L.facts since) (hosted K.tells L.facts since (K.noted out.old) seats.old.items)
+        (network_view (λ m. N.Mail.letter m) network.old)
         first_router first K.tells since.noted held_before (K.held out.old) (script_view script.old) consumed →
         AreNoted K.tells (K.noted out.old) (places_of L.facts.place seats.old.items) since.noted →
         IfErr result (λ status. WithNotes K.tells (K.noted out.new) (places_of L.facts.place seats.new.items)
-        (λ noted. Stopped (seat_since N.state L.facts (with_notes since noted)) (hosted K.tells L.facts since (K.noted out.new) seats.new.items) first_router first K.tells noted held_before
+        (λ noted. Stopped (seat_since N.state N.steps L.facts (with_notes since noted)) (hosted K.tells L.facts since (K.noted out.new) seats.new.items)
+        first_router first K.tells noted held_before
         (K.held out.new) consumed
         (line.now ++ newline ∷ others) status)) }
     ensures router { script.new.first_router ≡ script.old.first_router }
@@ -86,7 +90,8 @@ pub fn answer_line<
 
     // Of the devices.
     ensures write_fault { RoseWhere (result ≡ Err statuses.WriteFailed) (K.fault_count out.old) (K.fault_count out.new) }
-    ensures disk_fault { HaveRisenWhere (result ≡ Err statuses.DiskFailed) (faults_of L.facts.fault_count seats.old.items) (faults_of L.facts.fault_count seats.new.items) }
+    ensures disk_fault { HaveRisenWhere (result ≡ Err statuses.DiskFailed) (faults_of L.facts.fault_count seats.old.items)
+        (faults_of L.facts.fault_count seats.new.items) }
     ensures places { places_of L.facts.place seats.new.items ≡ places_of L.facts.place seats.old.items }
 {
     let numbers = match numbers_of(alloc, &script.links) {
@@ -136,21 +141,25 @@ pub fn play_piece<
     ensures played { AreAskedAsRead N.asks → IsTrue L.facts.tells → (since : Since L) (first_router : ℕ) (first : World) →
         MayPlay first_router first → HaveParts (O.part opener.now) first.nodes →
         (held_before consumed : List ℕ) →
-        Playing (seat_since N.state L.facts since) (hosted K.tells L.facts since (K.noted out.old) seats.old.items) (network_view (λ m. N.Mail.letter m) network.old)
+        Playing (seat_since N.state N.steps L.facts since) (hosted K.tells L.facts since (K.noted out.old) seats.old.items)
+        (network_view (λ m. N.Mail.letter m) network.old)
         first_router first K.tells since.noted held_before (K.held out.old) (script_view script.old) consumed →
         AreNoted K.tells (K.noted out.old) (places_of L.facts.place seats.old.items) since.noted →
         OnOk result (WithNotes K.tells (K.noted out.new) (places_of L.facts.place seats.new.items)
-        (λ noted. HasPlayedLines (seat_since N.state L.facts (with_notes since noted)) (hosted K.tells L.facts since (K.noted out.new) seats.new.items) (network_view
+        (λ noted. HasPlayedLines (seat_since N.state N.steps L.facts (with_notes since noted)) (hosted K.tells L.facts since
+        (K.noted out.new) seats.new.items) (network_view
         (λ m. N.Mail.letter m) network.new)
         first_router first K.tells noted held_before (K.held out.new) (script_view script.new) (consumed ++ (begun.old.items ++ piece.now)) begun.new.items)) }
     ensures stopped { AreAskedAsRead N.asks → IsTrue L.facts.tells → (since : Since L) (first_router : ℕ) (first : World) →
         MayPlay first_router first → HaveParts (O.part opener.now) first.nodes →
         (held_before consumed : List ℕ) →
-        Playing (seat_since N.state L.facts since) (hosted K.tells L.facts since (K.noted out.old) seats.old.items) (network_view (λ m. N.Mail.letter m) network.old)
+        Playing (seat_since N.state N.steps L.facts since) (hosted K.tells L.facts since (K.noted out.old) seats.old.items)
+        (network_view (λ m. N.Mail.letter m) network.old)
         first_router first K.tells since.noted held_before (K.held out.old) (script_view script.old) consumed →
         AreNoted K.tells (K.noted out.old) (places_of L.facts.place seats.old.items) since.noted →
         IfErr result (λ status. WithNotes K.tells (K.noted out.new) (places_of L.facts.place seats.new.items)
-        (λ noted. HasStoppedIn (seat_since N.state L.facts (with_notes since noted)) (hosted K.tells L.facts since (K.noted out.new) seats.new.items) first_router first K.tells noted
+        (λ noted. HasStoppedIn (seat_since N.state N.steps L.facts (with_notes since noted)) (hosted K.tells L.facts since (K.noted out.new) seats.new.items)
+        first_router first K.tells noted
         held_before (K.held out.new)
         (consumed ++ (begun.old.items ++ piece.now)) status)) }
     ensures begun { OnOk result (HasNone newline begun.new.items) }
@@ -162,7 +171,8 @@ pub fn play_piece<
 
     // Of the devices.
     ensures write_fault { RoseWhere (result ≡ Err statuses.WriteFailed) (K.fault_count out.old) (K.fault_count out.new) }
-    ensures disk_fault { HaveRisenWhere (result ≡ Err statuses.DiskFailed) (faults_of L.facts.fault_count seats.old.items) (faults_of L.facts.fault_count seats.new.items) }
+    ensures disk_fault { HaveRisenWhere (result ≡ Err statuses.DiskFailed) (faults_of L.facts.fault_count seats.old.items)
+        (faults_of L.facts.fault_count seats.new.items) }
     ensures places { places_of L.facts.place seats.new.items ≡ places_of L.facts.place seats.old.items }
 {
     let mut rest = piece;

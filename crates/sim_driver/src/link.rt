@@ -101,21 +101,23 @@ impl Link {
         requires at { at < vec_len seats.old }
         requires open { AreOpen L.facts.is_open seats.old.items }
         ensures asked { AreAskedAsRead N.asks → (since : Since L) (w : World) (handed : List ToLink) → IsRouter w.nodes at →
-            StandsFor (seat_since N.state L.facts since) (hosted K.tells L.facts since (K.noted out.old) seats.old.items) (network_view
+            StandsFor (seat_since N.state N.steps L.facts since) (hosted K.tells L.facts since (K.noted out.old) seats.old.items) (network_view
             (λ m. N.Mail.letter m) network.old) handed w 0 →
-            result ≡ Ok false → HasAsked (seat_since N.state L.facts since) (hosted K.tells L.facts since (K.noted out.new) seats.new.items) (network_view
+            result ≡ Ok false → HasAsked (seat_since N.state N.steps L.facts since) (hosted K.tells L.facts since (K.noted out.new) seats.new.items)
+            (network_view
             (λ m. N.Mail.letter m) network.new) handed w
             at self.old.number self.old.replied (self.old.left ++ bytes.now) self.new.left self.new.replied false }
         ensures malformed { AreAskedAsRead N.asks → (since : Since L) (w : World) (handed : List ToLink) → IsRouter w.nodes at →
-            StandsFor (seat_since N.state L.facts since) (hosted K.tells L.facts since (K.noted out.old) seats.old.items) (network_view
+            StandsFor (seat_since N.state N.steps L.facts since) (hosted K.tells L.facts since (K.noted out.old) seats.old.items) (network_view
             (λ m. N.Mail.letter m) network.old) handed w 0 →
-            result ≡ Ok true → (left : List ℕ) × (replied : ℕ) × HasAsked (seat_since N.state L.facts since) (hosted K.tells L.facts since (K.noted out.new) seats.new.items) (network_view
+            result ≡ Ok true → (left : List ℕ) × (replied : ℕ) × HasAsked (seat_since N.state N.steps L.facts since)
+            (hosted K.tells L.facts since (K.noted out.new) seats.new.items) (network_view
             (λ m. N.Mail.letter m) network.new) handed w
             at self.old.number self.old.replied (self.old.left ++ bytes.now) left replied true }
         ensures cut { AreAskedAsRead N.asks → (since : Since L) (w : World) (handed : List ToLink) → IsRouter w.nodes at →
-            StandsFor (seat_since N.state L.facts since) (hosted K.tells L.facts since (K.noted out.old) seats.old.items) (network_view
+            StandsFor (seat_since N.state N.steps L.facts since) (hosted K.tells L.facts since (K.noted out.old) seats.old.items) (network_view
             (λ m. N.Mail.letter m) network.old) handed w 0 →
-            IfErr result (λ status. IsCut (seat_since N.state L.facts since) (hosted K.tells L.facts since (K.noted out.new) seats.new.items) w
+            IfErr result (λ status. IsCut (seat_since N.state N.steps L.facts since) (hosted K.tells L.facts since (K.noted out.new) seats.new.items) w
             (IsFirstAsked at self.old.number self.old.replied (self.old.left ++ bytes.now)) status) }
         ensures number { self.new.number ≡ self.old.number }
         ensures opened { result ≡ Ok false → self.new.is_open ≡ true }
@@ -129,7 +131,8 @@ impl Link {
 
         // Of the logs' disks.
         ensures other { IfErr result (λ status. (status ≡ statuses.DiskFailed) ⊎ (status ≡ statuses.OutOfMemory)) }
-        ensures disk_fault { HaveRisenWhere (result ≡ Err statuses.DiskFailed) (faults_of L.facts.fault_count seats.old.items) (faults_of L.facts.fault_count seats.new.items) }
+        ensures disk_fault { HaveRisenWhere (result ≡ Err statuses.DiskFailed) (faults_of L.facts.fault_count seats.old.items)
+            (faults_of L.facts.fault_count seats.new.items) }
         ensures places { places_of L.facts.place seats.new.items ≡ places_of L.facts.place seats.old.items }
     {
         let mut framer = mem::replace(&mut self.framer, Framer::new(alloc));

@@ -42,15 +42,16 @@ pub fn play_deliver<R: Threads + Sync, N: Node, L: Log, K: Witness<L::Of>>(
 ) -> Result<(), Status>
     requires open { AreOpen L.facts.is_open seats.old.items }
     ensures played { (since : Since L) (w : World) (handed : List ToLink) →
-        StandsFor (seat_since N.state L.facts since) (hosted K.tells L.facts since (K.noted out.old) seats.old.items) (network_view
+        StandsFor (seat_since N.state N.steps L.facts since) (hosted K.tells L.facts since (K.noted out.old) seats.old.items) (network_view
         (λ m. N.Mail.letter m) network.old) handed w 0 →
-        OnOk result (HasPlayedWhole (seat_since N.state L.facts since) (hosted K.tells L.facts since (K.noted out.new) seats.new.items) (network_view
+        OnOk result (HasPlayedWhole (seat_since N.state N.steps L.facts since) (hosted K.tells L.facts since (K.noted out.new) seats.new.items) (network_view
         (λ m. N.Mail.letter m) network.new) handed w
         (deliver_line node k) (script_view script.old) (script_view script.new) None) }
     ensures stops { (since : Since L) (w : World) (handed : List ToLink) →
-        StandsFor (seat_since N.state L.facts since) (hosted K.tells L.facts since (K.noted out.old) seats.old.items) (network_view
+        StandsFor (seat_since N.state N.steps L.facts since) (hosted K.tells L.facts since (K.noted out.old) seats.old.items) (network_view
         (λ m. N.Mail.letter m) network.old) handed w 0 →
-        IfErr result (StopsWhole (seat_since N.state L.facts since) (hosted K.tells L.facts since (K.noted out.new) seats.new.items) w (deliver_line node k)
+        IfErr result (StopsWhole (seat_since N.state N.steps L.facts since) (hosted K.tells L.facts since (K.noted out.new) seats.new.items) w
+        (deliver_line node k)
         (script_view script.old)) }
     ensures len { vec_len seats.new ≡ vec_len seats.old }
     ensures router { script.new.first_router ≡ script.old.first_router }
@@ -64,7 +65,8 @@ pub fn play_deliver<R: Threads + Sync, N: Node, L: Log, K: Witness<L::Of>>(
     ensures noted { IsTrue K.tells → HasMore (K.noted out.old) (K.noted out.new) }
 
     // Of the logs' disks.
-    ensures disk_fault { HaveRisenWhere (result ≡ Err statuses.DiskFailed) (faults_of L.facts.fault_count seats.old.items) (faults_of L.facts.fault_count seats.new.items) }
+    ensures disk_fault { HaveRisenWhere (result ≡ Err statuses.DiskFailed) (faults_of L.facts.fault_count seats.old.items)
+        (faults_of L.facts.fault_count seats.new.items) }
     ensures places { places_of L.facts.place seats.new.items ≡ places_of L.facts.place seats.old.items }
 {
     if node >= seats.len() as u64 {
@@ -97,16 +99,17 @@ pub fn play_settle<R: Threads + Sync, N: Node, L: Log, K: Witness<L::Of>>(
     requires open { AreOpen L.facts.is_open seats.old.items }
     ensures played { (since : Since L) (w : World) (handed : List ToLink) →
         length script.old.delivered ≤ length w.sent →
-        StandsFor (seat_since N.state L.facts since) (hosted K.tells L.facts since (K.noted out.old) seats.old.items) (network_view
+        StandsFor (seat_since N.state N.steps L.facts since) (hosted K.tells L.facts since (K.noted out.old) seats.old.items) (network_view
         (λ m. N.Mail.letter m) network.old) handed w 0 →
-        OnOk result (HasPlayedWhole (seat_since N.state L.facts since) (hosted K.tells L.facts since (K.noted out.new) seats.new.items) (network_view
+        OnOk result (HasPlayedWhole (seat_since N.state N.steps L.facts since) (hosted K.tells L.facts since (K.noted out.new) seats.new.items) (network_view
         (λ m. N.Mail.letter m) network.new) handed w
         (settle_line (option_map (λ k. k.now) except.entry)) (script_view script.old) (script_view script.new) None) }
     ensures stops { (since : Since L) (w : World) (handed : List ToLink) →
         length script.old.delivered ≤ length w.sent →
-        StandsFor (seat_since N.state L.facts since) (hosted K.tells L.facts since (K.noted out.old) seats.old.items) (network_view
+        StandsFor (seat_since N.state N.steps L.facts since) (hosted K.tells L.facts since (K.noted out.old) seats.old.items) (network_view
         (λ m. N.Mail.letter m) network.old) handed w 0 →
-        IfErr result (StopsWhole (seat_since N.state L.facts since) (hosted K.tells L.facts since (K.noted out.new) seats.new.items) w (settle_line (option_map (λ k. k.now) except.entry))
+        IfErr result (StopsWhole (seat_since N.state N.steps L.facts since) (hosted K.tells L.facts since (K.noted out.new) seats.new.items) w
+        (settle_line (option_map (λ k. k.now) except.entry))
         (script_view script.old)) }
     ensures len { vec_len seats.new ≡ vec_len seats.old }
     ensures router { script.new.first_router ≡ script.old.first_router }
@@ -120,7 +123,8 @@ pub fn play_settle<R: Threads + Sync, N: Node, L: Log, K: Witness<L::Of>>(
     ensures noted { IsTrue K.tells → HasMore (K.noted out.old) (K.noted out.new) }
 
     // Of the logs' disks.
-    ensures disk_fault { HaveRisenWhere (result ≡ Err statuses.DiskFailed) (faults_of L.facts.fault_count seats.old.items) (faults_of L.facts.fault_count seats.new.items) }
+    ensures disk_fault { HaveRisenWhere (result ≡ Err statuses.DiskFailed) (faults_of L.facts.fault_count seats.old.items)
+        (faults_of L.facts.fault_count seats.new.items) }
     ensures places { places_of L.facts.place seats.new.items ≡ places_of L.facts.place seats.old.items }
 {
     let first = script.delivered.next();
@@ -156,15 +160,16 @@ pub fn play_next<R: Threads + Sync, N: Node, L: Log, K: Witness<L::Of>>(
 ) -> Result<(), Status>
     requires open { AreOpen L.facts.is_open seats.old.items }
     ensures played { (since : Since L) (w : World) (handed : List ToLink) →
-        StandsFor (seat_since N.state L.facts since) (hosted K.tells L.facts since (K.noted out.old) seats.old.items) (network_view
+        StandsFor (seat_since N.state N.steps L.facts since) (hosted K.tells L.facts since (K.noted out.old) seats.old.items) (network_view
         (λ m. N.Mail.letter m) network.old) handed w 0 →
-        OnOk result (HasPlayedWhole (seat_since N.state L.facts since) (hosted K.tells L.facts since (K.noted out.new) seats.new.items) (network_view
+        OnOk result (HasPlayedWhole (seat_since N.state N.steps L.facts since) (hosted K.tells L.facts since (K.noted out.new) seats.new.items) (network_view
         (λ m. N.Mail.letter m) network.new) handed w
         (next_line kind.now) (script_view script.old) (script_view script.new) None) }
     ensures stops { (since : Since L) (w : World) (handed : List ToLink) →
-        StandsFor (seat_since N.state L.facts since) (hosted K.tells L.facts since (K.noted out.old) seats.old.items) (network_view
+        StandsFor (seat_since N.state N.steps L.facts since) (hosted K.tells L.facts since (K.noted out.old) seats.old.items) (network_view
         (λ m. N.Mail.letter m) network.old) handed w 0 →
-        IfErr result (StopsWhole (seat_since N.state L.facts since) (hosted K.tells L.facts since (K.noted out.new) seats.new.items) w (next_line kind.now)
+        IfErr result (StopsWhole (seat_since N.state N.steps L.facts since) (hosted K.tells L.facts since (K.noted out.new) seats.new.items) w
+        (next_line kind.now)
         (script_view script.old)) }
     ensures len { vec_len seats.new ≡ vec_len seats.old }
     ensures router { script.new.first_router ≡ script.old.first_router }
@@ -178,7 +183,8 @@ pub fn play_next<R: Threads + Sync, N: Node, L: Log, K: Witness<L::Of>>(
     ensures noted { IsTrue K.tells → HasMore (K.noted out.old) (K.noted out.new) }
 
     // Of the logs' disks.
-    ensures disk_fault { HaveRisenWhere (result ≡ Err statuses.DiskFailed) (faults_of L.facts.fault_count seats.old.items) (faults_of L.facts.fault_count seats.new.items) }
+    ensures disk_fault { HaveRisenWhere (result ≡ Err statuses.DiskFailed) (faults_of L.facts.fault_count seats.old.items)
+        (faults_of L.facts.fault_count seats.new.items) }
     ensures places { places_of L.facts.place seats.new.items ≡ places_of L.facts.place seats.old.items }
 {
     let first = script.delivered.next();

@@ -56,17 +56,18 @@ pub fn play_said<
     ensures played { AreAskedAsRead N.asks → IsTrue L.facts.tells → (since : Since L) (w : World) (handed : List ToLink) →
         MayStop (O.part opener.now) w → HasRouters script.old.first_router w →
         length script.old.delivered ≤ length w.sent →
-        StandsFor (seat_since N.state L.facts since) (hosted K.tells L.facts since (K.noted out.old) seats.old.items) (network_view
+        StandsFor (seat_since N.state N.steps L.facts since) (hosted K.tells L.facts since (K.noted out.old) seats.old.items) (network_view
         (λ m. N.Mail.letter m) network.old) handed w 0 →
-        IfOk result (λ closed. HasPlayed (seat_since N.state L.facts since) (hosted K.tells L.facts since (K.noted out.new) seats.new.items) (network_view
+        IfOk result (λ closed. HasPlayed (seat_since N.state N.steps L.facts since) (hosted K.tells L.facts since (K.noted out.new) seats.new.items)
+        (network_view
         (λ m. N.Mail.letter m) network.new) handed w
         (meaning_of line) (script_view script.old) (script_view script.new) closed) }
     ensures stops { AreAskedAsRead N.asks → IsTrue L.facts.tells → (since : Since L) (w : World) (handed : List ToLink) →
         MayStop (O.part opener.now) w → HasRouters script.old.first_router w →
         length script.old.delivered ≤ length w.sent →
-        StandsFor (seat_since N.state L.facts since) (hosted K.tells L.facts since (K.noted out.old) seats.old.items) (network_view
+        StandsFor (seat_since N.state N.steps L.facts since) (hosted K.tells L.facts since (K.noted out.old) seats.old.items) (network_view
         (λ m. N.Mail.letter m) network.old) handed w 0 →
-        IfErr result (StopsLine (seat_since N.state L.facts since) (hosted K.tells L.facts since (K.noted out.new) seats.new.items) w (meaning_of line)
+        IfErr result (StopsLine (seat_since N.state N.steps L.facts since) (hosted K.tells L.facts since (K.noted out.new) seats.new.items) w (meaning_of line)
         (script_view script.old)) }
     ensures len { vec_len seats.new ≡ vec_len seats.old }
     ensures router { script.new.first_router ≡ script.old.first_router }
@@ -80,7 +81,8 @@ pub fn play_said<
     ensures noted { IsTrue K.tells → HasMore (K.noted out.old) (K.noted out.new) }
 
     // Of the logs' disks.
-    ensures disk_fault { HaveRisenWhere (result ≡ Err statuses.DiskFailed) (faults_of L.facts.fault_count seats.old.items) (faults_of L.facts.fault_count seats.new.items) }
+    ensures disk_fault { HaveRisenWhere (result ≡ Err statuses.DiskFailed) (faults_of L.facts.fault_count seats.old.items)
+        (faults_of L.facts.fault_count seats.new.items) }
     ensures places { places_of L.facts.place seats.new.items ≡ places_of L.facts.place seats.old.items }
 {
     match line {
@@ -145,17 +147,18 @@ pub fn play_line<
     ensures played { AreAskedAsRead N.asks → IsTrue L.facts.tells → (since : Since L) (w : World) (handed : List ToLink) →
         MayStop (O.part opener.now) w → HasRouters script.old.first_router w →
         length script.old.delivered ≤ length w.sent →
-        StandsFor (seat_since N.state L.facts since) (hosted K.tells L.facts since (K.noted out.old) seats.old.items) (network_view
+        StandsFor (seat_since N.state N.steps L.facts since) (hosted K.tells L.facts since (K.noted out.old) seats.old.items) (network_view
         (λ m. N.Mail.letter m) network.old) handed w 0 →
-        IfOk result (λ closed. HasPlayedBytes (seat_since N.state L.facts since) (hosted K.tells L.facts since (K.noted out.new) seats.new.items) (network_view
+        IfOk result (λ closed. HasPlayedBytes (seat_since N.state N.steps L.facts since) (hosted K.tells L.facts since (K.noted out.new) seats.new.items)
+        (network_view
         (λ m. N.Mail.letter m) network.new) handed w
         line.now (script_view script.old) (script_view script.new) closed) }
     ensures stops { AreAskedAsRead N.asks → IsTrue L.facts.tells → (since : Since L) (w : World) (handed : List ToLink) →
         MayStop (O.part opener.now) w → HasRouters script.old.first_router w →
         length script.old.delivered ≤ length w.sent →
-        StandsFor (seat_since N.state L.facts since) (hosted K.tells L.facts since (K.noted out.old) seats.old.items) (network_view
+        StandsFor (seat_since N.state N.steps L.facts since) (hosted K.tells L.facts since (K.noted out.old) seats.old.items) (network_view
         (λ m. N.Mail.letter m) network.old) handed w 0 →
-        IfErr result (StopsBytes (seat_since N.state L.facts since) (hosted K.tells L.facts since (K.noted out.new) seats.new.items) w line.now
+        IfErr result (StopsBytes (seat_since N.state N.steps L.facts since) (hosted K.tells L.facts since (K.noted out.new) seats.new.items) w line.now
         (script_view script.old)) }
     ensures len { vec_len seats.new ≡ vec_len seats.old }
     ensures router { script.new.first_router ≡ script.old.first_router }
@@ -169,7 +172,8 @@ pub fn play_line<
     ensures noted { IsTrue K.tells → HasMore (K.noted out.old) (K.noted out.new) }
 
     // Of the logs' disks.
-    ensures disk_fault { HaveRisenWhere (result ≡ Err statuses.DiskFailed) (faults_of L.facts.fault_count seats.old.items) (faults_of L.facts.fault_count seats.new.items) }
+    ensures disk_fault { HaveRisenWhere (result ≡ Err statuses.DiskFailed) (faults_of L.facts.fault_count seats.old.items)
+        (faults_of L.facts.fault_count seats.new.items) }
     ensures places { places_of L.facts.place seats.new.items ≡ places_of L.facts.place seats.old.items }
 {
     match read_line(alloc, line) {

@@ -47,15 +47,16 @@ fn play_stop<N: Node, L: Log, K: Witness<L::Of>, O: Opens<N, L>>(
     requires open { AreOpen L.facts.is_open seats.old.items }
     ensures returned { IsTrue L.facts.tells → (since : Since L) (w : World) (handed : List ToLink) (e : Option Event) →
         MayStop (O.part opener.now) w → MayGive w at e (option_map (λ i. N.meaning i) input) →
-        StandsFor (seat_since N.state L.facts since) (hosted K.tells L.facts since (K.noted out.old) seats.old.items)
+        StandsFor (seat_since N.state N.steps L.facts since) (hosted K.tells L.facts since (K.noted out.old) seats.old.items)
         (network_view (λ m. N.Mail.letter m) network.old) handed w 0 →
-        IfOk result (λ closed. HasReturned (seat_since N.state L.facts since) (hosted K.tells L.facts since (K.noted out.new) seats.new.items)
+        IfOk result (λ closed. HasReturned (seat_since N.state N.steps L.facts since) (hosted K.tells L.facts since (K.noted out.new) seats.new.items)
         (network_view (λ m. N.Mail.letter m) network.new) handed w at e (script_view script.old) (script_view script.new) closed) }
     ensures cut { IsTrue L.facts.tells → (since : Since L) (w : World) (handed : List ToLink) (e : Option Event) →
         MayStop (O.part opener.now) w → MayGive w at e (option_map (λ i. N.meaning i) input) →
-        StandsFor (seat_since N.state L.facts since) (hosted K.tells L.facts since (K.noted out.old) seats.old.items)
+        StandsFor (seat_since N.state N.steps L.facts since) (hosted K.tells L.facts since (K.noted out.old) seats.old.items)
         (network_view (λ m. N.Mail.letter m) network.old) handed w 0 →
-        IfErr result (IsCutIn (seat_since N.state L.facts since) (hosted K.tells L.facts since (K.noted out.new) seats.new.items) w (BeginToStop at e)) }
+        IfErr result (IsCutIn (seat_since N.state N.steps L.facts since) (hosted K.tells L.facts since (K.noted out.new) seats.new.items) w
+        (BeginToStop at e)) }
     ensures len { vec_len seats.new ≡ vec_len seats.old }
     ensures router { script.new.first_router ≡ script.old.first_router }
     ensures links { vec_len script.new.links ≡ vec_len script.old.links }
@@ -68,7 +69,8 @@ fn play_stop<N: Node, L: Log, K: Witness<L::Of>, O: Opens<N, L>>(
     ensures noted { IsTrue K.tells → HasMore (K.noted out.old) (K.noted out.new) }
 
     // Of the logs' disks.
-    ensures disk_fault { HaveRisenWhere (result ≡ Err statuses.DiskFailed) (faults_of L.facts.fault_count seats.old.items) (faults_of L.facts.fault_count seats.new.items) }
+    ensures disk_fault { HaveRisenWhere (result ≡ Err statuses.DiskFailed) (faults_of L.facts.fault_count seats.old.items)
+        (faults_of L.facts.fault_count seats.new.items) }
     ensures places { places_of L.facts.place seats.new.items ≡ places_of L.facts.place seats.old.items }
 {
     let closed = match script.close_at(alloc, at) {
@@ -98,14 +100,15 @@ pub fn play_restart<N: Node, L: Log, K: Witness<L::Of>, O: Opens<N, L>>(
 ) -> Result<Option<u64>, Status>
     requires open { AreOpen L.facts.is_open seats.old.items }
     ensures played { IsTrue L.facts.tells → (since : Since L) (w : World) (handed : List ToLink) → MayStop (O.part opener.now) w →
-        StandsFor (seat_since N.state L.facts since) (hosted K.tells L.facts since (K.noted out.old) seats.old.items)
+        StandsFor (seat_since N.state N.steps L.facts since) (hosted K.tells L.facts since (K.noted out.old) seats.old.items)
         (network_view (λ m. N.Mail.letter m) network.old) handed w 0 →
-        IfOk result (λ closed. HasPlayed (seat_since N.state L.facts since) (hosted K.tells L.facts since (K.noted out.new) seats.new.items)
+        IfOk result (λ closed. HasPlayed (seat_since N.state N.steps L.facts since) (hosted K.tells L.facts since (K.noted out.new) seats.new.items)
         (network_view (λ m. N.Mail.letter m) network.new) handed w (restart_line node) (script_view script.old) (script_view script.new) closed) }
     ensures stops { IsTrue L.facts.tells → (since : Since L) (w : World) (handed : List ToLink) → MayStop (O.part opener.now) w →
-        StandsFor (seat_since N.state L.facts since) (hosted K.tells L.facts since (K.noted out.old) seats.old.items)
+        StandsFor (seat_since N.state N.steps L.facts since) (hosted K.tells L.facts since (K.noted out.old) seats.old.items)
         (network_view (λ m. N.Mail.letter m) network.old) handed w 0 →
-        IfErr result (StopsLine (seat_since N.state L.facts since) (hosted K.tells L.facts since (K.noted out.new) seats.new.items) w (restart_line node)
+        IfErr result (StopsLine (seat_since N.state N.steps L.facts since) (hosted K.tells L.facts since (K.noted out.new) seats.new.items) w
+        (restart_line node)
         (script_view script.old)) }
     ensures len { vec_len seats.new ≡ vec_len seats.old }
     ensures router { script.new.first_router ≡ script.old.first_router }
@@ -119,7 +122,8 @@ pub fn play_restart<N: Node, L: Log, K: Witness<L::Of>, O: Opens<N, L>>(
     ensures noted { IsTrue K.tells → HasMore (K.noted out.old) (K.noted out.new) }
 
     // Of the logs' disks.
-    ensures disk_fault { HaveRisenWhere (result ≡ Err statuses.DiskFailed) (faults_of L.facts.fault_count seats.old.items) (faults_of L.facts.fault_count seats.new.items) }
+    ensures disk_fault { HaveRisenWhere (result ≡ Err statuses.DiskFailed) (faults_of L.facts.fault_count seats.old.items)
+        (faults_of L.facts.fault_count seats.new.items) }
     ensures places { places_of L.facts.place seats.new.items ≡ places_of L.facts.place seats.old.items }
 {
     if node >= seats.len() as u64 {
@@ -188,14 +192,14 @@ pub fn play_kept<R: Threads + Sync, N: Node, L: Log, K: Witness<L::Of>, O: Opens
 ) -> Result<Option<u64>, Status>
     requires open { AreOpen L.facts.is_open seats.old.items }
     ensures played { IsTrue L.facts.tells → (since : Since L) (w : World) (handed : List ToLink) → MayStop (O.part opener.now) w →
-        StandsFor (seat_since N.state L.facts since) (hosted K.tells L.facts since (K.noted out.old) seats.old.items)
+        StandsFor (seat_since N.state N.steps L.facts since) (hosted K.tells L.facts since (K.noted out.old) seats.old.items)
         (network_view (λ m. N.Mail.letter m) network.old) handed w 0 →
-        IfOk result (λ closed. HasPlayed (seat_since N.state L.facts since) (hosted K.tells L.facts since (K.noted out.new) seats.new.items)
+        IfOk result (λ closed. HasPlayed (seat_since N.state N.steps L.facts since) (hosted K.tells L.facts since (K.noted out.new) seats.new.items)
         (network_view (λ m. N.Mail.letter m) network.new) handed w (kept_line node k) (script_view script.old) (script_view script.new) closed) }
     ensures stops { IsTrue L.facts.tells → (since : Since L) (w : World) (handed : List ToLink) → MayStop (O.part opener.now) w →
-        StandsFor (seat_since N.state L.facts since) (hosted K.tells L.facts since (K.noted out.old) seats.old.items)
+        StandsFor (seat_since N.state N.steps L.facts since) (hosted K.tells L.facts since (K.noted out.old) seats.old.items)
         (network_view (λ m. N.Mail.letter m) network.old) handed w 0 →
-        IfErr result (StopsLine (seat_since N.state L.facts since) (hosted K.tells L.facts since (K.noted out.new) seats.new.items) w (kept_line node k)
+        IfErr result (StopsLine (seat_since N.state N.steps L.facts since) (hosted K.tells L.facts since (K.noted out.new) seats.new.items) w (kept_line node k)
         (script_view script.old)) }
     ensures len { vec_len seats.new ≡ vec_len seats.old }
     ensures router { script.new.first_router ≡ script.old.first_router }
@@ -209,7 +213,8 @@ pub fn play_kept<R: Threads + Sync, N: Node, L: Log, K: Witness<L::Of>, O: Opens
     ensures noted { IsTrue K.tells → HasMore (K.noted out.old) (K.noted out.new) }
 
     // Of the logs' disks.
-    ensures disk_fault { HaveRisenWhere (result ≡ Err statuses.DiskFailed) (faults_of L.facts.fault_count seats.old.items) (faults_of L.facts.fault_count seats.new.items) }
+    ensures disk_fault { HaveRisenWhere (result ≡ Err statuses.DiskFailed) (faults_of L.facts.fault_count seats.old.items)
+        (faults_of L.facts.fault_count seats.new.items) }
     ensures places { places_of L.facts.place seats.new.items ≡ places_of L.facts.place seats.old.items }
 {
     if node >= seats.len() as u64 {
@@ -256,14 +261,14 @@ pub fn play_lost<N: Node, L: Log, K: Witness<L::Of>, O: Opens<N, L>>(
 ) -> Result<Option<u64>, Status>
     requires open { AreOpen L.facts.is_open seats.old.items }
     ensures played { IsTrue L.facts.tells → (since : Since L) (w : World) (handed : List ToLink) → MayStop (O.part opener.now) w →
-        StandsFor (seat_since N.state L.facts since) (hosted K.tells L.facts since (K.noted out.old) seats.old.items)
+        StandsFor (seat_since N.state N.steps L.facts since) (hosted K.tells L.facts since (K.noted out.old) seats.old.items)
         (network_view (λ m. N.Mail.letter m) network.old) handed w 0 →
-        IfOk result (λ closed. HasPlayed (seat_since N.state L.facts since) (hosted K.tells L.facts since (K.noted out.new) seats.new.items)
+        IfOk result (λ closed. HasPlayed (seat_since N.state N.steps L.facts since) (hosted K.tells L.facts since (K.noted out.new) seats.new.items)
         (network_view (λ m. N.Mail.letter m) network.new) handed w (lost_line node k) (script_view script.old) (script_view script.new) closed) }
     ensures stops { IsTrue L.facts.tells → (since : Since L) (w : World) (handed : List ToLink) → MayStop (O.part opener.now) w →
-        StandsFor (seat_since N.state L.facts since) (hosted K.tells L.facts since (K.noted out.old) seats.old.items)
+        StandsFor (seat_since N.state N.steps L.facts since) (hosted K.tells L.facts since (K.noted out.old) seats.old.items)
         (network_view (λ m. N.Mail.letter m) network.old) handed w 0 →
-        IfErr result (StopsLine (seat_since N.state L.facts since) (hosted K.tells L.facts since (K.noted out.new) seats.new.items) w (lost_line node k)
+        IfErr result (StopsLine (seat_since N.state N.steps L.facts since) (hosted K.tells L.facts since (K.noted out.new) seats.new.items) w (lost_line node k)
         (script_view script.old)) }
     ensures len { vec_len seats.new ≡ vec_len seats.old }
     ensures router { script.new.first_router ≡ script.old.first_router }
@@ -277,7 +282,8 @@ pub fn play_lost<N: Node, L: Log, K: Witness<L::Of>, O: Opens<N, L>>(
     ensures noted { IsTrue K.tells → HasMore (K.noted out.old) (K.noted out.new) }
 
     // Of the logs' disks.
-    ensures disk_fault { HaveRisenWhere (result ≡ Err statuses.DiskFailed) (faults_of L.facts.fault_count seats.old.items) (faults_of L.facts.fault_count seats.new.items) }
+    ensures disk_fault { HaveRisenWhere (result ≡ Err statuses.DiskFailed) (faults_of L.facts.fault_count seats.old.items)
+        (faults_of L.facts.fault_count seats.new.items) }
     ensures places { places_of L.facts.place seats.new.items ≡ places_of L.facts.place seats.old.items }
 {
     if node >= seats.len() as u64 {

@@ -72,10 +72,10 @@ pub fn simulate<
     requires open { AreOpen L.facts.is_open seats.old.items }
     ensures simulated { AreAskedAsRead N.asks → IsTrue L.facts.tells → (first : World) → MayPlay first_router first →
         HaveParts (O.part opener.now) first.nodes →
-        AreHeld (seat_view N.state L.facts) seats.old.items first.nodes →
+        AreHeld (seat_view N.state N.steps L.facts) seats.old.items first.nodes →
         IsSimulated (source_call S.tells S.left S.fault_count input.old input.new) (sink_call K.tells K.held K.fault_count out.old out.new)
-        first_router (AreKept (seat_view N.state L.facts) seats.new.items)
-        (LeaveKept (seat_since N.state L.facts (since_then seats.old.items first))
+        first_router (AreKept (seat_view N.state N.steps L.facts) seats.new.items)
+        (LeaveKept (seat_since N.state N.steps L.facts (since_then seats.old.items first))
         (hosted K.tells L.facts (since_noted seats.old.items first (K.noted out.old)) (K.noted out.new) seats.new.items))
         (AreAcknowledgedBy L.facts K.tells (all_printed first_router first) first (K.noted out.new) (K.held out.old) seats.new.items)
         first limit result }
@@ -87,7 +87,8 @@ pub fn simulate<
     // Each fault of a device has its own status.
     ensures read_fault { RoseWhere (result ≡ statuses.ReadFailed) (S.fault_count input.old) (S.fault_count input.new) }
     ensures write_fault { RoseWhere (result ≡ statuses.WriteFailed) (K.fault_count out.old) (K.fault_count out.new) }
-    ensures disk_fault { HaveRisenWhere (result ≡ statuses.DiskFailed) (faults_of L.facts.fault_count seats.old.items) (faults_of L.facts.fault_count seats.new.items) }
+    ensures disk_fault { HaveRisenWhere (result ≡ statuses.DiskFailed) (faults_of L.facts.fault_count seats.old.items)
+        (faults_of L.facts.fault_count seats.new.items) }
     ensures places { places_of L.facts.place seats.new.items ≡ places_of L.facts.place seats.old.items }
 {
     let mut network = Network::new(alloc);
@@ -131,19 +132,21 @@ fn play_all<
     requires open { AreOpen L.facts.is_open seats.old.items }
     ensures simulated { AreAskedAsRead N.asks → IsTrue L.facts.tells → (since : Since L) (first : World) → MayPlay first_router first →
         HaveParts (O.part opener.now) first.nodes →
-        Playing (seat_since N.state L.facts since) (hosted K.tells L.facts since (K.noted out.old) seats.old.items) (network_view (λ m. N.Mail.letter m) network)
+        Playing (seat_since N.state N.steps L.facts since) (hosted K.tells L.facts since (K.noted out.old) seats.old.items)
+        (network_view (λ m. N.Mail.letter m) network)
         first_router first K.tells since.noted (K.held out.old) (K.held out.old) (new_script first_router (router_count first_router first)) [] →
         AreNoted K.tells (K.noted out.old) (places_of L.facts.place seats.old.items) since.noted →
         WithNotes K.tells (K.noted out.new) (places_of L.facts.place seats.new.items)
         (λ noted. IsSimulated (source_call S.tells S.left S.fault_count input.old input.new) (sink_call K.tells K.held K.fault_count out.old out.new)
-        first_router (AreKept (seat_since N.state L.facts (with_notes since noted)) seats.new.items)
-        (LeaveKept (seat_since N.state L.facts (with_notes since noted)) (hosted K.tells L.facts since (K.noted out.new) seats.new.items))
+        first_router (AreKept (seat_since N.state N.steps L.facts (with_notes since noted)) seats.new.items)
+        (LeaveKept (seat_since N.state N.steps L.facts (with_notes since noted)) (hosted K.tells L.facts since (K.noted out.new) seats.new.items))
         (λ last put. IsTrue K.tells → AreCovered (all_printed first_router first) first noted (K.held out.old) put last) first limit result) }
     ensures open { result ≢ statuses.DiskFailed → AreOpen L.facts.is_open seats.new.items }
     ensures len { vec_len seats.new ≡ vec_len seats.old }
     ensures read_fault { RoseWhere (result ≡ statuses.ReadFailed) (S.fault_count input.old) (S.fault_count input.new) }
     ensures write_fault { RoseWhere (result ≡ statuses.WriteFailed) (K.fault_count out.old) (K.fault_count out.new) }
-    ensures disk_fault { HaveRisenWhere (result ≡ statuses.DiskFailed) (faults_of L.facts.fault_count seats.old.items) (faults_of L.facts.fault_count seats.new.items) }
+    ensures disk_fault { HaveRisenWhere (result ≡ statuses.DiskFailed) (faults_of L.facts.fault_count seats.old.items)
+        (faults_of L.facts.fault_count seats.new.items) }
     ensures places { places_of L.facts.place seats.new.items ≡ places_of L.facts.place seats.old.items }
 {
     let mut network = network;

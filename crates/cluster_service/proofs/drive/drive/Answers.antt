@@ -10,7 +10,7 @@ pub returns-in-Pipe-clause-driven : goal.returns-in-Pipe-clause-driven
 returns-in-Pipe-clause-driven g c =
     rw c.in-Pipe.is (λ asked told first may parts are.
     let router : c.first_router-first_router.result ≡ 1 + c.in-Pipe.shards = c.first_router-first_router.ensures ∙ ap first_router_of c.in-Pipe.is in
-    let long = held_len (seat_view g.N.Node.state g.L.Log.facts) c.args.seats.now.items first.nodes are in
+    let long = held_len (seat_view g.N.Node.state g.N.Node.steps g.L.Log.facts) c.args.seats.now.items first.nodes are in
     let inside : 1 + c.in-Pipe.shards + 0 < length first.nodes = omega (arith, long, c.requires.at, c.args.seats.now.ok) in
     let there : 1 + c.in-Pipe.shards + 0 ≡ 1 + c.in-Pipe.shards = omega arith in
     let serves : MayServe first (1 + c.in-Pipe.shards) = record {

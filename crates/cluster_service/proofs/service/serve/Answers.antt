@@ -18,6 +18,7 @@ use Rattle.pipe_driver.specs.declared.status.Status.TheVariants as ended
 use Rattle.cluster_service.proofs.Counts.{all_still}
 use Rattle.cluster_service.proofs.Crashes.{disks_owed, first_leaves_all, none_owed}
 use Rattle.cluster_service.proofs.Together.{seats_leave_all}
+use Rattle.cluster_service.proofs.Firsts.{first_taken}
 use Rattle.cluster_service.proofs.SeatFacts.{driven_as, has_ending, held_from, kept_in_files, later_of, moved, of_no_other, one_rose_of, open_files}
 use Rattle.cluster_service.proofs.SeatFacts.{rose_of, seat_disks, seats_open, told_after, told_before}
 use Rattle.cluster_service.proofs.NotServed.{headline_of, unopened}
@@ -78,7 +79,7 @@ returns-clause-headline g c = λ asked told first may parts same are disks early
     let source = (source_call g.S.Source.tells g.S.Source.left g.S.Source.fault_count c.args.input.now c.drive-ending.new.input) in
     let sink = (sink_call g.K.Sink.tells g.K.Sink.held g.K.Sink.fault_count c.args.out.now c.drive-ending.new.out) in
     let facts = journal_facts g.D.Disk.tells g.D.Disk.content g.D.Disk.moment g.D.Disk.left_at g.D.Disk.fault_count g.D.Disk.place in
-    let view = seat_view g.N.Node.state facts in
+    let view = seat_view g.N.Node.state g.N.Node.steps facts in
     let seats = c.put_in.new.seats.items in
     let after = c.drive-ending.new.seats.items in
     let back = c.take_disks.new.back.items in
@@ -90,17 +91,17 @@ returns-clause-headline g c = λ asked told first may parts same are disks early
     (g.K.Sink.noted c.drive-ending.new.out) (g.K.Sink.held c.args.out.now) ds w put in
     let begun : AreHeld view seats first.nodes =
     subst (λ seats. AreHeld view seats first.nodes) (sym c.put_in.ensures.items)
-    (held_from g.N.Node.state g.D.Disk.tells g.D.Disk.content g.D.Disk.moment g.D.Disk.left_at g.D.Disk.fault_count g.D.Disk.place c.args.nodes.items
-    c.args.journals.items first.nodes same are) in
+    (held_from g.N.Node.state g.N.Node.steps g.D.Disk.tells g.D.Disk.content g.D.Disk.moment g.D.Disk.left_at g.D.Disk.fault_count g.D.Disk.place c.args.nodes.items
+    c.args.journals.items first.nodes same are (first_taken first may.begins)) in
     let kept : (nodes : List Held) → AreKept view after nodes → IsTrue g.D.Disk.tells → files back nodes = λ nodes keeps told.
     subst (λ (ds : List g.row.D.Denot). files ds nodes) (sym c.take_disks.ensures.disks)
-    (kept_in_files g.N.Node.state g.D.Disk.tells g.D.Disk.content g.D.Disk.moment g.D.Disk.left_at g.D.Disk.fault_count g.D.Disk.place
+    (kept_in_files g.N.Node.state g.N.Node.steps g.D.Disk.tells g.D.Disk.content g.D.Disk.moment g.D.Disk.left_at g.D.Disk.fault_count g.D.Disk.place
     after nodes keeps told) in
-    let leaves : (w : World) → LeaveKept (seat_since g.N.Node.state facts (since_then seats first))
+    let leaves : (w : World) → LeaveKept (seat_since g.N.Node.state g.N.Node.steps facts (since_then seats first))
     (hosted g.K.Sink.tells facts (since_noted seats first (g.K.Sink.noted c.args.out.now)) (g.K.Sink.noted c.drive-ending.new.out) after) w
     → way back w = λ w leave.
     subst (λ (ds : List g.row.D.Denot). way ds w) (sym c.take_disks.ensures.disks)
-    (seats_leave_all g.N.Node.state g.D.Disk.tells g.D.Disk.content g.D.Disk.moment g.D.Disk.left_at g.D.Disk.fault_count g.D.Disk.place first w
+    (seats_leave_all g.N.Node.state g.N.Node.steps g.D.Disk.tells g.D.Disk.content g.D.Disk.moment g.D.Disk.left_at g.D.Disk.fault_count g.D.Disk.place first w
     (g.K.Sink.noted c.args.out.now) (g.K.Sink.noted c.drive-ending.new.out) disks seats after
     (λ told. subst (λ seats. LeaveSuch g.D.Disk.moment g.D.Disk.left_at (IsOfWorld first) disks (map (λ s. s.log.disk) seats)) (sym c.put_in.ensures.items)
     (subst (λ (ds : List g.row.D.Denot). LeaveSuch g.D.Disk.moment g.D.Disk.left_at (IsOfWorld first) disks ds)

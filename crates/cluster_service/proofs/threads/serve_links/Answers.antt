@@ -10,6 +10,7 @@ use Rattle.cluster_service.specs.Servers.{at_memory}
 use Rattle.cluster_service.specs.declared.status.Status.TheVariants as statuses
 use Rattle.cluster_service.proofs.Counts.{all_still}
 use Rattle.cluster_service.proofs.Crashes.{first_leaves}
+use Rattle.cluster_service.proofs.Firsts.{first_taken}
 use Rattle.cluster_service.proofs.SeatFacts.{held_from, moved, open_files, seat_disks, seats_open, told_before}
 use Rattle.cluster_service.proofs.ServedDisks.{none_served}
 use Rattle.cluster_service.proofs.ServerEnds.{seat_nodes, small_seats}
@@ -66,8 +67,8 @@ pub serve_seats-requires-clause-somewhere : goal.serve_seats-requires-clause-som
 serve_seats-requires-clause-somewhere g c κs within =
     rw c.put_in.ensures.items (record {
       nodes = c.requires.somewhere.nodes;
-      held = held_from g.N.Node.state g.D.Disk.tells g.D.Disk.content g.D.Disk.moment g.D.Disk.left_at g.D.Disk.fault_count g.D.Disk.place c.args.nodes.items
-          c.args.journals.items c.requires.somewhere.nodes c.requires.somewhere.same c.requires.somewhere.are;
+      held = held_from g.N.Node.state g.N.Node.steps g.D.Disk.tells g.D.Disk.content g.D.Disk.moment g.D.Disk.left_at g.D.Disk.fault_count g.D.Disk.place c.args.nodes.items
+          c.args.journals.items c.requires.somewhere.nodes c.requires.somewhere.same c.requires.somewhere.are c.requires.somewhere.counts;
       routers = c.requires.somewhere.routers;
     })
 
@@ -84,9 +85,9 @@ pub returns-clause-headline : goal.returns-clause-headline
 returns-clause-headline g c = λ first may same are disks early.
     let facts = journal_facts g.D.Disk.tells g.D.Disk.content g.D.Disk.moment g.D.Disk.left_at g.D.Disk.fault_count g.D.Disk.place in
     c.serve_seats.ensures.headline first may
-    (subst (λ seats. AreHeld (seat_view g.N.Node.state facts) seats first.nodes) (sym c.put_in.ensures.items)
-    (held_from g.N.Node.state g.D.Disk.tells g.D.Disk.content g.D.Disk.moment g.D.Disk.left_at g.D.Disk.fault_count g.D.Disk.place c.args.nodes.items
-    c.args.journals.items first.nodes same are)) disks
+    (subst (λ seats. AreHeld (seat_view g.N.Node.state g.N.Node.steps facts) seats first.nodes) (sym c.put_in.ensures.items)
+    (held_from g.N.Node.state g.N.Node.steps g.D.Disk.tells g.D.Disk.content g.D.Disk.moment g.D.Disk.left_at g.D.Disk.fault_count g.D.Disk.place c.args.nodes.items
+    c.args.journals.items first.nodes same are (first_taken first may.begins))) disks
     (λ told. subst (λ seats. LeaveSuch g.D.Disk.moment g.D.Disk.left_at (IsOfWorld first) disks (map (λ s. s.log.disk) seats)) (sym c.put_in.ensures.items)
     (subst (λ (ds : List g.row.D.Denot). LeaveSuch g.D.Disk.moment g.D.Disk.left_at (IsOfWorld first) disks ds)
     (sym (seat_disks c.args.nodes.items c.args.journals.items (omega (arith, c.requires.nodes, c.args.nodes.ok, c.args.journals.ok)))) (early told)))

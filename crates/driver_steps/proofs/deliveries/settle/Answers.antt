@@ -16,7 +16,7 @@ messages-init g c = record {
   sink = refl;
   noted = λ shown. no_more (g.K.Sink.noted c.args.out.now);
   run = λ since w next handed s. settling_none
-      (seat_since g.N.Node.state g.L.Log.facts since) _ _ handed w next s;
+      (seat_since g.N.Node.state g.N.Node.steps g.L.Log.facts since) _ _ handed w next s;
 }
 
 pub messages-preserved : goal.messages-preserved
@@ -30,7 +30,7 @@ messages-preserved g c = record {
   noted = λ shown. more_then (g.K.Sink.noted c.args.out.now) (g.K.Sink.noted c.messages.out) (g.K.Sink.noted c.deliver.new.out) (c.messages.invariant.noted shown)
       (c.in-Ok.ensures.noted shown);
   run = λ since w next handed s.
-      settling_step (seat_since g.N.Node.state g.L.Log.facts since)
+      settling_step (seat_since g.N.Node.state g.N.Node.steps g.L.Log.facts since)
       (λ m. g.N.Mail.Mail.letter m) (hosted g.K.Sink.tells g.L.Log.facts since (g.K.Sink.noted c.messages.out) c.messages.seats.items) (hosted g.K.Sink.tells g.L.Log.facts since (g.K.Sink.noted c.deliver.new.out) c.deliver.new.seats.items) _ handed w next c.in-Some.message c.messages.network
       (record { waiting = c.pop_front.new.self; replies = c.messages.network.replies })
       (c.messages.invariant.run since w next handed s) c.in-Some.ensures.items refl
@@ -45,7 +45,7 @@ messages-smaller g c =
 
 pub returns-in-Err-clause-stopped : goal.returns-in-Err-clause-stopped
 returns-in-Err-clause-stopped g c since w next handed s =
-    settling_stopped (seat_since g.N.Node.state g.L.Log.facts since)
+    settling_stopped (seat_since g.N.Node.state g.N.Node.steps g.L.Log.facts since)
     (λ m. g.N.Mail.Mail.letter m) (hosted g.K.Sink.tells g.L.Log.facts since (g.K.Sink.noted c.messages.out) c.messages.seats.items) (hosted g.K.Sink.tells g.L.Log.facts since (g.K.Sink.noted c.deliver.new.out) c.deliver.new.seats.items) _ handed w next c.in-Some.message c.messages.network
     (record { waiting = c.pop_front.new.self; replies = c.messages.network.replies }) c.in-Err.e
     (c.messages.invariant.run since w next handed s) c.in-Some.ensures.items refl
@@ -54,7 +54,7 @@ returns-in-Err-clause-stopped g c since w next handed s =
 pub returns-clause-settled : goal.returns-clause-settled
 returns-clause-settled g c since w next handed s =
     let none : c.pop_front.result ≡ None = search (rules, c.in_default.is) in
-    settled_at_end (seat_since g.N.Node.state g.L.Log.facts since)
+    settled_at_end (seat_since g.N.Node.state g.N.Node.steps g.L.Log.facts since)
     (λ m. g.N.Mail.Mail.letter m) (hosted g.K.Sink.tells g.L.Log.facts since (g.K.Sink.noted c.messages.out) c.messages.seats.items) handed w next
     c.messages.network (record { waiting = c.pop_front.new.self; replies = c.messages.network.replies }) c.pop_front.result
     (c.messages.invariant.run since w next handed s) none c.pop_front.ensures.items c.pop_front.ensures.cases c.pop_front.new.self.ok.0 refl

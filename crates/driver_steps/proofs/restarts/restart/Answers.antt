@@ -10,7 +10,7 @@ use Rattle.driver_steps.proofs.restarts.restart.Goals as goal
 
 pub returns-in-Ok-happen-clause-started : goal.returns-in-Ok-happen-clause-started
 returns-in-Ok-happen-clause-started g c told since w next handed e may gives stands =
-    let view = seat_since g.N.Node.state g.L.Log.facts since in
+    let view = seat_since g.N.Node.state g.N.Node.steps g.L.Log.facts since in
     let first = hosted g.K.Sink.tells g.L.Log.facts since (g.K.Sink.noted c.args.out.now) c.args.seats.now.items in
     let mid = hosted g.K.Sink.tells g.L.Log.facts since (g.K.Sink.noted c.stop_node.new.out) c.stop_node.new.seats.items in
     let last = hosted g.K.Sink.tells g.L.Log.facts since (g.K.Sink.noted c.happen.new.out) c.happen.new.seats.items in
@@ -27,7 +27,7 @@ returns-in-Err-clause-failed g c told since w next handed e may gives stands =
 
 pub returns-in-Err-happen-clause-failed : goal.returns-in-Err-happen-clause-failed
 returns-in-Err-happen-clause-failed g c told since w next handed e may gives stands =
-    let view = seat_since g.N.Node.state g.L.Log.facts since in
+    let view = seat_since g.N.Node.state g.N.Node.steps g.L.Log.facts since in
     let first = hosted g.K.Sink.tells g.L.Log.facts since (g.K.Sink.noted c.args.out.now) c.args.seats.now.items in
     let mid = hosted g.K.Sink.tells g.L.Log.facts since (g.K.Sink.noted c.stop_node.new.out) c.stop_node.new.seats.items in
     let last = hosted g.K.Sink.tells g.L.Log.facts since (g.K.Sink.noted c.happen.new.out) c.happen.new.seats.items in

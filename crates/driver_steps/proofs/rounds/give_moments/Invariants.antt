@@ -20,8 +20,8 @@ invariant-nodes g l = record {
   sink : g.K.Sink.fault_count l.out ≡ g.K.Sink.fault_count l.fn.out;
   noted : IsTrue g.K.Sink.tells → HasMore (g.K.Sink.noted l.fn.out) (g.K.Sink.noted l.out);
   run : (since : Since g.row.L.Denot) (w : World) (next : ℕ) (handed : List ToLink) → StandsFor
-      (seat_since g.N.Node.state g.L.Log.facts since)
+      (seat_since g.N.Node.state g.N.Node.steps g.L.Log.facts since)
       (hosted g.K.Sink.tells g.L.Log.facts since (g.K.Sink.noted l.fn.out) l.fn.seats.items) (network_view (λ m. g.N.Mail.Mail.letter m) l.fn.network) handed w next
-      → HasRun (seat_since g.N.Node.state g.L.Log.facts since) (hosted g.K.Sink.tells g.L.Log.facts since (g.K.Sink.noted l.out) l.seats.items)
+      → HasRun (seat_since g.N.Node.state g.N.Node.steps g.L.Log.facts since) (hosted g.K.Sink.tells g.L.Log.facts since (g.K.Sink.noted l.out) l.seats.items)
       (network_view (λ m. g.N.Mail.Mail.letter m) l.network) handed w next (moments_given 0 l.at l.moment);
 }

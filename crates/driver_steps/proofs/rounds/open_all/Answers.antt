@@ -19,7 +19,7 @@ nodes-init g c = record {
   sink = refl;
   noted = λ shown. no_more (g.K.Sink.noted c.args.out.now);
   run = λ since w next handed s. run_none
-      (seat_since g.N.Node.state g.L.Log.facts since) _ _ handed w next s;
+      (seat_since g.N.Node.state g.N.Node.steps g.L.Log.facts since) _ _ handed w next s;
 }
 
 pub nodes-preserved : goal.nodes-preserved
@@ -33,7 +33,7 @@ nodes-preserved g c = record {
   noted = λ shown. more_then (g.K.Sink.noted c.args.out.now) (g.K.Sink.noted c.nodes.out) (g.K.Sink.noted c.happen.new.out) (c.nodes.invariant.noted shown)
       (c.in-Ok.ensures.noted shown);
   run = λ since w next handed s.
-      opened_more (seat_since g.N.Node.state g.L.Log.facts since)
+      opened_more (seat_since g.N.Node.state g.N.Node.steps g.L.Log.facts since)
       _ _ _ _ handed w next c.nodes.at _
       (c.nodes.invariant.run since w next handed s) c.opened.ensures
       (c.in-Ok.ensures.moved since (c.nodes.invariant.run since w next handed s).end next handed (c.nodes.invariant.run since w next handed s).stands);
@@ -41,7 +41,7 @@ nodes-preserved g c = record {
 
 pub returns-in-Err-clause-stopped : goal.returns-in-Err-clause-stopped
 returns-in-Err-clause-stopped g c since w next handed s =
-    opened_stopped (seat_since g.N.Node.state g.L.Log.facts since)
+    opened_stopped (seat_since g.N.Node.state g.N.Node.steps g.L.Log.facts since)
     _ _ _ _ handed w next c.nodes.at
     (vec_len c.args.seats.now) _ c.in-Err.e (omega (arith, c.nodes-test.true, c.len-count.ensures))
     (c.nodes.invariant.run since w next handed s) c.opened.ensures
@@ -50,7 +50,7 @@ returns-in-Err-clause-stopped g c since w next handed s =
 pub returns-clause-opened : goal.returns-clause-opened
 returns-clause-opened g c since w next handed s =
     let all : c.nodes.at ≡ vec_len c.args.seats.now = omega (arith, c.nodes.auto.at-end, c.nodes-test.false, c.len-count.ensures) in
-    subst (λ (n : ℕ). HasRun (seat_since g.N.Node.state g.L.Log.facts since)
+    subst (λ (n : ℕ). HasRun (seat_since g.N.Node.state g.N.Node.steps g.L.Log.facts since)
     (hosted g.K.Sink.tells g.L.Log.facts since (g.K.Sink.noted c.nodes.out) c.nodes.seats.items)
     (network_view (λ m. g.N.Mail.Mail.letter m) c.nodes.network) handed w next (openings 0 n)) all
     (c.nodes.invariant.run since w next handed s)

@@ -10,12 +10,12 @@ use Rattle.driver_steps.proofs.steps.step_node.Goals as goal
 pub returns-in-Ok-clause-stepped : goal.returns-in-Ok-clause-stepped
 returns-in-Ok-clause-stepped g c since w are leave =
     let got = slice_get_read _ _ _ _ (search rules) c.requires.at c.index_mut-seat.ensures.value in
-    node_stepped g.L.Log.facts g.N.Node.state g.K.Sink.tells since c.args.seats.now.items c.args.at c.index_mut-seat.result.now c.step_seat.new.seat
+    node_stepped g.L.Log.facts g.N.Node.state g.N.Node.steps g.K.Sink.tells since c.args.seats.now.items c.args.at c.index_mut-seat.result.now c.step_seat.new.seat
     (g.K.Sink.noted c.args.out.now) (g.K.Sink.noted c.note_cut.new.out) (length (g.K.Sink.held c.args.out.now)) got c.requires.«open»
     c.note_cut.ensures.durable c.note_cut.ensures.noted c.step_seat.ensures.place w (g.N.Node.meaning c.args.input) are leave
     (map (λ message. g.N.Mail.Mail.letter message) c.in-Ok.outputs.mail) c.in-Ok.outputs.replies
     (c.in-Ok.ensures.stepped since w c.args.at
-    (stands_at (seat_since g.N.Node.state g.L.Log.facts since) c.args.seats.now.items w c.args.at c.index_mut-seat.result.now are leave.each got))
+    (stands_at (seat_since g.N.Node.state g.N.Node.steps g.L.Log.facts since) c.args.seats.now.items w c.args.at c.index_mut-seat.result.now are leave.each got))
 
 pub returns-in-Ok-clause-falls : goal.returns-in-Ok-clause-falls
 returns-in-Ok-clause-falls g c =
@@ -35,11 +35,11 @@ returns-in-Ok-clause-places g c =
 pub returns-in-Err-clause-failed : goal.returns-in-Err-clause-failed
 returns-in-Err-clause-failed g c since w are leave =
     let got = slice_get_read _ _ _ _ (search rules) c.requires.at c.index_mut-seat.ensures.value in
-    node_failed g.L.Log.facts g.N.Node.state g.K.Sink.tells since c.args.seats.now.items c.args.at c.index_mut-seat.result.now c.step_seat.new.seat
+    node_failed g.L.Log.facts g.N.Node.state g.N.Node.steps g.K.Sink.tells since c.args.seats.now.items c.args.at c.index_mut-seat.result.now c.step_seat.new.seat
     (g.K.Sink.noted c.args.out.now) (g.K.Sink.noted c.note_cut-in-Err.new.out) (length (g.K.Sink.held c.args.out.now)) got c.requires.«open»
     c.note_cut-in-Err.ensures.durable c.note_cut-in-Err.ensures.noted c.step_seat.ensures.place w (g.N.Node.meaning c.args.input) are leave c.in-Err.e
     (c.in-Err.ensures.failed since w c.args.at
-    (stands_at (seat_since g.N.Node.state g.L.Log.facts since) c.args.seats.now.items w c.args.at c.index_mut-seat.result.now are leave.each got))
+    (stands_at (seat_since g.N.Node.state g.N.Node.steps g.L.Log.facts since) c.args.seats.now.items w c.args.at c.index_mut-seat.result.now are leave.each got))
     c.in-Err.ensures.unchanged
 
 pub returns-in-Err-clause-faults : goal.returns-in-Err-clause-faults

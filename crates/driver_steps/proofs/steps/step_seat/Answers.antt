@@ -4,21 +4,22 @@ use Rattle.driver_steps.proofs.steps.step_seat.Goals as goal
 
 pub returns-in-Ok-clause-stepped : goal.returns-in-Ok-clause-stepped
 returns-in-Ok-clause-stepped g c since w at stands =
-    seat_stepped g.N.Node.state g.L.Log.facts since w at c.args.seat.now (record { node = c.step.new.self; log = c.step.new.log })
-    (g.N.Node.meaning c.args.input) stands (map (λ message. g.N.Mail.Mail.letter message) c.in-Ok.outputs.mail) c.in-Ok.outputs.replies c.in-Ok.ensures.done
+    seat_stepped g.N.Node.state g.N.Node.steps g.L.Log.facts since w at c.args.seat.now (record { node = c.step.new.self; log = c.step.new.log })
+    (g.N.Node.meaning c.args.input) stands (map (λ message. g.N.Mail.Mail.letter message) c.in-Ok.outputs.mail) c.in-Ok.outputs.replies c.in-Ok.ensures.goes
+    c.in-Ok.ensures.counted c.in-Ok.ensures.done
     (λ held. c.in-Ok.ensures.kept held)
 
 pub returns-in-Err-clause-failed : goal.returns-in-Err-clause-failed
 returns-in-Err-clause-failed g c since w at stands =
-    seat_failed g.N.Node.state g.L.Log.facts since w at c.args.seat.now (record { node = c.step.new.self; log = c.step.new.log })
-    (g.N.Node.meaning c.args.input) stands c.in-Err.e c.in-Err.ensures.failed
+    seat_failed g.N.Node.state g.N.Node.steps g.L.Log.facts since w at c.args.seat.now (record { node = c.step.new.self; log = c.step.new.log })
+    (g.N.Node.meaning c.args.input) stands c.in-Err.e c.in-Err.ensures.last c.in-Err.ensures.counted_err c.in-Err.ensures.failed
 
 pub returns-in-Err-clause-unchanged : goal.returns-in-Err-clause-unchanged
 returns-in-Err-clause-unchanged g c =
-    unchanged_by g.N.Node.state g.L.Log.facts c.in-Err.e (g.N.Node.meaning c.args.input) c.args.seat.now
+    unchanged_by g.N.Node.state g.N.Node.steps g.L.Log.facts c.in-Err.e (g.N.Node.meaning c.args.input) c.args.seat.now
     (record { node = c.step.new.self; log = c.step.new.log }) c.in-Err.ensures.failed
 
 pub returns-in-Err-clause-faults : goal.returns-in-Err-clause-faults
 returns-in-Err-clause-faults g c =
-    fault_told g.N.Node.state g.L.Log.facts g.L.Log.facts.fault_count (g.N.Node.meaning c.args.input) c.in-Err.e c.args.seat.now
+    fault_told g.N.Node.state g.N.Node.steps g.L.Log.facts g.L.Log.facts.fault_count (g.N.Node.meaning c.args.input) c.in-Err.e c.args.seat.now
     (record { node = c.step.new.self; log = c.step.new.log }) c.in-Err.ensures.failed c.in-Err.ensures.cause c.step.ensures.later

@@ -8,7 +8,7 @@ use Rattle.group_steps.proofs.group.collect.Goals as goal
 pub inputs-init : goal.inputs-init
 inputs-init g c = record {
   led = none_collected (λ m. g.N.Mail.Mail.letter m) g.N.Node.meaning c.new-parts.result.items (g.N.Node.state c.args.node.now)
-      c.new-collected.result.records c.new-parts.ensures.items c.new-collected.ensures;
+      (g.N.Node.steps c.args.node.now) c.new-collected.result.records c.new-parts.ensures.items c.new-collected.ensures;
   on = none_on c.args.inputs.now.items c.new-parts.result.items c.new-parts.ensures.items;
   left = ([], refl);
   out = none_out c.args.inputs.now.items c.new-parts.result.items c.new-parts.ensures.items;
@@ -18,7 +18,7 @@ inputs-init g c = record {
 
 pub inputs-preserved : goal.inputs-preserved
 inputs-preserved g c = record {
-  led = c.step_on.ensures.led (g.N.Node.state c.args.node.now) c.inputs.invariant.led;
+  led = c.step_on.ensures.led (g.N.Node.state c.args.node.now) (g.N.Node.steps c.args.node.now) c.inputs.invariant.led;
   on = c.step_on.ensures.on c.args.inputs.now.items
       (next_among c.args.inputs.now.items c.inputs.inputs.items c.in-Some.input c.pop_front.new.self.items c.inputs.invariant.left c.in-Some.ensures.items)
       c.inputs.invariant.on;
@@ -31,9 +31,10 @@ inputs-preserved g c = record {
 
 pub returns-in-Err-clause-led : goal.returns-in-Err-clause-led
 returns-in-Err-clause-led g c =
-    subst (λ (r : List (List ℕ)). Collects (g.N.Node.state c.args.node.now)
-    (parts_of (λ m. g.N.Mail.Mail.letter m) g.N.Node.meaning c.step_on.new.parts.items) r (g.N.Node.state c.step_on.new.node)) (sym c.into_records.ensures)
-    (c.step_on.ensures.led (g.N.Node.state c.args.node.now) c.inputs.invariant.led)
+    subst (λ (r : List (List ℕ)). Collects (g.N.Node.state c.args.node.now) (g.N.Node.steps c.args.node.now)
+    (parts_of (λ m. g.N.Mail.Mail.letter m) g.N.Node.meaning c.step_on.new.parts.items) r (g.N.Node.state c.step_on.new.node)
+    (g.N.Node.steps c.step_on.new.node)) (sym c.into_records.ensures)
+    (c.step_on.ensures.led (g.N.Node.state c.args.node.now) (g.N.Node.steps c.args.node.now) c.inputs.invariant.led)
 
 pub returns-in-Err-clause-on : goal.returns-in-Err-clause-on
 returns-in-Err-clause-on g c =
@@ -47,9 +48,10 @@ returns-in-Err-clause-left g c =
 
 pub returns-then-len-ge-MOST_STEPS-clause-led : goal.returns-then-len-ge-MOST_STEPS-clause-led
 returns-then-len-ge-MOST_STEPS-clause-led g c =
-    subst (λ (r : List (List ℕ)). Collects (g.N.Node.state c.args.node.now)
-    (parts_of (λ m. g.N.Mail.Mail.letter m) g.N.Node.meaning c.step_on.new.parts.items) r (g.N.Node.state c.step_on.new.node))
-    (sym c.into_records-then-len-ge-MOST_STEPS.ensures) (c.step_on.ensures.led (g.N.Node.state c.args.node.now) c.inputs.invariant.led)
+    subst (λ (r : List (List ℕ)). Collects (g.N.Node.state c.args.node.now) (g.N.Node.steps c.args.node.now)
+    (parts_of (λ m. g.N.Mail.Mail.letter m) g.N.Node.meaning c.step_on.new.parts.items) r (g.N.Node.state c.step_on.new.node)
+    (g.N.Node.steps c.step_on.new.node))
+    (sym c.into_records-then-len-ge-MOST_STEPS.ensures) (c.step_on.ensures.led (g.N.Node.state c.args.node.now) (g.N.Node.steps c.args.node.now) c.inputs.invariant.led)
 
 pub returns-then-len-ge-MOST_STEPS-clause-on : goal.returns-then-len-ge-MOST_STEPS-clause-on
 returns-then-len-ge-MOST_STEPS-clause-on g c =

@@ -6,8 +6,8 @@ use Rattle.group_steps.proofs.group.collect.Given as goal
 
 abbrev pub invariant-inputs : goal.invariant-inputs
 invariant-inputs g l = record {
-  led : Collects (g.N.Node.state l.fn.node) (parts_of (λ m. g.N.Mail.Mail.letter m) g.N.Node.meaning l.parts.items) l.collected.records
-      (g.N.Node.state l.node);
+  led : Collects (g.N.Node.state l.fn.node) (g.N.Node.steps l.fn.node) (parts_of (λ m. g.N.Mail.Mail.letter m) g.N.Node.meaning l.parts.items)
+      l.collected.records (g.N.Node.state l.node) (g.N.Node.steps l.node);
   on : AreOn l.fn.inputs.items l.parts.items;
   left : AreLeft l.fn.inputs.items l.inputs.items;
   out : l.fn.inputs.items ≡ map (λ p. p.input.value) l.parts.items ++ l.inputs.items;

@@ -1,4 +1,4 @@
-use Rattle.std.proofs.Common.{rules, ◌∙◌, refl, sym, ap, subst, map}
+use Rattle.std.proofs.Common.{rules, ◌∙◌, refl, sym, ap, subst, map, arith}
 use Rattle.node_cell.specs.Deliveries.{AreSeenFrom}
 use Rattle.node_cell.proofs.Lists.{are_among_of, are_among_same}
 use Rattle.node_cell.proofs.Seen.{next_seen, none_added, one_added, parts_next}
@@ -13,6 +13,8 @@ parts-init g c = record {
       (ap (λ l. map (λ p. p.input.value) l) c.from_vec-left.ensures.items);
   added = none_added (map (λ p. p.input.value) c.args.parts.items) c.args.steps.now.items;
   fits = search rules;
+  len = omega (arith, c.from_vec-left.ensures.len);
+  capacity = refl;
 }
 
 pub stepped-step-requires-clause-seen : goal.stepped-step-requires-clause-seen
@@ -30,9 +32,11 @@ parts-preserved g c =
       seen = (next_seen (λ m. g.N.Mail.Mail.letter m) c.args.pass.now.me.0 c.args.pass.now.me.0 c.parts.number _ c.args.at c.in-Some.part
           c.parts.left.items c.pop_front.new.self.items refl c.in-Some.ensures.items refl c.parts.invariant.seen).1;
       some = next.1;
-      added = one_added (map (λ p. p.input.value) c.args.parts.items) c.args.steps.now.items c.parts.steps.items c.push.new.self.items c.stepped-step.result
-          c.parts.invariant.added c.in-Ok.ensures.items
+      added = one_added (map (λ p. p.input.value) c.args.parts.items) c.args.steps.now.items c.parts.steps.items c.push_reserved.new.self.items c.stepped-step.result
+          c.parts.invariant.added c.push_reserved.ensures.items
           (are_among_of c.in-Some.part.input.value c.stepped-step.result.taken.input (map (λ p. p.input.value) c.args.parts.items)
           (ap (λ t. t.input) c.stepped-step.ensures.step) next.0);
       fits = search rules;
+      len = omega (arith, c.parts.invariant.len, c.push_reserved.ensures.len, c.in-Some.ensures.cases);
+      capacity = c.push_reserved.ensures.capacity ∙ c.parts.invariant.capacity;
     }

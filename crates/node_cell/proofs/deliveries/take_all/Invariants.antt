@@ -1,4 +1,5 @@
-use Rattle.std.proofs.Common.{◌≡◌, [], map}
+use Rattle.std.proofs.Common.{◌≡◌, ◌+◌, ◌≤◌, [], map}
+use Rattle.std.specs.Prelude.{vec_capacity, vec_len}
 use Rattle.std.specs.VecDeque.{deque_len}
 use Rattle.node_cell.specs.Courses.{node_facts}
 use Rattle.node_cell.specs.Deliveries.{AreKnown, AreStepsOn}
@@ -13,6 +14,7 @@ invariant-groups g l = record {
   place : l.placed.at ≡ l.fn.placed.at;
   known : AreKnown g.N.Node.meaning g.K.Numbering.routers (map (λ m. g.N.Mail.Mail.letter m) l.pass.me.0.seen) l.placed.at l.left.items;
   some : AreAmong l.left.items l.fn.inputs.items;
+  room : vec_len l.steps + deque_len l.left ≤ vec_capacity l.steps;
   taken : AreStepsOn l.fn.inputs.items l.steps.items;
 }
 

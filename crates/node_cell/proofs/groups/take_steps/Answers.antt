@@ -3,6 +3,7 @@ use Rattle.std.specs.Prelude.{Some}
 use Rattle.node_cell.specs.Courses.{node_facts}
 use Rattle.node_cell.specs.Standing.{MayTake, Sits}
 use Rattle.node_cell.specs.Views.{given_by}
+use Rattle.node_cell.proofs.Seen.{out_count}
 use Rattle.node_cell.proofs.Standing.{group_may, sits_after, sits_halted}
 use Rattle.node_cell.proofs.groups.take_steps.Goals as goal
 
@@ -29,3 +30,7 @@ returns-in-Err-clause-sits g c =
     (sits_halted (node_facts g.N.Node.state g.N.Node.steps (λ m. g.N.Mail.Mail.letter m) g.N.Node.meaning g.L.Log.facts) g.K.Numbering.routers
     c.args.placed.now c.step_group.new.seat c.args.pass.now.me.0 c.args.inputs.now.items c.in-Err.fault c.requires.works c.requires.sits c.requires.known
     c.in-Err.ensures.broken c.in-Err.ensures.faults c.step_group.ensures.place)
+
+pub returns-in-Ok-clause-count : goal.returns-in-Ok-clause-count
+returns-in-Ok-clause-count g c =
+    out_count c.args.inputs.now.items c.in-Ok.group.parts.items c.in-Ok.group.fault c.step_group.new.inputs.items c.in-Ok.ensures.out

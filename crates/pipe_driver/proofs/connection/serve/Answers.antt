@@ -34,7 +34,7 @@ pub returns-in_default-clause-piped : goal.returns-in_default-clause-piped
 returns-in_default-clause-piped g c = λ asks since first some s n. (
   since.noted,
   n,
-  ended_full (seat_since g.N.Node.state g.L.Log.facts (with_notes since since.noted))
+  ended_full (seat_since g.N.Node.state g.N.Node.steps g.L.Log.facts (with_notes since since.noted))
       (hosted g.K.Sink.tells g.L.Log.facts since (g.K.Sink.noted c.args.out.now) c.args.seats.now.items)
       (source_call g.S.Source.tells g.S.Source.left g.S.Source.fault_count c.args.input.now c.args.input.now)
       (sink_call g.K.Sink.tells g.K.Sink.held g.K.Sink.fault_count c.args.out.now c.args.out.now) (g.C.Clock.gives c.args.clock.now) c.args.router since.noted first c.args.limit
@@ -48,7 +48,7 @@ returns-then-is_err-clause-piped g c = λ asks since first some s n.
     omega (arith, c.ended-then-is_err.ensures.rest, ap length c.rest.ensures, ap length c.reserve.ensures.bytes) in (
       went.0,
       went.1,
-      ended_full (seat_since g.N.Node.state g.L.Log.facts (with_notes since went.0))
+      ended_full (seat_since g.N.Node.state g.N.Node.steps g.L.Log.facts (with_notes since went.0))
           (hosted g.K.Sink.tells g.L.Log.facts since (g.K.Sink.noted c.pieces.out) c.pieces.seats.items)
           (source_call g.S.Source.tells g.S.Source.left g.S.Source.fault_count c.args.input.now c.pieces.input)
           (sink_call g.K.Sink.tells g.K.Sink.held g.K.Sink.fault_count c.args.out.now c.pieces.out) (g.C.Clock.gives c.args.clock.now) c.args.router went.0 first c.args.limit
@@ -65,7 +65,7 @@ returns-in-Err-clause-piped g c = λ asks since first some s n.
     omega (arith, c.ended-in-Err.ensures.rest, ap length c.rest-in-Err.ensures, ap length c.reserve.ensures.bytes) in (
       went.0,
       went.1,
-      ended_taking (seat_since g.N.Node.state g.L.Log.facts (with_notes since went.0))
+      ended_taking (seat_since g.N.Node.state g.N.Node.steps g.L.Log.facts (with_notes since went.0))
           (hosted g.K.Sink.tells g.L.Log.facts since (g.K.Sink.noted c.pieces.out) c.pieces.seats.items)
           (source_call g.S.Source.tells g.S.Source.left g.S.Source.fault_count c.args.input.now c.take_more.new.input)
           (sink_call g.K.Sink.tells g.K.Sink.held g.K.Sink.fault_count c.args.out.now c.pieces.out) (g.C.Clock.gives c.args.clock.now) c.args.router went.0 first c.args.limit
@@ -241,7 +241,7 @@ returns-in-Err-answer_all-clause-piped g c = λ asks since first some s n.
     rw (c.ended-in-Err-answer_all.ensures.rest, sym c.rest-in-Err-answer_all.ensures) c.unframed.ensures in (
       round.0,
       round.1,
-      ended_serving (seat_since g.N.Node.state g.L.Log.facts (with_notes since round.0))
+      ended_serving (seat_since g.N.Node.state g.N.Node.steps g.L.Log.facts (with_notes since round.0))
           (hosted g.K.Sink.tells g.L.Log.facts since (g.K.Sink.noted c.answer_all.new.out) c.answer_all.new.seats.items)
           (source_call g.S.Source.tells g.S.Source.left g.S.Source.fault_count c.args.input.now c.take_more.new.input)
           (sink_call g.K.Sink.tells g.K.Sink.held g.K.Sink.fault_count c.args.out.now c.answer_all.new.out) (g.C.Clock.gives c.args.clock.now) c.args.router round.0 first c.args.limit
@@ -270,7 +270,7 @@ returns-clause-piped g c = λ asks since first some s n.
     let counted : c.ended-2.result.rest ≡ length c.pieces.framer.bytes = omega (arith, c.ended-2.ensures.rest, ap length c.rest-2.ensures) in (
       went.0,
       went.1,
-      ended_at_limit (seat_since g.N.Node.state g.L.Log.facts (with_notes since went.0))
+      ended_at_limit (seat_since g.N.Node.state g.N.Node.steps g.L.Log.facts (with_notes since went.0))
           (hosted g.K.Sink.tells g.L.Log.facts since (g.K.Sink.noted c.pieces.out) c.pieces.seats.items)
           (source_call g.S.Source.tells g.S.Source.left g.S.Source.fault_count c.args.input.now c.pieces.input)
           (sink_call g.K.Sink.tells g.K.Sink.held g.K.Sink.fault_count c.args.out.now c.pieces.out) (g.C.Clock.gives c.args.clock.now) c.args.router went.0 first c.args.limit

@@ -32,14 +32,14 @@ invariant-pieces g l = record {
   disks_calm : faults_of g.L.Log.facts.fault_count l.seats.items ≡ faults_of g.L.Log.facts.fault_count l.fn.seats.items;
   places : places_of g.L.Log.facts.place l.seats.items ≡ places_of g.L.Log.facts.place l.fn.seats.items;
   went : AreAskedAsRead g.N.Node.asks → (since : Since g.row.L.Denot) (first : World) → MayServe first l.router
-      → Serving (seat_since g.N.Node.state g.L.Log.facts since)
+      → Serving (seat_since g.N.Node.state g.N.Node.steps g.L.Log.facts since)
       (hosted g.K.Sink.tells g.L.Log.facts since (g.K.Sink.noted l.fn.out) l.fn.seats.items) (network_view (λ m. g.N.Mail.Mail.letter m) l.fn.network)
       (g.C.Clock.gives l.clock) l.router first g.K.Sink.tells since.noted (g.K.Sink.held l.fn.out) (g.K.Sink.held l.fn.out) [] 0
       → AreNoted g.K.Sink.tells (g.K.Sink.noted l.fn.out) (places_of g.L.Log.facts.place l.fn.seats.items) since.noted
       → WithNotes g.K.Sink.tells (g.K.Sink.noted l.out) (places_of g.L.Log.facts.place l.seats.items)
       (λ noted. (consumed : List ℕ) × (length consumed + length l.framer.bytes ≡ l.taken)
       × Took g.S.Source.tells (g.S.Source.left l.fn.input) (consumed ++ l.framer.bytes) (g.S.Source.left l.input)
-      × Serving (seat_since g.N.Node.state g.L.Log.facts (with_notes since noted))
+      × Serving (seat_since g.N.Node.state g.N.Node.steps g.L.Log.facts (with_notes since noted))
       (hosted g.K.Sink.tells g.L.Log.facts since (g.K.Sink.noted l.out) l.seats.items) (network_view (λ m. g.N.Mail.Mail.letter m) l.network)
       (g.C.Clock.gives l.clock) l.router first g.K.Sink.tells noted (g.K.Sink.held l.fn.out) (g.K.Sink.held l.out) consumed l.puts);
 }

@@ -53,7 +53,7 @@ returns-in-Err-Memory-clause-served g c = λ asks since first some held_before c
         was.2.0,
         none_given (consumed ++ c.args.framer.now.bytes) was.2.0 c.requests.framer c.next.new.self was.2.1 (same_bytes c.requests.framer c.next.new.self told),
         inr (at_no_memory (cut_between
-            (seat_since g.N.Node.state g.L.Log.facts (with_notes since was.0)) (hosted g.K.Sink.tells g.L.Log.facts since (g.K.Sink.noted c.requests.out) c.requests.seats.items)
+            (seat_since g.N.Node.state g.N.Node.steps g.L.Log.facts (with_notes since was.0)) (hosted g.K.Sink.tells g.L.Log.facts since (g.K.Sink.noted c.requests.out) c.requests.seats.items)
             (g.C.Clock.gives c.args.clock.now) c.args.router first _ was.0 held_before _ was.2.0 _ c.requests.replied was.2.2)),
       ),
     )

@@ -14,14 +14,14 @@ use Rattle.pipe_driver.proofs.requests.answer_one.Goals as goal
 pub returns-in-Err-clause-served : goal.returns-in-Err-clause-served
 returns-in-Err-clause-served g c asks q is reads since first some held_before consumed s n =
     let as_many = c.args.seats.now.ok.0
-    ∙ held_len (seat_since g.N.Node.state g.L.Log.facts since)
+    ∙ held_len (seat_since g.N.Node.state g.N.Node.steps g.L.Log.facts since)
     c.args.seats.now.items s.world.nodes s.stands.nodes in (
       since.noted,
       noted_places g.K.Sink.tells _ _ _ since.noted c.serve_round.ensures.places
           (noted_on g.K.Sink.tells _ (g.K.Sink.noted c.serve_round.new.out) _ since.noted c.serve_round.ensures.noted n),
-      rw c.serve_round.ensures.held (stops_by (seat_since g.N.Node.state g.L.Log.facts since)
+      rw c.serve_round.ensures.held (stops_by (seat_since g.N.Node.state g.N.Node.steps g.L.Log.facts since)
           _ _ c.args.router first _ _ held_before _ _ c.in-Err.e _ c.of.ensures
-          (cut_in_round (seat_since g.N.Node.state g.L.Log.facts since)
+          (cut_in_round (seat_since g.N.Node.state g.N.Node.steps g.L.Log.facts since)
           _ _ _ (g.C.Clock.gives c.args.clock.now) c.args.router first _ _ held_before _
           consumed
           c.args.replied s c.now-moment.result (to_z w32 (of_z w32 c.next_number-number.result)) (g.N.Node.asks c.args.request) q c.now-moment.ensures
@@ -44,16 +44,16 @@ returns-in-Ok-put_replies-clause-served g c asks q is reads since first some hel
       noted,
       noted_more facts seats h.end count g.K.Sink.tells (g.K.Sink.noted c.serve_round.new.out) _ _ since.noted
           (noted_on g.K.Sink.tells _ (g.K.Sink.noted c.serve_round.new.out) _ since.noted c.serve_round.ensures.noted n) c.serve_round.ensures.places taken,
-      served_one (seat_since g.N.Node.state facts since)
+      served_one (seat_since g.N.Node.state g.N.Node.steps facts since)
           _ _ _ (g.C.Clock.gives c.args.clock.now) c.args.router first _ _ held_before _ consumed
           c.args.replied s c.now-moment.result (to_z w32 (of_z w32 c.next_number-number.result)) (g.N.Node.asks c.args.request) q c.now-moment.ensures
           numbered same reads
           (λ m. g.N.Mail.Mail.letter m) c.serve_round.new.network c.hand_on-replies.new.self
-          (seat_since g.N.Node.state facts (with_notes since noted)) noted
-          (note_served facts seats count g.N.Node.state since _ _ _ _ _ g.K.Sink.tells (g.K.Sink.noted c.serve_round.new.out)
+          (seat_since g.N.Node.state g.N.Node.steps facts (with_notes since noted)) noted
+          (note_served facts seats count g.N.Node.state g.N.Node.steps since _ _ _ _ _ g.K.Sink.tells (g.K.Sink.noted c.serve_round.new.out)
           (g.K.Sink.noted c.put_replies.new.out) c.put_replies.ensures.durable taken h)
           c.hand_on-replies.ensures.waiting c.hand_on-replies.ensures.none
-          (covers_round (seat_since g.N.Node.state facts since)
+          (covers_round (seat_since g.N.Node.state g.N.Node.steps facts since)
           _ _ _ (g.C.Clock.gives c.args.clock.now) c.args.router first _ _ held_before _ consumed
           c.args.replied s c.now-moment.result (to_z w32 (of_z w32 c.next_number-number.result)) (g.N.Node.asks c.args.request) q c.now-moment.ensures
           numbered same reads _ h _) _ _
@@ -75,16 +75,16 @@ returns-clause-served g c asks q is reads since first some held_before consumed 
       noted,
       noted_more facts seats h.end count g.K.Sink.tells (g.K.Sink.noted c.serve_round.new.out) _ _ since.noted
           (noted_on g.K.Sink.tells _ (g.K.Sink.noted c.serve_round.new.out) _ since.noted c.serve_round.ensures.noted n) c.serve_round.ensures.places taken,
-      at_write_fault (put_short (seat_since g.N.Node.state facts since)
+      at_write_fault (put_short (seat_since g.N.Node.state g.N.Node.steps facts since)
           _ _ _ (g.C.Clock.gives c.args.clock.now) c.args.router first _ _ held_before _ consumed
           c.args.replied s c.now-moment.result (to_z w32 (of_z w32 c.next_number-number.result)) (g.N.Node.asks c.args.request) q c.now-moment.ensures
           numbered same reads
           (λ m. g.N.Mail.Mail.letter m) c.serve_round.new.network c.hand_on-replies.new.self
-          (seat_since g.N.Node.state facts (with_notes since noted)) noted
-          (note_served facts seats count g.N.Node.state since _ _ _ _ _ g.K.Sink.tells (g.K.Sink.noted c.serve_round.new.out)
+          (seat_since g.N.Node.state g.N.Node.steps facts (with_notes since noted)) noted
+          (note_served facts seats count g.N.Node.state g.N.Node.steps since _ _ _ _ _ g.K.Sink.tells (g.K.Sink.noted c.serve_round.new.out)
           (g.K.Sink.noted c.put_replies.new.out) c.put_replies.ensures.durable taken h)
           c.hand_on-replies.ensures.waiting c.hand_on-replies.ensures.none
-          (covers_round (seat_since g.N.Node.state facts since)
+          (covers_round (seat_since g.N.Node.state g.N.Node.steps facts since)
           _ _ _ (g.C.Clock.gives c.args.clock.now) c.args.router first _ _ held_before _ consumed
           c.args.replied s c.now-moment.result (to_z w32 (of_z w32 c.next_number-number.result)) (g.N.Node.asks c.args.request) q c.now-moment.ensures
           numbered same reads _ h _) _

@@ -13,7 +13,7 @@ use Rattle.pipe_driver.proofs.round.serve_round.Goals as goal
 
 pub returns-in-Err-clause-stopped : goal.returns-in-Err-clause-stopped
 returns-in-Err-clause-stopped g c since first rounds events w next handed some pipes s =
-    stopped_in_moments (seat_since g.N.Node.state g.L.Log.facts since)
+    stopped_in_moments (seat_since g.N.Node.state g.N.Node.steps g.L.Log.facts since)
     _ _ handed w (vec_len c.args.seats.now)
     (round_of c.args.router c.args.moment c.args.number (g.N.Node.asks c.args.request)) _ (c.in-Err.ensures.stopped since w next handed s)
 
@@ -21,59 +21,59 @@ pub returns-in-Err-ask-clause-stopped : goal.returns-in-Err-ask-clause-stopped
 returns-in-Err-ask-clause-stopped g c since first rounds events w next handed some pipes s =
     let same : to_z w32 (of_z w32 c.args.number) ≡ c.args.number = to_z-of_z w32 c.args.number (assumption c.ranges) in
     let as_many = c.args.seats.now.ok.0
-    ∙ held_len (seat_since g.N.Node.state g.L.Log.facts since)
+    ∙ held_len (seat_since g.N.Node.state g.N.Node.steps g.L.Log.facts since)
     c.args.seats.now.items w.nodes s.nodes in
     let r = c.in-Ok.ensures.given since w next handed s in
-    let router = router_asked (seat_since g.N.Node.state g.L.Log.facts since)
+    let router = router_asked (seat_since g.N.Node.state g.N.Node.steps g.L.Log.facts since)
     handed first rounds events w next
     (vec_len c.args.seats.now) (round_of c.args.router c.args.moment c.args.number (g.N.Node.asks c.args.request)) c.args.router some pipes as_many refl r.end r.run in
     subst (λ (z : ℤ). HasStopped
-    (seat_since g.N.Node.state g.L.Log.facts since) (hosted g.K.Sink.tells g.L.Log.facts since (g.K.Sink.noted c.ask.new.out) c.ask.new.seats.items)
+    (seat_since g.N.Node.state g.N.Node.steps g.L.Log.facts since) (hosted g.K.Sink.tells g.L.Log.facts since (g.K.Sink.noted c.ask.new.out) c.ask.new.seats.items)
     c.ask.new.network.replies.items handed w
     (IsPart (vec_len c.args.seats.now) (round_of c.args.router c.args.moment z (g.N.Node.asks c.args.request))) c.in-Err-ask.e) same
-    (stopped_in_asking (seat_since g.N.Node.state g.L.Log.facts since)
+    (stopped_in_asking (seat_since g.N.Node.state g.N.Node.steps g.L.Log.facts since)
     _ _ handed w (vec_len c.args.seats.now)
-    (round_of c.args.router c.args.moment (to_z w32 (of_z w32 c.args.number)) (g.N.Node.asks c.args.request)) _ r.end r.run
+    (round_of c.args.router c.args.moment (to_z w32 (of_z w32 c.args.number)) (g.N.Node.asks c.args.request)) _ r.end r.run r.none_missed
     (c.in-Err-ask.ensures.stopped since r.end next handed r.stands router))
 
 pub returns-in-Err-settle-clause-stopped : goal.returns-in-Err-settle-clause-stopped
 returns-in-Err-settle-clause-stopped g c since first rounds events w next handed some pipes s =
     let same : to_z w32 (of_z w32 c.args.number) ≡ c.args.number = to_z-of_z w32 c.args.number (assumption c.ranges) in
     let as_many = c.args.seats.now.ok.0
-    ∙ held_len (seat_since g.N.Node.state g.L.Log.facts since)
+    ∙ held_len (seat_since g.N.Node.state g.N.Node.steps g.L.Log.facts since)
     c.args.seats.now.items w.nodes s.nodes in
     let r = c.in-Ok.ensures.given since w next handed s in
-    let router = router_asked (seat_since g.N.Node.state g.L.Log.facts since)
+    let router = router_asked (seat_since g.N.Node.state g.N.Node.steps g.L.Log.facts since)
     handed first rounds events w next
     (vec_len c.args.seats.now) (round_of c.args.router c.args.moment c.args.number (g.N.Node.asks c.args.request)) c.args.router some pipes as_many refl r.end r.run in
     let a = c.in-Ok-ask.ensures.asked since r.end next handed r.stands router in
     subst (λ (z : ℤ). HasStopped
-    (seat_since g.N.Node.state g.L.Log.facts since) (hosted g.K.Sink.tells g.L.Log.facts since (g.K.Sink.noted c.settle.new.out) c.settle.new.seats.items)
+    (seat_since g.N.Node.state g.N.Node.steps g.L.Log.facts since) (hosted g.K.Sink.tells g.L.Log.facts since (g.K.Sink.noted c.settle.new.out) c.settle.new.seats.items)
     c.settle.new.network.replies.items handed w
     (IsPart (vec_len c.args.seats.now) (round_of c.args.router c.args.moment z (g.N.Node.asks c.args.request))) c.in-Err-settle.e) same
-    (stopped_in_deliveries (seat_since g.N.Node.state g.L.Log.facts since)
+    (stopped_in_deliveries (seat_since g.N.Node.state g.N.Node.steps g.L.Log.facts since)
     _ _ handed w (vec_len c.args.seats.now)
-    (round_of c.args.router c.args.moment (to_z w32 (of_z w32 c.args.number)) (g.N.Node.asks c.args.request)) _ r.end a.end r.run a.happens
+    (round_of c.args.router c.args.moment (to_z w32 (of_z w32 c.args.number)) (g.N.Node.asks c.args.request)) _ r.end a.end r.run a.happens (a.none_missed ∙ r.none_missed)
     (c.in-Err-settle.ensures.stopped since a.end next handed a.stands))
 
 pub returns-in-Ok-settle-clause-served : goal.returns-in-Ok-settle-clause-served
 returns-in-Ok-settle-clause-served g c since first rounds events w next handed some pipes s =
     let same : to_z w32 (of_z w32 c.args.number) ≡ c.args.number = to_z-of_z w32 c.args.number (assumption c.ranges) in
     let as_many = c.args.seats.now.ok.0
-    ∙ held_len (seat_since g.N.Node.state g.L.Log.facts since)
+    ∙ held_len (seat_since g.N.Node.state g.N.Node.steps g.L.Log.facts since)
     c.args.seats.now.items w.nodes s.nodes in
     let r = c.in-Ok.ensures.given since w next handed s in
-    let router = router_asked (seat_since g.N.Node.state g.L.Log.facts since)
+    let router = router_asked (seat_since g.N.Node.state g.N.Node.steps g.L.Log.facts since)
     handed first rounds events w next
     (vec_len c.args.seats.now) (round_of c.args.router c.args.moment c.args.number (g.N.Node.asks c.args.request)) c.args.router some pipes as_many refl r.end r.run in
     let a = c.in-Ok-ask.ensures.asked since r.end next handed r.stands router in
     subst (λ (z : ℤ). HasServed
-    (seat_since g.N.Node.state g.L.Log.facts since) (hosted g.K.Sink.tells g.L.Log.facts since (g.K.Sink.noted c.settle.new.out) c.settle.new.seats.items)
+    (seat_since g.N.Node.state g.N.Node.steps g.L.Log.facts since) (hosted g.K.Sink.tells g.L.Log.facts since (g.K.Sink.noted c.settle.new.out) c.settle.new.seats.items)
     (network_view (λ m. g.N.Mail.Mail.letter m) c.settle.new.network) handed w next (round_of c.args.router c.args.moment z (g.N.Node.asks c.args.request))) same
-    (round_served (seat_since g.N.Node.state g.L.Log.facts since)
+    (round_served (seat_since g.N.Node.state g.N.Node.steps g.L.Log.facts since)
     handed first rounds events w next
     (vec_len c.args.seats.now) (round_of c.args.router c.args.moment (to_z w32 (of_z w32 c.args.number)) (g.N.Node.asks c.args.request))
-    c.args.router some pipes as_many refl _ _ r.end a.end r.run a.happens
+    c.args.router some pipes as_many refl _ _ r.end a.end r.run a.happens (a.none_missed ∙ r.none_missed)
     (c.in-Ok-settle.ensures.settled since a.end next handed a.stands))
 
 pub returns-in-Err-ask-clause-noted : goal.returns-in-Err-ask-clause-noted

@@ -22,7 +22,7 @@ requests-init g c = record {
   sink = refl;
   noted = λ shown. no_more (g.K.Sink.noted c.args.out.now);
   went = λ asks since w handed router s.
-      asking_none (seat_since g.N.Node.state g.L.Log.facts since) handed w
+      asking_none (seat_since g.N.Node.state g.N.Node.steps g.L.Log.facts since) handed w
       c.args.at c.args.link c.args.replied c.args.framer.now.bytes
       _ _ router s;
 }
@@ -31,7 +31,7 @@ pub returns-in-Ok-None-clause-asked : goal.returns-in-Ok-None-clause-asked
 returns-in-Ok-None-clause-asked g c asks since w handed router s =
     let was = c.requests.invariant.went asks since w handed router s in
     let told = next_none c.requests.framer c.next.new.self c.in-Ok-None.field-0 c.in-Ok-None.field-0-is c.in-Ok-None.ensures in
-    asking_ends (seat_since g.N.Node.state g.L.Log.facts since) handed w
+    asking_ends (seat_since g.N.Node.state g.N.Node.steps g.L.Log.facts since) handed w
     c.args.at c.args.link c.args.replied c.args.framer.now.bytes
     _ _ _ c.requests.replied was c.next.new.self.bytes (same_bytes c.requests.framer c.next.new.self told.1)
     (still_partial c.requests.framer c.next.new.self told.1 told.0)
@@ -41,7 +41,7 @@ returns-in-Err-Malformed-clause-asked g c asks since w handed router s =
     let was = c.requests.invariant.went asks since w handed router s in
     let told = next_malformed c.requests.framer c.next.new.self c.in-Err-Malformed.field-0 c.in-Err-Malformed.field-0-0 c.in-Err-Malformed.field-0-1
     c.in-Err-Malformed.field-0-is c.in-Err-Malformed.ensures in
-    asking_fails (seat_since g.N.Node.state g.L.Log.facts since) handed w
+    asking_fails (seat_since g.N.Node.state g.N.Node.steps g.L.Log.facts since) handed w
     c.args.at c.args.link c.args.replied c.args.framer.now.bytes
     _ _ _ c.requests.replied was c.next.new.self.bytes told.bytes
     (told_malformed c.requests.framer c.next.new.self (fault_view c.in-Err-Malformed.field-0-0) c.in-Err-Malformed.field-0-1
@@ -49,13 +49,13 @@ returns-in-Err-Malformed-clause-asked g c asks since w handed router s =
 
 pub returns-in-Err-Memory-clause-cut : goal.returns-in-Err-Memory-clause-cut
 returns-in-Err-Memory-clause-cut g c asks since w handed router s =
-    asking_cut (seat_since g.N.Node.state g.L.Log.facts since) handed w
+    asking_cut (seat_since g.N.Node.state g.N.Node.steps g.L.Log.facts since) handed w
     c.args.at c.args.link c.args.replied c.args.framer.now.bytes
     _ _ _ c.requests.replied (c.requests.invariant.went asks since w handed router s) _
 
 pub returns-then-replied-ge-MOST_REPLIES-clause-cut : goal.returns-then-replied-ge-MOST_REPLIES-clause-cut
 returns-then-replied-ge-MOST_REPLIES-clause-cut g c asks since w handed router s =
-    asking_cut (seat_since g.N.Node.state g.L.Log.facts since) handed w
+    asking_cut (seat_since g.N.Node.state g.N.Node.steps g.L.Log.facts since) handed w
     c.args.at c.args.link c.args.replied c.args.framer.now.bytes
     _ _ _ c.requests.replied (c.requests.invariant.went asks since w handed router s) _
 
@@ -79,11 +79,12 @@ requests-preserved g c =
       places = c.ask.ensures.places ∙ c.requests.invariant.places;
       held = c.ask.ensures.held ∙ c.requests.invariant.held;
       sink = c.ask.ensures.sink ∙ c.requests.invariant.sink;
-      noted = λ shown. more_then (g.K.Sink.noted c.args.out.now) (g.K.Sink.noted c.requests.out) (g.K.Sink.noted c.ask.new.out) (c.requests.invariant.noted shown)
+      noted = λ shown. more_then (g.K.Sink.noted c.args.out.now) (g.K.Sink.noted c.requests.out) (g.K.Sink.noted c.ask.new.out)
+          (c.requests.invariant.noted shown)
           (c.ask.ensures.noted shown);
       went = λ asks since w handed router s.
           let was = c.requests.invariant.went asks since w handed router s in
-          asking_more (seat_since g.N.Node.state g.L.Log.facts since) handed w
+          asking_more (seat_since g.N.Node.state g.N.Node.steps g.L.Log.facts since) handed w
           c.args.at c.args.link c.args.replied
           c.args.framer.now.bytes _ _ _ c.requests.replied was given.0 (g.N.Node.asks c.in-Ok-Some.request) c.next.new.self.bytes
           (to_z w32 (of_z w32 c.next_number-number.result)) given.1.first.split given.1.first.reads
@@ -97,7 +98,7 @@ pub returns-in-Err-clause-cut : goal.returns-in-Err-clause-cut
 returns-in-Err-clause-cut g c asks since w handed router s =
     let given = next_given c.requests.framer c.next.new.self c.in-Ok-Some.field-0 c.in-Ok-Some.request c.in-Ok-Some.field-0-is c.in-Ok-Some.ensures in
     let was = c.requests.invariant.went asks since w handed router s in
-    asking_stopped (seat_since g.N.Node.state g.L.Log.facts since) handed w
+    asking_stopped (seat_since g.N.Node.state g.N.Node.steps g.L.Log.facts since) handed w
     c.args.at c.args.link c.args.replied
     c.args.framer.now.bytes _ _ _ c.requests.replied was given.0 (g.N.Node.asks c.in-Ok-Some.request) c.next.new.self.bytes
     (to_z w32 (of_z w32 c.next_number-number.result)) given.1.first.split given.1.first.reads

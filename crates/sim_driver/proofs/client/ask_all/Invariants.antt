@@ -24,9 +24,10 @@ invariant-requests g l = record {
   sink : g.K.Sink.fault_count l.out ≡ g.K.Sink.fault_count l.fn.out;
   noted : IsTrue g.K.Sink.tells → HasMore (g.K.Sink.noted l.fn.out) (g.K.Sink.noted l.out);
   went : AreAskedAsRead g.N.Node.asks → (since : Since g.row.L.Denot) (w : World) (handed : List ToLink) → IsRouter w.nodes l.at
-      → StandsFor (seat_since g.N.Node.state g.L.Log.facts since)
+      → StandsFor (seat_since g.N.Node.state g.N.Node.steps g.L.Log.facts since)
       (hosted g.K.Sink.tells g.L.Log.facts since (g.K.Sink.noted l.fn.out) l.fn.seats.items)
       (network_view (λ m. g.N.Mail.Mail.letter m) l.fn.network) handed w 0
-      → AreAsking (seat_since g.N.Node.state g.L.Log.facts since) (hosted g.K.Sink.tells g.L.Log.facts since (g.K.Sink.noted l.out) l.seats.items)
+      → AreAsking (seat_since g.N.Node.state g.N.Node.steps g.L.Log.facts since) (hosted g.K.Sink.tells g.L.Log.facts since
+      (g.K.Sink.noted l.out) l.seats.items)
       (network_view (λ m. g.N.Mail.Mail.letter m) l.network) handed w l.at l.link l.fn.replied l.fn.framer.bytes l.framer.bytes l.replied;
 }

@@ -16,26 +16,26 @@ pub returns-in-Err-clause-cut : goal.returns-in-Err-clause-cut
 returns-in-Err-clause-cut g c since w handed s =
     let m = message_at (map (λ m. g.N.Mail.Mail.letter m) c.args.network.now.waiting.items) c.args.at
     (omega (arith, c.requires.at, c.args.network.now.waiting.ok.0, length-map c.args.network.now.waiting.items (λ m. g.N.Mail.Mail.letter m))) in
-    let got = ap (λ l. slice_get l c.args.at) (all_sent (seat_since g.N.Node.state g.L.Log.facts since) _ _ handed w s) ∙ m.1 in
-    cut_here (seat_since g.N.Node.state g.L.Log.facts since) _ w [] w
-    (IsPartOfDelivery w c.args.at) _ (stands w)
+    let got = ap (λ l. slice_get l c.args.at) (all_sent (seat_since g.N.Node.state g.N.Node.steps g.L.Log.facts since) _ _ handed w s) ∙ m.1 in
+    cut_here (seat_since g.N.Node.state g.N.Node.steps g.L.Log.facts since) _ w [] w
+    (IsPartOfDelivery w c.args.at) _ (stands w) refl
     (record { message = m.0; got = got; first = (deliver_event m.0.receiver c.args.at ∷ [], refl) })
-    (still (seat_since g.N.Node.state g.L.Log.facts since) _ _ handed w s)
+    (still (seat_since g.N.Node.state g.N.Node.steps g.L.Log.facts since) _ _ handed w s)
 
 pub returns-in-Ok-deliver-clause-delivered : goal.returns-in-Ok-deliver-clause-delivered
 returns-in-Ok-deliver-clause-delivered g c since w handed s =
-    let got = ap (λ l. slice_get l c.args.at) (all_sent (seat_since g.N.Node.state g.L.Log.facts since) _ _ handed w s)
+    let got = ap (λ l. slice_get l c.args.at) (all_sent (seat_since g.N.Node.state g.N.Node.steps g.L.Log.facts since) _ _ handed w s)
     ∙ c.in-Ok.ensures in
     let d = c.in-Ok-deliver.ensures.delivered since w 0 c.args.at handed s got in
-    record { message = g.N.Mail.Mail.letter c.in-Ok.message; end = d.end; got = got; delivers = d.delivers; stands = d.stands }
+    record { message = g.N.Mail.Mail.letter c.in-Ok.message; end = d.end; got = got; delivers = d.delivers; none_missed = d.none_missed; stands = d.stands }
 
 pub returns-in-Err-deliver-clause-cut : goal.returns-in-Err-deliver-clause-cut
 returns-in-Err-deliver-clause-cut g c since w handed s =
-    let got = ap (λ l. slice_get l c.args.at) (all_sent (seat_since g.N.Node.state g.L.Log.facts since) _ _ handed w s)
+    let got = ap (λ l. slice_get l c.args.at) (all_sent (seat_since g.N.Node.state g.N.Node.steps g.L.Log.facts since) _ _ handed w s)
     ∙ c.in-Ok.ensures in
-    cut_behind (seat_since g.N.Node.state g.L.Log.facts since) _ _ handed w [] w
+    cut_behind (seat_since g.N.Node.state g.N.Node.steps g.L.Log.facts since) _ _ handed w [] w
     (λ events. BeginWith events (deliver_event (g.N.Mail.Mail.letter c.in-Ok.message).receiver c.args.at ∷ []))
-    (IsPartOfDelivery w c.args.at) c.in-Err-deliver.e _ c.of.ensures (stands w)
+    (IsPartOfDelivery w c.args.at) c.in-Err-deliver.e _ c.of.ensures (stands w) refl
     (λ more first. record { message = g.N.Mail.Mail.letter c.in-Ok.message; got = got; first = first })
     (c.in-Err-deliver.ensures.stopped since w 0 c.args.at handed s got)
 

@@ -10,13 +10,13 @@ use Rattle.sim_driver.proofs.deliver.deliver_unless.Goals as goal
 pub returns-then-is_passed-clause-delivered : goal.returns-then-is_passed-clause-delivered
 returns-then-is_passed-clause-delivered g c since w handed s =
     let there = c.is_passed.ensures in
-    let got = ap (λ l. slice_get l c.args.at) (all_sent (seat_since g.N.Node.state g.L.Log.facts since) _ _ handed w s) ∙ there.1 in
+    let got = ap (λ l. slice_get l c.args.at) (all_sent (seat_since g.N.Node.state g.N.Node.steps g.L.Log.facts since) _ _ handed w s) ∙ there.1 in
     has_passed there.0 got (sym there.2 ∙ c.if-is_passed.true) s refl
 
 pub returns-in-Ok-clause-delivered : goal.returns-in-Ok-clause-delivered
 returns-in-Ok-clause-delivered g c since w handed s =
     let there = c.is_passed.ensures in
-    let got = ap (λ l. slice_get l c.args.at) (all_sent (seat_since g.N.Node.state g.L.Log.facts since) _ _ handed w s) ∙ there.1 in
+    let got = ap (λ l. slice_get l c.args.at) (all_sent (seat_since g.N.Node.state g.N.Node.steps g.L.Log.facts since) _ _ handed w s) ∙ there.1 in
     let d = c.in-Ok.ensures.delivered since w handed s in
     has_delivered d (passes_by w.sent c.args.at there.0 d.message (option_map (λ k. k.now) c.args.except) c.args.delivered.now got d.got
     (sym there.2 ∙ c.if-is_passed.false)) c.in-Ok.ensures.marked

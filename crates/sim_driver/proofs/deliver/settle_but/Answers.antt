@@ -18,7 +18,7 @@ messages-init g c = record {
   sink = refl;
   noted = λ shown. no_more (g.K.Sink.noted c.args.out.now);
   run = λ since w handed known s.
-      settling_none (seat_since g.N.Node.state g.L.Log.facts since) _
+      settling_none (seat_since g.N.Node.state g.N.Node.steps g.L.Log.facts since) _
       (network_view (λ m. g.N.Mail.Mail.letter m) c.args.network.now) handed w (option_map (λ k. k.now) c.args.except) c.args.delivered.now c.args.first
       c.requires.first known s;
 }
@@ -31,13 +31,15 @@ messages-preserved g c = record {
   places = c.deliver_unless.ensures.places ∙ c.messages.invariant.places;
   held = c.deliver_unless.ensures.held ∙ c.messages.invariant.held;
   sink = c.deliver_unless.ensures.sink ∙ c.messages.invariant.sink;
-  noted = λ shown. more_then (g.K.Sink.noted c.args.out.now) (g.K.Sink.noted c.messages.out) (g.K.Sink.noted c.deliver_unless.new.out) (c.messages.invariant.noted shown)
+  noted = λ shown. more_then (g.K.Sink.noted c.args.out.now) (g.K.Sink.noted c.messages.out) (g.K.Sink.noted c.deliver_unless.new.out)
+      (c.messages.invariant.noted shown)
       (c.deliver_unless.ensures.noted shown);
   run = λ since w handed known s.
       let so_far = c.messages.invariant.run since w handed known s in
-      settling_step (seat_since g.N.Node.state g.L.Log.facts since) _
+      settling_step (seat_since g.N.Node.state g.N.Node.steps g.L.Log.facts since) _
       _ handed w (option_map (λ k. k.now) c.args.except) c.args.delivered.now c.messages.delivered c.messages.at
-      (hosted g.K.Sink.tells g.L.Log.facts since (g.K.Sink.noted c.messages.out) c.messages.seats.items) (network_view (λ m. g.N.Mail.Mail.letter m) c.messages.network) _ so_far
+      (hosted g.K.Sink.tells g.L.Log.facts since (g.K.Sink.noted c.messages.out) c.messages.seats.items)
+      (network_view (λ m. g.N.Mail.Mail.letter m) c.messages.network) _ so_far
       (c.in-Ok.ensures.delivered since so_far.end handed so_far.stands);
 }
 
@@ -51,7 +53,7 @@ messages-smaller g c =
 pub returns-in-Err-clause-cut : goal.returns-in-Err-clause-cut
 returns-in-Err-clause-cut g c since w handed known s =
     let so_far = c.messages.invariant.run since w handed known s in
-    settling_cut (seat_since g.N.Node.state g.L.Log.facts since)
+    settling_cut (seat_since g.N.Node.state g.N.Node.steps g.L.Log.facts since)
     (hosted g.K.Sink.tells g.L.Log.facts since (g.K.Sink.noted c.messages.out) c.messages.seats.items) _
     (network_view (λ m. g.N.Mail.Mail.letter m) c.messages.network) handed w (option_map (λ k. k.now) c.args.except) c.args.delivered.now
     c.messages.delivered c.messages.at c.in-Err.status so_far
@@ -59,7 +61,7 @@ returns-in-Err-clause-cut g c since w handed known s =
 
 pub returns-clause-settled : goal.returns-clause-settled
 returns-clause-settled g c since w handed known s =
-    settling_end (seat_since g.N.Node.state g.L.Log.facts since)
+    settling_end (seat_since g.N.Node.state g.N.Node.steps g.L.Log.facts since)
     (hosted g.K.Sink.tells g.L.Log.facts since (g.K.Sink.noted c.messages.out) c.messages.seats.items)
     (network_view (λ m. g.N.Mail.Mail.letter m) c.messages.network) handed w (option_map (λ k. k.now) c.args.except) c.args.delivered.now
     c.messages.delivered c.messages.at

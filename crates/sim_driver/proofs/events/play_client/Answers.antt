@@ -18,7 +18,7 @@ use Rattle.sim_driver.proofs.events.play_client.Goals as goal
 
 pub returns-then-router-len-clause-stops : goal.returns-then-router-len-clause-stops
 returns-then-router-len-clause-stops g c asks since w handed routers s =
-    let count = held_len (seat_since g.N.Node.state g.L.Log.facts since) c.args.seats.now.items w.nodes s.nodes in
+    let count = held_len (seat_since g.N.Node.state g.N.Node.steps g.L.Log.facts since) c.args.seats.now.items w.nodes s.nodes in
     stops_unplayed (no_router c.args.router c.args.bytes.now (omega (
       arith,
       count,
@@ -27,11 +27,11 @@ returns-then-router-len-clause-stops g c asks since w handed routers s =
       c.requires.links,
       c.len.ensures,
       c.if-router-len.true,
-    ))) (still (seat_since g.N.Node.state g.L.Log.facts since) _ _ handed w s)
+    ))) (still (seat_since g.N.Node.state g.N.Node.steps g.L.Log.facts since) _ _ handed w s)
 
 pub returns-in-Err-clause-stops : goal.returns-in-Err-clause-stops
 returns-in-Err-clause-stops g c asks since w handed routers s =
-    let view = seat_since g.N.Node.state g.L.Log.facts since in
+    let view = seat_since g.N.Node.state g.N.Node.steps g.L.Log.facts since in
     let old = script_view c.args.script.now in
     let link = c.index_mut-link.result.now in
     let line = client_line c.args.router c.args.bytes.now in
@@ -59,7 +59,7 @@ returns-in-Err-clause-stops g c asks since w handed routers s =
 
 pub returns-then-not-malformed-clause-played : goal.returns-then-not-malformed-clause-played
 returns-then-not-malformed-clause-played g c asks since w handed routers s =
-    let view = seat_since g.N.Node.state g.L.Log.facts since in
+    let view = seat_since g.N.Node.state g.N.Node.steps g.L.Log.facts since in
     let old = script_view c.args.script.now in
     let link = c.index_mut-link.result.now in
     let line = client_line c.args.router c.args.bytes.now in
@@ -89,7 +89,7 @@ returns-then-not-malformed-clause-played g c asks since w handed routers s =
 
 pub returns-in-Err-close-clause-stops : goal.returns-in-Err-close-clause-stops
 returns-in-Err-close-clause-stops g c asks since w handed routers s =
-    let view = seat_since g.N.Node.state g.L.Log.facts since in
+    let view = seat_since g.N.Node.state g.N.Node.steps g.L.Log.facts since in
     let old = script_view c.args.script.now in
     let link = c.index_mut-link.result.now in
     let line = client_line c.args.router c.args.bytes.now in
@@ -115,7 +115,7 @@ returns-in-Err-close-clause-stops g c asks since w handed routers s =
 
 pub returns-in-Ok-close-clause-played : goal.returns-in-Ok-close-clause-played
 returns-in-Ok-close-clause-played g c asks since w handed routers s =
-    let view = seat_since g.N.Node.state g.L.Log.facts since in
+    let view = seat_since g.N.Node.state g.N.Node.steps g.L.Log.facts since in
     let old = script_view c.args.script.now in
     let link = c.index_mut-link.result.now in
     let line = client_line c.args.router c.args.bytes.now in

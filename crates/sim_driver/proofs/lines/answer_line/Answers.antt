@@ -13,42 +13,50 @@ pub returns-in-Err-clause-stopped : goal.returns-in-Err-clause-stopped
 returns-in-Err-clause-stopped g c asks told since first_router first some parts held_before consumed others p n = (
   since.noted,
   n,
-  playing_full (seat_since g.N.Node.state g.L.Log.facts since) _ _ first_router first _ _ held_before _ consumed (c.args.line.now ++ 10 ∷ others)
+  playing_full (seat_since g.N.Node.state g.N.Node.steps g.L.Log.facts since) _ _ first_router first _ _ held_before _ consumed (c.args.line.now ++ 10 ∷ others)
       (script_view c.args.script.now) p,
 )
 
 pub returns-in-Err-play_line-clause-stopped : goal.returns-in-Err-play_line-clause-stopped
 returns-in-Err-play_line-clause-stopped g c asks told since first_router first some parts held_before consumed others p n =
-    let may = plays_may_stop (g.O.Opens.part c.args.opener.now) first_router first some.begins parts p.lines p.events p.world (script_view c.args.script.now) p.out p.plays in
-    let router = plays_script (g.O.Opens.part c.args.opener.now) first_router first some.begins parts some.routers p.lines p.events p.world (script_view c.args.script.now) p.out p.plays in
+    let may = plays_may_stop (g.O.Opens.part c.args.opener.now) first_router first some.begins parts p.lines p.events p.world
+    (script_view c.args.script.now) p.out p.plays in
+    let router = plays_script (g.O.Opens.part c.args.opener.now) first_router first some.begins parts some.routers p.lines p.events p.world
+    (script_view c.args.script.now) p.out p.plays in
     let next = plays_marks first_router first p.lines p.events p.world (script_view c.args.script.now) p.out p.plays in (
       since.noted,
       noted_places g.K.Sink.tells _ _ _ since.noted c.play_line.ensures.places
           (noted_on g.K.Sink.tells _ (g.K.Sink.noted c.play_line.new.out) _ since.noted c.play_line.ensures.noted n),
-      rw c.play_line.ensures.held (line_stopped (seat_since g.N.Node.state g.L.Log.facts since) _ _ _ first_router first
+      rw c.play_line.ensures.held (line_stopped (seat_since g.N.Node.state g.N.Node.steps g.L.Log.facts since) _ _ _ first_router first
           _ _ held_before _ consumed (script_view c.args.script.now) p c.args.line.now
-          c.requires.line others c.in-Err-play_line.status (c.in-Err-play_line.ensures.stops asks told since p.world (puts_given p.world.answered) may router next p.stands)),
+          c.requires.line others c.in-Err-play_line.status (c.in-Err-play_line.ensures.stops asks told since p.world
+          (puts_given p.world.answered) may router next p.stands)),
     )
 
 pub returns-in-Err-text_of-clause-stopped : goal.returns-in-Err-text_of-clause-stopped
 returns-in-Err-text_of-clause-stopped g c asks told since first_router first some parts held_before consumed others p n =
-    let may = plays_may_stop (g.O.Opens.part c.args.opener.now) first_router first some.begins parts p.lines p.events p.world (script_view c.args.script.now) p.out p.plays in
-    let router = plays_script (g.O.Opens.part c.args.opener.now) first_router first some.begins parts some.routers p.lines p.events p.world (script_view c.args.script.now) p.out p.plays in
+    let may = plays_may_stop (g.O.Opens.part c.args.opener.now) first_router first some.begins parts p.lines p.events p.world
+    (script_view c.args.script.now) p.out p.plays in
+    let router = plays_script (g.O.Opens.part c.args.opener.now) first_router first some.begins parts some.routers p.lines p.events p.world
+    (script_view c.args.script.now) p.out p.plays in
     let next = plays_marks first_router first p.lines p.events p.world (script_view c.args.script.now) p.out p.plays in
     let h = c.in-Ok-play_line.ensures.played asks told since p.world (puts_given p.world.answered) may router next p.stands in (
       since.noted,
       noted_places g.K.Sink.tells _ _ _ since.noted c.play_line.ensures.places
           (noted_on g.K.Sink.tells _ (g.K.Sink.noted c.play_line.new.out) _ since.noted c.play_line.ensures.noted n),
-      rw c.play_line.ensures.held (line_unprinted (seat_since g.N.Node.state g.L.Log.facts since) _ _ _
+      rw c.play_line.ensures.held (line_unprinted (seat_since g.N.Node.state g.N.Node.steps g.L.Log.facts since) _ _ _
           first_router first _ _ held_before _ consumed (script_view c.args.script.now) p c.args.line.now
-          c.requires.line (λ m. g.N.Mail.Mail.letter m) c.play_line.new.network c.hand_on-replies.new.self (script_view c.play_line.new.script) c.in-Ok-play_line.closed
+          c.requires.line (λ m. g.N.Mail.Mail.letter m) c.play_line.new.network c.hand_on-replies.new.self
+          (script_view c.play_line.new.script) c.in-Ok-play_line.closed
           h others),
     )
 
 pub returns-in-Ok-put_text-clause-answered : goal.returns-in-Ok-put_text-clause-answered
 returns-in-Ok-put_text-clause-answered g c asks told since first_router first some parts held_before consumed p n =
-    let may = plays_may_stop (g.O.Opens.part c.args.opener.now) first_router first some.begins parts p.lines p.events p.world (script_view c.args.script.now) p.out p.plays in
-    let router = plays_script (g.O.Opens.part c.args.opener.now) first_router first some.begins parts some.routers p.lines p.events p.world (script_view c.args.script.now) p.out p.plays in
+    let may = plays_may_stop (g.O.Opens.part c.args.opener.now) first_router first some.begins parts p.lines p.events p.world
+    (script_view c.args.script.now) p.out p.plays in
+    let router = plays_script (g.O.Opens.part c.args.opener.now) first_router first some.begins parts some.routers p.lines p.events p.world
+    (script_view c.args.script.now) p.out p.plays in
     let next = plays_marks first_router first p.lines p.events p.world (script_view c.args.script.now) p.out p.plays in
     let h = c.in-Ok-play_line.ensures.played asks told since p.world (puts_given p.world.answered) may router next p.stands in
     let facts = g.L.Log.facts in
@@ -60,15 +68,17 @@ returns-in-Ok-put_text-clause-answered g c asks told since first_router first so
       noted,
       noted_more facts seats h.played.end count g.K.Sink.tells (g.K.Sink.noted c.play_line.new.out) _ _ since.noted
           (noted_on g.K.Sink.tells _ (g.K.Sink.noted c.play_line.new.out) _ since.noted c.play_line.ensures.noted n) c.play_line.ensures.places taken,
-      line_answered (seat_since g.N.Node.state facts since) _ _ _ first_router first
+      line_answered (seat_since g.N.Node.state g.N.Node.steps facts since) _ _ _ first_router first
           _ _ held_before _ consumed (script_view c.args.script.now) p c.args.line.now
-          c.requires.line (λ m. g.N.Mail.Mail.letter m) c.play_line.new.network c.hand_on-replies.new.self (script_view c.play_line.new.script) c.in-Ok-play_line.closed
-          (seat_since g.N.Node.state facts (with_notes since noted)) noted
-          (note_played facts seats count g.N.Node.state since _ _ _ _ _ _ _ g.K.Sink.tells (g.K.Sink.noted c.play_line.new.out)
+          c.requires.line (λ m. g.N.Mail.Mail.letter m) c.play_line.new.network c.hand_on-replies.new.self
+          (script_view c.play_line.new.script) c.in-Ok-play_line.closed
+          (seat_since g.N.Node.state g.N.Node.steps facts (with_notes since noted)) noted
+          (note_played facts seats count g.N.Node.state g.N.Node.steps since _ _ _ _ _ _ _ g.K.Sink.tells (g.K.Sink.noted c.play_line.new.out)
           (g.K.Sink.noted c.put_text.new.out) c.put_text.ensures.durable taken h)
-          (covers_line (seat_since g.N.Node.state facts since) _ _ _ first_router first
+          (covers_line (seat_since g.N.Node.state g.N.Node.steps facts since) _ _ _ first_router first
           _ _ held_before _ consumed (script_view c.args.script.now) p c.args.line.now
-          c.requires.line (λ m. g.N.Mail.Mail.letter m) c.play_line.new.network c.hand_on-replies.new.self (script_view c.play_line.new.script) c.in-Ok-play_line.closed
+          c.requires.line (λ m. g.N.Mail.Mail.letter m) c.play_line.new.network c.hand_on-replies.new.self
+          (script_view c.play_line.new.script) c.in-Ok-play_line.closed
           h _) _
           c.hand_on-replies.ensures.waiting c.hand_on-replies.ensures.none
           (rw (
@@ -86,8 +96,10 @@ returns-in-Ok-put_text-clause-answered g c asks told since first_router first so
 
 pub returns-clause-stopped : goal.returns-clause-stopped
 returns-clause-stopped g c asks told since first_router first some parts held_before consumed others p n =
-    let may = plays_may_stop (g.O.Opens.part c.args.opener.now) first_router first some.begins parts p.lines p.events p.world (script_view c.args.script.now) p.out p.plays in
-    let router = plays_script (g.O.Opens.part c.args.opener.now) first_router first some.begins parts some.routers p.lines p.events p.world (script_view c.args.script.now) p.out p.plays in
+    let may = plays_may_stop (g.O.Opens.part c.args.opener.now) first_router first some.begins parts p.lines p.events p.world
+    (script_view c.args.script.now) p.out p.plays in
+    let router = plays_script (g.O.Opens.part c.args.opener.now) first_router first some.begins parts some.routers p.lines p.events p.world
+    (script_view c.args.script.now) p.out p.plays in
     let next = plays_marks first_router first p.lines p.events p.world (script_view c.args.script.now) p.out p.plays in
     let h = c.in-Ok-play_line.ensures.played asks told since p.world (puts_given p.world.answered) may router next p.stands in
     let facts = g.L.Log.facts in
@@ -99,16 +111,17 @@ returns-clause-stopped g c asks told since first_router first some parts held_be
       noted,
       noted_more facts seats h.played.end count g.K.Sink.tells (g.K.Sink.noted c.play_line.new.out) _ _ since.noted
           (noted_on g.K.Sink.tells _ (g.K.Sink.noted c.play_line.new.out) _ since.noted c.play_line.ensures.noted n) c.play_line.ensures.places taken,
-      line_put_short (seat_since g.N.Node.state facts since) _ _ _
+      line_put_short (seat_since g.N.Node.state g.N.Node.steps facts since) _ _ _
           first_router first _ _ held_before _ consumed (script_view c.args.script.now) p c.args.line.now
           c.requires.line (λ m. g.N.Mail.Mail.letter m) c.play_line.new.network c.hand_on-replies.new.self
           (script_view c.play_line.new.script) c.in-Ok-play_line.closed
-          (seat_since g.N.Node.state facts (with_notes since noted)) noted
-          (note_played facts seats count g.N.Node.state since _ _ _ _ _ _ _ g.K.Sink.tells (g.K.Sink.noted c.play_line.new.out)
+          (seat_since g.N.Node.state g.N.Node.steps facts (with_notes since noted)) noted
+          (note_played facts seats count g.N.Node.state g.N.Node.steps since _ _ _ _ _ _ _ g.K.Sink.tells (g.K.Sink.noted c.play_line.new.out)
           (g.K.Sink.noted c.put_text.new.out) c.put_text.ensures.durable taken h)
-          (covers_line (seat_since g.N.Node.state facts since) _ _ _ first_router first
+          (covers_line (seat_since g.N.Node.state g.N.Node.steps facts since) _ _ _ first_router first
           _ _ held_before _ consumed (script_view c.args.script.now) p c.args.line.now
-          c.requires.line (λ m. g.N.Mail.Mail.letter m) c.play_line.new.network c.hand_on-replies.new.self (script_view c.play_line.new.script) c.in-Ok-play_line.closed
+          c.requires.line (λ m. g.N.Mail.Mail.letter m) c.play_line.new.network c.hand_on-replies.new.self
+          (script_view c.play_line.new.script) c.in-Ok-play_line.closed
           h _) others _
           (rw (
             c.as_slice.ensures.value,

@@ -30,7 +30,7 @@ returns-in-Err-clause-stopped g c asks told since first_router first some parts 
         consumed = was.2.0;
         left = c.lines.begun.items ++ c.lines.rest.now;
         whole = was.2.1;
-        stopped = playing_full (seat_since g.N.Node.state g.L.Log.facts (with_notes since was.0)) _
+        stopped = playing_full (seat_since g.N.Node.state g.N.Node.steps g.L.Log.facts (with_notes since was.0)) _
             _ first_router first _ was.0 held_before _ was.2.0
             (c.lines.begun.items ++ c.lines.rest.now) (script_view c.lines.script) was.2.2;
       },
@@ -63,7 +63,8 @@ lines-preserved g c = record {
         then.1,
         (
           was.2.0 ++ (c.as_slice.result.now ++ newline ∷ []),
-          bytes_more _ was.2.0 c.lines.begun.items c.lines.rest.now c.in-Some.first.now c.in-Some.behind.now c.as_slice.result.now c.clear.new.self.items was.2.1
+          bytes_more _ was.2.0 c.lines.begun.items c.lines.rest.now c.in-Some.first.now c.in-Some.behind.now c.as_slice.result.now c.clear.new.self.items
+              was.2.1
               c.in-Some.ensures.found.whole (c.as_slice.ensures.value ∙ c.in-Ok.ensures.items) c.clear.ensures.items,
           then.2,
         ),
@@ -107,7 +108,7 @@ returns-in-Err-extend_from_slice-clause-stopped g c asks told since first_router
         consumed = was.2.0;
         left = c.lines.begun.items ++ c.lines.rest.now;
         whole = was.2.1;
-        stopped = playing_full (seat_since g.N.Node.state g.L.Log.facts (with_notes since was.0)) _
+        stopped = playing_full (seat_since g.N.Node.state g.N.Node.steps g.L.Log.facts (with_notes since was.0)) _
             _ first_router first _ was.0 held_before _ was.2.0
             (c.lines.begun.items ++ c.lines.rest.now) (script_view c.lines.script) was.2.2;
       },

@@ -29,16 +29,19 @@ invariant-lines g l = record {
   sink_calm : g.K.Sink.fault_count l.out ≡ g.K.Sink.fault_count l.fn.out;
   disks_calm : faults_of g.L.Log.facts.fault_count l.seats.items ≡ faults_of g.L.Log.facts.fault_count l.fn.seats.items;
   places : places_of g.L.Log.facts.place l.seats.items ≡ places_of g.L.Log.facts.place l.fn.seats.items;
-  went : AreAskedAsRead g.N.Node.asks → IsTrue g.L.Log.facts.tells → (since : Since g.row.L.Denot) (first_router : ℕ) (first : World) → MayPlay first_router first → HaveParts (g.O.Opens.part l.opener) first.nodes →
+  went : AreAskedAsRead g.N.Node.asks → IsTrue g.L.Log.facts.tells → (since : Since g.row.L.Denot) (first_router : ℕ) (first : World)
+      → MayPlay first_router first → HaveParts (g.O.Opens.part l.opener) first.nodes →
       (held_before consumed : List ℕ) →
-      Playing (seat_since g.N.Node.state g.L.Log.facts since)
-      (hosted g.K.Sink.tells g.L.Log.facts since (g.K.Sink.noted l.fn.out) l.fn.seats.items) (network_view (λ m. g.N.Mail.Mail.letter m) l.fn.network) first_router first g.K.Sink.tells since.noted held_before
+      Playing (seat_since g.N.Node.state g.N.Node.steps g.L.Log.facts since)
+      (hosted g.K.Sink.tells g.L.Log.facts since (g.K.Sink.noted l.fn.out) l.fn.seats.items) (network_view (λ m. g.N.Mail.Mail.letter m) l.fn.network)
+      first_router first g.K.Sink.tells since.noted held_before
       (g.K.Sink.held l.fn.out)
       (script_view l.fn.script) consumed
       → AreNoted g.K.Sink.tells (g.K.Sink.noted l.fn.out) (places_of g.L.Log.facts.place l.fn.seats.items) since.noted
       → WithNotes g.K.Sink.tells (g.K.Sink.noted l.out) (places_of g.L.Log.facts.place l.seats.items)
       (λ noted. (more : List ℕ) × (consumed ++ (l.fn.begun.items ++ l.piece) ≡ more ++ (l.begun.items ++ l.rest))
-      × Playing (seat_since g.N.Node.state g.L.Log.facts (with_notes since noted))
-      (hosted g.K.Sink.tells g.L.Log.facts since (g.K.Sink.noted l.out) l.seats.items) (network_view (λ m. g.N.Mail.Mail.letter m) l.network) first_router first g.K.Sink.tells noted held_before (g.K.Sink.held l.out)
+      × Playing (seat_since g.N.Node.state g.N.Node.steps g.L.Log.facts (with_notes since noted))
+      (hosted g.K.Sink.tells g.L.Log.facts since (g.K.Sink.noted l.out) l.seats.items) (network_view (λ m. g.N.Mail.Mail.letter m) l.network) first_router
+      first g.K.Sink.tells noted held_before (g.K.Sink.held l.out)
       (script_view l.script) more);
 }

@@ -8,4 +8,5 @@ replies-preserved c =
     c.replies.invariant c.in-Ok.ensures
 
 pub returns : goal.returns
-returns c = lines_end c.args.numbers.now c.args.replies.now c.replies.reply-index _ c.replies.text.items (omega (arith, c.replies-test.false)) c.replies.invariant
+returns c = lines_end c.args.numbers.now c.args.replies.now c.replies.reply-index _ c.replies.text.items
+    (omega (arith, c.replies-test.false)) c.replies.invariant

@@ -16,14 +16,14 @@ use Rattle.sim_driver.proofs.restarts.play_lost.Goals as goal
 
 pub returns-then-node-len-clause-stops : goal.returns-then-node-len-clause-stops
 returns-then-node-len-clause-stops g c told since w handed may s =
-    let count = held_len (seat_since g.N.Node.state g.L.Log.facts since) c.args.seats.now.items w.nodes s.nodes in
+    let count = held_len (seat_since g.N.Node.state g.N.Node.steps g.L.Log.facts since) c.args.seats.now.items w.nodes s.nodes in
     line_unplayed (no_node (lost_line c.args.node c.args.k) c.args.node c.args.k (names_lost c.args.node c.args.k)
     (omega (arith, count, c.args.seats.now.ok.0, c.len.ensures, c.if-node-len.true)))
-    (still (seat_since g.N.Node.state g.L.Log.facts since) _ _ handed w s)
+    (still (seat_since g.N.Node.state g.N.Node.steps g.L.Log.facts since) _ _ handed w s)
 
 pub returns-in-Err-clause-stops : goal.returns-in-Err-clause-stops
 returns-in-Err-clause-stops g c told since w handed may s =
-    let view = seat_since g.N.Node.state g.L.Log.facts since in
+    let view = seat_since g.N.Node.state g.N.Node.steps g.L.Log.facts since in
     let old = script_view c.args.script.now in
     let before = hosted g.K.Sink.tells g.L.Log.facts since (g.K.Sink.noted c.args.out.now) c.args.seats.now.items in
     let all = all_sent view _ _ handed w s in
@@ -41,7 +41,7 @@ returns-in-Err-clause-stops g c told since w handed may s =
 
 pub returns-in-Ok-play_stop-clause-played : goal.returns-in-Ok-play_stop-clause-played
 returns-in-Ok-play_stop-clause-played g c told since w handed may s =
-    let view = seat_since g.N.Node.state g.L.Log.facts since in
+    let view = seat_since g.N.Node.state g.N.Node.steps g.L.Log.facts since in
     let old = script_view c.args.script.now in
     let all = all_sent view _ _ handed w s in
     let place = ap (λ l. place_from 0 c.args.node c.args.k l) all ∙ c.in-Ok.ensures.taken.place in
@@ -51,7 +51,7 @@ returns-in-Ok-play_stop-clause-played g c told since w handed may s =
 
 pub returns-in-Err-play_stop-clause-stops : goal.returns-in-Err-play_stop-clause-stops
 returns-in-Err-play_stop-clause-stops g c told since w handed may s =
-    let view = seat_since g.N.Node.state g.L.Log.facts since in
+    let view = seat_since g.N.Node.state g.N.Node.steps g.L.Log.facts since in
     let old = script_view c.args.script.now in
     let all = all_sent view _ _ handed w s in
     let place = ap (λ l. place_from 0 c.args.node c.args.k l) all ∙ c.in-Ok.ensures.taken.place in

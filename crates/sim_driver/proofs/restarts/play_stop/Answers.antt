@@ -11,9 +11,9 @@ use Rattle.sim_driver.proofs.restarts.play_stop.Goals as goal
 
 pub returns-in-Err-clause-cut : goal.returns-in-Err-clause-cut
 returns-in-Err-clause-cut g c told since w handed e may gives s =
-    cut_in_here (seat_since g.N.Node.state g.L.Log.facts since) _ w (BeginToStop c.args.at e) statuses.OutOfMemory
+    cut_in_here (seat_since g.N.Node.state g.N.Node.steps g.L.Log.facts since) _ w (BeginToStop c.args.at e) statuses.OutOfMemory
     (restart_event c.args.at, by_itself e, (stop_and_open c.args.at (restart_event c.args.at), refl))
-    (still (seat_since g.N.Node.state g.L.Log.facts since) _ _ handed w s)
+    (still (seat_since g.N.Node.state g.N.Node.steps g.L.Log.facts since) _ _ handed w s)
 
 pub returns-in-Ok-restart-clause-returned : goal.returns-in-Ok-restart-clause-returned
 returns-in-Ok-restart-clause-returned g c told since w handed e may gives s = record {
@@ -23,7 +23,7 @@ returns-in-Ok-restart-clause-returned g c told since w handed e may gives s = re
 
 pub returns-in-Err-restart-clause-cut : goal.returns-in-Err-restart-clause-cut
 returns-in-Err-restart-clause-cut g c told since w handed e may gives s =
-    cut_in_stop (seat_since g.N.Node.state g.L.Log.facts since) _ w (BeginToStop c.args.at e) c.in-Err-restart.e _ c.of.ensures
+    cut_in_stop (seat_since g.N.Node.state g.N.Node.steps g.L.Log.facts since) _ w (BeginToStop c.args.at e) c.in-Err-restart.e _ c.of.ensures
     (c.in-Err-restart.ensures.failed told since w 0 handed e may gives s)
 
 pub returns-in-Err-restart-clause-open : goal.returns-in-Err-restart-clause-open

@@ -37,10 +37,10 @@ pieces-init g c = record {
       [],
       rw c.new-begun.ensures.items refl,
       (λ told. rw c.new-begun.ensures.items refl),
-      playing_from (seat_since g.N.Node.state g.L.Log.facts (with_notes since since.noted)) _ _ c.args.first_router first _ since.noted
+      playing_from (seat_since g.N.Node.state g.N.Node.steps g.L.Log.facts (with_notes since since.noted)) _ _ c.args.first_router first _ since.noted
           _ _ [] (new_script c.args.first_router (router_count c.args.first_router first)) (script_view c.in-Ok.script)
           (ap (λ (n : ℕ). new_script c.args.first_router n) (routers_are
-          (seat_since g.N.Node.state g.L.Log.facts since) _ _ c.args.first_router first _ _ _ _ _ _ p (vec_len c.args.seats.now)
+          (seat_since g.N.Node.state g.N.Node.steps g.L.Log.facts since) _ _ c.args.first_router first _ _ _ _ _ _ p (vec_len c.args.seats.now)
           c.args.seats.now.ok.0) ∙ (ap (λ (n : ℕ). new_script c.args.first_router (n - c.args.first_router)) (sym c.len.ensures) ∙ sym c.in-Ok.ensures.view)) p,
     ),
   );
@@ -48,7 +48,7 @@ pieces-init g c = record {
 
 pub returns-in_default-clause-simulated : goal.returns-in_default-clause-simulated
 returns-in_default-clause-simulated g c asks told since first some parts p n =
-    let view = seat_since g.N.Node.state g.L.Log.facts (with_notes since since.noted) in (
+    let view = seat_since g.N.Node.state g.N.Node.steps g.L.Log.facts (with_notes since since.noted) in (
       since.noted,
       n,
       ended_stopped view (hosted g.K.Sink.tells g.L.Log.facts since (g.K.Sink.noted c.args.out.now) c.args.seats.now.items)
@@ -62,7 +62,7 @@ returns-in_default-clause-simulated g c asks told since first some parts p n =
 
 pub returns-in_default-new_piece-clause-simulated : goal.returns-in_default-new_piece-clause-simulated
 returns-in_default-new_piece-clause-simulated g c asks told since first some parts p n =
-    let view = seat_since g.N.Node.state g.L.Log.facts (with_notes since since.noted) in (
+    let view = seat_since g.N.Node.state g.N.Node.steps g.L.Log.facts (with_notes since since.noted) in (
       since.noted,
       n,
       ended_stopped view (hosted g.K.Sink.tells g.L.Log.facts since (g.K.Sink.noted c.args.out.now) c.args.seats.now.items)
@@ -79,7 +79,7 @@ returns-in-Err-clause-simulated g c asks told since first some parts p n =
     let went = c.pieces.invariant.went asks told since first some parts p n in (
       went.0,
       went.1,
-      ended_taking (seat_since g.N.Node.state g.L.Log.facts (with_notes since went.0))
+      ended_taking (seat_since g.N.Node.state g.N.Node.steps g.L.Log.facts (with_notes since went.0))
           (hosted g.K.Sink.tells g.L.Log.facts since (g.K.Sink.noted c.pieces.out) c.pieces.seats.items)
           (source_call g.S.Source.tells g.S.Source.left g.S.Source.fault_count c.args.input.now c.take_more.new.input)
           (sink_call g.K.Sink.tells g.K.Sink.held g.K.Sink.fault_count c.args.out.now c.pieces.out) went.0 c.args.first_router
@@ -101,7 +101,8 @@ returns-in-Err-clause-write_fault g c =
 
 pub returns-in-Err-clause-disk_fault : goal.returns-in-Err-clause-disk_fault
 returns-in-Err-clause-disk_fault g c =
-    none_has_risen _ _ _ (no_fault_of_disks _ _ c.in-Err.status c.unended.result c.in-Err.ensures.taken.1 c.unended.ensures.either) c.pieces.invariant.disks_calm
+    none_has_risen _ _ _ (no_fault_of_disks _ _ c.in-Err.status c.unended.result c.in-Err.ensures.taken.1 c.unended.ensures.either)
+    c.pieces.invariant.disks_calm
 
 pub pieces-preserved : goal.pieces-preserved
 pieces-preserved g c =
@@ -179,7 +180,7 @@ returns-in-Err-play_piece-clause-simulated g c asks told since first some parts 
     (g.K.Sink.held c.args.out.now) went.2.0 went.2.3 went.1 in (
       then.0,
       then.1,
-      ended_within (seat_since g.N.Node.state g.L.Log.facts (with_notes since then.0))
+      ended_within (seat_since g.N.Node.state g.N.Node.steps g.L.Log.facts (with_notes since then.0))
           (hosted g.K.Sink.tells g.L.Log.facts since (g.K.Sink.noted c.play_piece.new.out) c.play_piece.new.seats.items)
           (source_call g.S.Source.tells g.S.Source.left g.S.Source.fault_count c.args.input.now c.take_more.new.input)
           (sink_call g.K.Sink.tells g.K.Sink.held g.K.Sink.fault_count c.args.out.now c.play_piece.new.out) then.0 c.args.first_router first c.args.limit
@@ -207,11 +208,12 @@ returns-clause-simulated g c asks told since first some parts p n =
     let went = c.pieces.invariant.went asks told since first some parts p n in (
       went.0,
       went.1,
-      ended_at_limit (seat_since g.N.Node.state g.L.Log.facts (with_notes since went.0))
+      ended_at_limit (seat_since g.N.Node.state g.N.Node.steps g.L.Log.facts (with_notes since went.0))
           (hosted g.K.Sink.tells g.L.Log.facts since (g.K.Sink.noted c.pieces.out) c.pieces.seats.items)
           (source_call g.S.Source.tells g.S.Source.left g.S.Source.fault_count c.args.input.now c.pieces.input)
           (sink_call g.K.Sink.tells g.K.Sink.held g.K.Sink.fault_count c.args.out.now c.pieces.out) went.0 c.args.first_router
           first c.args.limit
-          statuses.InputTooLong went.2.0 c.pieces.begun.items (network_view (λ m. g.N.Mail.Mail.letter m) c.pieces.network) (script_view c.pieces.script) went.2.3
+          statuses.InputTooLong went.2.0 c.pieces.begun.items (network_view (λ m. g.N.Mail.Mail.letter m) c.pieces.network)
+          (script_view c.pieces.script) went.2.3
           went.2.2 c.pieces.invariant.begun refl (omega (arith, went.2.1, c.pieces.invariant.most, c.pieces-test.false)),
     )

@@ -34,16 +34,19 @@ invariant-pieces g l = record {
   sink_calm : g.K.Sink.fault_count l.out ≡ g.K.Sink.fault_count l.fn.out;
   disks_calm : faults_of g.L.Log.facts.fault_count l.seats.items ≡ faults_of g.L.Log.facts.fault_count l.fn.seats.items;
   places : places_of g.L.Log.facts.place l.seats.items ≡ places_of g.L.Log.facts.place l.fn.seats.items;
-  went : AreAskedAsRead g.N.Node.asks → IsTrue g.L.Log.facts.tells → (since : Since g.row.L.Denot) (first : World) → MayPlay l.first_router first → HaveParts (g.O.Opens.part l.opener) first.nodes
-      → Playing (seat_since g.N.Node.state g.L.Log.facts since)
-      (hosted g.K.Sink.tells g.L.Log.facts since (g.K.Sink.noted l.fn.out) l.fn.seats.items) (network_view (λ m. g.N.Mail.Mail.letter m) l.fn.network) l.first_router first g.K.Sink.tells since.noted (g.K.Sink.held l.fn.out)
+  went : AreAskedAsRead g.N.Node.asks → IsTrue g.L.Log.facts.tells → (since : Since g.row.L.Denot) (first : World) → MayPlay l.first_router first → HaveParts
+      (g.O.Opens.part l.opener) first.nodes
+      → Playing (seat_since g.N.Node.state g.N.Node.steps g.L.Log.facts since)
+      (hosted g.K.Sink.tells g.L.Log.facts since (g.K.Sink.noted l.fn.out) l.fn.seats.items) (network_view (λ m. g.N.Mail.Mail.letter m) l.fn.network)
+      l.first_router first g.K.Sink.tells since.noted (g.K.Sink.held l.fn.out)
       (g.K.Sink.held l.fn.out) (new_script l.first_router (router_count l.first_router first)) []
       → AreNoted g.K.Sink.tells (g.K.Sink.noted l.fn.out) (places_of g.L.Log.facts.place l.fn.seats.items) since.noted
       → WithNotes g.K.Sink.tells (g.K.Sink.noted l.out) (places_of g.L.Log.facts.place l.seats.items)
       (λ noted. (consumed : List ℕ) × (length consumed + length l.begun.items ≡ l.taken)
       × Took g.S.Source.tells (g.S.Source.left l.fn.input) (consumed ++ l.begun.items) (g.S.Source.left l.input)
-      × Playing (seat_since g.N.Node.state g.L.Log.facts (with_notes since noted))
-      (hosted g.K.Sink.tells g.L.Log.facts since (g.K.Sink.noted l.out) l.seats.items) (network_view (λ m. g.N.Mail.Mail.letter m) l.network) l.first_router first g.K.Sink.tells noted (g.K.Sink.held l.fn.out)
+      × Playing (seat_since g.N.Node.state g.N.Node.steps g.L.Log.facts (with_notes since noted))
+      (hosted g.K.Sink.tells g.L.Log.facts since (g.K.Sink.noted l.out) l.seats.items) (network_view (λ m. g.N.Mail.Mail.letter m) l.network) l.first_router
+      first g.K.Sink.tells noted (g.K.Sink.held l.fn.out)
       (g.K.Sink.held l.out)
       (script_view l.script) consumed);
 }
