@@ -211,14 +211,14 @@ def several():
     waiting.begun("WriteAsk 1: 0 2, WriteAsk 2: 1, WriteAsk 2: 0, WriteAsk 1: 0, WriteAsk 2: 1")
     waiting.done(2, 3, "1 5.1 1").done(1, 3, "0 5.2 1", says=answered(2, 2))
     waiting.done(1, 1, LOWER).done(2, 2, "0 5.4 1", "WriteAsk 1: 1").done(2, 1, UPPER, says=answered(3, 3)).done(1, 2, "1 5.5 1", says=answered(2, 5))
-    read = Router("a read that waits beside a write goes on with the write's table").moment(5000).asks(unordered(11, 1)).finds(FIND)
+    read = Router("a read that waits beside a write goes on with the write's table").moment(5000).asks(unordered(11, 1)).asks(FIND)
     read.begun("WriteAsk 2: 0, WriteAsk 1: 1, ReadAsk 1, ReadAsk 2").done(2, 1, "0 5.1 1").done(2, 2, "0 5.1 1").part(1, ["{_id: 1}"], count=2)
     read.done(1, 1, "1 5.2 1", says=answered(2, 2)).part(2, ["{_id: 12}"], count=2, gets=(FIND, 2, first("{_id: 1}, {_id: 12}", 0, seconds=5)))
     other = Router("a write of another collection waits on").moment(5000).asks(insert(1, collection="e")).asks(insert(1, 11))
     other.begun("WriteAsk 1: 0").moment(6000, "TableAsk 0, WriteAsk 1: 0").done(1, 2, "0 5.1 1", "WriteAsk 2: 1").done(2, 2, "1 5.2 1", says=answered(2, 2))
     return [
         waiting, read, other.moment(7000, "TableAsk 0"),
-        Router("a write goes on with the table of a read").moment(5000).finds(FIND).asks(insert(1, 11)).table("ReadAsk 1, ReadAsk 2, WriteAsk 1: 0"),
+        Router("a write goes on with the table of a read").moment(5000).asks(FIND).asks(insert(1, 11)).table("ReadAsk 1, ReadAsk 2, WriteAsk 1: 0"),
         three("a write that comes once there is a table is sent at once").asks(unordered(12, 3), "WriteAsk 2: 0, WriteAsk 1: 1")
         .asks(insert(4, 5), "WriteAsk 1: 0 1")
         .done(1, 3, "0 5.1 1, 1 5.2 1", says=answered(2, 2)).done(1, 2, "1 5.3 1").done(2, 2, "0 5.4 1", says=answered(2, 4))

@@ -2,13 +2,14 @@
 from cursors import more, next_
 from form import Ask, ask_lines, connection_row, refused_rows, silent
 from reads import aggregate, count, counted, find, first, inserted, refused
+from refusals import LIMITS
 from retries import SESSION, done, errors, insert, sequence
 from wire import Connection
 
 ADMIN = '$db: "admin"}'
 KEY = "key: {_id: 1}"
 LONG = f'"{"d" * 63}.{"a" * 191}"'
-COMMON = (f'comment: [], $clusterTime: 1, $readPreference: 1, {SESSION}, apiVersion: "1", apiStrict: true, '
+COMMON = (f'comment: [], maxTimeMS: 2147483647, $clusterTime: 1, $readPreference: 1, {SESSION}, apiVersion: "1", apiStrict: true, '
     'apiDeprecationErrors: false')
 ONE = "{_id: 1}"
 MANY = 40
@@ -151,7 +152,7 @@ def refused_shards():
         ("a key of a timestamp", "{_id: Timestamp(0, 1)}", 2), ("a key of 2", "{_id: 2}", 2), ("a key of 0", "{_id: 0L}", 2),
         ("a key of 2^32 + 1", "{_id: 4294967297L}", 2), ("a key of a double", "{_id: 1.0}", 22), ("a key of another type", "1", 14),
         ("a key that is an array", "[1]", 14), ("a key that is a text", '"_id"', 14)]
-    more_ = [("unique", "false"), ("numInitialChunks", "1"), ("maxTimeMS", "1"), ("collation", "{}"), ("middle", "{_id: 1}"), ("writeConcern", "{}")]
+    more_ = [("unique", "false"), ("numInitialChunks", "1"), ("collation", "{}"), ("middle", "{_id: 1}"), ("writeConcern", "{}")]
     with_documents = [("documents", [ONE])]
     rows = [
         ("no database", f'{{shardCollection: "d.c", {KEY}}}', 9), ("a database of another type", f'{{shardCollection: "d.c", {KEY}, $db: 1}}', 14),
@@ -168,6 +169,7 @@ def refused_shards():
         ("the key twice", f'{{shardCollection: "d.c", {KEY}, key: 1, {ADMIN}', 9),
         ("the own field twice", f'{{shardCollection: "d.c", {KEY}, shardCollection: "d.c", {ADMIN}', 9),
         *((f"{name} is not taken", f'{{shardCollection: "d.c", {KEY}, {name}: {value}, {ADMIN}', 9) for name, value in more_),
+        *((words, f'{{shardCollection: "d.c", {KEY}, {limit}, {ADMIN}', code) for words, limit, code in LIMITS),
         ("a session", f'{{shardCollection: "d.c", {KEY}, lsid: {{}}, {ADMIN}', 9),
         ("a session of another type", f'{{shardCollection: "d.c", {KEY}, lsid: 1, {ADMIN}', 14),
         ("apiStrict of another type", f'{{shardCollection: "d.c", {KEY}, apiStrict: 1, {ADMIN}', 14),
@@ -187,7 +189,7 @@ def refused_splits():
         ("two fields, _id last", "{x: 5, _id: 5}", 2), ("_id twice", "{_id: 5, _id: 5}", 2), ("a middle below all keys", "{_id: MinKey}", 2),
         ("a middle above all keys", "{_id: MaxKey}", 2), ("a middle that is an array", "{_id: [5]}", 2), ("a middle that is a document", "{_id: {a: 5}}", 2),
         ("a double as middle", "{_id: 5.0}", 22), ("a middle of another type", "5", 14), ("a middle that is null", "null", 14)]
-    more_ = [("find", "{_id: 5}"), ("bounds", "[{_id: 1}, {_id: 5}]"), ("maxTimeMS", "1"), ("key", "{_id: 1}")]
+    more_ = [("find", "{_id: 5}"), ("bounds", "[{_id: 1}, {_id: 5}]"), ("key", "{_id: 1}")]
     five = "middle: {_id: 5}"
     rows = [
         ("no database", f'{{split: "d.c", {five}}}', 9), ("the own field", f"{{split: 1, {five}, {ADMIN}", 14),
@@ -198,6 +200,7 @@ def refused_splits():
         ("the middle twice", f'{{split: "d.c", {five}, middle: 5, {ADMIN}', 9),
         *((f"{name} is not taken", f'{{split: "d.c", {five}, {name}: {value}, {ADMIN}', 9) for name, value in more_),
         *((f"{name} does not stand for the middle", f'{{split: "d.c", {name}: {value}, {ADMIN}', 9) for name, value in more_[:2]),
+        *((words, f'{{split: "d.c", {five}, {limit}, {ADMIN}', code) for words, limit, code in LIMITS),
         ("a bad middle, before a field that is not listed", f'{{split: "d.c", middle: {{}}, zz: 1, {ADMIN}', 2),
         ("no sequence goes with it", (f'{{split: "d.c", {five}, {ADMIN}', [("middle", ["{_id: 5}"])]), 9),
         ("no sequence goes for the middle", (f'{{split: "d.c", {ADMIN}', [("middle", ["{_id: 5}"])]), 9),

@@ -14,9 +14,10 @@ from records import (
 )
 
 NAMES = {
-    2: "BadValue", 9: "FailedToParse", 14: "TypeMismatch", 15: "Overflow", 22: "InvalidBSON", 28: "PathNotViable", 43: "CursorNotFound",
-    59: "CommandNotFound", 61: "ShardKeyNotFound", 66: "ImmutableField", 72: "InvalidOptions", 73: "InvalidNamespace", 118: "NamespaceNotSharded",
-    225: "TransactionTooOld", 292: "QueryExceededMemoryLimitNoDiskUseAllowed", 10334: "BSONObjectTooLarge", 11000: "DuplicateKey",
+    2: "BadValue", 9: "FailedToParse", 14: "TypeMismatch", 15: "Overflow", 22: "InvalidBSON", 28: "PathNotViable", 43: "CursorNotFound", 50: "MaxTimeMSExpired",
+    59: "CommandNotFound", 61: "ShardKeyNotFound", 66: "ImmutableField", 72: "InvalidOptions", 73: "InvalidNamespace", 91: "ShutdownInProgress",
+    118: "NamespaceNotSharded", 146: "ExceededMemoryLimit", 225: "TransactionTooOld", 292: "QueryExceededMemoryLimitNoDiskUseAllowed",
+    10334: "BSONObjectTooLarge", 11000: "DuplicateKey", 13388: "StaleConfig",
 }
 FIRST_BATCH = 101
 

@@ -155,6 +155,13 @@ def middle(value):
     return only_id(value)
 
 
+def time_limit(value):
+    """A number of milliseconds, from 0 to 2^31 - 1."""
+    want(is_number(value), 14)
+    want(0 <= value[1] < 2**31, 2)
+    return value[1]
+
+
 def limit_of_one(value):
     want(is_number(value), 14)
     want(value[1] in (0, 1), 2)
@@ -162,7 +169,7 @@ def limit_of_one(value):
 
 
 COMMON = {
-    "lsid": session, "$clusterTime": any_value, "$readPreference": any_value, "comment": any_value, "apiVersion": of_kind(STRING),
+    "lsid": session, "$clusterTime": any_value, "$readPreference": any_value, "comment": any_value, "maxTimeMS": time_limit, "apiVersion": of_kind(STRING),
     "apiStrict": of_kind(BOOLEAN), "apiDeprecationErrors": of_kind(BOOLEAN), "$db": any_value,
 }
 WRITE = {

@@ -9,6 +9,7 @@ The pages of the examples go to examples-README-parts.md at the top, to be put i
 import pathlib
 
 import alone
+import alone_refusals
 import alone_writes
 import ceilings
 import chunk_scripts
@@ -16,6 +17,7 @@ import chunks
 import cursors
 import drivers
 import languages
+import limits
 import reads
 import refusals
 import restart_scripts
@@ -49,11 +51,13 @@ def main():
     put_file(DATA / "starts.rows", starts.rows())
     put_file(DATA / "starts.script.rows", starting_scripts.scripts())
     put_file(DATA / "restarts.script.rows", restart_scripts.rows())
+    put_file(DATA / "limits.script.rows", limits.rows())
     put_file(DATA / "drivers.reads.rows", drivers.rows(DATA / "drivers.rows"))
     put_file(SERVED / "links.rows", serving.links_rows())
     put_file(SERVED / "ends.rows", serving.ends_rows())
     put_file(ALONE / "reads.txt", alone.lines())
     put_file(ALONE / "writes.txt", alone_writes.lines())
+    put_file(ALONE / "refusals.txt", alone_refusals.lines())
     sessions.put(TOP / "examples", TOP / "examples-README-parts.md")
 
 

@@ -5,6 +5,12 @@ from reads import ONE, aggregate, count, counted, find, first, refused
 
 DB = '$db: "d"}'
 SESSION = 'lsid: {id: UUID("000102030405060708090a0b0c0d0e0f")}'
+# fields with a time limit that are refused, and with which code
+LIMITS = [
+    ("a time limit of another type", 'maxTimeMS: "1"', 14), ("a time limit that is null", "maxTimeMS: null", 14),
+    ("a time limit below zero", "maxTimeMS: -1", 2), ("a time limit of 2^31", "maxTimeMS: 2147483648L", 2),
+    ("a time limit twice", "maxTimeMS: 1, maxTimeMS: 1", 9),
+]
 
 
 def fields():
@@ -13,7 +19,7 @@ def fields():
         Ask(ONE, "{n: 1, ok: 1, operationTime: Timestamp(1000, 2)}"),
         find(f'filter: {{}}, sort: {{}}, projection: {{}}, skip: 0, limit: 0, batchSize: 7, singleBatch: true, readConcern: {{}}, allowDiskUse: true, '
             f'noCursorTimeout: true, allowPartialResults: true, {SESSION}, $clusterTime: 1, '
-            '$readPreference: {mode: "primary"}, comment: [], apiVersion: "1", '
+            '$readPreference: {mode: "primary"}, comment: [], maxTimeMS: 0, apiVersion: "1", '
             'apiStrict: true, apiDeprecationErrors: false', first("{_id: 1}", 2)),
         find("singleBatch: false, allowDiskUse: false, noCursorTimeout: false, allowPartialResults: false, batchSize: 7L", first("{_id: 1}", 2)),
         *[find(f"{option}: false", first("{_id: 1}", 2)) for option in ONLY_FALSE],
@@ -21,11 +27,11 @@ def fields():
         find("skip: 1L", first("", 2)), find("limit: 1L", first("{_id: 1}", 2)), find("batchSize: 1", first("{_id: 1}", 2)),
         aggregate("", first("{_id: 1}", 2),
             f'cursor: {{batchSize: 7}}, readConcern: {{level: "local"}}, allowDiskUse: true, {SESSION}, $clusterTime: {{}}, '
-            '$readPreference: 1, comment: "c", apiVersion: "1", apiStrict: false, apiDeprecationErrors: true'),
+            '$readPreference: 1, comment: "c", maxTimeMS: 2147483647L, apiVersion: "1", apiStrict: false, apiDeprecationErrors: true'),
         aggregate("", first("{_id: 1}", 2), "allowDiskUse: false, cursor: {batchSize: 1L}"),
         Ask('{aggregate: "c", cursor: {}, $db: "d", pipeline: [{$match: {_id: 1}}]}', first("{_id: 1}", 2)),
         count(f'query: {{}}, skip: 0, limit: 0, readConcern: {{level: "majority"}}, {SESSION}, $clusterTime: 1, '
-            '$readPreference: 1, comment: 1, apiVersion: "1", '
+            '$readPreference: 1, comment: 1, maxTimeMS: 1, apiVersion: "1", '
             'apiStrict: true, apiDeprecationErrors: true', counted(1, 2)),
         count("", counted(1, 2)), count("query: {_id: 2}", counted(0, 2)), count("limit: 1L, skip: 0L", counted(1, 2)),
     ]
@@ -55,7 +61,8 @@ def database_rows():
             ("numbered", f'{{{name}: "c"{rest}, {SESSION}, txnNumber: 1L, {DB}', 9), ("a session", f'{{{name}: "c"{rest}, lsid: {{}}, {DB}', 9),
         ]
         rows += [(f"{field} is not taken", f'{{{name}: "c"{rest}, {field}: {value}, {DB}', 9) for field, value in
-            [("maxTimeMS", "1"), ("hint", '"_id_"'), ("let", "{}"), ("collation", "{}")]]
+            [("hint", '"_id_"'), ("let", "{}"), ("collation", "{}")]]
+        rows += [(words, f'{{{name}: "c"{rest}, {limit}, {DB}', code) for words, limit, code in LIMITS]
     return rows + [
         ("no database", '{getMore: 1L, collection: "c"}', 9), ("no database, before the own field", '{getMore: "x", collection: "c"}', 9),
         ("the own field", f'{{getMore: "x", collection: "c", {DB}', 14),
@@ -72,8 +79,9 @@ def database_rows():
         ("the collection twice", f'{{getMore: 1L, collection: "c", collection: "c", {DB}', 9),
         ("no concern", f'{{getMore: 1L, collection: "c", readConcern: {{}}, {DB}', 9),
         ("no sequence goes with it", (f'{{getMore: 1L, collection: "c", {DB}', [("collection", [])]), 9),
+        *((words, f'{{getMore: 1L, collection: "c", {limit}, {DB}', code) for words, limit, code in LIMITS),
         *((f"{field} is not taken", f'{{getMore: 1L, collection: "c", {field}: {value}, {DB}', 9) for field, value in
-            [("maxTimeMS", "1"), ("hint", '"_id_"'), ("let", "{}"), ("collation", "{}"), ("singleBatch", "true"), ("txnNumber", "1L")]),
+            [("hint", '"_id_"'), ("let", "{}"), ("collation", "{}"), ("singleBatch", "true"), ("txnNumber", "1L")]),
         ("no cursors", f'{{killCursors: "c", {DB}', 9), ("cursors of another type", f'{{killCursors: "c", cursors: 5, {DB}', 14),
         ("a cursor that is no number", f'{{killCursors: "c", cursors: [1L, "1"], {DB}', 14),
         ("a cursor that is a time", f'{{killCursors: "c", cursors: [Timestamp(0, 1)], {DB}', 14),

@@ -80,6 +80,10 @@ impl Node for Idle {
         IdleInput::Letter(mail)
     }
 
+    fn keep_count(&mut self, before: &Idle) {
+        self.steps = before.steps;
+    }
+
     fn step<L: Log>(
         &mut self,
         _log: &mut L,

@@ -5,6 +5,7 @@
 mod asked;
 mod messages;
 mod outcome;
+mod refusals;
 mod router;
 mod steps;
 mod words;
@@ -16,5 +17,6 @@ use std::io;
 
 fn main(rt: HostRuntime) -> io::Result<()> {
     check_file(&rt, "reads.txt", &mut Steps::new())?;
-    check_file(&rt, "writes.txt", &mut Steps::new())
+    check_file(&rt, "writes.txt", &mut Steps::new())?;
+    check_file(&rt, "refusals.txt", &mut Steps::new())
 }

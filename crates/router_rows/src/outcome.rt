@@ -4,7 +4,7 @@ use crate::asked::asks_for;
 use bson_values::Memory;
 use fixtures::{RowFault, bytes_of, number};
 use node_traits::{Mail, Outputs, ToLink};
-use protocol_model::Message;
+use protocol_model::{Body, Message};
 use std::alloc::Global;
 
 /// The messages and the replies of a step.
@@ -14,13 +14,30 @@ pub struct Sent {
     replies: Vec<ToLink>,
 }
 
-/// Returns whether a message is of the kind and for the node that the words name, as `ReadAsk 1`.
+/// Returns the turn of a message, 1 where it has none.
+fn turn_of(message: &Message) -> u32 {
+    match &message.body {
+        Body::WriteAsk(ask) => ask.turn,
+        Body::ReadAsk(ask) => ask.turn,
+        _ => 1,
+    }
+}
+
+/// Returns the node and the turn that words name, `NODE` or `NODE turn TURN`: the first where none is named.
+fn read_target(words: &str) -> Result<(u32, u32), RowFault> {
+    match words.split_once(" turn ") {
+        None => Ok((number(words)?, 1)),
+        Some((node, turn)) => Ok((number(node)?, number(turn)?)),
+    }
+}
+
+/// Returns whether a message is of the kind, for the node and of the turn that the words name, as `ReadAsk 1` or `ReadAsk 1 turn 2`.
 fn is_to(message: &Message, words: &str) -> Result<bool, RowFault> {
     let Some((kind, to)) = words.split_once(' ') else {
         return Err(RowFault::Form);
     };
-    let to: u32 = number(to)?;
-    Ok(message.kind() == kind && message.receiver.0 == to)
+    let (to, turn) = read_target(to)?;
+    Ok(message.kind() == kind && message.receiver.0 == to && turn_of(message) == turn)
 }
 
 /// Returns whether a message is the one that the words name; of a `WriteAsk` they may go on with its statements, as `WriteAsk 1: 0 2`.
@@ -33,6 +50,12 @@ fn is_message(message: &Message, words: &str) -> Result<bool, RowFault> {
             Ok(is_to_it && is_for)
         }
     }
+}
+
+/// Returns whether a reply has these bytes in hexadecimal.
+fn is_reply(alloc: Global, reply: &ToLink, digits: &str) -> Result<bool, RowFault> {
+    let wanted = bytes_of(alloc, digits)?;
+    Ok(reply.bytes.as_slice() == wanted.as_slice())
 }
 
 /// Returns whether these are the messages that the words name, in order, with commas between.
@@ -67,15 +90,20 @@ impl Sent {
         are_messages(&self.messages, words)
     }
 
-    /// Returns whether it returned just this reply, in hexadecimal, or none where there are no digits.
-    pub fn returns(&self, alloc: Global, digits: &str) -> Result<bool, RowFault> {
-        if digits.is_empty() {
+    /// Returns whether it returned just these replies, in hexadecimal, with commas between, or none where there are no digits.
+    pub fn returns(&self, alloc: Global, words: &str) -> Result<bool, RowFault> {
+        if words.is_empty() {
             return Ok(self.replies.is_empty());
         }
-        let [reply] = self.replies.as_slice() else {
-            return Ok(false);
-        };
-        let wanted = bytes_of(alloc, digits)?;
-        Ok(reply.bytes.as_slice() == wanted.as_slice())
+        let mut words = words.split(", ");
+        for reply in &self.replies {
+            let Some(digits) = words.next() else {
+                return Ok(false);
+            };
+            if !is_reply(alloc, reply, digits)? {
+                return Ok(false);
+            }
+        }
+        Ok(words.next().is_none())
     }
 }

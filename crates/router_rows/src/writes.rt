@@ -1,8 +1,8 @@
 //! Outcomes of the statements of writes.
 
-use crate::messages::delivery;
+use crate::messages::{delivery, id_of};
 use crate::words::{read_key, read_time};
-use cluster_base::{Code, NodeId, RequestId, Time};
+use cluster_base::{Code, NodeId, Time};
 use fixtures::{RowFault, number};
 use protocol_model::{Body, Done, DoneList, Input, Outcome, StatementOutcome, WriteDone};
 use std::alloc::Global;
@@ -111,11 +111,7 @@ pub fn done(
         return Err(RowFault::Form);
     };
     let shard = NodeId(number(shard)?);
-    let id = RequestId {
-        router: me,
-        life: 1,
-        count: number(count)?,
-    };
+    let id = id_of(me, number(count)?);
     let dones = read_dones(alloc, outcomes)?;
     Ok(delivery(shard, me, now, Body::WriteDone(WriteDone { id, dones })))
 }

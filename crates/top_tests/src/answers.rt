@@ -3,7 +3,8 @@
 use bson_values::{Aligned, Document, Text, Value, read};
 use cluster_base::{Code, Namespace, Time};
 use command_replies::{
-    Answer, Batch, Evidence, Refusal, StatementIndex, Upserted, WriteError, WriteKind, write_answer,
+    Answer, Batch, Evidence, Refusal, ShownTry, ShownVersion, StatementIndex, Upserted, WriteError,
+    WriteKind, stale_refusal, write_answer,
 };
 use std::alloc::Global;
 use std::cmp::Ordering;
@@ -31,6 +32,11 @@ const UPDATED: &str =
 /// operationTime: Timestamp(1000, 2)}`.
 const FOUND: &str =
     "9300000003637572736f720067000000126964000000000000000000026e730004000000642e6300046669727374426174636800270000000330000e000000105f69640001000000000331000e000000105f696400020000000000116174436c757374657254696d650002000000e803000000106f6b0001000000116f7065726174696f6e54696d650002000000e803000000";
+
+/// `{ok: 0, errmsg: "StaleConfig", code: 13388, codeName: "StaleConfig", evidence: {tries: [{sent: {epoch: 1L, major: 2L}, met: {epoch: 1L, major: 3L}},
+/// {sent: {epoch: 1L, major: 3L}, met: {epoch: 2L, major: 1L}}]}}`.
+const STALE: &str =
+    "16010000106f6b0000000000026572726d7367000c0000005374616c65436f6e6669670010636f6465004c34000002636f64654e616d65000c0000005374616c65436f6e666967000365766964656e636500c300000004747269657300b7000000033000560000000373656e7400230000001265706f6368000100000000000000126d616a6f7200020000000000000000036d657400230000001265706f6368000100000000000000126d616a6f720003000000000000000000033100560000000373656e7400230000001265706f6368000100000000000000126d616a6f7200030000000000000000036d657400230000001265706f6368000200000000000000126d616a6f720001000000000000000000000000";
 
 /// `{_id: 1}` and `{_id: 2}`.
 const IDS: [&[u8]; 2] = [
@@ -148,5 +154,27 @@ fn two_are_found(rt: HostRuntime) -> Result<(), Fail> {
         time: TIME,
     });
     assert!(rt; is_spelled(alloc, &found, FOUND)?);
+    Ok(())
+}
+
+/// Returns the version of a table.
+fn version(epoch: u64, major: u64) -> ShownVersion {
+    ShownVersion { epoch, major }
+}
+
+#[test]
+fn tries_stand_in_order(rt: HostRuntime) -> Result<(), Fail> {
+    let alloc = rt.alloc();
+    let mut tries = Vec::new(alloc);
+    tries.push(ShownTry {
+        sent: version(1, 2),
+        met: version(1, 3),
+    })?;
+    tries.push(ShownTry {
+        sent: version(1, 3),
+        met: version(2, 1),
+    })?;
+    let refused = Answer::Refused(stale_refusal(tries).copy(alloc)?);
+    assert!(rt; is_spelled(alloc, &refused, STALE)?);
     Ok(())
 }

@@ -51,7 +51,7 @@ pub fn put_command(alloc: Global, line: &mut String, request: &Request) -> Resul
 fn put_refusal(line: &mut String, refusal: &Refusal) -> Result<(), AllocError> {
     let code = refusal.code.number();
     write!(line, "refused {code}")?;
-    match refusal.evidence {
+    match &refusal.evidence {
         Evidence::Nothing => Ok(()),
         Evidence::Place { place } => write!(line, " at {place}"),
         _ => line.push_str(" otherwise"),

@@ -37,7 +37,7 @@ use std::thread::Threads;
 use wire_lines::Connections;
 
 /// The files, in the order in which they are checked.
-const FILES: [&str; 21] = [
+const FILES: [&str; 22] = [
     "frames.rows",
     "commands.rows",
     "refusals.rows",
@@ -59,6 +59,7 @@ const FILES: [&str; 21] = [
     "starts.rows",
     "starts.script.rows",
     "restarts.script.rows",
+    "limits.script.rows",
 ];
 
 /// Checks all files by the cluster.

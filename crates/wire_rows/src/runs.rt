@@ -2,8 +2,9 @@
 
 use bson_values::Text;
 use cluster_top::{Ended, node_count, run};
-use outside_memory::{MemAcceptor, MemDisk, MemLink, OpenGate};
+use outside_memory::{MemDisk, OpenGate};
 use row_disks::{RowFault, both};
+use serve_lines::{TurnAcceptor, TurnLink};
 use std::alloc::Global;
 use std::sync::Wait;
 use std::thread::Threads;
@@ -13,20 +14,20 @@ use wire_lines::{Devices, Left, NarrowSink, PieceSource, RowClock, Serves};
 #[derive(Drop)]
 pub struct Cluster;
 
-/// Runs the cluster over these devices.
-fn run_over<R: Threads + Wait + Sync>(
-    rt: &R,
+/// Runs the cluster over these devices, without links.
+fn run_over<'a, R: Threads + Wait + Sync>(
+    rt: &'a R,
     alloc: Global,
     arguments: &[Text],
     source: &mut PieceSource,
     sink: &mut NarrowSink,
     disks: Vec<MemDisk>,
     clock: &RowClock<'_>,
-) -> Result<Ended<MemDisk, MemLink>, RowFault> {
+) -> Result<Ended<MemDisk, TurnLink<'a, R>>, RowFault> {
     if node_count(arguments) != Some(disks.len()) {
         return Err(RowFault::Failed);
     }
-    let mut acceptor = MemAcceptor::new(Vec::new(alloc), Vec::new(alloc));
+    let mut acceptor = TurnAcceptor::<'a, R>::new(Vec::new(alloc), true);
     Ok(run(
         rt,
         alloc,
@@ -41,8 +42,8 @@ fn run_over<R: Threads + Wait + Sync>(
 }
 
 /// Returns what a run left.
-fn left_by(
-    ended: Result<Ended<MemDisk, MemLink>, RowFault>,
+fn left_by<'a, R: Wait>(
+    ended: Result<Ended<MemDisk, TurnLink<'a, R>>, RowFault>,
     source: PieceSource,
     sink: NarrowSink,
 ) -> Result<Left, RowFault> {
