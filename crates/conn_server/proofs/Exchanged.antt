@@ -1,5 +1,5 @@
 -- From notes to the run.
-use Rattle.std.proofs.Common.{◌≡◌, ℕ, ◌+◌, ◌≤◌, List, [], ◌∷◌, ◌++◌, sym, subst, arith}
+use Rattle.std.proofs.Common.{◌≡◌, ℕ, ◌+◌, ◌≤◌, List, [], ◌∷◌, ◌++◌, length, sym, subst, arith}
 use Rattle.std.specs.Prelude.{Option, Some, None, MatchOption}
 use Rattle.std.specs.List.{AllByRecursion}
 use Rattle.outside.specs.declared.exchange.Exchange.{Exchange}
@@ -12,11 +12,13 @@ use Rattle.driver_steps.specs.declared.seat.Seat.{Seat}
 use Rattle.node_cell.specs.declared.view.Placed.{Placed}
 use Rattle.node_cell.specs.declared.view.View.{View}
 use Rattle.node_cell.specs.declared.view.Taken.{Taken}
-use Rattle.node_cell.specs.Courses.{NodeFacts, Saw, WasTaken, WasTold}
+use Rattle.driver_steps.specs.Crashes.{Noted}
+use Rattle.node_cell.specs.Courses.{NodeFacts, Saw, WasTaken, WasTold, places_at}
 use Rattle.node_cell.specs.Standing.{AreRun, step_of}
 use Rattle.node_cell.proofs.Lists.{all_at, among_front}
-use Rattle.conn_server.specs.Conversations.{AreHeard, AreServed, InTurn, LinkFacts, WasHeard, WereServed}
+use Rattle.conn_server.specs.Conversations.{AreHeard, AreServed, InTurn, LinkFacts, WasHeard, WasShown, WereServed}
 use Rattle.conn_server.specs.Talks.{IsAsked, IsNoted, IsReplied, WasExchanged, reply_on}
+use Rattle.conn_server.proofs.Shown.{all_marked}
 
 -- WHAT A NOTE HAS SEEN STAYS SEEN
 
@@ -45,19 +47,19 @@ noted_on {N} {L} {M} {I} meaning link v w more answers taken told said =
 
 pub heard_more : {N L M I S : Type 0} (meaning : I → Input) (bytes : LinkFacts S) (from next : ℕ) (spoken : List (Spoken S)) (notes : List (View N L M I))
     (s : Spoken S) (v : View N L M I) (link : ℕ) → AreHeard meaning bytes from next spoken notes → next ≤ link
-    → AllByRecursion (λ e. IsNoted meaning link v e) s.said.items → InTurn s.said.items → WasHeard bytes s
+    → AllByRecursion (λ e. IsNoted meaning link v e) s.said.items → InTurn s.said.items → WasHeard bytes s → WasShown bytes link s v
     → AreHeard meaning bytes from (link + 1) (spoken ++ s ∷ []) (notes ++ v ∷ [])
-heard_more meaning bytes from next [] [] s v link all high noted in_turn heard =
-    (record { link = link; far = omega (arith, all, high); noted = noted; in_turn = in_turn; heard = heard }, omega arith)
-heard_more meaning bytes from next [] (w ∷ notes) s v link all high noted in_turn heard = absurd all
-heard_more meaning bytes from next (t ∷ spoken) [] s v link all high noted in_turn heard = absurd all
-heard_more meaning bytes from next (t ∷ spoken) (w ∷ notes) s v link all high noted in_turn heard =
-    (all.0, heard_more meaning bytes (all.0.link + 1) next spoken notes s v link all.1 high noted in_turn heard)
+heard_more meaning bytes from next [] [] s v link all high noted in_turn heard shown =
+    (record { link = link; far = omega (arith, all, high); noted = noted; in_turn = in_turn; heard = heard; shown = shown }, omega arith)
+heard_more meaning bytes from next [] (w ∷ notes) s v link all high noted in_turn heard shown = absurd all
+heard_more meaning bytes from next (t ∷ spoken) [] s v link all high noted in_turn heard shown = absurd all
+heard_more meaning bytes from next (t ∷ spoken) (w ∷ notes) s v link all high noted in_turn heard shown =
+    (all.0, heard_more meaning bytes (all.0.link + 1) next spoken notes s v link all.1 high noted in_turn heard shown)
 
 -- IN ONE RUN
 
-module _ {N L M I : Type 0} (f : NodeFacts N L M I) (first : ℕ) (events : List Event) (w : World) where
-  exchanged : (link : ℕ) (v : View N L M I) → Saw f first events w v → (e : Exchange) → IsNoted f.meaning link v e
+module _ {N L M I : Type 0} (f : NodeFacts N L M I) (places : List (List ℕ)) (first : ℕ) (events : List Event) (marks : List Noted) (w : World) where
+  exchanged : (link : ℕ) (v : View N L M I) → Saw f places first events marks w v → (e : Exchange) → IsNoted f.meaning link v e
       → WasExchanged f.meaning first events w link e
   exchanged link v saw e n = record {
     at = n.asked.at;
@@ -73,8 +75,8 @@ module _ {N L M I : Type 0} (f : NodeFacts N L M I) (first : ℕ) (events : List
       by_reply (Some bytes) r = all_at (λ t. WasTold first w t) v.told r.0 (e.step, reply_on link bytes) r.1 saw.told
 
   pub links_served : {S : Type 0} (bytes : LinkFacts S) (from next : ℕ) (spoken : List (Spoken S)) (notes : List (View N L M I))
-      → AreHeard f.meaning bytes from next spoken notes → AllByRecursion (λ v. Saw f first events w v) notes
-      → WereServed f.meaning bytes first events w from spoken
+      → AreHeard f.meaning bytes from next spoken notes → AllByRecursion (λ v. Saw f places first events marks w v) notes
+      → WereServed f.meaning bytes places first events marks w from spoken
   links_served bytes from next [] [] all saw = tt
   links_served bytes from next [] (v ∷ notes) all saw = absurd all
   links_served bytes from next (s ∷ spoken) [] all saw = absurd all
@@ -86,6 +88,8 @@ module _ {N L M I : Type 0} (f : NodeFacts N L M I) (first : ℕ) (events : List
           (λ e n. exchanged all.0.link v saw.0 e n) all.0.noted;
       in_turn = all.0.in_turn;
       heard = all.0.heard;
+      marked = all_marked places first marks bytes.tells (bytes.noted s.link) (length (bytes.held s.opened.value)) v.safe all.0.link s.said.items saw.0.safe
+          all.0.shown;
     },
     links_served bytes (all.0.link + 1) next spoken notes all.1 saw.1,
   )
@@ -100,6 +104,8 @@ all_served f bytes routers next seats ended notes spoken run heard since first o
       world = r.world;
       run = r.run;
       none_missed = r.none_missed;
+      marks = r.marks;
+      on_way = r.marked;
       nodes = r.nodes;
-      links_are = links_served f first.now r.events r.world bytes 0 next spoken notes heard r.noted;
+      links_are = links_served f (places_at f.facts since) first.now r.events r.marks r.world bytes 0 next spoken notes heard r.noted;
     }

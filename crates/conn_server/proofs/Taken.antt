@@ -1,6 +1,7 @@
 -- What was taken from a link, and how it ended.
 use Rattle.std.proofs.Common.{◌≡◌, ◌≢◌, ◌⊎◌, inl, inr, ⊎_elim, ℕ, List, [], ◌++◌, Bool, IsTrue, refl, sym, ap, ◌∙◌, subst}
 use Rattle.opmsg_model.specs.Outline.{outline, partial_outline}
+use Rattle.outside.specs.Notes.{Note}
 use Rattle.outside.specs.Streams.{Took}
 use Rattle.outside.specs.declared.exchange.Exchange.{Exchange}
 use Rattle.outside.specs.declared.exchange.LinkEnd.{LinkEnd}
@@ -18,14 +19,15 @@ took_more tells first second third last read bytes took more same =
 took_none : (tells : Bool) (first second third read : List ℕ) → Took tells first read second → Took tells second [] third → Took tells first read third
 took_none tells first second third read took none told = took told ∙ ap (λ (b : List ℕ). read ++ b) (none told)
 
-module _ {S : Type 0} (gives : Bool) (left : S → List ℕ) (tells : Bool) (held : S → List ℕ) (closed : S → Bool) (opened link : S) where
+module _ {S : Type 0} (gives : Bool) (left : S → List ℕ) (tells : Bool) (held : S → List ℕ) (noted : S → List Note) (closed : S → Bool)
+    (opened link : S) where
   -- what was said, as it was after taking
   held_by : (after : S) (said : List Exchange) (place : ℕ) (read rest : List ℕ) → held after ≡ held link
       → SpokeSome tells (held opened) (held link) [] said 0 read place rest → SpokeSome tells (held opened) (held after) [] said 0 read place rest
   held_by after said place read rest same some = subst (λ (h : List ℕ). SpokeSome tells (held opened) h [] said 0 read place rest) (sym same) some
 
   pub talked_long : (said : List Exchange) (read rest : List ℕ) (place : ℕ) → Took gives (left opened) read (left link) → outline rest ≡ partial_outline
-      → SpokeSome tells (held opened) (held link) [] said 0 read place rest → WasTalked (link_facts gives left tells held closed) Long opened link said
+      → SpokeSome tells (held opened) (held link) [] said 0 read place rest → WasTalked (link_facts gives left tells held noted closed) Long opened link said
   talked_long said read rest place took partial some = record {
     read = read;
     took = took;
@@ -34,7 +36,7 @@ module _ {S : Type 0} (gives : Bool) (left : S → List ℕ) (tells : Bool) (hel
   }
 
   pub talked_lost : (said : List Exchange) (read rest : List ℕ) (place : ℕ) → Took gives (left opened) read (left link)
-      → SpokeSome tells (held opened) (held link) [] said 0 read place rest → WasTalked (link_facts gives left tells held closed) Lost opened link said
+      → SpokeSome tells (held opened) (held link) [] said 0 read place rest → WasTalked (link_facts gives left tells held noted closed) Lost opened link said
   talked_lost said read rest place took some = record {
     read = read;
     took = took;
@@ -46,7 +48,7 @@ module _ {S : Type 0} (gives : Bool) (left : S → List ℕ) (tells : Bool) (hel
   pub talked_out : (after : S) (said : List Exchange) (end : LinkEnd) (read rest : List ℕ) (place : ℕ) → Took gives (left opened) read (left link)
       → Took gives (left link) [] (left after) → held after ≡ held link → (end ≡ AtEnd) ⊎ (end ≡ ReadFault)
       → (end ≡ AtEnd → IsTrue gives → left after ≡ []) → outline rest ≡ partial_outline
-      → SpokeSome tells (held opened) (held link) [] said 0 read place rest → WasTalked (link_facts gives left tells held closed) end opened after said
+      → SpokeSome tells (held opened) (held link) [] said 0 read place rest → WasTalked (link_facts gives left tells held noted closed) end opened after said
   talked_out after said end read rest place took none same why at_end partial some = record {
     read = read;
     took = took_none gives (left opened) (left link) (left after) read took none;
@@ -58,7 +60,7 @@ module _ {S : Type 0} (gives : Bool) (left : S → List ℕ) (tells : Bool) (hel
   -- what was taken can't be kept
   pub talked_no_more : (after : S) (said : List Exchange) (read rest bytes : List ℕ) (place : ℕ) → Took gives (left opened) read (left link)
       → Took gives (left link) bytes (left after) → held after ≡ held link
-      → SpokeSome tells (held opened) (held link) [] said 0 read place rest → WasTalked (link_facts gives left tells held closed) Lost opened after said
+      → SpokeSome tells (held opened) (held link) [] said 0 read place rest → WasTalked (link_facts gives left tells held noted closed) Lost opened after said
   talked_no_more after said read rest bytes place took more same some = record {
     read = read ++ bytes;
     took = took_then gives (left opened) read (left link) bytes (left after) took more;
@@ -72,7 +74,7 @@ module _ {S : Type 0} (gives : Bool) (left : S → List ℕ) (tells : Bool) (hel
       → Took gives (left opened) read (left link) → Took gives (left link) bytes (left taken) → left after ≡ left taken → held taken ≡ held link
       → same_place ≡ place → fed ≡ rest ++ bytes → end ≢ AtEnd → SpokeSome tells (held opened) (held link) [] said 0 read place rest
       → SpokeToEnd end tells (held taken) (held after) said said_after same_place fed
-      → WasTalked (link_facts gives left tells held closed) end opened after said_after
+      → WasTalked (link_facts gives left tells held noted closed) end opened after said_after
   talked_on taken after said said_after end read bytes rest fed place same_place took more stays same at grown other some last = record {
     read = read ++ bytes;
     took = took_more gives (left opened) (left link) (left taken) (left after) read bytes took more stays;

@@ -1,11 +1,12 @@
 -- What was said on a link, and what was seen of it (own).
-use Rattle.std.specs.Prelude.{◌≡◌, ◌⊎◌, ◌≤◌, ℕ, ℤ, ◌+◌, List, [], ◌∷◌, ◌++◌, length, Bool, true, false, MatchOption, Option, Some, None}
+use Rattle.std.specs.Prelude.{◌≡◌, ◌⊎◌, ◌≤◌, ℕ, ℤ, ◌+◌, List, [], ◌∷◌, ◌++◌, length, Bool, IsTrue, true, false, MatchOption, Option, Some, None}
 use Rattle.std.specs.List.{flat_map}
 use Rattle.std.specs.Option.{unwrap_or}
 use Rattle.opmsg_model.specs.Outline.{FrameFault, outline, partial_outline, faulty_outline}
 use Rattle.opmsg_model.specs.Requests.{Request, IsRequest}
 use Rattle.opmsg_frames.specs.RequestMeanings.{IsMeant}
 use Rattle.opmsg_frames.specs.declared.request.Request as frames
+use Rattle.outside.specs.Notes.{Note}
 use Rattle.outside.specs.Streams.{Put}
 use Rattle.outside.specs.declared.exchange.Exchange.{Exchange}
 use Rattle.outside.specs.declared.exchange.LinkEnd.{LinkEnd}
@@ -14,11 +15,14 @@ use Rattle.pipe_driver.specs.Pieces.{PutInPart}
 use Rattle.node_model.specs.Letters.{Input, client_input}
 use Rattle.node_model.specs.World.{World, Event}
 use Rattle.node_traits.specs.declared.outputs.ToLink.{ToLink}
+use Rattle.node_cell.specs.declared.view.Safe.{Safe}
 use Rattle.node_cell.specs.declared.view.Taken.{Taken}
 use Rattle.node_cell.specs.declared.view.View.{View}
+use Rattle.node_cell.specs.Board.{notes_at}
 use Rattle.node_cell.specs.Courses.{WasTaken, WasTold}
 use Rattle.group_steps.specs.Parts.{Among}
-use Rattle.node_cell.specs.Standing.{step_of}
+use Rattle.node_cell.specs.Standing.{AreAmong, step_of}
+use Rattle.node_cell.specs.Views.{Sights, safe_from}
 
 -- WHAT A NOTE HAS SEEN
 
@@ -107,6 +111,26 @@ AreAsWanted lost requests said = ⊥
 abbrev pub replies_of : List Exchange → List ℕ
 replies_of [] = []
 replies_of (e ∷ said) = unwrap_or e.reply [] ++ replies_of said
+
+-- WHAT IS NOTED BEFORE A REPLY IS WRITTEN
+
+-- The disks of all nodes were noted on a link when it held so many bytes, and a note has seen that the reply is safe from these moments on.
+pub record IsShown (tells : Bool) (notes : List Note) (before : ℕ) (safe : List Safe) (reply : ℕ × ToLink) : Type 0 where
+  pub disks : Sights
+  pub here : Among (safe_from disks reply) safe
+  pub noted : IsTrue tells → AreAmong (notes_at before disks) notes
+
+-- so it is of each reply, of which the first begins after so many bytes
+abbrev pub AreShown : (tells : Bool) → List Note → (before : ℕ) → List Safe → (link : ℕ) → List Exchange → Type 0
+AreShown tells notes before safe link [] = Unit {0}
+AreShown tells notes before safe link (e ∷ said) =
+    MatchOption e.reply (Unit {0}) (λ bytes. IsShown tells notes before safe (e.step, reply_on link bytes))
+    × AreShown tells notes (before + length (unwrap_or e.reply [])) safe link said
+
+-- and the link holds these replies after so many bytes
+pub record HasShown (tells : Bool) (held : List ℕ) (notes : List Note) (before : ℕ) (safe : List Safe) (link : ℕ) (said : List Exchange) : Type 0 where
+  pub at : IsTrue tells → length held ≡ before + length (replies_of said)
+  pub shown : AreShown tells notes before safe link said
 
 -- From one moment to another the requests in these bytes were asked, and their replies were put to the link. `lost` says whether the last may have no reply.
 pub record Spoke (lost : Type 0) (puts : List ℕ → Type 0) (said : List Exchange) (said_after : List Exchange) (bytes : List ℕ) : Type 0 where

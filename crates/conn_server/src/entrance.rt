@@ -12,6 +12,7 @@ use node_cell::Numbering;
 use node_traits::Node;
 use outside::log::Log;
 use outside::streams::{Acceptor, Failed};
+use outside::witness::DiskLink;
 use std::alloc::Global;
 use std::marker::{Brand, PhantomData};
 use std::sync::{Mutex, Wait};
@@ -102,6 +103,7 @@ where
     K: Numbering,
     Q: WireRequests<N>,
     A: Acceptor,
+    A::Link: DiskLink<L::Of>,
     B: Lending,
     O: Opened<A::Link>,
 {

@@ -12,6 +12,7 @@ use node_traits::Node;
 use outside::clock::Clock;
 use outside::log::Log;
 use outside::streams::Link;
+use outside::witness::DiskLink;
 use std::alloc::Global;
 use std::marker::PhantomData;
 use std::sync::atomic::{AtomicBool, Ordering};
@@ -188,7 +189,7 @@ where
     L: Log,
     K: Numbering,
     Q: WireRequests<N>,
-    S: Link + Drop,
+    S: DiskLink<L::Of> + Drop,
     O: Opened<S>,
 {
     fn run<R: Threads + Wait + Sync>(self, rt: &R) {

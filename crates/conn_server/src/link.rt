@@ -1,13 +1,14 @@
 //! One link: its requests are asked one after another, and the reply to each is written before the next is asked.
 
-ghost use Rattle.std.specs.Prelude.{◌≡◌, ◌≢◌, ◌⊎◌, ℕ, ◌<◌, ◌≤◌, ◌++◌, [], List, take, None, IfErr, IfOk, IfSome, IsTrue, OnErr, OnOk, vec_len};
+ghost use Rattle.std.specs.Prelude.{◌≡◌, ◌≢◌, ◌⊎◌, ℕ, ◌<◌, ◌≤◌, ◌++◌, [], List, length, take, None, IfErr, IfOk, IfSome, IsTrue, OnErr, OnOk, vec_len};
 ghost use Rattle.opmsg_model.specs.Outline.{outline, partial_outline};
 ghost use Rattle.opmsg_frames.specs.Framers.{IsNext};
 ghost use Rattle.outside.specs.Streams.{Took};
 ghost use Rattle.outside.specs.declared.exchange.LinkEnd.TheVariants as end_kinds;
 ghost use Rattle.group_steps.specs.Parts.{Among};
 ghost use Rattle.conn_server.specs.Conversations.{WasTalked, link_facts};
-ghost use Rattle.conn_server.specs.Talks.{IsAsked, IsRead, PutWhole, Spoke, SpokeSome, SpokeToEnd, reply_on};
+ghost use Rattle.conn_server.specs.Talks.{AreShown, HasShown, IsAsked, IsRead, PutWhole, Spoke, SpokeSome, SpokeToEnd, reply_on};
+ghost use Rattle.node_cell.specs.Standing.{AreAmong};
 
 use crate::opened::Opened;
 use crate::shared::{Origin, Shared};
@@ -20,6 +21,7 @@ use opmsg_frames::{FrameFault, Framer, Request};
 use outside::exchange::LinkEnd;
 use outside::log::Log;
 use outside::streams::Link;
+use outside::witness::DiskLink;
 use pipe_driver::{PIECE, new_piece, put_all};
 use std::alloc::Global;
 use std::marker::Model;
@@ -84,6 +86,7 @@ fn ask<N: Node, L: Log, K: Numbering, Q: WireRequests<N>, R: Wait>(
     ensures said { talk.new.said ≡ talk.old.said }
     ensures next { talk.new.next ≡ talk.old.next }
     ensures room { talk.new.room ≡ talk.old.room }
+    ensures safe { AreAmong talk.old.note.safe talk.new.note.safe }
     ensures asked { IfSome result (λ came. IsAsked N.meaning talk.new.note.taken talk.old.link came request.bytes) }
 {
     let link = talk.link();
@@ -118,6 +121,7 @@ fn next_reply<N: Node, L: Log, K: Numbering, R: Wait>(
     ensures next { talk.new.next ≡ talk.old.next }
     ensures room { talk.new.room ≡ talk.old.room }
     ensures taken { (more : List _) × (talk.new.note.taken ≡ talk.old.note.taken ++ more) }
+    ensures safe { AreAmong talk.old.note.safe talk.new.note.safe }
     ensures told { IfSome result (λ r. Among (r.0, reply_on talk.old.link r.1) talk.new.note.told) }
 {
     let Ok(reply) = replies.recv(rt) else {
@@ -131,12 +135,12 @@ fn next_reply<N: Node, L: Log, K: Numbering, R: Wait>(
     Some((step, reply.bytes))
 }
 
-/// Asks the link's router, waits for the reply, and writes it; returns the number of the last reply.
+/// Asks the link's router, waits for the reply, and writes it once the disks of all nodes were noted on the link; returns the number of the last reply.
 ///
 /// # Errors
 /// - `LinkEnd::WriteFault` if the reply could not be written.
 /// - `LinkEnd::Lost` if memory ran out, or the nodes have stopped.
-fn exchange<N: Node, L: Log, K: Numbering, Q: WireRequests<N>, S: Link, R: Wait>(
+fn exchange<N: Node, L: Log, K: Numbering, Q: WireRequests<N>, S: DiskLink<L::Of>, R: Wait>(
     rt: &R,
     alloc: Global,
     shared: &Shared<N, L, K>,
@@ -151,6 +155,12 @@ fn exchange<N: Node, L: Log, K: Numbering, Q: WireRequests<N>, S: Link, R: Wait>
     ensures spoke { OnOk result (Spoke ⊥ (PutWhole S.Sink.tells (S.Sink.held link.old) (S.Sink.held link.new)) talk.old.said talk.new.said read) }
     ensures ended { IfErr result (λ end. (offset : ℕ) (behind : List ℕ) →
         SpokeToEnd end S.Sink.tells (S.Sink.held link.old) (S.Sink.held link.new) talk.old.said talk.new.said offset (read ++ behind)) }
+    ensures shown { OnOk result ((before : ℕ) →
+        HasShown S.Sink.tells (S.Sink.held link.old) (S.Sink.noted link.old) before talk.old.note.safe talk.old.link talk.old.said →
+        HasShown S.Sink.tells (S.Sink.held link.new) (S.Sink.noted link.new) before talk.new.note.safe talk.old.link talk.new.said) }
+    ensures shown_end { OnErr result ((before : ℕ) →
+        HasShown S.Sink.tells (S.Sink.held link.old) (S.Sink.noted link.old) before talk.old.note.safe talk.old.link talk.old.said →
+        AreShown S.Sink.tells (S.Sink.noted link.new) before talk.new.note.safe talk.old.link talk.new.said) }
     ensures other { IfErr result (λ end. end ≢ end_kinds.AtEnd) }
 {
     let ReadRequest { request } = read;
@@ -177,6 +187,7 @@ fn exchange<N: Node, L: Log, K: Numbering, Q: WireRequests<N>, S: Link, R: Wait>
         talk.add(came, bytes, came, None);
         return Err(LinkEnd::Lost);
     };
+    talk.show(rt, &shared.book, link);
     let put = put_all(link, reply.as_slice());
     talk.add(came, bytes, step, Some(reply));
     match put {
@@ -189,7 +200,7 @@ fn exchange<N: Node, L: Log, K: Numbering, Q: WireRequests<N>, S: Link, R: Wait>
 ///
 /// # Errors
 /// As `exchange` has them, and `LinkEnd::NoFrame` if what is left begins with no request.
-fn exchange_all<N: Node, L: Log, K: Numbering, Q: WireRequests<N>, S: Link, R: Wait>(
+fn exchange_all<N: Node, L: Log, K: Numbering, Q: WireRequests<N>, S: DiskLink<L::Of>, R: Wait>(
     rt: &R,
     alloc: Global,
     shared: &Shared<N, L, K>,
@@ -206,6 +217,12 @@ fn exchange_all<N: Node, L: Log, K: Numbering, Q: WireRequests<N>, S: Link, R: W
         framer.old.offset framer.old.bytes framer.new.offset framer.new.bytes) }
     ensures ended { IfErr result (λ end. framer.old.fault ≡ None →
         SpokeToEnd end S.Sink.tells (S.Sink.held link.old) (S.Sink.held link.new) talk.old.said talk.new.said framer.old.offset framer.old.bytes) }
+    ensures shown { OnOk result ((before : ℕ) →
+        HasShown S.Sink.tells (S.Sink.held link.old) (S.Sink.noted link.old) before talk.old.note.safe talk.old.link talk.old.said →
+        HasShown S.Sink.tells (S.Sink.held link.new) (S.Sink.noted link.new) before talk.new.note.safe talk.old.link talk.new.said) }
+    ensures shown_end { OnErr result ((before : ℕ) →
+        HasShown S.Sink.tells (S.Sink.held link.old) (S.Sink.noted link.old) before talk.old.note.safe talk.old.link talk.old.said →
+        AreShown S.Sink.tells (S.Sink.noted link.new) before talk.new.note.safe talk.old.link talk.new.said) }
     ensures other { IfErr result (λ end. end ≢ end_kinds.AtEnd) }
 {
     let mut number = number;
@@ -246,6 +263,7 @@ fn take_some<S: Link>(link: &mut S, piece: &mut Vec<u8>, room: usize) -> Result<
     ensures most { IfOk result (λ count. count ≤ room) }
     ensures len { vec_len piece.new ≡ vec_len piece.old }
     ensures held { S.Sink.held link.new ≡ S.Sink.held link.old }
+    ensures noted { S.Sink.noted link.new ≡ S.Sink.noted link.old }
     ensures ends { IfErr result (λ end. (end ≡ end_kinds.AtEnd) ⊎ (end ≡ end_kinds.ReadFault)) }
 {
     let (front, _) = piece.split_at_mut(room);
@@ -257,7 +275,7 @@ fn take_some<S: Link>(link: &mut S, piece: &mut Vec<u8>, room: usize) -> Result<
 }
 
 /// Serves a link to its end, on which nothing was said yet, and returns why it ended.
-fn serve_requests<N: Node, L: Log, K: Numbering, Q: WireRequests<N>, S: Link, R: Wait>(
+fn serve_requests<N: Node, L: Log, K: Numbering, Q: WireRequests<N>, S: DiskLink<L::Of>, R: Wait>(
     rt: &R,
     alloc: Global,
     shared: &Shared<N, L, K>,
@@ -266,7 +284,9 @@ fn serve_requests<N: Node, L: Log, K: Numbering, Q: WireRequests<N>, S: Link, R:
     replies: &Receiver<Reply<N, L, K>>,
 ) -> LinkEnd
     requires { talk.old.said ≡ [] }
-    ensures { WasTalked (link_facts S.Source.tells S.Source.left S.Sink.tells S.Sink.held S.is_closed) result link.old link.new talk.new.said }
+    ensures link { talk.new.link ≡ talk.old.link }
+    ensures shown { AreShown S.Sink.tells (S.Sink.noted link.new) (length (S.Sink.held link.old)) talk.new.note.safe talk.old.link talk.new.said }
+    ensures talked { WasTalked (link_facts S.Source.tells S.Source.left S.Sink.tells S.Sink.held S.Sink.noted S.is_closed) result link.old link.new talk.new.said }
 {
     let mut framer = Framer::new(alloc);
     let Ok(mut piece) = new_piece(alloc) else {
@@ -314,17 +334,18 @@ pub(crate) struct Heard<N: Node, L: Log, K: Numbering, S: Link + Drop, O: Opened
 }
 
 impl<N: Node, L: Log, K: Numbering, S: Link + Drop, O: Opened<S>> Model for Heard<N, L, K, S, O> {
-    ghost use Rattle.std.specs.Prelude.{IsTrue};
+    ghost use Rattle.std.specs.Prelude.{length, IsTrue};
     ghost use Rattle.conn_server.specs.Conversations.{WasTalked, link_facts};
-    ghost use Rattle.conn_server.specs.Talks.{HeardView};
+    ghost use Rattle.conn_server.specs.Talks.{AreShown, HeardView};
 
     ghost Value = { HeardView N L N.Mail N.Input S };
 
     ghost view = { λ h. record { opened = O.shown h.opened; link = h.link; end = h.end; talk = h.talk } };
 
     ghost invariant = { λ h.
-        WasTalked (link_facts S.Source.tells S.Source.left S.Sink.tells S.Sink.held S.is_closed) h.end (O.shown h.opened) h.link h.talk.said
-        × IsTrue (S.is_closed h.link) };
+        WasTalked (link_facts S.Source.tells S.Source.left S.Sink.tells S.Sink.held S.Sink.noted S.is_closed) h.end (O.shown h.opened) h.link h.talk.said
+        × IsTrue (S.is_closed h.link)
+        × AreShown S.Sink.tells (S.Sink.noted h.link) (length (S.Sink.held (O.shown h.opened))) h.talk.note.safe h.talk.link h.talk.said };
 }
 
 /// Serves a link to its end, on which nothing was said yet, and closes it.
@@ -333,7 +354,7 @@ pub(crate) fn serve_link<
     L: Log,
     K: Numbering,
     Q: WireRequests<N>,
-    S: Link + Drop,
+    S: DiskLink<L::Of> + Drop,
     O: Opened<S>,
     R: Wait,
 >(

@@ -30,7 +30,7 @@ impl<N: Node, L: Log, K: Numbering, S: Link + Drop> Model for Links<N, L, K, S> 
     ghost view = { λ l. l.next };
 
     ghost invariant = { λ l.
-        AreHeard N.meaning (link_facts S.Source.tells S.Source.left S.Sink.tells S.Sink.held S.is_closed)
+        AreHeard N.meaning (link_facts S.Source.tells S.Source.left S.Sink.tells S.Sink.held S.Sink.noted S.is_closed)
         0 l.next l.spoken.items l.notes.items };
 }
 
@@ -72,7 +72,7 @@ impl<N: Node, L: Log, K: Numbering, S: Link + Drop> Links<N, L, K, S> {
     /// Returns the links and the notes.
     pub(crate) fn into_parts(self) -> (Vec<Spoken<S>>, Vec<Note<N, L, K>>)
         ensures { (next : ℕ)
-            × AreHeard N.meaning (link_facts S.Source.tells S.Source.left S.Sink.tells S.Sink.held S.is_closed)
+            × AreHeard N.meaning (link_facts S.Source.tells S.Source.left S.Sink.tells S.Sink.held S.Sink.noted S.is_closed)
             0 next result.0.items result.1.items }
     {
         (self.spoken, self.notes)

@@ -6,7 +6,8 @@ ghost use Rattle.outside.specs.Causes.{Rose};
 ghost use Rattle.driver_steps.specs.Seats.{AreOpen};
 ghost use Rattle.node_cell.specs.Courses.{node_facts};
 ghost use Rattle.node_cell.specs.Standing.{AreFrom};
-ghost use Rattle.node_cell.specs.Views.{nothing_seen, numbered, view_of};
+ghost use Rattle.node_cell.specs.Board.{pairs_of};
+ghost use Rattle.node_cell.specs.Views.{all_at_start, nothing_seen, sights_of};
 ghost use Rattle.conn_server.specs.Conversations.{AreServed, link_facts, some_failed};
 ghost use Rattle.conn_server.specs.declared.server.ServeEnd.TheVariants as ends;
 ghost use Rattle.conn_server.specs.declared.workers.Accepted.TheVariants as accepts;
@@ -22,6 +23,7 @@ use outside::clock::Clock;
 use outside::exchange::Spoken;
 use outside::log::Log;
 use outside::streams::Acceptor;
+use outside::witness::DiskLink;
 use std::alloc::Global;
 use std::marker::Brand;
 use std::sync::{Mutex, Wait};
@@ -115,7 +117,9 @@ fn make_ready<N: Node, L: Log + Drop, K: Numbering>(
     requires table { numbers.table.shared.table_id ≡ K.table }
     requires routers { numbers.routers ≡ K.routers }
     requires of { pass.table_id ≡ K.table }
-    requires pass { pass.me ≡ (view_of (numbered 0 seats.items) [] [] [], []) }
+    requires pass { pass.me ≡ (all_at_start L.facts seats.items, []) }
+    requires seen { pairs_of numbers.seen.items ≡ sights_of L.facts seats.items }
+    requires start { numbers.table.shared.key.seats.value.items ≡ seats.items }
     requires open { AreOpen L.facts.is_open seats.items }
     ensures table { IfOk result (λ r. r.pass.table_id ≡ K.table) }
     ensures pass { IfOk result (λ r. r.pass.me ≡ (nothing_seen, [])) }
@@ -128,7 +132,7 @@ fn make_ready<N: Node, L: Log + Drop, K: Numbering>(
 {
     let mut pass = pass;
     let routers_from = numbers.routers as usize;
-    let book = numbers.named::<K>();
+    let book = numbers.named::<K>(&mut pass);
     let Ok(ended) = Vec::with_capacity(alloc, seats.len()) else {
         return Err(seats);
     };
@@ -178,7 +182,7 @@ where
     K: Numbering + Send + Sync,
     Q: WireRequests<N> + Send,
     A: Acceptor,
-    A::Link: Send,
+    A::Link: DiskLink<L::Of> + Send,
     C: Clock + Sync,
     R: Threads + Wait + Sync,
     requires table { ready.pass.table_id ≡ K.table }
@@ -192,7 +196,7 @@ where
     ensures done { result.end ≡ ends.Done → vec_len result.links ≡ sessions }
     ensures accept { result.end ≡ ends.AcceptFailed → Rose (A.fault_count acceptor.old) (A.fault_count acceptor.new) }
     ensures served { AreServed (node_facts N.state N.steps (λ m. N.Mail.letter m) N.meaning L.facts)
-        (link_facts A.Link.Source.tells A.Link.Source.left A.Link.Sink.tells A.Link.Sink.held A.Link.is_closed)
+        (link_facts A.Link.Source.tells A.Link.Source.left A.Link.Sink.tells A.Link.Sink.held A.Link.Sink.noted A.Link.is_closed)
         ready.shared.book.routers ready.shared.book.table.shared.key.seats.value.items
         result.nodes.items result.links.items }
     ensures later { A.fault_count acceptor.old ≤ A.fault_count acceptor.new }
@@ -246,13 +250,14 @@ where
     K: Numbering + Send + Sync,
     Q: WireRequests<N> + Send,
     A: Acceptor,
-    A::Link: Send,
+    A::Link: DiskLink<L::Of> + Send,
     C: Clock + Sync,
     R: Threads + Wait + Sync,
     requires table { numbers.table.shared.table_id ≡ K.table }
     requires routers { numbers.routers ≡ K.routers }
     requires of { pass.table_id ≡ K.table }
-    requires pass { pass.me ≡ (view_of (numbered 0 seats.items) [] [] [], []) }
+    requires pass { pass.me ≡ (all_at_start L.facts seats.items, []) }
+    requires seen { pairs_of numbers.seen.items ≡ sights_of L.facts seats.items }
     requires start { numbers.table.shared.key.seats.value.items ≡ seats.items }
     requires open { AreOpen L.facts.is_open seats.items }
     ensures places { IfOk result (λ s. AreFrom 0 s.nodes.items) }
@@ -261,7 +266,7 @@ where
     ensures done { IfOk result (λ s. s.end ≡ ends.Done → vec_len s.links ≡ sessions) }
     ensures accept { IfOk result (λ s. s.end ≡ ends.AcceptFailed → Rose (A.fault_count acceptor.old) (A.fault_count acceptor.new)) }
     ensures served { IfOk result (λ s. AreServed (node_facts N.state N.steps (λ m. N.Mail.letter m) N.meaning L.facts)
-        (link_facts A.Link.Source.tells A.Link.Source.left A.Link.Sink.tells A.Link.Sink.held A.Link.is_closed)
+        (link_facts A.Link.Source.tells A.Link.Source.left A.Link.Sink.tells A.Link.Sink.held A.Link.Sink.noted A.Link.is_closed)
         numbers.routers seats.items s.nodes.items s.links.items) }
     ensures unserved { IfErr result (λ u. u.seats.items ≡ seats.items) }
     ensures not_failed { IfErr result (λ u. u.end ≡ ends.OutOfMemory) }
@@ -301,7 +306,7 @@ where
     L::Of: Send,
     Q: WireRequests<N> + Send,
     A: Acceptor,
-    A::Link: Send,
+    A::Link: DiskLink<L::Of> + Send,
     C: Clock + Sync,
     R: Threads + Wait + Sync,
     requires few { vec_len seats ≤ 64 }
@@ -313,7 +318,7 @@ where
     ensures done { IfOk result (λ s. s.end ≡ ends.Done → vec_len s.links ≡ sessions) }
     ensures accept { IfOk result (λ s. s.end ≡ ends.AcceptFailed → Rose (A.fault_count acceptor.old) (A.fault_count acceptor.new)) }
     ensures served { IfOk result (λ s. AreServed (node_facts N.state N.steps (λ m. N.Mail.letter m) N.meaning L.facts)
-        (link_facts A.Link.Source.tells A.Link.Source.left A.Link.Sink.tells A.Link.Sink.held A.Link.is_closed)
+        (link_facts A.Link.Source.tells A.Link.Source.left A.Link.Sink.tells A.Link.Sink.held A.Link.Sink.noted A.Link.is_closed)
         routers_from seats.items s.nodes.items s.links.items) }
     ensures unserved { IfErr result (λ u. u.seats.items ≡ seats.items) }
     ensures not_failed { IfErr result (λ u. u.end ≡ ends.OutOfMemory) }

@@ -1,6 +1,10 @@
 //! What was said on a link.
 
 ghost use Rattle.std.specs.Prelude.{◌≡◌, ◌<◌, ◌≤◌, ◌++◌, ◌∷◌, [], length, OnOk, IsTrue};
+ghost use Rattle.group_steps.specs.Parts.{Among};
+ghost use Rattle.node_cell.specs.Board.{notes_at};
+ghost use Rattle.node_cell.specs.Standing.{IsPart};
+ghost use Rattle.node_cell.specs.Views.{Sights, safe_from};
 ghost use Rattle.std.specs.List.{AllByRecursion};
 ghost use Rattle.conn_server.specs.Talks.{AreRising, IsAsked, IsNoted, IsReplied, exchange_of};
 
@@ -9,8 +13,10 @@ use node_cell::{Book, Note, Numbering};
 use node_traits::Node;
 use outside::exchange::Exchange;
 use outside::log::Log;
+use outside::witness::DiskLink;
 use std::alloc::Global;
 use std::marker::Model;
+use std::sync::Wait;
 
 /// The requests of a link with their replies, and a note that has seen the steps that took and answered them.
 #[derive(Drop)]
@@ -72,8 +78,29 @@ impl<N: Node, L: Log, K: Numbering> Talk<N, L, K> {
         ensures room { self.new.room ≡ self.old.room }
         ensures taken { self.new.note.taken ≡ self.old.note.taken ++ other.taken }
         ensures told { self.new.note.told ≡ self.old.note.told ++ other.told }
+        ensures safe { self.new.note.safe ≡ self.old.note.safe ++ other.safe }
     {
         self.note.join(book, other);
+    }
+
+    /// Shows the disks of all nodes to the link: the replies that were seen are safe from these moments on.
+    pub(crate) fn show<S: DiskLink<L::Of>, R: Wait>(
+        &mut self,
+        rt: &R,
+        book: &Book<N, L, K>,
+        link: &mut S,
+    )
+        ensures link { self.new.link ≡ self.old.link }
+        ensures said { self.new.said ≡ self.old.said }
+        ensures next { self.new.next ≡ self.old.next }
+        ensures room { self.new.room ≡ self.old.room }
+        ensures kept { IsPart self.old.note self.new.note }
+        ensures shown { (disks : Sights) × AllByRecursion (λ r. Among (safe_from disks r) self.new.note.safe) self.old.note.told
+            × (IsTrue S.Sink.tells → S.Sink.noted link.new ≡ S.Sink.noted link.old ++ notes_at (length (S.Sink.held link.old)) disks) }
+        ensures held { S.Sink.held link.new ≡ S.Sink.held link.old }
+        ensures left { S.Source.left link.new ≡ S.Source.left link.old }
+    {
+        book.show(rt, &mut self.note, link);
     }
 
     /// Reserves room for one exchange. Returns `Memory` if memory runs out.

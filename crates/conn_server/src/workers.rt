@@ -15,6 +15,7 @@ use node_traits::Node;
 use outside::clock::Clock;
 use outside::log::Log;
 use outside::streams::{Acceptor, Link};
+use outside::witness::DiskLink;
 use std::alloc::Global;
 use std::marker::{Brand, PhantomData};
 use std::snapshot::Snapshot;
@@ -134,7 +135,7 @@ where
     K: Numbering + Send + Sync,
     Q: WireRequests<N> + Send,
     A: Acceptor,
-    A::Link: Send,
+    A::Link: DiskLink<L::Of> + Send,
     B: Lending,
     C: Clock + Sync,
     O: Opened<A::Link> + Send,
@@ -206,7 +207,7 @@ where
     K: Numbering + Send + Sync,
     Q: WireRequests<N> + Send,
     A: Acceptor,
-    A::Link: Send,
+    A::Link: DiskLink<L::Of> + Send,
     C: Clock + Sync,
     R: Threads + Wait + Sync,
     ensures accept { result.accepted ≡ accepts.Failed → Rose (A.fault_count acceptor.old) (A.fault_count acceptor.new) }

@@ -21,7 +21,7 @@ use Rattle.node_cell.specs.declared.view.Halt.{Halt}
 use Rattle.node_cell.specs.declared.view.Halt.TheVariants.{Disk, Memory}
 use Rattle.node_cell.specs.declared.view.Placed.{Placed}
 use Rattle.node_cell.specs.declared.view.View.{View}
-use Rattle.node_cell.specs.Courses.{IsCalm, IsCalmAt, NodeFacts, Goes, Holds, Saw, WasSent, WasTaken, WasTold, view_by}
+use Rattle.node_cell.specs.Courses.{IsCalm, IsCalmAt, NodeFacts, Goes, Holds, Saw, WasSafe, WasSent, WasTaken, WasTold, places_at, view_by, with_marks}
 use Rattle.node_cell.specs.Standing.{AllSit, AreAmong, AreFrom, AreRun, Ends, EndsHalted, HasFailed, IsAsKnown, IsHalted, IsKept, IsKnown, IsPart, Sits, StaysAt}
 use Rattle.node_cell.specs.Views.{both_views, holder}
 use Rattle.node_cell.proofs.Lists.{all_at, all_map, all_of_part, are_among_front, are_among_map, are_among_self, sits}
@@ -31,17 +31,18 @@ use Rattle.node_cell.proofs.Steps.{moves_run}
 -- WHAT WAS SEEN
 
 pub part_self : {N L M I : Type 0} (v : View N L M I) → IsPart v v
-part_self v = record { seen = are_among_self v.seen; told = are_among_self v.told; taken = are_among_self v.taken }
+part_self v = record { seen = are_among_self v.seen; told = are_among_self v.told; taken = are_among_self v.taken; safe = are_among_self v.safe }
 
 pub part_front : {N L M I : Type 0} (u v w : View N L M I) → IsPart u v → IsPart u (both_views v w)
 part_front u v w p = record {
   seen = are_among_front u.seen v.seen w.seen p.seen;
   told = are_among_front u.told v.told w.told p.told;
   taken = are_among_front u.taken v.taken w.taken p.taken;
+  safe = are_among_front u.safe v.safe w.safe p.safe;
 }
 
 pub part_behind : {N L M I : Type 0} (v w : View N L M I) → IsPart w (both_views v w)
-part_behind v w = record { seen = sits v.seen w.seen; told = sits v.told w.told; taken = sits v.taken w.taken }
+part_behind v w = record { seen = sits v.seen w.seen; told = sits v.told w.told; taken = sits v.taken w.taken; safe = sits v.safe w.safe }
 
 -- of these notes all but those that are left were joined
 pub record Joined {N L M I : Type 0} (all left : List (View N L M I)) (v : View N L M I) : Type 0 where
@@ -206,14 +207,17 @@ module _ {N L M I : Type 0} (f : NodeFacts N L M I) (routers : ℕ) where
         world = c.world;
         run = h.is.run;
         none_missed = h.is.none_missed;
-        nodes = all_end since c.world (map f.letter v.seen) (all_map f.letter (λ m. WasSent c.world m) v.seen mine.saw.seen) 0 v.held ended
+        marks = c.marks;
+        marked = h.is.marked;
+        nodes = all_end (with_marks since c.marks) c.world (map f.letter v.seen) (all_map f.letter (λ m. WasSent c.world m) v.seen mine.saw.seen) 0 v.held ended
             (λ at s far got. ((mine.held at s got).stands, (mine.held at s got).calm))
             (λ at below far. run_stays first c.events c.world at h.is.run (opened.are_routers at far (omega (arith, below, many, long)))) all;
-        noted = all_weaken (λ n. IsPart n v) (λ n. Saw f first.now c.events c.world n)
+        noted = all_weaken (λ n. IsPart n v) (λ n. Saw f (places_at f.facts since) first.now c.events c.marks c.world n)
             notes (λ n part. record {
               seen = all_of_part (λ m. WasSent c.world (f.letter m)) n.seen v.seen part.seen mine.saw.seen;
               told = all_of_part (λ r. WasTold first.now c.world r) n.told v.told part.told mine.saw.told;
               taken = all_of_part (λ t. WasTaken f.meaning c.events c.world t) n.taken v.taken part.taken mine.saw.taken;
+              safe = all_of_part (λ s. WasSafe (places_at f.facts since) first.now c.marks s) n.safe v.safe part.safe mine.saw.safe;
             }) parts;
       }
 

@@ -11,15 +11,16 @@ use Rattle.node_model.specs.World.{begins as was_opened, answered_by}
 use Rattle.node_traits.specs.Effects.{puts_of, put_by}
 use Rattle.node_traits.specs.declared.outputs.ToLink.{ToLink}
 use Rattle.driver_steps.specs.declared.seat.Seat.{Seat}
+use Rattle.driver_steps.specs.Crashes.{Noted}
 use Rattle.driver_steps.specs.Moves.{IsEvent}
 use Rattle.driver_steps.specs.Worlds.{puts_given}
 use Rattle.group_steps.specs.declared.group.Part.{Part}
 use Rattle.history_model.proofs.Lists.{all_append, all_weaken}
 use Rattle.node_cell.specs.declared.view.Taken.{Taken}
 use Rattle.node_cell.specs.declared.view.View.{View}
-use Rattle.node_cell.specs.Courses.{NodeFacts, IsStepOn, Saw, WasSent, WasTaken, WasTold}
+use Rattle.node_cell.specs.Courses.{NodeFacts, IsStepOn, Saw, WasSafe, WasSent, WasTaken, WasTold}
 use Rattle.node_cell.specs.Standing.{AreAmong, IsKnown}
-use Rattle.node_cell.specs.Views.{holder, view_of}
+use Rattle.node_cell.specs.Views.{Sights, holder, view_of}
 use Rattle.node_cell.proofs.Lists.{all_at, all_map, all_unmap, get_front, get_seam}
 use Rattle.node_cell.proofs.Lists.{sits}
 
@@ -109,15 +110,17 @@ sent_on w v mail more m s = (s.0, ap (λ (l : List Letter). slice_get l s.0) mor
 -- what the step with a number at a place gives out
 abbrev pub part_seen : {N L M I : Type 0} → (number at : ℕ) → Part M I → View N L M I
 part_seen number at p =
-    view_of [] p.outputs.mail (map (λ r. (number, r)) p.outputs.replies) (record { number = number; at = at; input = p.input.value } ∷ [])
+    view_of [] [] p.outputs.mail (map (λ r. (number, r)) p.outputs.replies) (record { number = number; at = at; input = p.input.value } ∷ []) []
 
 -- all that one view has seen and another has, with these nodes
-pub saw_more : {N L M I : Type 0} (f : NodeFacts N L M I) (first : ℕ) (events : List Event) (w : World) (held : List (ℕ × Seat N L)) (u v : View N L M I)
-    → Saw f first events w u → Saw f first events w v → Saw f first events w (view_of held (u.seen ++ v.seen) (u.told ++ v.told) (u.taken ++ v.taken))
-saw_more f first events w held u v a b = record {
+pub saw_more : {N L M I : Type 0} (f : NodeFacts N L M I) (places : List (List ℕ)) (first : ℕ) (events : List Event) (marks : List Noted) (w : World)
+    (held : List (ℕ × Seat N L)) (board : List Sights) (u v : View N L M I) → Saw f places first events marks w u → Saw f places first events marks w v
+    → Saw f places first events marks w (view_of held board (u.seen ++ v.seen) (u.told ++ v.told) (u.taken ++ v.taken) (u.safe ++ v.safe))
+saw_more f places first events marks w held board u v a b = record {
   seen = all_append (λ m. WasSent w (f.letter m)) u.seen v.seen a.seen b.seen;
   told = all_append (λ r. WasTold first w r) u.told v.told a.told b.told;
   taken = all_append (λ t. WasTaken f.meaning events w t) u.taken v.taken a.taken b.taken;
+  safe = all_append (λ s. WasSafe places first marks s) u.safe v.safe a.safe b.safe;
 }
 
 pub holder_alone : {S : Type 0} (k : ℕ) (s : S) (held : List (ℕ × S)) → held ≡ (k, s) ∷ [] → holder k held ≡ Some s
@@ -125,8 +128,8 @@ holder_alone {S} k s held is =
     let here : holder k ((k, s) ∷ []) ≡ Some s = grind (arith, nat_tests) in
     ap (λ (l : List (ℕ × S)). holder k l) is ∙ here
 
-module _ {N L M I : Type 0} (f : NodeFacts N L M I) (first : ℕ) (events : List Event) (e : Event) (w v : World) (mail : List Letter) (more : List Answered)
-    (sent : v.sent ≡ w.sent ++ mail) (answered : v.answered ≡ w.answered ++ more) where
+module _ {N L M I : Type 0} (f : NodeFacts N L M I) (places : List (List ℕ)) (first : ℕ) (events : List Event) (marks : List Noted) (e : Event) (w v : World)
+    (mail : List Letter) (more : List Answered) (sent : v.sent ≡ w.sent ++ mail) (answered : v.answered ≡ w.answered ++ more) where
   still_told : (r : ℕ × ToLink) → WasTold first w r → WasTold first v r
   still_told r t = record {
     which = t.which;
@@ -143,17 +146,18 @@ module _ {N L M I : Type 0} (f : NodeFacts N L M I) (first : ℕ) (events : List
     is = still_on w v mail sent was.event t.at (f.meaning t.input) was.is;
   }
 
-  pub still_saw : (u : View N L M I) → Saw f first events w u → Saw f first (events ++ e ∷ []) v u
+  pub still_saw : (u : View N L M I) → Saw f places first events marks w u → Saw f places first (events ++ e ∷ []) marks v u
   still_saw u s = record {
     seen = all_weaken (λ m. WasSent w (f.letter m)) (λ m. WasSent v (f.letter m)) u.seen (λ m x. sent_on w v mail sent (f.letter m) x) s.seen;
     told = all_weaken (λ r. WasTold first w r) (λ r. WasTold first v r) u.told still_told s.told;
     taken = all_weaken (λ t. WasTaken f.meaning events w t) (λ t. WasTaken f.meaning (events ++ e ∷ []) v t) u.taken still_taken s.taken;
+    safe = s.safe;
   }
 
   -- what the step itself gave out
   pub now_saw : (at : ℕ) (p : Part M I) (replies : List Reply) → mail ≡ map f.letter p.outputs.mail → p.outputs.replies ≡ puts_of replies
       → more ≡ answered_by w.now replies → w.now ≡ first + length events → IsStepOn w e at (f.meaning p.input.value)
-      → Saw f first (events ++ e ∷ []) v (part_seen (length events) at p)
+      → Saw f places first (events ++ e ∷ []) marks v (part_seen (length events) at p)
   now_saw at p replies out told by now on =
       let all_sent : v.sent ≡ w.sent ++ map f.letter p.outputs.mail = sent ∙ ap (λ (l : List Letter). w.sent ++ l) out in
       let all_answered : v.answered ≡ w.answered ++ answered_by w.now replies = answered ∙ ap (λ (l : List Answered). w.answered ++ l) by in
@@ -172,4 +176,5 @@ module _ {N L M I : Type 0} (f : NodeFacts N L M I) (first : ℕ) (events : List
               put = put.put;
             }) puts);
         taken = (record { event = e; here = get_seam events e []; is = still_on w v mail sent e at (f.meaning p.input.value) on }, tt);
+        safe = tt;
       }

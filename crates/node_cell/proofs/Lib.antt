@@ -1,8 +1,11 @@
+pub mod Boards
 pub mod Closing
 pub mod Events
 pub mod Lists
 pub mod Passes
+pub mod Marks
 pub mod Routers
 pub mod Seen
+pub mod Shown
 pub mod Standing
 pub mod Steps

@@ -15,7 +15,7 @@ use Rattle.node_cell.specs.Courses.{NodeFacts}
 use Rattle.node_cell.specs.Deliveries.{AreAdded, AreDeliveries, AreKnown, AreSeenFrom, AreStepsOn, Delivers, IsSeen}
 use Rattle.node_cell.specs.Standing.{AreAmong, Handed, IsKnown, IsPart}
 use Rattle.node_cell.specs.Views.{mail_of, next_number, taken_from, told_from}
-use Rattle.node_cell.proofs.Lists.{all_at, all_map, all_split, all_unmap, among_map, are_among_front, are_among_map, are_among_on, are_among_self, sits}
+use Rattle.node_cell.proofs.Lists.{all_at, all_map, all_split, all_unmap, among_map, are_among_front, are_among_map, are_among_on, are_among_same, are_among_self, sits}
 use Rattle.node_cell.proofs.Closing.{known_on}
 
 pub on_any : {X E : Type 0} (P : Type 0) (r : Result X E) → P → OnOk r P
@@ -45,7 +45,7 @@ grown {A} old more new is = (
 )
 
 module _ {N L M I : Type 0} (letter : M → Letter) (v w : View N L M I) (number at : ℕ) (parts : List (Part M I)) (seen : w.seen ≡ v.seen ++ mail_of parts)
-    (told : w.told ≡ v.told ++ told_from number parts) (taken : w.taken ≡ v.taken ++ taken_from number at parts) where
+    (told : w.told ≡ v.told ++ told_from number parts) (taken : w.taken ≡ v.taken ++ taken_from number at parts) (safe : w.safe ≡ v.safe) where
   pub seen_group : AreSeenFrom letter w number at parts
   seen_group =
       seen_from letter w number at parts (grown v.seen (mail_of parts) w.seen seen).1 (grown v.told (told_from number parts) w.told told).1
@@ -56,6 +56,7 @@ module _ {N L M I : Type 0} (letter : M → Letter) (v w : View N L M I) (number
     seen = (grown v.seen (mail_of parts) w.seen seen).0;
     told = (grown v.told (told_from number parts) w.told told).0;
     taken = (grown v.taken (taken_from number at parts) w.taken taken).0;
+    safe = are_among_same v.safe w.safe (sym safe);
   }
 
 -- what is known stays known as more is seen
@@ -91,6 +92,7 @@ part_then u v w a b = record {
   seen = are_among_on u.seen v.seen w.seen a.seen b.seen;
   told = are_among_on u.told v.told w.told a.told b.told;
   taken = are_among_on u.taken v.taken w.taken a.taken b.taken;
+  safe = are_among_on u.safe v.safe w.safe a.safe b.safe;
 }
 
 module _ {M I : Type 0} where

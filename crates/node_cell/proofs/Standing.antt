@@ -1,9 +1,9 @@
 -- A node behind its lock, while it takes steps.
 use Rattle.std.proofs.Common.{◌≡◌, ℕ, ℤ, ◌+◌, ◌<◌, ◌≤◌, ◌^◌, List, [], ◌∷◌, ◌++◌, map, length, Bool, IsTrue, refl, sym, ap, ◌∙◌, subst, arith, append-nil}
 use Rattle.std.specs.Prelude.{⊤, Option, None, Some, MatchOption}
-use Rattle.std.specs.List.{AllByRecursion}
+use Rattle.std.specs.List.{AllByRecursion, slice_set}
 use Rattle.std.proofs.lemmas.List.{map-append}
-use Rattle.atomic_table.specs.Table.{Me}
+use Rattle.atomic_table.specs.Table.{Me, Step as TableStep}
 use Rattle.node_model.specs.Letters.{Letter, Input, client_input, letter_input, moment_input, opened_input}
 use Rattle.node_model.specs.Requests.{Request}
 use Rattle.node_model.specs.World.{World}
@@ -22,10 +22,12 @@ use Rattle.history_model.proofs.Lists.{all_weaken}
 use Rattle.node_cell.specs.declared.view.Halt.{Halt}
 use Rattle.node_cell.specs.declared.view.Placed.{Placed}
 use Rattle.node_cell.specs.declared.view.View.{View}
+use Rattle.outside.specs.Logs.{IsDurable}
 use Rattle.node_cell.specs.Courses.{IsCalm, NodeFacts, view_by}
 use Rattle.node_cell.specs.Deliveries.{AreKnown}
 use Rattle.node_cell.specs.Standing.{AllSit, AreSeen, AreTold, HasFailed, IsAsKnown, IsHalted, IsKept, IsKnown, IsPart, MayTake, Sits, halt_by}
-use Rattle.node_cell.specs.Views.{Given, after_steps, both_views, first_alone, first_off, given_by, nothing_seen, numbered, renewed, view_of}
+use Rattle.node_cell.specs.Views.{Given, IsFree, Sights, after_steps, board_held, board_off, both_views, first_alone, first_off, given_by, nodes_held, nothing_seen}
+use Rattle.node_cell.specs.Views.{numbered, renewed, takes, view_of}
 use Rattle.node_cell.proofs.Lists.{all_at, all_map, among_behind, are_among_map, first_numbered, rest_numbered}
 use Rattle.node_cell.proofs.Closing.{kept_on, part_front, part_self, sit_joined, sit_on}
 
@@ -45,8 +47,9 @@ module _ {N L M I : Type 0} (f : NodeFacts N L M I) (routers : ℕ) where
       → ((since : Since L) (w : World) (k : ℕ) → StandsAt (view_by f since p.seat) w k
       → TakesAll (view_by f since t) w k (parts_of f.letter f.meaning parts))
       → f.steps p.seat.node + length parts ≤ f.steps t.node → (f.steps p.seat.node < 2 ^ 56 → f.steps t.node < 2 ^ 56) → IsCalm f.facts p.seat.log t.log
-      → AreOn inputs parts → AreKnown f.meaning routers (map f.letter v.seen) p.at inputs → MayTake f routers v (given_by p.at parts t)
-  group_may p t v parts inputs none here steps counted below calm on known =
+      → AreOn inputs parts → AreKnown f.meaning routers (map f.letter v.seen) p.at inputs → IsDurable f.facts t.log
+      → MayTake f routers v (given_by f.facts p.at parts t)
+  group_may p t v parts inputs none here steps counted below calm on known durable =
       let is : IsAsKnown f here.old p.seat = as_known (map f.letter v.seen) here.old p none here.is in
       record {
         old = here.old;
@@ -57,17 +60,19 @@ module _ {N L M I : Type 0} (f : NodeFacts N L M I) (routers : ℕ) where
         calm = subst (λ (l : L). IsCalm f.facts l t.log) (sym is.log) calm;
         known = all_weaken (λ (x : Part M I). Among x.input.value inputs) (λ (x : Part M I). IsKnown routers (map f.letter v.seen) p.at (f.meaning x.input.value))
             parts (λ x there. all_at (λ i. IsKnown routers (map f.letter v.seen) p.at (f.meaning i)) inputs there.0 x.input.value there.1 known) on;
+        sight = refl;
+        durable = durable;
       }
 
   -- after them the pass has the node as it is
   pub sits_after : (p : Placed N L) (t : Seat N L) (v w : View N L M I) (g : Given N L M I) (number : ℕ) → p.halt ≡ None → Sits f routers p v → g.new ≡ t
-      → IsTrue (f.facts.is_open t.log) → w ≡ after_steps g number v → Sits f routers (record { at = p.at; halt = p.halt; seat = t }) w
+      → IsTrue (f.facts.is_open t.log) → w ≡ board_off (after_steps g number v) → Sits f routers (record { at = p.at; halt = p.halt; seat = t }) w
   sits_after p t v w g number none here new is_open is =
       subst (λ (u : View N L M I). Sits f routers (record { at = p.at; halt = p.halt; seat = t }) u) (sym is)
       (record {
         old = t;
         held = ap (λ (l : List (ℕ × Seat N L)). renewed l g.new) here.held ∙ ap (λ (x : Seat N L). (p.at, x) ∷ []) new;
-        is = is_kept (map f.letter (after_steps g number v).seen) t t p none (record { state = refl; log = refl; steps = refl; is_open = is_open });
+        is = is_kept (map f.letter (board_off (after_steps g number v)).seen) t t p none (record { state = refl; log = refl; steps = refl; is_open = is_open });
       })
 
   -- and after a fault
@@ -131,21 +136,22 @@ pub open_next : {N L : Type 0} (is_open : L → Bool) (s : Seat N L) (all rest :
 open_next {N} {L} is_open s all rest first are = subst (λ (l : List (Seat N L)). AreOpen is_open l) first are
 
 module _ {N L M I : Type 0} (at : ℕ) (s : Seat N L) (all rest : List (Seat N L)) (old : Me ⊤ (View N L M I))
-    (was : old ≡ (view_of (numbered at all) [] [] [], [])) (first : all ≡ s ∷ rest) where
+    (was : old ≡ (nodes_held (numbered at all), [])) (first : all ≡ s ∷ rest) where
   abbrev only : List (ℕ × Seat N L) → Me ⊤ (View N L M I)
-  only held = (view_of held [] [] [], [])
+  only held = (nodes_held held, [])
 
   abbrev off : Me ⊤ (View N L M I) → Me ⊤ (View N L M I)
-  off m = (view_of (first_off m.0.held) m.0.seen m.0.told m.0.taken, m.1)
+  off m = (view_of (first_off m.0.held) m.0.board m.0.seen m.0.told m.0.taken m.0.safe, m.1)
 
   -- the pass of the first node
-  pub own_first : (own : Me ⊤ (View N L M I)) → own ≡ (view_of (first_alone old.0.held) [] [] [], []) → own.0.held ≡ (at, s) ∷ []
+  pub own_first : (own : Me ⊤ (View N L M I)) → own ≡ (nodes_held (first_alone old.0.held), []) → own.0.held ≡ (at, s) ∷ []
   own_first own is =
       ap (λ (m : Me ⊤ (View N L M I)). m.0.held) is ∙ (ap (λ (m : Me ⊤ (View N L M I)). first_alone m.0.held) was ∙ first_numbered at s all rest first)
 
   -- and of the others
-  pub pass_next : (new : Me ⊤ (View N L M I)) → new ≡ (view_of (first_off old.0.held) old.0.seen old.0.told old.0.taken, old.1)
-      → new ≡ (view_of (numbered (at + 1) rest) [] [] [], [])
+  pub pass_next : (new : Me ⊤ (View N L M I))
+      → new ≡ (view_of (first_off old.0.held) old.0.board old.0.seen old.0.told old.0.taken old.0.safe, old.1)
+      → new ≡ (nodes_held (numbered (at + 1) rest), [])
   pass_next new is = is ∙ (ap off was ∙ ap only (rest_numbered at s all rest first))
 
 -- one more node is taken out of its lock
@@ -225,3 +231,57 @@ sit_as f key routers same seen held ended all = subst (λ (r : ℕ). AllSit f r 
 pub sit_list : {N L M I : Type 0} (f : NodeFacts N L M I) (routers : ℕ) (seen : List Letter) (held : List (ℕ × Seat N L)) (ended all : List (Placed N L))
     → all ≡ ended → AllSit f routers seen 0 held ended → AllSit f routers seen 0 held all
 sit_list {N} {L} f routers seen held ended all same sit = subst (λ (l : List (Placed N L)). AllSit f routers seen 0 held l) (sym same) sit
+
+-- a pass that took in a note holds neither a slot nor the board
+pub free_both : {N L M I : Type 0} (old new note : Me ⊤ (View N L M I)) → new ≡ (both_views old.0 note.0, old.1) → IsFree old → IsFree note → IsFree new
+free_both {N} {L} {M} {I} old new note is free noted =
+    subst (λ (m : Me ⊤ (View N L M I)). IsFree m) (sym is)
+    (free.0, ap (λ (l : List Sights). l ++ note.0.board) free.1 ∙ noted.1)
+
+-- A PASS WITH THE BOARD
+
+-- steps that were given were taken
+pub taken_so : {N L M I : Type 0} (told : Option (Given N L M I)) (g : Given N L M I) (s : TableStep ⊤) (me : Me ⊤ (View N L M I)) (found : ℕ)
+    (left : Me ⊤ (View N L M I)) → told ≡ Some g → takes told s me found left → left ≡ (after_steps g found me.0, me.1)
+taken_so {N} {L} {M} {I} told g s me found left is took = subst (λ (o : Option (Given N L M I)). takes o s me found left) is took
+
+module _ {N L M I : Type 0} (f : NodeFacts N L M I) (routers : ℕ) (v : View N L M I) (board : List Sights) (g : Given N L M I) where
+  -- it may take the steps that it may take without
+  pub may_with_board : MayTake f routers v g → MayTake f routers (both_views v (board_held board)) g
+  may_with_board may = record {
+    old = may.old;
+    held = append-nil v.held ∙ may.held;
+    steps = may.steps;
+    more = may.more;
+    below = may.below;
+    calm = may.calm;
+    known = subst (λ (l : List M). AllByRecursion (λ (p : Part M I). IsKnown routers (map f.letter l) g.at (f.meaning p.input.value)) g.parts)
+        (sym (append-nil v.seen)) may.known;
+    sight = may.sight;
+    durable = may.durable;
+  }
+
+  -- after them, without the board
+  pub placed_off : (number : ℕ) → board_off (after_steps g number (both_views v (board_held board))) ≡ board_off (after_steps g number v)
+  placed_off number =
+      rw (append-nil v.held, append-nil v.seen, append-nil v.told, append-nil v.taken, append-nil v.safe) refl
+
+module _ {N L M I : Type 0} (old own board joined : Me ⊤ (View N L M I)) (disks : Sights) (own_is : own ≡ (board_held (disks ∷ []), []))
+    (board_is : board ≡ (board_held own.0.board, [])) (joined_is : joined ≡ (both_views old.0 board.0, old.1)) where
+  pub view_joined : joined.0 ≡ both_views old.0 (board_held (disks ∷ []))
+  view_joined = rw (joined_is, board_is, own_is) refl
+
+  pub board_joined : IsFree old → joined.0.board ≡ disks ∷ []
+  board_joined free = rw (joined_is, board_is, own_is, free.1) refl
+
+  pub may_joined : (f : NodeFacts N L M I) (key routers : ℕ) (g : Given N L M I) → key ≡ routers → MayTake f routers old.0 g → MayTake f key joined.0 g
+  may_joined f key routers g same may =
+      subst (λ (u : View N L M I). MayTake f key u g) (sym view_joined)
+      (may_with_board f key old.0 (disks ∷ []) g (may_at f key routers same old.0 g may))
+
+  -- the board goes back to where it was
+  pub board_back : (off left back kept : Me ⊤ (View N L M I)) (g : Given N L M I) (number : ℕ) (next : Sights) → IsFree old → off ≡ (board_off own.0, own.1)
+      → left ≡ (after_steps g number joined.0, joined.1) → back ≡ (board_held left.0.board, []) → kept ≡ (both_views off.0 back.0, off.1)
+      → next ≡ slice_set disks g.at g.sight → kept ≡ (board_held (next ∷ []), [])
+  board_back off left back kept g number next free off_is left_is back_is kept_is next_is =
+      rw (kept_is, back_is, left_is, joined_is, board_is, off_is, own_is, next_is, free.1) refl

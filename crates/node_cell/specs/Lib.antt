@@ -1,4 +1,5 @@
 pub mod Views
+pub mod Board
 pub mod Courses
 pub mod Standing
 pub mod Deliveries

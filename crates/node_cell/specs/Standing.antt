@@ -6,9 +6,9 @@ use Rattle.node_model.specs.Letters.{Letter, Input, client_input, letter_input, 
 use Rattle.node_model.specs.World.{Held, World, Event, Run}
 use Rattle.node_traits.specs.declared.outputs.ToLink.{ToLink}
 use Rattle.driver_steps.specs.declared.seat.Seat.{Seat}
-use Rattle.driver_steps.specs.Crashes.{Since}
+use Rattle.driver_steps.specs.Crashes.{Noted, Since}
 use Rattle.driver_steps.specs.Seats.{Keeps}
-use Rattle.outside.specs.Logs.{LogFacts}
+use Rattle.outside.specs.Logs.{IsDurable, LogFacts}
 use Rattle.driver_steps.specs.OneSeat.{NamesFault, StandsAt}
 use Rattle.group_steps.specs.Groups.{Part, BreaksAll, TakesAll}
 use Rattle.group_steps.specs.Parts.{Among, parts_of}
@@ -19,8 +19,8 @@ use Rattle.node_cell.specs.declared.view.Halt.TheVariants.{Disk, Memory}
 use Rattle.node_cell.specs.declared.view.Placed.{Placed}
 use Rattle.node_cell.specs.declared.view.Taken.{Taken}
 use Rattle.node_cell.specs.declared.view.View.{View}
-use Rattle.node_cell.specs.Views.{Given}
-use Rattle.node_cell.specs.Courses.{IsCalm, IsCalmAt, NodeFacts, OpenedAs, Saw, view_by}
+use Rattle.node_cell.specs.Views.{Given, sight_of}
+use Rattle.node_cell.specs.Courses.{IsCalm, IsCalmAt, IsOnWay, NodeFacts, OpenedAs, Saw, places_at, view_by, with_marks}
 
 -- a request comes to a router, and a message to its receiver, after it was seen sent
 abbrev pub IsKnown : (routers : ℕ) → (seen : List Letter) → (at : ℕ) → Input → Type 0
@@ -39,6 +39,8 @@ pub record MayTake {N L M I : Type 0} (f : NodeFacts N L M I) (routers : ℕ) (v
   pub below : f.steps old.node < 2 ^ 56 → f.steps g.new.node < 2 ^ 56
   pub calm : IsCalm f.facts old.log g.new.log
   pub known : AllByRecursion (λ p. IsKnown routers (map f.letter v.seen) g.at (f.meaning p.input.value)) g.parts
+  pub sight : g.sight ≡ sight_of f.facts g.new.log
+  pub durable : IsDurable f.facts g.new.log
 
 -- the node is in this state and took so many steps, and has this log, to which records can be appended
 pub record IsAsKnown {N L M I : Type 0} (f : NodeFacts N L M I) (old seat : Seat N L) : Type 0 where
@@ -127,14 +129,16 @@ AreFrom k [] = Unit {0}
 AreFrom k (p ∷ all) = (p.at ≡ k) × AreFrom (k + 1) all
 
 -- From each world that the nodes were those of at the start there is one run, in which no step was missed, to a world in which these are the nodes, with their
--- logs, in order of their places; and all that was noted is so.
+-- logs, in order of their places, also as for crashes since worlds on the way that were marked; and all that was noted is so.
 pub record Ran {N L M I : Type 0} (f : NodeFacts N L M I) (since : Since L) (first : World) (ended : List (Placed N L)) (notes : List (View N L M I)) : Type 0 where
   pub events : List Event
   pub world : World
   pub run : Run first events world
   pub none_missed : world.missed ≡ first.missed
-  pub nodes : AllByRecursion (λ p. Ends f since world p) ended
-  pub noted : AllByRecursion (λ v. Saw f first.now events world v) notes
+  pub marks : List Noted
+  pub marked : AllByRecursion (λ n. IsOnWay first world n) marks
+  pub nodes : AllByRecursion (λ p. Ends f (with_marks since marks) world p) ended
+  pub noted : AllByRecursion (λ v. Saw f (places_at f.facts since) first.now events marks world v) notes
 
 abbrev pub AreRun : {N L M I : Type 0} → NodeFacts N L M I → (routers : ℕ) → List (Seat N L) → List (Placed N L) → List (View N L M I) → Type 0
 AreRun {N} {L} f routers seats ended notes = (since : Since L) (first : World) → OpenedAs f since routers seats first → Ran f since first ended notes
@@ -147,6 +151,7 @@ pub record IsPart {N L M I : Type 0} (part whole : View N L M I) : Type 0 where
   pub seen : AreAmong part.seen whole.seen
   pub told : AreAmong part.told whole.told
   pub taken : AreAmong part.taken whole.taken
+  pub safe : AreAmong part.safe whole.safe
 
 -- the node that is held with a number is this one, at the place of that number
 pub record IsHeldAs {N L M I : Type 0} (f : NodeFacts N L M I) (routers : ℕ) (seen : List Letter) (number : ℕ) (h : ℕ × Seat N L) (p : Placed N L) : Type 0 where

@@ -48,7 +48,7 @@ impl<N: Node, L: Log, K: Numbering> Cell<N, L, K> {
     {
         self.guarded
             .lock(rt)
-            .ask(alloc, book, link, number, request)
+            .ask(rt, alloc, book, link, number, request)
     }
 
     /// Advances the clock of the node to the moment, in milliseconds since 1970.
@@ -64,7 +64,9 @@ impl<N: Node, L: Log, K: Numbering> Cell<N, L, K> {
     ) -> Result<Stepped<N, L, K>, CellFault>
         ensures { IfOk result (λ s. N.meaning s.taken.input ≡ moment_input moment) }
     {
-        self.guarded.lock(rt).take(alloc, book, N::moment(moment))
+        self.guarded
+            .lock(rt)
+            .take(rt, alloc, book, N::moment(moment))
     }
 
     /// Reports to the node that it was opened.
@@ -79,7 +81,7 @@ impl<N: Node, L: Log, K: Numbering> Cell<N, L, K> {
     ) -> Result<Stepped<N, L, K>, CellFault>
         ensures { IfOk result (λ s. N.meaning s.taken.input ≡ opened_input) }
     {
-        self.guarded.lock(rt).take(alloc, book, N::opened())
+        self.guarded.lock(rt).take(rt, alloc, book, N::opened())
     }
 
     /// Delivers those messages that go to the node, in order, until it can take no more steps. What depends on the messages alone is computed before the lock
@@ -94,7 +96,7 @@ impl<N: Node, L: Log, K: Numbering> Cell<N, L, K> {
         ensures { AreDeliveries N.meaning (map (λ m. N.Mail.letter m) letters.items) result.steps.items }
     {
         match prepare_all(rt, alloc, letters) {
-            Ok(prepared) => self.guarded.lock(rt).deliver(alloc, book, prepared),
+            Ok(prepared) => self.guarded.lock(rt).deliver(rt, alloc, book, prepared),
             Err(_) => Delivered::nothing(alloc),
         }
     }

@@ -5,7 +5,7 @@ ghost use Rattle.std.specs.List.{AllByRecursion};
 ghost use Rattle.driver_steps.specs.Seats.{AreOpen};
 ghost use Rattle.node_cell.specs.Courses.{node_facts};
 ghost use Rattle.node_cell.specs.Standing.{AllSit, AreFrom, AreRun, IsPart};
-ghost use Rattle.node_cell.specs.Views.{nothing_seen, numbered, view_of};
+ghost use Rattle.node_cell.specs.Views.{IsFree, nodes_held, nothing_seen, numbered};
 
 use crate::cell::Cell;
 use crate::guarded::Guarded;
@@ -30,7 +30,7 @@ pub fn cells<N: Node, L: Log, K: Numbering>(
     seats: Vec<Seat<N, L>>,
 ) -> Result<(Vec<Cell<N, L, K>>, Pass<N, L>), Vec<Seat<N, L>>>
     requires table { pass.table_id ≡ K.table }
-    requires pass { pass.me ≡ (view_of (numbered 0 seats.items) [] [] [], []) }
+    requires pass { pass.me ≡ (nodes_held (numbered 0 seats.items), []) }
     requires open { AreOpen L.facts.is_open seats.items }
     ensures len { IfOk result (λ r. vec_len r.0 ≡ vec_len seats) }
     ensures pass { IfOk result (λ r. (r.1.table_id ≡ K.table) × (r.1.me ≡ (nothing_seen, []))) }
@@ -65,7 +65,7 @@ fn gather<N: Node, L: Log, K: Numbering, R: Wait>(
     requires none { ended.old.items ≡ [] }
     requires room { vec_len cells ≤ vec_capacity ended.old }
     ensures table { pass.new.table_id ≡ K.table }
-    ensures free { pass.new.me.1 ≡ [] }
+    ensures free { IsFree pass.new.me }
     ensures len { vec_len ended.new ≡ vec_len cells }
     ensures sit { AllSit (node_facts N.state N.steps (λ m. N.Mail.letter m) N.meaning L.facts) K.routers (map (λ m. N.Mail.letter m) pass.new.me.0.seen) 0
         pass.new.me.0.held ended.new.items }
@@ -89,9 +89,9 @@ fn learn<N: Node, L: Log, K: Numbering>(
     mut notes: Vec<Note<N, L, K>>,
 )
     requires table { pass.old.table_id ≡ K.table }
-    requires free { pass.old.me.1 ≡ [] }
+    requires free { IsFree pass.old.me }
     ensures table { pass.new.table_id ≡ K.table }
-    ensures free { pass.new.me.1 ≡ [] }
+    ensures free { IsFree pass.new.me }
     ensures held { pass.new.me.0.held ≡ pass.old.me.0.held }
     ensures kept { IsPart pass.old.me.0 pass.new.me.0 }
     ensures notes { AllByRecursion (λ v. IsPart v pass.new.me.0) notes.items }

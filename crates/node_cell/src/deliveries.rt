@@ -7,6 +7,7 @@ ghost use Rattle.group_steps.specs.Parts.{AreLeft};
 ghost use Rattle.node_cell.specs.Courses.{node_facts};
 ghost use Rattle.node_cell.specs.Deliveries.{AreAdded, AreKnown, AreSeenFrom, AreStepsOn, Delivers};
 ghost use Rattle.node_cell.specs.Standing.{AreAmong, IsKnown, IsPart, Sits};
+ghost use Rattle.node_cell.specs.Views.{IsFree};
 
 use crate::fault::CellFault;
 use crate::groups::{stepped, take_group};
@@ -20,6 +21,7 @@ use outside::log::Log;
 use std::alloc::Global;
 use std::collections::VecDeque;
 use std::marker::Sync;
+use std::sync::Wait;
 use std::thread::Threads;
 
 /// Steps that deliver messages, and the last fault, where one was met.
@@ -68,9 +70,9 @@ fn learn_letter<N: Node, L: Log, K: Numbering>(
     letter: Prepared<N, L, K>,
 ) -> Option<N::Input>
     requires table { pass.old.table_id ≡ K.table }
-    requires free { pass.old.me.1 ≡ [] }
+    requires free { IsFree pass.old.me }
     ensures table { pass.new.table_id ≡ K.table }
-    ensures free { pass.new.me.1 ≡ [] }
+    ensures free { IsFree pass.new.me }
     ensures held { pass.new.me.0.held ≡ pass.old.me.0.held }
     ensures kept { IsPart pass.old.me.0 pass.new.me.0 }
     ensures known { IfSome result (λ i. IsKnown K.routers (map (λ m. N.Mail.letter m) pass.new.me.0.seen) at (N.meaning i)) }
@@ -94,9 +96,9 @@ fn learn_letters<N: Node, L: Log, K: Numbering>(
     letters: Vec<Prepared<N, L, K>>,
 ) -> Result<Vec<N::Input>, Memory>
     requires table { pass.old.table_id ≡ K.table }
-    requires free { pass.old.me.1 ≡ [] }
+    requires free { IsFree pass.old.me }
     ensures table { pass.new.table_id ≡ K.table }
-    ensures free { pass.new.me.1 ≡ [] }
+    ensures free { IsFree pass.new.me }
     ensures held { pass.new.me.0.held ≡ pass.old.me.0.held }
     ensures kept { IsPart pass.old.me.0 pass.new.me.0 }
     ensures known { IfOk result (λ all. AreKnown N.meaning K.routers (map (λ m. N.Mail.letter m) pass.new.me.0.seen) at all.items) }
@@ -149,7 +151,8 @@ fn add_steps<N: Node, L: Log, K: Numbering>(
 ///
 /// # Errors
 /// Why it was not taken.
-pub(crate) fn take_one<N: Node, L: Log, K: Numbering>(
+pub(crate) fn take_one<N: Node, L: Log, K: Numbering, R: Wait>(
+    rt: &R,
     alloc: Global,
     book: &Book<N, L, K>,
     pass: &mut Pass<N, L>,
@@ -157,11 +160,11 @@ pub(crate) fn take_one<N: Node, L: Log, K: Numbering>(
     input: N::Input,
 ) -> Result<Stepped<N, L, K>, CellFault>
     requires table { pass.old.table_id ≡ K.table }
-    requires free { pass.old.me.1 ≡ [] }
+    requires free { IsFree pass.old.me }
     requires sits { Sits (node_facts N.state N.steps (λ m. N.Mail.letter m) N.meaning L.facts) K.routers placed.old pass.old.me.0 }
     requires known { IsKnown K.routers (map (λ m. N.Mail.letter m) pass.old.me.0.seen) placed.old.at (N.meaning input) }
     ensures table { pass.new.table_id ≡ K.table }
-    ensures free { pass.new.me.1 ≡ [] }
+    ensures free { IsFree pass.new.me }
     ensures sits { Sits (node_facts N.state N.steps (λ m. N.Mail.letter m) N.meaning L.facts) K.routers placed.new pass.new.me.0 }
     ensures place { placed.new.at ≡ placed.old.at }
     ensures taken { IfOk result (λ s. (s.taken.at ≡ placed.old.at) × (s.taken.input ≡ input)) }
@@ -172,7 +175,7 @@ pub(crate) fn take_one<N: Node, L: Log, K: Numbering>(
     };
     inputs.push_back_reserved(input);
     let at = placed.at;
-    match take_group(alloc, book, pass, placed, &mut inputs) {
+    match take_group(rt, alloc, book, pass, placed, &mut inputs) {
         Ok((number, group)) => {
             let Group { parts, fault } = group;
             match VecDeque::from_vec(parts).pop_front() {
@@ -200,7 +203,8 @@ fn passed_over(fault: Option<StepFault>) -> Result<Option<CellFault>, CellFault>
 ///
 /// # Errors
 /// Why the node can take no more steps.
-fn take_some<N: Node, L: Log, K: Numbering>(
+fn take_some<N: Node, L: Log, K: Numbering, R: Wait>(
+    rt: &R,
     alloc: Global,
     book: &Book<N, L, K>,
     pass: &mut Pass<N, L>,
@@ -209,12 +213,12 @@ fn take_some<N: Node, L: Log, K: Numbering>(
     steps: &mut Vec<Stepped<N, L, K>>,
 ) -> Result<Option<CellFault>, CellFault>
     requires table { pass.old.table_id ≡ K.table }
-    requires free { pass.old.me.1 ≡ [] }
+    requires free { IsFree pass.old.me }
     requires sits { Sits (node_facts N.state N.steps (λ m. N.Mail.letter m) N.meaning L.facts) K.routers placed.old pass.old.me.0 }
     requires known { AreKnown N.meaning K.routers (map (λ m. N.Mail.letter m) pass.old.me.0.seen) placed.old.at inputs.old.items }
     requires room { vec_len steps.old + deque_len inputs.old ≤ vec_capacity steps.old }
     ensures table { pass.new.table_id ≡ K.table }
-    ensures free { pass.new.me.1 ≡ [] }
+    ensures free { IsFree pass.new.me }
     ensures sits { Sits (node_facts N.state N.steps (λ m. N.Mail.letter m) N.meaning L.facts) K.routers placed.new pass.new.me.0 }
     ensures place { placed.new.at ≡ placed.old.at }
     ensures known { OnOk result (AreKnown N.meaning K.routers (map (λ m. N.Mail.letter m) pass.new.me.0.seen) placed.old.at inputs.new.items) }
@@ -224,7 +228,7 @@ fn take_some<N: Node, L: Log, K: Numbering>(
     ensures room { OnOk result (vec_len steps.new + deque_len inputs.new ≤ vec_capacity steps.new) }
 {
     let at = placed.at;
-    match take_group(alloc, book, pass, placed, inputs) {
+    match take_group(rt, alloc, book, pass, placed, inputs) {
         Ok((number, group)) => {
             let Group { parts, fault } = group;
             add_steps(book, pass, at, number, parts, steps);
@@ -236,7 +240,8 @@ fn take_some<N: Node, L: Log, K: Numbering>(
 
 /// Takes steps on inputs, in order, group by group, until none is left or the node can take no more; an input for which memory runs out is passed over. Returns
 /// the steps and the last fault. Where there is no room for the steps none is taken.
-fn take_all<N: Node, L: Log, K: Numbering>(
+fn take_all<N: Node, L: Log, K: Numbering, R: Wait>(
+    rt: &R,
     alloc: Global,
     book: &Book<N, L, K>,
     pass: &mut Pass<N, L>,
@@ -244,11 +249,11 @@ fn take_all<N: Node, L: Log, K: Numbering>(
     inputs: Vec<N::Input>,
 ) -> Delivered<N, L, K>
     requires table { pass.old.table_id ≡ K.table }
-    requires free { pass.old.me.1 ≡ [] }
+    requires free { IsFree pass.old.me }
     requires sits { Sits (node_facts N.state N.steps (λ m. N.Mail.letter m) N.meaning L.facts) K.routers placed.old pass.old.me.0 }
     requires known { AreKnown N.meaning K.routers (map (λ m. N.Mail.letter m) pass.old.me.0.seen) placed.old.at inputs.items }
     ensures table { pass.new.table_id ≡ K.table }
-    ensures free { pass.new.me.1 ≡ [] }
+    ensures free { IsFree pass.new.me }
     ensures sits { Sits (node_facts N.state N.steps (λ m. N.Mail.letter m) N.meaning L.facts) K.routers placed.new pass.new.me.0 }
     ensures place { placed.new.at ≡ placed.old.at }
     ensures steps { AreStepsOn inputs.items result.steps.items }
@@ -260,7 +265,7 @@ fn take_all<N: Node, L: Log, K: Numbering>(
     let mut left = VecDeque::from_vec(inputs);
     let mut fault = None;
     'groups: while !left.is_empty() {
-        match take_some(alloc, book, pass, placed, &mut left, &mut steps) {
+        match take_some(rt, alloc, book, pass, placed, &mut left, &mut steps) {
             Ok(next) => fault = next.or(fault),
             Err(e) => {
                 return Delivered {
@@ -274,7 +279,8 @@ fn take_all<N: Node, L: Log, K: Numbering>(
 }
 
 /// Delivers those messages that go to a node, in order, until it can take no more steps.
-pub(crate) fn deliver_all<N: Node, L: Log, K: Numbering>(
+pub(crate) fn deliver_all<N: Node, L: Log, K: Numbering, R: Wait>(
+    rt: &R,
     alloc: Global,
     book: &Book<N, L, K>,
     pass: &mut Pass<N, L>,
@@ -282,16 +288,16 @@ pub(crate) fn deliver_all<N: Node, L: Log, K: Numbering>(
     letters: Vec<Prepared<N, L, K>>,
 ) -> Delivered<N, L, K>
     requires table { pass.old.table_id ≡ K.table }
-    requires free { pass.old.me.1 ≡ [] }
+    requires free { IsFree pass.old.me }
     requires sits { Sits (node_facts N.state N.steps (λ m. N.Mail.letter m) N.meaning L.facts) K.routers placed.old pass.old.me.0 }
     ensures table { pass.new.table_id ≡ K.table }
-    ensures free { pass.new.me.1 ≡ [] }
+    ensures free { IsFree pass.new.me }
     ensures sits { Sits (node_facts N.state N.steps (λ m. N.Mail.letter m) N.meaning L.facts) K.routers placed.new pass.new.me.0 }
     ensures place { placed.new.at ≡ placed.old.at }
     ensures steps { AreStepsOn letters.items result.steps.items }
 {
     match learn_letters(alloc, book, pass, placed.at, letters) {
-        Ok(inputs) => take_all(alloc, book, pass, placed, inputs),
+        Ok(inputs) => take_all(rt, alloc, book, pass, placed, inputs),
         Err(_) => Delivered::nothing(alloc),
     }
 }

@@ -26,13 +26,14 @@ pub struct Note<N: Node, L: Log, K: Numbering> {
 
 impl<N: Node, L: Log, K: Numbering> Model for Note<N, L, K> {
     ghost use Rattle.std.specs.Prelude.{◌≡◌, []};
+    ghost use Rattle.node_cell.specs.Views.{IsFree};
     ghost use Rattle.node_cell.specs.declared.view.View.{View};
 
     ghost Value = { View N L N.Mail N.Input };
 
     ghost view = { λ n. n.pass.me.0 };
 
-    ghost invariant = { λ n. (n.pass.table_id ≡ K.table) × (n.pass.me.1 ≡ []) × (n.pass.me.0.held ≡ []) };
+    ghost invariant = { λ n. (n.pass.table_id ≡ K.table) × IsFree n.pass.me × (n.pass.me.0.held ≡ []) };
 }
 
 impl<N: Node, L: Log, K: Numbering> Note<N, L, K> {
@@ -66,6 +67,7 @@ impl<N: Node, L: Log, K: Numbering> Note<N, L, K> {
         ensures seen { self.new.seen ≡ self.old.seen ++ other.seen }
         ensures told { self.new.told ≡ self.old.told ++ other.told }
         ensures taken { self.new.taken ≡ self.old.taken ++ other.taken }
+        ensures safe { self.new.safe ≡ self.old.safe ++ other.safe }
     {
         let Note { pass, of: _ } = other;
         book.join(&mut self.pass, pass);

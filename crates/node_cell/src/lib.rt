@@ -1,6 +1,7 @@
 //! Nodes with their logs under locks, whose steps have numbers in one order.
 #![tactic(auto)]
 
+mod board;
 mod cell;
 mod close;
 mod deliveries;
@@ -18,4 +19,4 @@ pub use deliveries::Delivered;
 pub use fault::CellFault;
 pub use letter::{Letter, Note, Reply, Stepped};
 pub use numbers::{Book, Numbers};
-pub use view::{Halt, Law, Numbering, Opening, Pass, Placed, Taken, View};
+pub use view::{Halt, Law, Numbering, Opening, Pass, Placed, Safe, Taken, View};

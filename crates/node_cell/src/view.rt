@@ -15,13 +15,23 @@ pub struct Taken<I> {
     pub input: I,
 }
 
-/// What is known of a run: the nodes that a pass has, by their places, and what it saw: messages that were sent, replies with the numbers of the steps that
-/// returned them, and steps that were taken. No value of it is made.
+/// A reply with the number of the step that returned it, and the disks of all nodes, in order: where each is, and a moment of its clock from which on the
+/// reply is safe.
+pub struct Safe {
+    pub number: u64,
+    pub reply: ToLink,
+    pub disks: LinkedList<(LinkedList<u8>, u64)>,
+}
+
+/// What is known of a run: the nodes that a pass has, by their places; the board, if it has that, which shows the disks of all nodes; and what it saw: messages
+/// that were sent, replies with the numbers of the steps that returned them, steps that were taken, and replies that are safe. No value of it is made.
 pub struct View<N, L, M, I> {
     pub held: LinkedList<(u64, Seat<N, L>)>,
+    pub board: LinkedList<LinkedList<(LinkedList<u8>, u64)>>,
     pub seen: LinkedList<M>,
     pub told: LinkedList<(u64, ToLink)>,
     pub taken: LinkedList<Taken<I>>,
+    pub safe: LinkedList<Safe>,
 }
 
 /// Why a node takes no more steps.
@@ -54,13 +64,12 @@ pub struct Law<N, L> {
 }
 
 impl<N: Node, L: Log> TableRule<(), View<N, L, N::Mail, N::Input>, Opening<N, L>> for Law<N, L> {
-    ghost use Rattle.std.specs.Prelude.{[]};
     ghost use Rattle.node_cell.specs.Courses.{Holds, node_facts};
-    ghost use Rattle.node_cell.specs.Views.{numbered, view_of};
+    ghost use Rattle.node_cell.specs.Views.{all_at_start};
 
     ghost holds = { λ start s. Holds (node_facts N.state N.steps N.Mail.letter N.meaning L.facts) start.routers start.seats.value.items s };
 
-    ghost first = { λ start. view_of (numbered 0 start.seats.value.items) [] [] [] };
+    ghost first = { λ start. all_at_start L.facts start.seats.value.items };
 }
 
 /// Which table it is, and the number from which on its nodes are routers.
@@ -110,12 +119,33 @@ impl<N, L, M, I, W: Said<N, L, M, I>> Play<(), View<N, L, M, I>> for Takes<W> {
 pub(crate) struct First;
 
 impl<N, L, M, I> Split<View<N, L, M, I>> for First {
-    ghost use Rattle.std.specs.Prelude.{[]};
-    ghost use Rattle.node_cell.specs.Views.{first_alone, first_off, view_of};
+    ghost use Rattle.node_cell.specs.Views.{first_alone, first_off, nodes_held, view_of};
 
-    ghost left = { λ v. view_of (first_off v.held) v.seen v.told v.taken };
+    ghost left = { λ v. view_of (first_off v.held) v.board v.seen v.told v.taken v.safe };
 
-    ghost right = { λ v. view_of (first_alone v.held) [] [] [] };
+    ghost right = { λ v. nodes_held (first_alone v.held) };
+}
+
+/// The board gets a pass of its own.
+pub(crate) struct OfBoard;
+
+impl<N, L, M, I> Split<View<N, L, M, I>> for OfBoard {
+    ghost use Rattle.node_cell.specs.Views.{board_held, board_off};
+
+    ghost left = { board_off };
+
+    ghost right = { λ v. board_held v.board };
+}
+
+/// A note that the replies that were seen are safe.
+pub(crate) struct Shown;
+
+impl<N, L, M, I> Split<View<N, L, M, I>> for Shown {
+    ghost use Rattle.node_cell.specs.Views.{shown};
+
+    ghost left = { λ v. v };
+
+    ghost right = { shown };
 }
 
 /// A note of what was seen.

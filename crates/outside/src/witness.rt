@@ -4,8 +4,8 @@ ghost use Rattle.outside.specs.Notes.{Note};
 
 use crate::disk::Disk;
 use crate::streams::{Link, Sink};
+use ghost_list::GhostList;
 use std::marker::Model;
-use std::snapshot::Snapshot;
 
 /// A sink to which disks are shown. A note records the place of a disk, the moment of the disk's own clock, and how many bytes were written to the sink
 /// before. Since the disk is borrowed for it, no program can note a disk that does not exist, or another moment than the present one. So a contract can say
@@ -24,15 +24,16 @@ pub trait Witness<D: Disk>: Sink {
 /// Since the disk is borrowed for it, no program can see a disk that does not exist, or a moment that is still to come.
 #[derive(Drop)]
 pub struct SeenDisk<D: Disk> {
-    disk: Snapshot<D>,
+    // The disk as it was. A list that only proofs read may go to another thread where its items may.
+    disk: GhostList<D, usize>,
 }
 
 impl<D: Disk> Model for SeenDisk<D> {
-    ghost use Rattle.outside.specs.Notes.{Sight};
+    ghost use Rattle.outside.specs.Notes.{Sight, sight_by};
 
     ghost Value = { Sight };
 
-    ghost view = { λ s. record { place = D.place s.disk.value; moment = D.moment s.disk.value } };
+    ghost view = { λ s. sight_by D.place D.moment s.disk.items };
 }
 
 impl<D: Disk> SeenDisk<D> {
@@ -41,7 +42,7 @@ impl<D: Disk> SeenDisk<D> {
         ensures { result ≡ record { place = D.place disk.now; moment = D.moment disk.now } }
     {
         SeenDisk {
-            disk: Snapshot::of(disk),
+            disk: GhostList::new().with(disk, &0),
         }
     }
 }

@@ -1,7 +1,21 @@
 use Rattle.std.proofs.Common.{◌∙◌, ap, subst, sym}
 use Rattle.opmsg_model.specs.Requests as wire
 use Rattle.conn_server.proofs.Asked.{asked_by}
+use Rattle.conn_server.proofs.Shown.{safe_more}
+use Rattle.node_cell.proofs.Lists.{are_among_self}
 use Rattle.conn_server.proofs.link.ask.Goals as goal
+
+pub returns-in_default-clause-safe : goal.returns-in_default-clause-safe
+returns-in_default-clause-safe g c = are_among_self c.args.talk.now.note.safe
+
+pub returns-in-Ok-Some-clause-safe : goal.returns-in-Ok-Some-clause-safe
+returns-in-Ok-Some-clause-safe g c = safe_more c.args.talk.now.note.safe c.see.new.self.note.safe c.into_note.result.safe c.see.ensures.safe
+
+pub returns-in-Ok-None-clause-safe : goal.returns-in-Ok-None-clause-safe
+returns-in-Ok-None-clause-safe g c = are_among_self c.args.talk.now.note.safe
+
+pub returns-in-Err-clause-safe : goal.returns-in-Err-clause-safe
+returns-in-Err-clause-safe g c = are_among_self c.args.talk.now.note.safe
 
 pub returns-in-Ok-Some-clause-asked : goal.returns-in-Ok-Some-clause-asked
 returns-in-Ok-Some-clause-asked g c =

@@ -1,7 +1,8 @@
-use Rattle.std.proofs.Common.{◌∙◌, ◌++◌, ap, refl}
+use Rattle.std.proofs.Common.{◌∙◌, ◌++◌, ap, refl, sym}
 use Rattle.opmsg_frames.specs.Outlines.{fault_view}
 use Rattle.pipe_driver.proofs.Framings.{next_given, next_malformed, next_none, still_partial}
 use Rattle.conn_server.proofs.Framed.{one_split, rest_malformed, same_framer}
+use Rattle.conn_server.proofs.Shown.{has_as, shown_by}
 use Rattle.conn_server.proofs.Written.{some_end, some_lost, some_malformed, some_none, some_one, some_then}
 use Rattle.conn_server.proofs.link.exchange_all.Goals as goal
 
@@ -11,6 +12,7 @@ requests-init g c = record {
   left = refl;
   fault = λ none. none;
   some = some_none g.S.Sink.tells (g.S.Sink.held c.args.link.now) c.args.talk.now.said c.args.framer.now.offset c.args.framer.now.bytes;
+  shown = λ before has. has;
 }
 
 pub as_read-requires : goal.as_read-requires
@@ -29,6 +31,11 @@ requests-preserved g c =
       some = some_then g.S.Sink.tells _ _ _ _ _ _ _ _ _ _ _ _ c.requests.invariant.some
           (some_one g.S.Sink.tells _ _ _ _ _ _ c.in-Ok-Some.request.bytes _ _ one.0 one.1
           (rw c.as_read.ensures at c.in-Ok.ensures.spoke));
+      shown = λ before has.
+          has_as g.S.Sink.tells _ _ _ _ before _ c.requests.talk.link c.args.talk.now.link _ refl refl (sym c.requests.invariant.link)
+          (c.in-Ok.ensures.shown before
+          (has_as g.S.Sink.tells _ _ _ _ before _ c.args.talk.now.link c.requests.talk.link _ refl refl c.requests.invariant.link
+          (c.requests.invariant.shown before has)));
     }
 
 pub returns-in-Ok-None-clause-partial : goal.returns-in-Ok-None-clause-partial
@@ -58,3 +65,24 @@ returns-in-Err-clause-ended g c =
     let one = one_split c.requests.framer c.next_request.new.framer c.in-Ok-Some.request given.0 given.1 in
     λ none. some_end c.in-Err.end g.S.Sink.tells _ _ _ _ _ _ _ _ _ _ (c.in-Ok-Some.request.bytes ++ c.next_request.new.framer.bytes) one.0 c.requests.invariant.some
     (rw c.as_read.ensures at c.in-Err.ensures.ended c.requests.framer.offset c.next_request.new.framer.bytes)
+
+-- WHAT IS NOTED BEFORE REPLIES ARE WRITTEN
+
+pub returns-in-Ok-None-clause-shown : goal.returns-in-Ok-None-clause-shown
+returns-in-Ok-None-clause-shown g c = λ before has. c.requests.invariant.shown before has
+
+pub returns-in-Err-Malformed-clause-shown_end : goal.returns-in-Err-Malformed-clause-shown_end
+returns-in-Err-Malformed-clause-shown_end g c = λ before has. (c.requests.invariant.shown before has).shown
+
+pub returns-in-Err-Memory-clause-shown_end : goal.returns-in-Err-Memory-clause-shown_end
+returns-in-Err-Memory-clause-shown_end g c = λ before has. (c.requests.invariant.shown before has).shown
+
+pub returns-in-Err-clause-shown_end : goal.returns-in-Err-clause-shown_end
+returns-in-Err-clause-shown_end g c = λ before has.
+    shown_by g.S.Sink.tells _ _ before _ c.requests.talk.link c.args.talk.now.link _ refl (sym c.requests.invariant.link)
+    (c.in-Err.ensures.shown_end before
+    (has_as g.S.Sink.tells _ _ _ _ before _ c.args.talk.now.link c.requests.talk.link _ refl refl c.requests.invariant.link
+    (c.requests.invariant.shown before has)))
+
+pub returns-clause-shown_end : goal.returns-clause-shown_end
+returns-clause-shown_end g c = λ before has. (c.requests.invariant.shown before has).shown

@@ -1,7 +1,18 @@
 use Rattle.std.proofs.Common.{◌∙◌, ℕ, ap, arith}
 use Rattle.node_traits.specs.declared.outputs.ToLink.{ToLink}
 use Rattle.conn_server.proofs.Asked.{replied_by}
+use Rattle.conn_server.proofs.Shown.{safe_more}
+use Rattle.node_cell.proofs.Lists.{are_among_self}
 use Rattle.conn_server.proofs.link.next_reply.Goals as goal
+
+pub returns-in_default-clause-safe : goal.returns-in_default-clause-safe
+returns-in_default-clause-safe g c = are_among_self c.args.talk.now.note.safe
+
+pub returns-then-link-clause-safe : goal.returns-then-link-clause-safe
+returns-then-link-clause-safe g c = are_among_self c.args.talk.now.note.safe
+
+pub returns-clause-safe : goal.returns-clause-safe
+returns-clause-safe g c = safe_more c.args.talk.now.note.safe c.see.new.self.note.safe c.into_parts-step.result.2.safe c.see.ensures.safe
 
 pub returns-clause-told : goal.returns-clause-told
 returns-clause-told g c =

@@ -1,12 +1,13 @@
-use Rattle.std.proofs.Common.{rules, ◌∙◌, ap, arith}
+use Rattle.std.proofs.Common.{rules, ap, arith}
 use Rattle.node_cell.specs.Courses.{node_facts}
-use Rattle.node_cell.proofs.Standing.{sit_list, sit_next}
+use Rattle.node_cell.proofs.Standing.{free_both, sit_list, sit_next}
 use Rattle.node_cell.proofs.close.gather.Goals as goal
 
 pub nodes-preserved : goal.nodes-preserved
 nodes-preserved g c = record {
   table = c.join.ensures.0;
-  free = ap (λ m. m.1) c.join.ensures.1 ∙ c.nodes.invariant.free;
+  free = free_both c.nodes.pass.me c.join.new.pass.me c.into_parts-placed.result.1.me c.join.ensures.1 c.nodes.invariant.free
+      c.into_parts-placed.ensures.pass.1;
   len = omega (arith, c.nodes.invariant.len, c.push_reserved.ensures.len, c.in-Some.ensures.cases);
   place = omega (arith, c.nodes.invariant.place, c.push_reserved.ensures.len);
   room = omega (arith, c.nodes.invariant.room, c.push_reserved.ensures.capacity);

@@ -1,14 +1,15 @@
-use Rattle.std.proofs.Common.{◌≡◌, ◌+◌, ◌≤◌, [], map}
+use Rattle.std.proofs.Common.{◌≡◌, ◌+◌, ◌≤◌, map}
 use Rattle.std.specs.Prelude.{vec_capacity, vec_len}
 use Rattle.std.specs.VecDeque.{deque_len}
 use Rattle.node_cell.specs.Courses.{node_facts}
 use Rattle.node_cell.specs.Standing.{AllSit}
+use Rattle.node_cell.specs.Views.{IsFree}
 use Rattle.node_cell.proofs.close.gather.Given as goal
 
 abbrev pub invariant-nodes : goal.invariant-nodes
 invariant-nodes g l = record {
   table : l.pass.table_id ≡ g.K.Numbering.table;
-  free : l.pass.me.1 ≡ [];
+  free : IsFree l.pass.me;
   len : vec_len l.ended + deque_len l.waiting ≡ vec_len l.fn.cells;
   place : l.at ≡ vec_len l.ended;
   room : vec_len l.fn.cells ≤ vec_capacity l.ended;

@@ -1,26 +1,27 @@
-use Rattle.std.proofs.Common.{◌≡◌, ◌∙◌, ◌+◌, ◌≤◌, ◌++◌, ◌∷◌, [], ℕ, List, sym, ap, subst, arith}
+use Rattle.std.proofs.Common.{◌≡◌, ◌∙◌, ◌+◌, ◌≤◌, ◌++◌, ◌∷◌, [], ℕ, List, length, sym, ap, subst, arith}
 use Rattle.std.specs.List.{AllByRecursion}
 use Rattle.outside.specs.declared.exchange.Exchange.{Exchange}
 use Rattle.outside.specs.declared.exchange.Spoken.{Spoken}
 use Rattle.node_model.specs.Letters.{Input}
 use Rattle.node_cell.specs.declared.view.View.{View}
-use Rattle.conn_server.specs.Conversations.{AreHeard, InTurn, LinkFacts, WasHeard, WasTalked, link_facts}
+use Rattle.conn_server.specs.Conversations.{AreHeard, InTurn, LinkFacts, WasHeard, WasShown, WasTalked, link_facts}
 use Rattle.conn_server.specs.Talks.{IsNoted}
 use Rattle.conn_server.proofs.Exchanged.{heard_more}
+use Rattle.conn_server.proofs.Shown.{shown_as}
 use Rattle.conn_server.proofs.links.Links.add.Goals as goal
 
 heard_after : {N L M I S : Type 0} (meaning : I → Input) (bytes : LinkFacts S) (next : ℕ) (spoken all : List (Spoken S)) (notes all_notes : List (View N L M I))
     (s : Spoken S) (v : View N L M I) (link : ℕ) → all ≡ spoken ++ s ∷ [] → all_notes ≡ notes ++ v ∷ [] → AreHeard meaning bytes 0 next spoken notes
-    → next ≤ link → AllByRecursion (λ e. IsNoted meaning link v e) s.said.items → InTurn s.said.items → WasHeard bytes s
+    → next ≤ link → AllByRecursion (λ e. IsNoted meaning link v e) s.said.items → InTurn s.said.items → WasHeard bytes s → WasShown bytes link s v
     → AreHeard meaning bytes 0 (link + 1) all all_notes
-heard_after {N} {L} {M} {I} {S} meaning bytes next spoken all notes all_notes s v link is notes_are before high noted in_turn heard =
+heard_after {N} {L} {M} {I} {S} meaning bytes next spoken all notes all_notes s v link is notes_are before high noted in_turn heard shown =
     subst (λ (l : List (Spoken S)). AreHeard meaning bytes 0 (link + 1) l all_notes) (sym is)
     (subst (λ (l : List (View N L M I)). AreHeard meaning bytes 0 (link + 1) (spoken ++ s ∷ []) l) (sym notes_are)
-    (heard_more meaning bytes 0 next spoken notes s v link before high noted in_turn heard))
+    (heard_more meaning bytes 0 next spoken notes s v link before high noted in_turn heard shown))
 
 pub invariant_of-self-2 : goal.invariant_of-self-2
 invariant_of-self-2 g c =
-    let facts = link_facts g.S.Source.tells g.S.Source.left g.S.Sink.tells g.S.Sink.held g.S.Link.is_closed in
+    let facts = link_facts g.S.Source.tells g.S.Source.left g.S.Sink.tells g.S.Sink.held g.S.Sink.noted g.S.Link.is_closed in
     let one : Spoken g.row.S.Denot = record {
       opened = c.into_snapshot-opened.result;
       link = c.heard.inside.link;
@@ -42,3 +43,7 @@ invariant_of-self-2 g c =
           (sym c.into_parts-said.ensures.said) c.heard.invariant.0);
       closed = c.heard.invariant.1;
     })
+    (shown_as g.S.Sink.tells (g.S.Sink.noted c.heard.inside.link) _ _ c.into_parts-said.result.1.safe c.heard.inside.talk.note.safe c.link-number.result
+    c.heard.inside.talk.link c.into_parts-said.result.0.items c.heard.inside.talk.said
+    (ap (λ (o : g.row.S.Denot). length (g.S.Sink.held o)) c.into_snapshot-opened.ensures) (ap (λ v. v.safe) c.into_parts-said.ensures.note)
+    c.link-number.ensures c.into_parts-said.ensures.said c.heard.invariant.2)
