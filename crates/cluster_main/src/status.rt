@@ -11,7 +11,7 @@ ghost use Rattle.journal_starts.specs.Starts.{BeginsOnFiles};
 ghost use Rattle.cluster_service.specs.Arguments.{IsServer, node_count_of, others_of, routers_of};
 ghost use Rattle.cluster_service.specs.Crashes.{LeaveTheWay};
 ghost use Rattle.cluster_service.specs.Openings.{disk_facts};
-ghost use Rattle.cluster_service.specs.Servers.{LeaveUpTo, ServerHeadline};
+ghost use Rattle.cluster_service.specs.Servers.{AreKeptFrom, LeaveUpTo, ServerHeadline};
 ghost use Rattle.cluster_service.specs.Statuses.{number_of};
 ghost use Rattle.std.specs.Process.{exit_status};
 ghost use Rattle.cluster_main.specs.Disks.{IsLeft, command_in};
@@ -24,7 +24,7 @@ use cluster_top::{Spoken, Status, run};
 use outside::clock::Clock;
 use outside::disk::Disk;
 use outside::streams::{Acceptor, Source};
-use outside::witness::Witness;
+use outside::witness::{DiskLink, Witness};
 use outside_memory::OpenGate;
 use std::alloc::Global;
 use std::io::Eprint;
@@ -78,7 +78,7 @@ where
     D: Disk + Send,
     K: Witness<D>,
     A: Acceptor,
-    A::Link: Send,
+    A::Link: DiskLink<D> + Send,
     C: Clock + Sync,
     requires { IfOk words (λ given. IfSome (node_count_of given.items) (λ count. vec_len disks ≡ count)) }
     ensures unreadable { words ≡ Err none.Unreadable → result.status ≡ 2 }
@@ -105,10 +105,11 @@ where
         × SinkIsUntouched (sink_call K.tells K.held K.fault_count out.old out.new)) }
     ensures served { IfSome (command_in words (λ given. given.items)) (λ command. IsServer command → (first : World) → IsTrue D.tells →
         BeginsOnFiles (others_of command) (routers_of command) (map D.content disks.items) first → ServerHeadline input_of
-        (link_facts A.Link.Source.tells A.Link.Source.left A.Link.Sink.tells A.Link.Sink.held A.Link.is_closed)
-        first D.tells (result.status ≡ 5) (map D.content result.disks.items)
+        (link_facts A.Link.Source.tells A.Link.Source.left A.Link.Sink.tells A.Link.Sink.held A.Link.Sink.noted A.Link.is_closed)
+        first D.tells (result.status ≡ 5) (map D.content result.disks.items) (map D.place result.disks.items)
         (LeaveTheWay first D.tells D.moment D.left_at disks.items result.disks.items)
-        (LeaveUpTo first D.tells D.moment D.left_at disks.items result.disks.items) result.links.items) }
+        (LeaveUpTo first D.tells D.moment D.left_at disks.items result.disks.items)
+        (AreKeptFrom first D.tells D.moment D.left_at result.disks.items) result.links.items) }
 {
     let words = match words {
         Ok(words) => words,
@@ -143,7 +144,7 @@ where
     D: Disk + Send,
     K: Witness<D>,
     A: Acceptor,
-    A::Link: Send,
+    A::Link: DiskLink<D> + Send,
     C: Clock + Sync,
     requires { IfOk words (λ given. IfSome (node_count_of given.items) (λ count. vec_len disks ≡ count)) }
     ensures unreadable { words ≡ Err none.Unreadable → exit_status result.code ≡ 2 }
@@ -170,10 +171,11 @@ where
         × SinkIsUntouched (sink_call K.tells K.held K.fault_count out.old out.new)) }
     ensures served { IfSome (command_in words (λ given. given.items)) (λ command. IsServer command → (first : World) → IsTrue D.tells →
         BeginsOnFiles (others_of command) (routers_of command) (map D.content disks.items) first → ServerHeadline input_of
-        (link_facts A.Link.Source.tells A.Link.Source.left A.Link.Sink.tells A.Link.Sink.held A.Link.is_closed)
-        first D.tells (exit_status result.code ≡ 5) (map D.content result.disks.items)
+        (link_facts A.Link.Source.tells A.Link.Source.left A.Link.Sink.tells A.Link.Sink.held A.Link.Sink.noted A.Link.is_closed)
+        first D.tells (exit_status result.code ≡ 5) (map D.content result.disks.items) (map D.place result.disks.items)
         (LeaveTheWay first D.tells D.moment D.left_at disks.items result.disks.items)
-        (LeaveUpTo first D.tells D.moment D.left_at disks.items result.disks.items) result.links.items) }
+        (LeaveUpTo first D.tells D.moment D.left_at disks.items result.disks.items)
+        (AreKeptFrom first D.tells D.moment D.left_at result.disks.items) result.links.items) }
 {
     let stopped = status_of(rt, alloc, words, input, out, acceptor, disks, clock);
     Served {

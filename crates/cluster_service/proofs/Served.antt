@@ -4,32 +4,24 @@ use Rattle.std.proofs.Common.{refl, sym, ap, subst, ◌∙◌, inl, inr, arith}
 use Rattle.std.specs.List.{AllByRecursion, slice_get}
 use Rattle.outside.specs.Causes.{Rose}
 use Rattle.outside.specs.Devices.{NoneFell, OneRose}
-use Rattle.outside.specs.Disks.{Outcomes}
 use Rattle.outside.specs.Logs.{LogFacts}
-use Rattle.journal_frames.specs.Files.{Stands}
-use Rattle.journal_frames.specs.Views.{JournalView, journal_facts}
-use Rattle.node_model.specs.Letters.{Letter, Input}
-use Rattle.node_model.specs.States.{NodeState}
 use Rattle.node_model.specs.World.{Held, World, IsRouter, stands}
 use Rattle.driver_steps.specs.declared.seat.Seat.{Seat}
 use Rattle.driver_steps.specs.Crashes.{Since}
-use Rattle.driver_steps.specs.Seats.{AreHeld, Keeps, seat_since, seat_view, since_then}
+use Rattle.driver_steps.specs.Seats.{AreHeld, Keeps, seat_view, since_then}
 use Rattle.driver_steps.proofs.Crashes.{held_since, start_leaves}
-use Rattle.driver_steps.proofs.Seats.{held_len}
 use Rattle.group_steps.specs.Groups.{moves_none}
 use Rattle.node_cell.specs.declared.view.Halt.{Halt}
 use Rattle.node_cell.specs.declared.view.Halt.TheVariants.{Disk, Memory}
 use Rattle.node_cell.specs.declared.view.Placed.{Placed}
-use Rattle.node_cell.specs.Courses.{NodeFacts, OpenedAs, RoutersFrom, node_facts, view_by}
+use Rattle.node_cell.specs.Courses.{NodeFacts, OpenedAs, RoutersFrom, view_by}
 use Rattle.node_cell.specs.Standing.{AreFrom, Ends, EndsHalted, KeepsAt, StaysAt}
 use Rattle.conn_server.specs.Conversations.{has_failed, is_by_disk, some_failed}
 use Rattle.sim_driver.specs.Moves.{MayPlay}
 use Rattle.restart_laws.specs.Calls.{wholes}
 use Rattle.restart_laws.proofs.ReachedCalls.{run_whole}
-use Rattle.cluster_service.specs.Crashes.{IsOfTheWay, LeaveSuch}
 use Rattle.cluster_service.specs.Openings.{InPairs}
 use Rattle.cluster_service.specs.Servers.{IsUpTo}
-use Rattle.cluster_service.proofs.Crashes.{seats_leave}
 
 -- THE START
 

@@ -1,5 +1,5 @@
 -- The disks that a server hands back.
-use Rattle.std.specs.Prelude.{◌≡◌, ◌↔◌, ℕ, zero, suc, ◌+◌, Bool, IsTrue, List, [], ◌∷◌, length, map, Some}
+use Rattle.std.specs.Prelude.{◌≡◌, ◌↔◌, ℕ, zero, suc, Bool, IsTrue, List, [], ◌∷◌, length, map, Some}
 use Rattle.std.proofs.Common.{refl, sym, ap, subst, ◌∙◌, arith}
 use Rattle.std.specs.List.{AllByRecursion, slice_get}
 use Rattle.std.proofs.lemmas.List.{length-map}
@@ -14,21 +14,21 @@ use Rattle.node_model.specs.World.{Held, World, Event, Run, goes, journal_at, st
 use Rattle.node_model.proofs.Journals.{journal_got}
 use Rattle.node_progress.specs.Firsts.{IsFirst}
 use Rattle.driver_steps.specs.declared.seat.Seat.{Seat}
-use Rattle.driver_steps.specs.Crashes.{LeavesKept}
+use Rattle.driver_steps.specs.Crashes.{LeavesKept, Noted}
 use Rattle.driver_steps.specs.Seats.{AreHeld, Keeps, seat_since, seat_view, since_then}
 use Rattle.driver_steps.proofs.Crashes.{leads_nowhere}
 use Rattle.driver_steps.proofs.Seats.{held_kept, held_len}
 use Rattle.node_cell.specs.declared.view.Placed.{Placed}
-use Rattle.node_cell.specs.Courses.{NodeFacts, node_facts}
+use Rattle.node_cell.specs.Courses.{IsOnWay, node_facts, with_marks}
+use Rattle.node_cell.proofs.Lists.{all_at, get_front}
 use Rattle.node_cell.specs.Standing.{AreFrom, Ends}
-use Rattle.conn_server.specs.Conversations.{LinkFacts, Served, some_failed}
+use Rattle.conn_server.specs.Conversations.{LinkFacts, Served, WereServed, some_failed}
 use Rattle.pipe_driver.proofs.Covers.{got_mapped}
 use Rattle.cluster_service.specs.Counts.{OneRoseWhere}
 use Rattle.cluster_service.specs.Crashes.{IsOfTheWay, IsOfWorld, LeaveSuch, LeaveTheWay}
 use Rattle.journal_starts.specs.Journals.{AreJournals, IsJournal}
 use Rattle.cluster_service.specs.Openings.{InPairs}
-use Rattle.cluster_service.specs.Servers.{AreJournalsUpTo, IsUpTo, LeaveUpTo, ServerHeadline}
-use Rattle.cluster_service.proofs.Counts.{all_still, one_of_them_rose}
+use Rattle.cluster_service.specs.Servers.{AreJournalsUpTo, AreKeptFrom, IsKeptFrom, IsUpTo, LeaveUpTo, LeavesNoLessThan, ServerHeadline}
 use Rattle.cluster_service.proofs.Crashes.{all_weaker, at_place, leaves_then, left_alone, of_the_first, seats_leave}
 use Rattle.cluster_service.proofs.Firsts.{happens_count}
 use Rattle.cluster_service.proofs.SeatFacts.{kept_in_files}
@@ -36,7 +36,7 @@ use Rattle.node_replay.specs.Restarts.{stays}
 use Rattle.restart_laws.specs.Calls.{wholes}
 use Rattle.restart_laws.proofs.ReachedCalls.{run_whole}
 use Rattle.cluster_service.proofs.OneHistories.{one_history}
-use Rattle.cluster_service.proofs.Served.{IsAfter, after_calm, after_later, after_places, after_rose, all_by_place, each_was, in_pairs, no_more, none_failed_at, opened_as}
+use Rattle.cluster_service.proofs.Served.{IsAfter, after_calm, after_later, after_places, after_rose, all_by_place, each_was, in_pairs, no_more, none_failed_at}
 
 pub mapped_twice : {A B C : Type 0} (g : B → C) (h : A → B) (xs : List A) → map g (map h xs) ≡ map (λ x. g (h x)) xs
 mapped_twice g h [] = refl
@@ -71,11 +71,11 @@ up_to_end first tells moment left_at befores afters w left told =
 
 -- nothing was served
 pub none_served : {I S D : Type 0} (meaning : I → Input) (bytes : LinkFacts S) (first : World) (tells : Bool) (failed : Type 0) (files : List (List ℕ))
-    (moment : D → ℕ) (left_at : D → ℕ → Outcomes) (befores afters : List D) → IsFirst first → (IsTrue tells → AreJournals files first.nodes)
-    → LeaveTheWay first tells moment left_at befores afters first
-    → ServerHeadline meaning bytes first tells failed files (LeaveTheWay first tells moment left_at befores afters)
-    (LeaveUpTo first tells moment left_at befores afters) []
-none_served meaning bytes first tells failed files moment left_at befores afters begins are left = record {
+    (places : List (List ℕ)) (moment : D → ℕ) (left_at : D → ℕ → Outcomes) (befores afters : List D) → IsFirst first
+    → (IsTrue tells → AreJournals files first.nodes) → LeaveTheWay first tells moment left_at befores afters first
+    → ServerHeadline meaning bytes first tells failed files places (LeaveTheWay first tells moment left_at befores afters)
+    (LeaveUpTo first tells moment left_at befores afters) (AreKeptFrom first tells moment left_at afters) []
+none_served meaning bytes first tells failed files places moment left_at befores afters begins are left = record {
   events = [];
   end = first;
   run = stands first;
@@ -85,15 +85,17 @@ none_served meaning bytes first tells failed files moment left_at befores afters
   crashes = λ never. left;
   crashes_up_to = up_to_end first tells moment left_at befores afters first left;
   history = one_history first begins [] first (stays first);
+  marks = [];
+  kept = tt;
   served = tt;
 }
 
 -- the same, where the disk that failed is said in other words
 pub headline_as : {I S : Type 0} (meaning : I → Input) (bytes : LinkFacts S) (first : World) (tells : Bool) (failed other : Type 0) (files : List (List ℕ))
-    (leaves leaves_up_to : World → Type 0) (links : List (Spoken S)) → (failed → other)
-    → ServerHeadline meaning bytes first tells failed files leaves leaves_up_to links
-    → ServerHeadline meaning bytes first tells other files leaves leaves_up_to links
-headline_as meaning bytes first tells failed other files leaves leaves_up_to links so h = record {
+    (places : List (List ℕ)) (leaves leaves_up_to : World → Type 0) (keeps : World → List Noted → Type 0) (links : List (Spoken S)) → (failed → other)
+    → ServerHeadline meaning bytes first tells failed files places leaves leaves_up_to keeps links
+    → ServerHeadline meaning bytes first tells other files places leaves leaves_up_to keeps links
+headline_as meaning bytes first tells failed other files places leaves leaves_up_to keeps links so h = record {
   events = h.events;
   end = h.end;
   run = h.run;
@@ -103,6 +105,8 @@ headline_as meaning bytes first tells failed other files leaves leaves_up_to lin
   crashes = λ never. h.crashes (λ is. never (so is));
   crashes_up_to = h.crashes_up_to;
   history = h.history;
+  marks = h.marks;
+  kept = h.kept;
   served = h.served;
 }
 
@@ -143,16 +147,16 @@ module _ {N D : Type 0} (state : N → NodeState) (steps : N → ℕ) (tells : B
       all_weaker moment left_at (IsOfWorld first) (λ at file. IsOfTheWay first first at file) disks (map (λ s. s.log.disk) seats)
       (λ at file stands. of_the_first first first at file (leads_nowhere first) stands) (early told)
 
-  module _ {M I : Type 0} (letter : M → Letter) (meaning : I → Input) (placed : List (Placed N (JournalView D))) (events : List Event) (w : World)
-      (run : Run first events w) (from : AreFrom 0 placed)
+  module _ {M I : Type 0} (letter : M → Letter) (meaning : I → Input) (placed : List (Placed N (JournalView D))) (events : List Event) (marks : List Noted)
+      (w : World) (run : Run first events w) (from : AreFrom 0 placed)
       (ends : AllByRecursion (λ p. Ends (node_facts state steps letter meaning (journal_facts tells content moment left_at fault_count place))
-      (since_then seats first) w p) placed) (count : length placed ≡ length seats) where
+      (with_marks (since_then seats first) marks) w p) placed) (count : length placed ≡ length seats) where
     after : InPairs (IsAfter (journal_facts tells content moment left_at fault_count place)) (map (λ s. s.log) seats) placed
     after =
         in_pairs (IsAfter (journal_facts tells content moment left_at fault_count place)) (map (λ s. s.log) seats) placed
         (λ at p got.
         let was = each_was (node_facts state steps letter meaning (journal_facts tells content moment left_at fault_count place))
-        (since_then seats first) w placed from ends at p got in
+        (with_marks (since_then seats first) marks) w placed from ends at p got in
         (was.first, (was.here, was.is)))
         (count ∙ sym (length-map seats (λ s. s.log)))
 
@@ -189,7 +193,7 @@ module _ {N D : Type 0} (state : N → NodeState) (steps : N → ℕ) (tells : B
           let m = got_mapped (λ (p : Placed N (JournalView D)). content p.seat.log.disk) placed at file
           (subst (λ (fs : List (List ℕ)). slice_get fs at ≡ Some file) (told_placed content disks placed are) got) in
           let k = (each_was (node_facts state steps letter meaning (journal_facts tells content moment left_at fault_count place))
-          (since_then seats first) w placed from ends at m.0 m.1).kept in
+          (with_marks (since_then seats first) marks) w placed from ends at m.0 m.1).kept in
           let stored : journal_at k.end.nodes at ≡ k.held.kept = journal_got k.end.nodes at k.held k.here in (
             k.end,
             k.up_to,
@@ -205,8 +209,27 @@ module _ {N D : Type 0} (state : N → NodeState) (steps : N → ℕ) (tells : B
           (up_to_places state steps tells content moment left_at fault_count place first w told (λ at. at) befores seats placed (early told) (sym count)
           (λ at p got old began.
           let l = (each_was (node_facts state steps letter meaning (journal_facts tells content moment left_at fault_count place))
-          (since_then seats first) w placed from ends at p got).crash in
+          (with_marks (since_then seats first) marks) w placed from ends at p got).crash in
           (l.last, l.up_to, (l.leaves told).0 old began)))
+
+      -- from the moments noted in a world on the way on no crash left less
+      pub served_kept : AllByRecursion (λ n. IsOnWay first w n) marks → AreKeptFrom first tells moment left_at disks w marks
+      served_kept ways =
+          all_by_place (λ n. IsKeptFrom first tells moment left_at disks w n) marks
+          (λ k n had.
+          let way = all_at (λ n. IsOnWay first w n) marks k n had ways in
+          record {
+            before = way.before;
+            behind = way.behind;
+            each = λ told at disk from_moment got of.
+                let m = got_mapped (λ (p : Placed N (JournalView D)). p.seat.log.disk) placed at disk
+                (subst (λ (ds : List D). slice_get ds at ≡ Some disk) are got) in
+                let l = (each_was (node_facts state steps letter meaning (journal_facts tells content moment left_at fault_count place))
+                (with_marks (since_then seats first) marks) w placed from ends at m.0 m.1).crash in
+                let kept = (l.leaves told).1 k n from_moment (get_front marks [] k n had) of in
+                subst (λ (x : D). LeavesNoLessThan moment left_at w at x n.world from_moment) m.2
+                (record { last = l.last; up_to = l.up_to; later = kept.later; left = kept.left });
+          })
 
       module _ (never : ¬ IsTrue (some_failed placed)) where
         pub served_open : AllByRecursion (λ p. IsTrue p.seat.log.is_open) placed
@@ -214,12 +237,12 @@ module _ {N D : Type 0} (state : N → NodeState) (steps : N → ℕ) (tells : B
             all_by_place (λ p. IsTrue p.seat.log.is_open) placed
             (λ at p got.
             ((each_was (node_facts state steps letter meaning (journal_facts tells content moment left_at fault_count place))
-            (since_then seats first) w placed from ends at p got).stays
+            (with_marks (since_then seats first) marks) w placed from ends at p got).stays
             (none_failed_at (journal_facts tells content moment left_at fault_count place) placed never at p got)).is_open)
 
         files_of : (nodes : List Held) (all : List (Placed N (JournalView D)))
             → ((at : ℕ) (p : Placed N (JournalView D)) → slice_get all at ≡ Some p → (h : Held) × ((slice_get nodes at ≡ Some h)
-            × Keeps (seat_since state steps (journal_facts tells content moment left_at fault_count place) (since_then seats first) p.seat) h.kept))
+            × Keeps (seat_since state steps (journal_facts tells content moment left_at fault_count place) (with_marks (since_then seats first) marks) p.seat) h.kept))
             → length nodes ≡ length all → IsTrue tells → AreJournals (map content (map (λ p. p.seat.log.disk) all)) nodes
         files_of [] [] each long told = tt
         files_of [] (p ∷ all) each long told = absurd (omega (arith, long))
@@ -227,7 +250,7 @@ module _ {N D : Type 0} (state : N → NodeState) (steps : N → ℕ) (tells : B
         files_of (h ∷ nodes) (p ∷ all) each long told =
             let there = each zero p refl in
             let same : there.0 ≡ h = sym (cc there.1.0) in
-            let is = subst (λ (x : Held). Keeps (seat_since state steps (journal_facts tells content moment left_at fault_count place) (since_then seats first) p.seat) x.kept) same there.1.1 in
+            let is = subst (λ (x : Held). Keeps (seat_since state steps (journal_facts tells content moment left_at fault_count place) (with_marks (since_then seats first) marks) p.seat) x.kept) same there.1.1 in
             (record { stands = is.found told told; readable = is.readable }, files_of nodes all (λ at. each (suc at)) (omega (arith, long)) told)
 
         served_files : IsTrue tells → AreJournals (map content disks) w.nodes
@@ -236,7 +259,7 @@ module _ {N D : Type 0} (state : N → NodeState) (steps : N → ℕ) (tells : B
             (files_of w.nodes placed
             (λ at p got.
             let s = (each_was (node_facts state steps letter meaning (journal_facts tells content moment left_at fault_count place))
-            (since_then seats first) w placed from ends at p got).stays
+            (with_marks (since_then seats first) marks) w placed from ends at p got).stays
             (none_failed_at (journal_facts tells content moment left_at fault_count place) placed never at p got) in
             (s.held, (s.here, s.keeps)))
             (run_count first events w run
@@ -258,11 +281,15 @@ module _ {N D : Type 0} (state : N → NodeState) (steps : N → ℕ) (tells : B
             (sym count ∙ sym (length-map placed (λ p. p.seat)))
             (λ at s got.
             let there = seat_at placed at s got in
-            subst (λ (x : Seat N (JournalView D)). (seat_since state steps (journal_facts tells content moment left_at fault_count place) (since_then seats first) x).leaves at w)
+            let since =
+            subst
+            (λ (x : Seat N (JournalView D)).
+            (seat_since state steps (journal_facts tells content moment left_at fault_count place) (with_marks (since_then seats first) marks) x).leaves at w)
             there.1.1
             ((each_was (node_facts state steps letter meaning (journal_facts tells content moment left_at fault_count place))
-            (since_then seats first) w placed from ends at there.0 there.1.0).stays
-            (none_failed_at (journal_facts tells content moment left_at fault_count place) placed never at there.0 there.1.0)).leaves))
+            (with_marks (since_then seats first) marks) w placed from ends at there.0 there.1.0).stays
+            (none_failed_at (journal_facts tells content moment left_at fault_count place) placed never at there.0 there.1.0)).leaves in
+            λ observable. ((since observable).0, λ k n from_moment none of. absurd (cc none))))
 
   -- the server ended
   pub some_served : {M I S : Type 0} (letter : M → Letter) (meaning : I → Input) (bytes : LinkFacts S)
@@ -271,17 +298,21 @@ module _ {N D : Type 0} (state : N → NodeState) (steps : N → ℕ) (tells : B
       → Served (node_facts state steps letter meaning (journal_facts tells content moment left_at fault_count place)) bytes
       (since_then seats first) first placed links
       → (IsTrue tells → LeaveSuch moment left_at (IsOfWorld first) befores (map (λ s. s.log.disk) seats))
-      → ServerHeadline meaning bytes first tells failed (map content disks) (LeaveTheWay first tells moment left_at befores disks)
-      (LeaveUpTo first tells moment left_at befores disks) links
+      → ServerHeadline meaning bytes first tells failed (map content disks) (map place disks) (LeaveTheWay first tells moment left_at befores disks)
+      (LeaveUpTo first tells moment left_at befores disks) (AreKeptFrom first tells moment left_at disks) links
   some_served letter meaning bytes placed links disks befores failed begins from count are where_it s early = record {
     events = s.events;
     end = s.world;
     run = s.run;
     none_missed = s.none_missed;
-    journals = λ never. served_files letter meaning placed s.events s.world s.run from s.nodes count disks are (λ some. never (where_it some));
-    journals_up_to = served_up_to letter meaning placed s.events s.world s.run from s.nodes count disks are;
-    crashes = λ never. served_leave letter meaning placed s.events s.world s.run from s.nodes count disks are (λ some. never (where_it some)) befores early;
-    crashes_up_to = served_leave_up_to letter meaning placed s.events s.world s.run from s.nodes count disks are befores early;
+    journals = λ never. served_files letter meaning placed s.events s.marks s.world s.run from s.nodes count disks are (λ some. never (where_it some));
+    journals_up_to = served_up_to letter meaning placed s.events s.marks s.world s.run from s.nodes count disks are;
+    crashes = λ never. served_leave letter meaning placed s.events s.marks s.world s.run from s.nodes count disks are (λ some. never (where_it some)) befores early;
+    crashes_up_to = served_leave_up_to letter meaning placed s.events s.marks s.world s.run from s.nodes count disks are befores early;
     history = one_history first begins (wholes s.events) s.world (run_whole first s.world s.events s.run);
-    served = s.links_are;
+    marks = s.marks;
+    kept = served_kept letter meaning placed s.events s.marks s.world s.run from s.nodes count disks are s.on_way;
+    served = subst (λ (ps : List (List ℕ)). WereServed meaning bytes ps first.now s.events s.marks s.world 0 links)
+        (mapped_twice (λ (j : JournalView D). place j.disk) (λ (o : Seat N (JournalView D)). o.log) seats
+        ∙ sym (served_places letter meaning placed s.events s.marks s.world s.run from s.nodes count disks are)) s.links_are;
   }

@@ -2,7 +2,6 @@
 use Rattle.std.specs.Prelude.{◌≡◌, ◌≢◌, ◌⊎◌, ◌-◌, ◌<◌, ◌^◌, ℕ, List, [], ◌∷◌, length, map, Some, None}
 use Rattle.std.proofs.Common.{refl, sym, ap, subst, inl, inr, arith, ◌∙◌}
 use Rattle.std.specs.List.{AllByRecursion}
-use Rattle.driver_steps.specs.declared.seat.Seat.{Seat}
 use Rattle.journal_frames.specs.Views.{JournalView}
 use Rattle.conn_server.specs.declared.server.ServeEnd.{ServeEnd}
 use Rattle.conn_server.specs.declared.server.ServeEnd.TheVariants as served

@@ -14,7 +14,7 @@ ghost use Rattle.sim_driver.specs.Moves.{MayPlay};
 ghost use Rattle.cluster_service.specs.Counts.{OneRoseWhere};
 ghost use Rattle.cluster_service.specs.Crashes.{LeaveSuch, LeaveTheWay};
 ghost use Rattle.cluster_service.specs.OpenJournals.{AreAllOpen, AreOpenWith, IsDurable, disks_of};
-ghost use Rattle.cluster_service.specs.Servers.{AreOfSomeWorld, AreSeatedSomewhere, IsServerEnd, LeaveUpTo, ServerHeadline};
+ghost use Rattle.cluster_service.specs.Servers.{AreKeptFrom, AreOfSomeWorld, AreSeatedSomewhere, IsServerEnd, LeaveUpTo, ServerHeadline};
 ghost use Rattle.cluster_service.specs.declared.status.Status.TheVariants as statuses;
 
 use crate::arguments::Server;
@@ -30,6 +30,7 @@ use outside::clock::Clock;
 use outside::disk::Disk;
 use outside::exchange::Spoken;
 use outside::streams::Acceptor;
+use outside::witness::DiskLink;
 use std::alloc::Global;
 use std::sync::Wait;
 use std::thread::Threads;
@@ -97,7 +98,7 @@ where
     D: Disk + Send,
     Q: WireRequests<N> + Send,
     A: Acceptor,
-    A::Link: Send,
+    A::Link: DiskLink<D> + Send,
     C: Clock + Sync,
     R: Threads + Wait + Sync,
     requires few { vec_len seats ≤ 64 }
@@ -110,10 +111,11 @@ where
     ensures headline { (first : World) → MayPlay (1 + server.shards) first →
         AreHeld (seat_view N.state N.steps (journal_facts D.tells D.content D.moment D.left_at D.fault_count D.place)) seats.items first.nodes → (disks : List D) →
         (IsTrue D.tells → LeaveSuch D.moment D.left_at (λ at file. Stands file (spellings (journal_at first.nodes at))) disks (map (λ seat. seat.log.disk) seats.items)) →
-        ServerHeadline N.meaning (link_facts A.Link.Source.tells A.Link.Source.left A.Link.Sink.tells A.Link.Sink.held A.Link.is_closed)
+        ServerHeadline N.meaning (link_facts A.Link.Source.tells A.Link.Source.left A.Link.Sink.tells A.Link.Sink.held A.Link.Sink.noted A.Link.is_closed)
         first D.tells (result.status ≡ statuses.DiskFailed)
-        (map D.content result.disks.items) (LeaveTheWay first D.tells D.moment D.left_at disks result.disks.items)
-        (LeaveUpTo first D.tells D.moment D.left_at disks result.disks.items) result.links.items }
+        (map D.content result.disks.items) (map D.place result.disks.items) (LeaveTheWay first D.tells D.moment D.left_at disks result.disks.items)
+        (LeaveUpTo first D.tells D.moment D.left_at disks result.disks.items) (AreKeptFrom first D.tells D.moment D.left_at result.disks.items)
+        result.links.items }
     ensures durable { IsTrue D.tells → result.status ≢ statuses.DiskFailed → AllByRecursion (IsDurable D.content D.may_leave) result.disks.items }
     ensures status { IsServerEnd result.status }
     ensures disk_fault { OneRoseWhere (result.status ≡ statuses.DiskFailed) (map (λ seat. D.fault_count seat.log.disk) seats.items) (map D.fault_count result.disks.items) }
@@ -168,7 +170,7 @@ where
     D: Disk + Send,
     Q: WireRequests<N> + Send,
     A: Acceptor,
-    A::Link: Send,
+    A::Link: DiskLink<D> + Send,
     C: Clock + Sync,
     R: Threads + Wait + Sync,
     requires few { vec_len journals ≤ 64 }
@@ -184,10 +186,11 @@ where
     ensures headline { (first : World) → MayPlay (1 + server.shards) first → map N.state nodes.items ≡ map (λ h. h.state) first.nodes →
         AreOpenWith D.tells D.content journals.items first.nodes → (disks : List D) →
         (IsTrue D.tells → LeaveSuch D.moment D.left_at (λ at file. Stands file (spellings (journal_at first.nodes at))) disks (disks_of journals.items)) →
-        ServerHeadline N.meaning (link_facts A.Link.Source.tells A.Link.Source.left A.Link.Sink.tells A.Link.Sink.held A.Link.is_closed)
+        ServerHeadline N.meaning (link_facts A.Link.Source.tells A.Link.Source.left A.Link.Sink.tells A.Link.Sink.held A.Link.Sink.noted A.Link.is_closed)
         first D.tells (result.status ≡ statuses.DiskFailed)
-        (map D.content result.disks.items) (LeaveTheWay first D.tells D.moment D.left_at disks result.disks.items)
-        (LeaveUpTo first D.tells D.moment D.left_at disks result.disks.items) result.links.items }
+        (map D.content result.disks.items) (map D.place result.disks.items) (LeaveTheWay first D.tells D.moment D.left_at disks result.disks.items)
+        (LeaveUpTo first D.tells D.moment D.left_at disks result.disks.items) (AreKeptFrom first D.tells D.moment D.left_at result.disks.items)
+        result.links.items }
     ensures durable { IsTrue D.tells → result.status ≢ statuses.DiskFailed → AllByRecursion (IsDurable D.content D.may_leave) result.disks.items }
     ensures status { IsServerEnd result.status }
     ensures disk_fault { OneRoseWhere (result.status ≡ statuses.DiskFailed) (map D.fault_count (disks_of journals.items)) (map D.fault_count result.disks.items) }

@@ -3,11 +3,10 @@ use Rattle.std.specs.Prelude.{◌≡◌, ℕ}
 use Rattle.std.proofs.Common.{refl, ap, sym, ◌∙◌}
 use Rattle.bson_values.specs.Faults.{Fault, short_fault, length_fault, type_fault, string_fault, boolean_fault, depth_fault, trailing_fault}
 use Rattle.bson_values.specs.ReadFaults.{fault_from}
-use Rattle.opmsg_frames.specs.RequestMeanings.{IsBody, IsMeant}
+use Rattle.opmsg_frames.specs.RequestMeanings.{IsBody}
 use Rattle.opmsg_frames.specs.Requests as wire
 use Rattle.opmsg_frames.specs.declared.request.Body.{Body}
 use Rattle.opmsg_frames.specs.declared.request.Body.TheVariants.{Read, Faulty}
-use Rattle.opmsg_frames.specs.declared.request.Request.{Request}
 use Rattle.pipe_driver.specs.Progress.{AreAskedAsRead}
 use Rattle.protocol_model.specs.Requests.{request_of, body_of, faulty_body_of}
 

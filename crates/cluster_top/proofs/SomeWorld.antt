@@ -1,17 +1,15 @@
 -- Nodes that are opened on the records of their journals are those of some world.
-use Rattle.std.specs.Prelude.{◌≡◌, ℕ, zero, suc, ◌+◌, ◌-◌, ◌<◌, ◌≤◌, Bool, true, false, IsTrue, List, [], ◌∷◌, length, map, Option, Some, None, is_some, is_none, nat_lt, ◌&&◌, if◌then◌else◌}
+use Rattle.std.specs.Prelude.{◌≡◌, ℕ, zero, suc, ◌+◌, ◌-◌, ◌<◌, ◌≤◌, Bool, true, false, List, [], ◌∷◌, length, map, Option, Some, None, is_some, is_none, nat_lt, ◌&&◌, if◌then◌else◌}
 use Rattle.std.proofs.Common.{refl, sym, ap, subst, ◌∙◌, arith}
-use Rattle.std.specs.List.{AllByRecursion, slice_get}
+use Rattle.std.specs.List.{AllByRecursion}
 use Rattle.std.specs.Option.{option_map}
 use Rattle.std.proofs.lemmas.Bool.{lt-ltb}
 use Rattle.chunk_model.specs.Changes.{create_change, split_change}
 use Rattle.chunk_model.specs.Tables.{table_of}
-use Rattle.history_model.specs.History.{Entry}
 use Rattle.record_model.specs.RecordFormat.{spelled}
 use Rattle.record_model.specs.Records.{EntryWords, OutcomeWords, outcome_words, Record, table_record, entry_record, ceiling_record, create_record, split_record, catalogue_ceiling_record, life_record, block_record}
 use Rattle.shard_records.specs.Readable.{IsReadable}
 use Rattle.journal_frames.specs.Views.{JournalView}
-use Rattle.node_cell.specs.Courses.{RoutersFrom}
 use Rattle.node_model.specs.Journal.{Kept, kept_table, kept_entry, kept_ceiling, kept_change, kept_none, kept_life, kept_block, record_kept}
 use Rattle.node_model.specs.Service.{seen_before}
 use Rattle.node_model.specs.States.{NodeState, Router, router_state}

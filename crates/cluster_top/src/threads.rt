@@ -14,7 +14,7 @@ ghost use Rattle.cluster_service.specs.Counts.{OneRoseWhere};
 ghost use Rattle.cluster_service.specs.Crashes.{LeaveTheWay};
 ghost use Rattle.cluster_service.specs.OpenJournals.{AreAllOpen, IsDurable, disks_of};
 ghost use Rattle.cluster_service.specs.Openings.{AreAsTheyWere, InThrees, IsOpenedOn, disk_facts};
-ghost use Rattle.cluster_service.specs.Servers.{IsServerEnd, LeaveUpTo, ServerHeadline};
+ghost use Rattle.cluster_service.specs.Servers.{AreKeptFrom, IsServerEnd, LeaveUpTo, ServerHeadline};
 ghost use Rattle.cluster_service.specs.declared.status.Status.TheVariants as statuses;
 ghost use Rattle.journal_starts.specs.Records.{AreRefused};
 ghost use Rattle.journal_starts.specs.Starts.{BeginsOnFiles};
@@ -29,6 +29,7 @@ use opmsg_frames::Request;
 use outside::clock::Clock;
 use outside::disk::Disk;
 use outside::streams::Acceptor;
+use outside::witness::DiskLink;
 use std::alloc::Global;
 use std::sync::Wait;
 use std::thread::Threads;
@@ -64,7 +65,7 @@ where
     R: Threads + Wait + Sync,
     D: Disk + Send,
     A: Acceptor,
-    A::Link: Send,
+    A::Link: DiskLink<D> + Send,
     C: Clock + Sync,
     requires some_shards { 0 < server.shards }
     requires few_shards { server.shards ≤ 16 }
@@ -81,10 +82,12 @@ where
     ensures headline { (disks : List D) (first : World) → IsTrue D.tells →
         InThrees (IsOpenedOn (disk_facts D.tells D.content D.may_leave D.moment D.left_at D.place D.fault_count)) disks opened.journals.items opened.found.items →
         BeginsOnFiles (server.shards - 1) server.routers (map D.content disks) first →
-        ServerHeadline input_of (link_facts A.Link.Source.tells A.Link.Source.left A.Link.Sink.tells A.Link.Sink.held A.Link.is_closed)
+        ServerHeadline input_of (link_facts A.Link.Source.tells A.Link.Source.left A.Link.Sink.tells A.Link.Sink.held A.Link.Sink.noted A.Link.is_closed)
         first D.tells (result.status ≡ statuses.DiskFailed)
-        (map D.content result.disks.items) (LeaveTheWay first D.tells D.moment D.left_at disks result.disks.items)
-        (LeaveUpTo first D.tells D.moment D.left_at disks result.disks.items) result.links.items }
+        (map D.content result.disks.items) (map D.place result.disks.items)
+        (LeaveTheWay first D.tells D.moment D.left_at disks result.disks.items)
+        (LeaveUpTo first D.tells D.moment D.left_at disks result.disks.items)
+        (AreKeptFrom first D.tells D.moment D.left_at result.disks.items) result.links.items }
     ensures durable { IsTrue D.tells → result.status ≢ statuses.DiskFailed → AllByRecursion (IsDurable D.content D.may_leave) result.disks.items }
     ensures status { IsServerEnd result.status ⊎ (result.status ≡ statuses.DamagedJournal) }
     ensures damaged { result.status ≡ statuses.DamagedJournal →
@@ -134,17 +137,19 @@ where
     R: Threads + Wait + Sync,
     D: Disk + Send,
     A: Acceptor,
-    A::Link: Send,
+    A::Link: DiskLink<D> + Send,
     C: Clock + Sync,
     requires some_shards { 0 < server.shards }
     requires few_shards { server.shards ≤ 16 }
     requires few { server.routers ≤ 8 }
     requires disks { vec_len disks ≡ 1 + server.shards + server.routers }
     ensures headline { (first : World) → IsTrue D.tells → BeginsOnFiles (server.shards - 1) server.routers (map D.content disks.items) first →
-        ServerHeadline input_of (link_facts A.Link.Source.tells A.Link.Source.left A.Link.Sink.tells A.Link.Sink.held A.Link.is_closed)
+        ServerHeadline input_of (link_facts A.Link.Source.tells A.Link.Source.left A.Link.Sink.tells A.Link.Sink.held A.Link.Sink.noted A.Link.is_closed)
         first D.tells (result.status ≡ statuses.DiskFailed)
-        (map D.content result.disks.items) (LeaveTheWay first D.tells D.moment D.left_at disks.items result.disks.items)
-        (LeaveUpTo first D.tells D.moment D.left_at disks.items result.disks.items) result.links.items }
+        (map D.content result.disks.items) (map D.place result.disks.items)
+        (LeaveTheWay first D.tells D.moment D.left_at disks.items result.disks.items)
+        (LeaveUpTo first D.tells D.moment D.left_at disks.items result.disks.items)
+        (AreKeptFrom first D.tells D.moment D.left_at result.disks.items) result.links.items }
 
     // Where the acceptor did not listen, the disks are as they were.
     ensures durable { IsTrue D.tells → result.status ≢ statuses.DiskFailed → AllByRecursion (IsDurable D.content D.may_leave) result.disks.items

@@ -14,7 +14,7 @@ ghost use Rattle.cluster_service.specs.Crashes.{AreDurableBefore, LeaveAll, Leav
 ghost use Rattle.cluster_service.specs.Headline.{HeadlineOf};
 ghost use Rattle.cluster_service.specs.OpenJournals.{IsDurable};
 ghost use Rattle.cluster_service.specs.Openings.{IsNotBegun, disk_facts};
-ghost use Rattle.cluster_service.specs.Servers.{IsServerEnd, LeaveUpTo, ServerHeadline};
+ghost use Rattle.cluster_service.specs.Servers.{AreKeptFrom, IsServerEnd, LeaveUpTo, ServerHeadline};
 ghost use Rattle.cluster_service.specs.Statuses.{OfConnection, OfStatus, number_of};
 ghost use Rattle.cluster_service.specs.declared.status.Status.TheVariants as statuses;
 ghost use Rattle.journal_starts.specs.Records.{AreRefused};
@@ -29,7 +29,7 @@ use outside::disk::Disk;
 use outside::exchange::Spoken;
 use outside::gate::Gate;
 use outside::streams::{Acceptor, Source};
-use outside::witness::Witness;
+use outside::witness::{DiskLink, Witness};
 use std::alloc::Global;
 use std::sync::Wait;
 use std::thread::Threads;
@@ -99,7 +99,7 @@ where
     D: Disk + Send,
     C: Clock + Sync,
     G: Gate + Sync,
-    A::Link: Send,
+    A::Link: DiskLink<D> + Send,
     requires { IfSome (node_count_of words.now) (λ count. vec_len disks ≡ count) }
 
     // The arguments are refused exactly where they start no nodes. Then, and where a file is damaged or a record in it may not follow, nothing is taken or put.
@@ -157,11 +157,12 @@ where
         OfStatus result.status (λ status. IsServerEnd status ⊎ (status ≡ statuses.DamagedJournal))) }
     ensures served { IfSome (command_of words.now) (λ command. IsServer command → (first : World) → IsTrue D.tells →
         BeginsOnFiles (others_of command) (routers_of command) (map D.content disks.items) first → ServerHeadline input_of
-        (link_facts A.Link.Source.tells A.Link.Source.left A.Link.Sink.tells A.Link.Sink.held A.Link.is_closed)
+        (link_facts A.Link.Source.tells A.Link.Source.left A.Link.Sink.tells A.Link.Sink.held A.Link.Sink.noted A.Link.is_closed)
         first D.tells (result.status ≡ 5)
-        (map D.content result.disks.items)
+        (map D.content result.disks.items) (map D.place result.disks.items)
         (LeaveTheWay first D.tells D.moment D.left_at disks.items result.disks.items)
-        (LeaveUpTo first D.tells D.moment D.left_at disks.items result.disks.items) result.links.items) }
+        (LeaveUpTo first D.tells D.moment D.left_at disks.items result.disks.items)
+        (AreKeptFrom first D.tells D.moment D.left_at result.disks.items) result.links.items) }
     ensures sessions { IfSome (command_of words.now) (λ command. IsServer command → result.status ≡ 0 → vec_len result.links ≡ sessions_of command) }
     ensures accept_fault { result.status ≡ 8 → Rose (A.fault_count acceptor.old) (A.fault_count acceptor.new) }
     ensures accept_later { A.fault_count acceptor.old ≤ A.fault_count acceptor.new }

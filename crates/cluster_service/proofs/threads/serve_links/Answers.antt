@@ -1,4 +1,4 @@
-use Rattle.std.proofs.Common.{◌∙◌, ◌≡◌, ℕ, List, refl, sym, ap, map, subst, arith}
+use Rattle.std.proofs.Common.{◌∙◌, ◌≡◌, List, refl, sym, ap, map, subst, arith}
 use Rattle.outside.specs.Devices.{NoneFell}
 use Rattle.outside.proofs.Relations.{none_fell_self}
 use Rattle.journal_frames.specs.Views.{journal_facts}
@@ -22,7 +22,7 @@ pub returns-then-is_err-clause-headline : goal.returns-then-is_err-clause-headli
 returns-then-is_err-clause-headline g c = λ first may same are disks early.
     let left = disks_of c.args.journals.items in
     rw (c.not_served.ensures.disks, c.not_served.ensures.links, c.close_all.ensures.disks)
-    (none_served _ _ first g.D.Disk.tells _ (map g.D.Disk.content left) g.D.Disk.moment g.D.Disk.left_at disks left may.begins
+    (none_served _ _ first g.D.Disk.tells _ (map g.D.Disk.content left) _ g.D.Disk.moment g.D.Disk.left_at disks left may.begins
     (open_files g.D.Disk.tells g.D.Disk.content c.args.journals.items first.nodes are)
     (λ told. first_leaves g.D.Disk.moment g.D.Disk.left_at first disks left (early told)))
 

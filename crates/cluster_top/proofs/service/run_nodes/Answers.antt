@@ -1,4 +1,4 @@
-use Rattle.std.proofs.Common.{◌∙◌, ◌≡◌, [], refl, sym, map, append-nil, arith, inl, inr}
+use Rattle.std.proofs.Common.{◌∙◌, ◌≡◌, refl, sym, map, append-nil, arith, inl, inr}
 use Rattle.outside.specs.Devices.{sink_call, source_call}
 use Rattle.pipe_driver.proofs.Counts.{none_fell_after, still}
 use Rattle.journal_starts.proofs.Starts.{starts_are_stored}

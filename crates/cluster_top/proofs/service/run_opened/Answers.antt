@@ -1,6 +1,6 @@
-use Rattle.std.proofs.Common.{◌∙◌, ◌≡◌, [], List, refl, sym, subst, ap, map, length, append-nil, arith, inl, inr}
+use Rattle.std.proofs.Common.{◌∙◌, ◌≡◌, refl, sym, map, append-nil, arith, inr}
 use Rattle.outside.specs.Devices.{sink_call, source_call}
-use Rattle.pipe_driver.proofs.Counts.{none_fell_after, still}
+use Rattle.pipe_driver.proofs.Counts.{still}
 use Rattle.outside.proofs.Relations.{none_fell_self}
 use Rattle.any_node.specs.Kinds.{state_of}
 use Rattle.journal_starts.specs.Records.{SomeRefused, by_record}

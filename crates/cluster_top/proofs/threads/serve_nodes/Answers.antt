@@ -1,4 +1,4 @@
-use Rattle.std.proofs.Common.{◌∙◌, ◌≡◌, ◌-◌, [], List, refl, sym, ap, map, arith, inl, inr}
+use Rattle.std.proofs.Common.{◌∙◌, ◌≡◌, ◌-◌, refl, sym, ap, map, arith, inl, inr}
 use Rattle.outside.proofs.Relations.{none_fell_self}
 use Rattle.pipe_driver.proofs.Counts.{none_fell_after}
 use Rattle.journal_starts.proofs.Starts.{starts_are_stored}
@@ -22,7 +22,8 @@ pub returns-in-Err-clause-headline : goal.returns-in-Err-clause-headline
 returns-in-Err-clause-headline g c = λ first told begun.
     let journals = starts_are_stored _ _ (map g.D.Disk.content c.args.disks.items) first begun in
     rw (c.not_served.ensures.disks, c.not_served.ensures.links)
-    (none_served _ _ first g.D.Disk.tells _ (map g.D.Disk.content c.args.disks.items) g.D.Disk.moment g.D.Disk.left_at c.args.disks.items c.args.disks.items
+    (none_served _ _ first g.D.Disk.tells _ (map g.D.Disk.content c.args.disks.items)
+    (map g.D.Disk.place c.args.disks.items) g.D.Disk.moment g.D.Disk.left_at c.args.disks.items c.args.disks.items
     (first_may_play c.args.server.shards _ (map g.D.Disk.content c.args.disks.items) first c.requires.some_shards begun).begins (λ told. journals)
     (λ told. first_leaves g.D.Disk.moment g.D.Disk.left_at first c.args.disks.items c.args.disks.items
     (leave_kept (disk_facts g.D.Disk.tells g.D.Disk.content g.D.Disk.may_leave g.D.Disk.moment g.D.Disk.left_at g.D.Disk.place g.D.Disk.fault_count) c.args.disks.items c.args.disks.items first.nodes told (are_alone (disk_facts g.D.Disk.tells g.D.Disk.content g.D.Disk.may_leave g.D.Disk.moment g.D.Disk.left_at g.D.Disk.place g.D.Disk.fault_count) c.args.disks.items) journals)))
@@ -126,7 +127,8 @@ pub returns-in-Err-open_all-clause-headline : goal.returns-in-Err-open_all-claus
 returns-in-Err-open_all-clause-headline g c = λ first told begun.
     let journals = starts_are_stored _ _ (map g.D.Disk.content c.args.disks.items) first begun in
     rw (c.not_served-in-Err-open_all.ensures.disks, c.not_served-in-Err-open_all.ensures.links)
-    (none_served _ _ first g.D.Disk.tells _ (map g.D.Disk.content c.in-Err-open_all.field-0.disks.items) g.D.Disk.moment g.D.Disk.left_at c.args.disks.items
+    (none_served _ _ first g.D.Disk.tells _ (map g.D.Disk.content c.in-Err-open_all.field-0.disks.items)
+    (map g.D.Disk.place c.in-Err-open_all.field-0.disks.items) g.D.Disk.moment g.D.Disk.left_at c.args.disks.items
     c.in-Err-open_all.field-0.disks.items (first_may_play c.args.server.shards _ (map g.D.Disk.content c.args.disks.items) first c.requires.some_shards begun).begins
     (λ told. unopened_journals (disk_facts g.D.Disk.tells g.D.Disk.content g.D.Disk.may_leave g.D.Disk.moment g.D.Disk.left_at g.D.Disk.place g.D.Disk.fault_count) c.in-Err-open_all.field-0.status c.args.disks.items c.in-Err-open_all.field-0.disks.items c.in-Err-open_all.ensures.unopened first.nodes told journals)
     (λ told. first_leaves g.D.Disk.moment g.D.Disk.left_at first c.args.disks.items c.in-Err-open_all.field-0.disks.items

@@ -1,5 +1,5 @@
 use denote.Param.Send.{sendable}
-use Rattle.std.proofs.Common.{◌∙◌, ◌≡◌, ◌-◌, [], List, refl, sym, map, arith, inl, inr}
+use Rattle.std.proofs.Common.{◌∙◌, ◌-◌, refl, sym, map, arith, inl}
 use Rattle.outside.proofs.Relations.{none_fell_self}
 use Rattle.any_node.specs.Kinds.{state_of, steps_of}
 use Rattle.journal_starts.specs.Records.{SomeRefused, by_record}
@@ -85,7 +85,7 @@ returns-in-Err-clause-headline g c = λ disks first told opened begun.
     let journals = starts_are_stored _ _ (map g.D.Disk.content disks) first begun in
     let left = disks_of c.args.opened.journals.items in
     rw (c.not_served.ensures.disks, c.not_served.ensures.links, c.close_all.ensures.disks)
-    (none_served _ _ first g.D.Disk.tells _ (map g.D.Disk.content left) g.D.Disk.moment g.D.Disk.left_at disks left
+    (none_served _ _ first g.D.Disk.tells _ (map g.D.Disk.content left) (map g.D.Disk.place left) g.D.Disk.moment g.D.Disk.left_at disks left
     (first_may_play c.args.server.shards _ (map g.D.Disk.content disks) first c.requires.some_shards begun).begins
     (λ told. still_journals facts disks left first.nodes told (opened_as_were facts disks c.args.opened.journals.items c.args.opened.found.items opened) journals)
     (λ told. first_leaves g.D.Disk.moment g.D.Disk.left_at first disks left

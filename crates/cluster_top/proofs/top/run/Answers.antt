@@ -1,6 +1,6 @@
-use Rattle.std.proofs.Common.{◌≡◌, ◌∙◌, ◌≤◌, ◌+◌, ℕ, map, refl, sym, ap, subst, append-nil, arith, inl, inr}
+use Rattle.std.proofs.Common.{◌≡◌, ◌∙◌, ℕ, map, refl, sym, ap, subst, append-nil, arith, inl}
 use Rattle.std.specs.Prelude.{vec_len}
-use Rattle.outside.specs.Devices.{SinkIsUntouched, SourceIsUntouched, sink_call, source_call}
+use Rattle.outside.specs.Devices.{sink_call, source_call}
 use Rattle.outside.proofs.Relations.{none_fell_self}
 use Rattle.pipe_driver.proofs.Counts.{still}
 use Rattle.journal_starts.specs.Records.{AreRefused}
@@ -142,7 +142,7 @@ pub returns-in-Some-server-clause-served : goal.returns-in-Some-server-clause-se
 returns-in-Some-server-clause-served g c =
     rw (sym c.read_command.ensures.command, c.in-Some.is) (λ any first told begun.
     rw (c.after_server.ensures.disks, c.after_server.ensures.links)
-    (headline_as _ _ _ _ _ _ _ _ _ _ (λ is. has_number statuses.DiskFailed c.serve_nodes.result.status c.after_server.result.status c.after_server.ensures.status is)
+    (headline_as _ _ _ _ _ _ _ _ _ _ _ _ (λ is. has_number statuses.DiskFailed c.serve_nodes.result.status c.after_server.result.status c.after_server.ensures.status is)
     (c.serve_nodes.ensures.headline first told (rw (others_are c.in-Some.command c.in-Some-server.server (sym c.server.ensures ∙ c.in-Some-server.is), routers_are c.in-Some.command c.in-Some-server.server (sym c.server.ensures ∙ c.in-Some-server.is)) at begun))))
 
 pub returns-in-Some-server-clause-sessions : goal.returns-in-Some-server-clause-sessions
