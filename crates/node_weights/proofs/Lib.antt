@@ -1,0 +1,11 @@
+pub mod Sums
+pub mod Changes
+pub mod Falls
+pub mod ShardFalls
+pub mod CatalogueFalls
+pub mod Writes
+pub mod Requests
+pub mod RouterFalls
+pub mod Worlds
+pub mod Endings
+pub mod InOrder
