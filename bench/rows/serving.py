@@ -23,10 +23,10 @@ class Links:
         self.cluster, self.replies = Cluster(shards), [0] * links
         self.cluster.rise(CLOCK)
 
-    def ask(self, link, bytes_):
-        """The request, and the fields and bytes of its reply, or nothing."""
+    def ask(self, link, bytes_, number):
+        """The request, and the fields and bytes of its reply, or nothing. `number`: how many requests its router took up to it."""
         request = Request(bytes_)
-        self.cluster.requests += 1
+        self.cluster.requests = number
         try:
             fields = self.cluster.take(request.command(), request.is_silent)
         except Refused as refused:
@@ -68,11 +68,13 @@ def said_line(said):
     return lines + [f"{'ask' if wants_reply else 'send'} {said.link} {pieces(said.bytes())}"]
 
 
-def outcome_lines(name, served, order, keeps, open_times, says=None):
-    """What is got where the requests are taken in this order. `open_times`: the time of each reply may be any."""
+def outcome_lines(name, served, order, keeps, open_times, says=None, taken=None):
+    """What is got where the requests are stored in this order, and their router took them in the order `taken`, or in the same. `open_times`: the time of each
+    reply may be any."""
     got = []
+    numbers = {said: number for number, said in enumerate((said for said in taken or order if said.is_request()), 1)}
     for said in (said for said in order if said.is_request()):
-        _, fields, reply = served.ask(said.link, said.bytes())
+        _, fields, reply = served.ask(said.link, said.bytes(), numbers[said])
         check(name, said.ask.source, said.ask.says if says is None else says.get(said), fields)
         if fields is not None:
             got.append((said.link, fields, reply))
@@ -91,26 +93,30 @@ def opened(reply):
 
 
 def row(name, turns, keeps=(0, 1, 2), more=(), orders=None, open_times=False, routers=1, status=0, shards=1):
-    """The lines of a row: turns of what links send at once. `orders`: in which orders the requests may be taken, where the outcome depends on it, each with the
-    replies; `more`: further lines of each outcome."""
+    """The lines of a row: turns of what links send at once. `orders`: in which orders the requests may be stored, where the outcome depends on it, each with the
+    replies and with the order in which their router took them; `more`: further lines of each outcome."""
     turns = numbered(turns)
     everything = [said for turn in turns for said in turn]
     links = 1 + max(said.link for said in everything)
     lines = [f"# {name}"] + ([f"shards {shards}"] if shards > 1 else []) + ([f"routers {routers}"] if routers > 1 else [])
     for at, turn in enumerate(turns):
         lines += (["turn"] if at else []) + [line for said in turn for line in said_line(said)]
-    for at, (order, says) in enumerate(orders or [(range(len(everything)), None)]):
+    only = range(len(everything))
+    for at, (order, says, taken) in enumerate(orders or [(only, None, only)]):
         wanted = None if says is None else {everything[it]: said for it, said in zip(order, says)}
+        stored, took = ([everything[it] for it in them] for them in (order, taken))
         lines += ["or"] if at else []
-        lines += outcome_lines(name, Links(links, shards), [everything[it] for it in order], keeps, open_times, wanted) + list(more)
+        lines += outcome_lines(name, Links(links, shards), stored, keeps, open_times, wanted, took) + list(more)
     return lines + [f"ends {status}"]
 
 
 def at_once():
     one = '{insert: "c", documents: [{_id: 1}], $db: "d"}'
-    orders = [((0, 1), (done(1, 2), "{ok: 1}")), ((1, 0), ("{ok: 1}", done(1, 2)))]
+    orders = [((0, 1), (done(1, 2), "{ok: 1}"), (0, 1)), ((1, 0), ("{ok: 1}", done(1, 2)), (1, 0))]
     lines = row("an insert and a ping on two links: the router takes one of them first", [[Said(0, one), Said(1, PING)]], orders=orders)
-    orders = [((0, 1), (done(1, 2), done(0, 3, errors((0, 11000))))), ((1, 0), (done(1, 2), done(0, 3, errors((0, 11000)))))]
+    # what two threads send to the shard may come there in the other order than that in which the router took the requests
+    says = (done(1, 2), done(0, 3, errors((0, 11000))))
+    orders = [(stored, says, taken) for taken in ((0, 1), (1, 0)) for stored in ((0, 1), (1, 0))]
     lines += row("one key on two links: one is inserted, one refused, and both are entries", [[Said(0, one), Said(1, one)]], orders=orders)
     again = insert("{_id: 1}", "1L", done(1, 2), identifier=7)
     lines += row("one numbered insert on two links: one entry, and one reply for both", [[Said(0, again), Said(1, again)]])
@@ -165,8 +171,8 @@ def with_shards():
 
 def outcome_journal(order):
     served = Links(8)
-    for said in order:
-        served.ask(said.link, said.bytes())
+    for number, said in enumerate(order, 1):
+        served.ask(said.link, said.bytes(), number)
     return served.cluster.journals[1]
 
 
