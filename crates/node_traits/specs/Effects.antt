@@ -11,8 +11,8 @@ use Rattle.node_model.specs.States.{NodeState}
 use Rattle.node_model.specs.Steps.{Step}
 use Rattle.node_traits.specs.Calls.{LogCall, Appended, LeftOff}
 use Rattle.node_traits.specs.declared.outputs.ToLink.{ToLink}
-use Rattle.node_traits.specs.declared.outputs.StepFault.{StepFault}
-use Rattle.node_traits.specs.declared.outputs.StepFault.TheVariants.{Disk, Steps, Memory}
+use Rattle.node_traits.specs.declared.outputs.NotTaken.{NotTaken}
+use Rattle.node_traits.specs.declared.outputs.NotTaken.TheVariants.{Disk, Steps, Memory}
 
 -- the bytes of a reply
 abbrev pub put_by : Reply → List ℕ
@@ -58,19 +58,19 @@ pub record StepBroken (old : NodeState) (input : Input) (call : LogCall) : Type 
   pub left : LeftOff call (spellings effect.written)
 
 -- one thing holds where a disk failed, with its count of faults, and another with each other fault
-abbrev pub ByStepFault : StepFault → (ℕ → Type 0) → Type 0 → Type 0
-ByStepFault (Disk faults) failed unchanged = failed faults
-ByStepFault Steps failed unchanged = unchanged
-ByStepFault Memory failed unchanged = unchanged
+abbrev pub ByNotTaken : NotTaken → (ℕ → Type 0) → Type 0 → Type 0
+ByNotTaken (Disk faults) failed unchanged = failed faults
+ByNotTaken Steps failed unchanged = unchanged
+ByNotTaken Memory failed unchanged = unchanged
 
 -- the fault is that of the last step
-abbrev pub is_at_last : StepFault → Bool
+abbrev pub is_at_last : NotTaken → Bool
 is_at_last (Disk faults) = false
 is_at_last Steps = true
 is_at_last Memory = false
 
 -- the count of steps after a fault
-abbrev pub steps_after : StepFault → ℕ → ℕ
+abbrev pub steps_after : NotTaken → ℕ → ℕ
 steps_after Steps n = n
 steps_after fault n = n + 1
 

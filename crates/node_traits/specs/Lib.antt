@@ -2,6 +2,7 @@ pub mod Lists
 pub mod Kinds
 pub mod Calls
 pub mod Effects
+pub mod Faults
 pub mod Ids
 pub use Rattle.node_model.specs.Exchanges
 pub use Rattle.node_model.specs.CatalogueRows

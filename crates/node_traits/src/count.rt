@@ -3,9 +3,9 @@
 ghost use Rattle.std.specs.Prelude.{◌≡◌, ◌+◌, ◌<◌, ◌^◌, false, true, IfErr, OnErr, OnOk};
 ghost use Rattle.node_model.specs.Lacks.{last_time};
 ghost use Rattle.node_traits.specs.Effects.{is_at_end};
-ghost use Rattle.node_traits.specs.declared.outputs.StepFault.TheVariants.{Steps};
+ghost use Rattle.node_traits.specs.declared.outputs.NotTaken.TheVariants.{Steps};
 
-use crate::outputs::StepFault;
+use crate::outputs::NotTaken;
 use cluster_base::Time;
 use std::marker::Model;
 
@@ -39,6 +39,13 @@ impl StepCount {
         StepCount { steps: 0 }
     }
 
+    /// Returns the count.
+    pub fn get(&self) -> u64
+        ensures { result ≡ self.now }
+    {
+        self.steps
+    }
+
     /// Goes on with the count of a node that stopped.
     pub fn keep(&mut self, before: &StepCount)
         ensures { self.new ≡ before.now }
@@ -49,8 +56,8 @@ impl StepCount {
     /// Counts one more step, of a node at its own time, on an input with the other.
     ///
     /// # Errors
-    /// `StepFault::Steps` exactly at the last step: where the count, or one of the times, is at its end. Then nothing is counted.
-    pub fn count(&mut self, own: Time, brought: Time) -> Result<(), StepFault>
+    /// `NotTaken::Steps` exactly at the last step: where the count, or one of the times, is at its end. Then nothing is counted.
+    pub fn count(&mut self, own: Time, brought: Time) -> Result<(), NotTaken>
         ensures counted { OnOk result (self.new ≡ self.old + 1) }
         ensures goes { OnOk result (is_at_end self.old own.0 brought.0 ≡ false) }
         ensures early { OnOk result ((own.0 < last_time) × (brought.0 < last_time)) }
@@ -59,7 +66,7 @@ impl StepCount {
         ensures below { self.new < 2 ^ 56 }
     {
         if self.steps >= LAST_COUNT || own.0 >= LAST_TIME || brought.0 >= LAST_TIME {
-            return Err(StepFault::Steps);
+            return Err(NotTaken::Steps);
         }
         self.steps += 1;
         Ok(())

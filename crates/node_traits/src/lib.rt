@@ -13,4 +13,4 @@ pub use count::StepCount;
 pub use list::SpareList;
 pub use mail::Mail;
 pub use node::Node;
-pub use outputs::{MailList, Outputs, ReplyList, StepFault, ToLink};
+pub use outputs::{MailList, NotTaken, Outputs, ReplyList, StepFault, ToLink};

@@ -8,7 +8,8 @@ ghost use Rattle.node_model.specs.Requests.{Request};
 ghost use Rattle.node_model.specs.States.{NodeState};
 ghost use Rattle.node_model.specs.Steps.{number_of};
 ghost use Rattle.node_traits.specs.Calls.{log_call};
-ghost use Rattle.node_traits.specs.Effects.{ByStepFault, StepBroken, StepDone, is_at_last, steps_after};
+ghost use Rattle.node_traits.specs.Effects.{ByNotTaken, StepBroken, StepDone, is_at_last, steps_after};
+ghost use Rattle.node_traits.specs.Faults.{ByStepFault, StepMissed, cause_of};
 
 use crate::mail::Mail;
 use crate::outputs::{Outputs, StepFault};
@@ -73,31 +74,35 @@ pub trait Node: Drop {
     ///   reopened.
     /// - `StepFault::Steps` exactly at the last step: node and log are unchanged.
     /// - `StepFault::Memory` if memory runs out: node and log are unchanged, but the step is counted.
+    ///
+    /// With the last two, who sent a request learns that it was not served.
     fn step<L: Log>(
         &mut self,
         log: &mut L,
         input: Self::Input,
-    ) -> Result<Outputs<Self::Mail>, StepFault>
+    ) -> Result<Outputs<Self::Mail>, StepFault<Self::Mail>>
         requires open { IsTrue (L.facts.is_open log.old) }
         ensures done { IfOk result (λ outputs. StepDone (state self.old) (meaning input)
             (map (λ message. Self.Mail.letter message) outputs.mail) outputs.replies
             (log_call L.facts log.old log.new) (state self.new)) }
-        ensures failed { IfErr result (λ e. ByStepFault e
+        ensures failed { IfErr result (λ e. ByNotTaken (cause_of e)
             (λ faults. StepBroken (state self.old) (meaning input)
             (log_call L.facts log.old log.new))
             ((state self.new ≡ state self.old) × (log.new ≡ log.old))) }
+        ensures missed { IfErr result (λ e. ByStepFault (steps self.old) e (λ faults. Unit {0})
+            (λ lack told. StepMissed (state self.old) (meaning input) lack (map (λ message. Self.Mail.letter message) told.mail) told.replies)) }
         ensures goes { OnOk result (is_last (steps self.old) (state self.old) (meaning input) ≡ false) }
-        ensures last { IfErr result (λ e. is_last (steps self.old) (state self.old) (meaning input) ≡ is_at_last e) }
+        ensures last { IfErr result (λ e. is_last (steps self.old) (state self.old) (meaning input) ≡ is_at_last (cause_of e)) }
         ensures open { OnOk result (IsTrue (L.facts.is_open log.new)) }
         ensures kept { L.facts.holds log.old (L.facts.records log.old) → OnOk result (L.facts.holds log.new (L.facts.records log.new)) }
 
         // Each step is counted, except the last, which is refused.
         ensures counted { OnOk result (steps self.new ≡ steps self.old + 1) }
-        ensures counted_err { IfErr result (λ e. steps self.new ≡ steps_after e (steps self.old)) }
+        ensures counted_err { IfErr result (λ e. steps self.new ≡ steps_after (cause_of e) (steps self.old)) }
         ensures below { steps self.new < 2 ^ 56 }
 
         // The log's disk.
-        ensures cause { IfErr result (λ e. ByStepFault e
+        ensures cause { IfErr result (λ e. ByNotTaken (cause_of e)
             (λ faults. (faults ≡ L.facts.fault_count log.new) × Rose (L.facts.fault_count log.old) (L.facts.fault_count log.new))
             (Unit {0})) }
         ensures calm { OnOk result (L.facts.fault_count log.new ≡ L.facts.fault_count log.old) }

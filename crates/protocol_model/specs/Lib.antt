@@ -4,6 +4,7 @@ pub mod Tables
 pub mod Refusals
 pub mod Bodies
 pub mod Messages
+pub mod Missed
 pub mod Requests
 pub mod Heads
 pub mod Inputs
