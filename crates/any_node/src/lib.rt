@@ -97,7 +97,11 @@ impl Node for AnyNode {
         }
     }
 
-    fn step<L: Log>(&mut self, log: &mut L, input: Input) -> Result<Outputs<Message>, StepFault> {
+    fn step<L: Log>(
+        &mut self,
+        log: &mut L,
+        input: Input,
+    ) -> Result<Outputs<Message>, StepFault<Message>> {
         match self {
             AnyNode::Catalogue(node) => node.step(log, input),
             AnyNode::Shard(node) => node.step(log, input),

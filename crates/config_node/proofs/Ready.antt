@@ -1,5 +1,5 @@
 -- A plan may be taken.
-use Rattle.std.proofs.Common.{◌≡◌, ◌≤◌, ◌<◌, ℕ, List, [], ◌∷◌, sym, subst, ◌∙◌, arith}
+use Rattle.std.proofs.Common.{◌≡◌, ◌≤◌, ◌<◌, ℕ, List, [], ◌∷◌, sym, subst, arith}
 use Rattle.std.specs.Prelude.{Some, None, Result, Ok, Err, IfOk, IfSome}
 use Rattle.std.specs.List.{AllByRecursion}
 use Rattle.chunk_catalogue.specs.Catalogues.{IsNext}
@@ -37,16 +37,16 @@ ready_with n p x later one next past = record {
   past = subst (λ o. IfSome o (λ c. time_of (change_view c.fields) ≤ p.time.0)) (sym one) past;
 }
 
--- where a message is sent at a time
-pub ready_told : (n : ConfigNode) (p : StepPlan) (given time : Time) → given ≡ time → n.time.0 ≤ time.0 → p.time ≡ given → p.change ≡ None → IsReady n p
-ready_told n p given time now later late none = ready_quiet n p (subst (λ t. n.time.0 ≤ t.0) (sym (late ∙ now)) later) none
+-- where a request is answered at a time
+pub ready_told : (n : ConfigNode) (p : StepPlan) (time : Time) → n.time.0 ≤ time.0 → p.time ≡ time → p.change ≡ None → IsReady n p
+ready_told n p time later late none = ready_quiet n p (subst (λ t. n.time.0 ≤ t.0) (sym late) later) none
 
 -- where a change is made at a time
-pub ready_made : {E : Type 0} (n : ConfigNode) (x : Change) (given time : Time) (r : Result StepPlan E) → given ≡ time → n.time.0 ≤ time.0
-    → IsNext n.catalogue x → time_of (change_view x.fields) ≡ time.0 → IfOk r (λ p. p.time ≡ given) → IfOk r (λ p. p.change ≡ Some x)
+pub ready_made : {E : Type 0} (n : ConfigNode) (x : Change) (time : Time) (r : Result StepPlan E) → n.time.0 ≤ time.0
+    → IsNext n.catalogue x → time_of (change_view x.fields) ≡ time.0 → IfOk r (λ p. p.time ≡ time) → IfOk r (λ p. p.change ≡ Some x)
     → IfOk r (λ p. IsReady n p)
-ready_made n x given time (Err e) now later next at late one = tt
-ready_made n x given time (Ok p) now later next at late one =
-    let le : n.time.0 ≤ p.time.0 = subst (λ t. n.time.0 ≤ t.0) (sym (late ∙ now)) later in
-    let same : time_of (change_view x.fields) ≡ p.time.0 = subst (λ t. time_of (change_view x.fields) ≡ t.0) (sym (late ∙ now)) at in
+ready_made n x time (Err e) later next at late one = tt
+ready_made n x time (Ok p) later next at late one =
+    let le : n.time.0 ≤ p.time.0 = subst (λ t. n.time.0 ≤ t.0) (sym late) later in
+    let same : time_of (change_view x.fields) ≡ p.time.0 = subst (λ t. time_of (change_view x.fields) ≡ t.0) (sym late) at in
     ready_with n p x le one next (omega (arith, same))

@@ -138,33 +138,32 @@ split_writable namespace middle at changes x e writable = subst IsWritableChange
 abbrev pub says : Catalogue → (sender time : ℕ) → Body → Letter
 says c sender time body = record { sender = c.me; receiver = sender; time = time; body = body }
 
-module _ (c : Catalogue) (m l : Letter) (sender time : ℕ) (from : sender ≡ m.sender) where
-  module _ (namespace : List ℕ) (create : Bool) (at : At) (table : Option Table) (is : m.body ≡ table_ask namespace create at)
-      (said : l ≡ says c sender time (table_told namespace create at table)) where
+module _ (c : Catalogue) (m : Letter) (time : ℕ) where
+  module _ (namespace : List ℕ) (create : Bool) (at : At) (table : Option Table) (is : m.body ≡ table_ask namespace create at) where
     pub creates : (x : Change) → create ≡ true → time ≡ heard c m + 1 → create_answer namespace time c.changes ≡ changed x
         → table ≡ known_table namespace (x ∷ c.changes)
-        → CatalogueRow c (letter_input m) (writes (kept_change x ∷ []) (l ∷ [])) (with_change c time x)
+        → CatalogueRow c (letter_input m) (writes (kept_change x ∷ []) (says c m.sender time (table_told namespace create at table) ∷ []))
+        (with_change c time x)
     creates x create_true late answer known =
         let answered = subst (λ t. create_answer namespace t c.changes ≡ changed x) late answer in
         let asked = is ∙ ap (λ b. table_ask namespace b at) create_true in
-        rw (said, late, from, create_true, known) (catalogue_create c m namespace at x asked answered)
+        rw (late, create_true, known) (catalogue_create c m namespace at x asked answered)
 
     pub tells : (create ≡ false) ⊎ IsSome (known_table namespace c.changes) → time ≡ heard c m → table ≡ known_table namespace c.changes
-        → CatalogueRow c (letter_input m) (writes (none_at at table) (l ∷ [])) (at_later c time)
-    tells may late known = rw (said, late, from, known) (catalogue_tell c m namespace create at is may)
+        → CatalogueRow c (letter_input m) (writes (none_at at table) (says c m.sender time (table_told namespace create at table) ∷ [])) (at_later c time)
+    tells may late known = rw (late, known) (catalogue_tell c m namespace create at is may)
 
-  module _ (id : RequestId) (namespace : List ℕ) (middle : Datum) (found : Bool) (is : m.body ≡ split_ask id namespace middle)
-      (said : l ≡ says c sender time (split_done id found)) where
+  module _ (id : RequestId) (namespace : List ℕ) (middle : Datum) (found : Bool) (is : m.body ≡ split_ask id namespace middle) where
     pub splits : (x : Change) → found ≡ true → time ≡ heard c m + 1 → split_answer namespace middle time c.changes ≡ changed x
-        → CatalogueRow c (letter_input m) (writes (kept_change x ∷ []) (l ∷ [])) (with_change c time x)
+        → CatalogueRow c (letter_input m) (writes (kept_change x ∷ []) (says c m.sender time (split_done id found) ∷ [])) (with_change c time x)
     splits x found_true late answer =
         let answered = subst (λ t. split_answer namespace middle t c.changes ≡ changed x) late answer in
-        rw (said, late, from, found_true) (catalogue_split c m id namespace middle x is answered)
+        rw (late, found_true) (catalogue_split c m id namespace middle x is answered)
 
     pub has_bound : found ≡ true → time ≡ heard c m → split_answer namespace middle (heard c m + 1) c.changes ≡ unchanged
-        → CatalogueRow c (letter_input m) (sends (l ∷ [])) (at_later c time)
-    has_bound found_true late answer = rw (said, late, from, found_true) (catalogue_bound c m id namespace middle is answer)
+        → CatalogueRow c (letter_input m) (sends (says c m.sender time (split_done id found) ∷ [])) (at_later c time)
+    has_bound found_true late answer = rw (late, found_true) (catalogue_bound c m id namespace middle is answer)
 
     pub has_none : found ≡ false → time ≡ heard c m → split_answer namespace middle (heard c m + 1) c.changes ≡ no_collection
-        → CatalogueRow c (letter_input m) (sends (l ∷ [])) (at_later c time)
-    has_none found_false late answer = rw (said, late, from, found_false) (catalogue_none c m id namespace middle is answer)
+        → CatalogueRow c (letter_input m) (sends (says c m.sender time (split_done id found) ∷ [])) (at_later c time)
+    has_none found_false late answer = rw (late, found_false) (catalogue_none c m id namespace middle is answer)

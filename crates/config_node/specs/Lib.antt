@@ -2,3 +2,4 @@ pub mod Asks
 pub mod Plans
 pub mod State
 pub mod StepPlans
+pub mod Told

@@ -1,6 +1,7 @@
 //! The catalogue: the node that knows which shard has which keys of each collection.
 #![tactic(auto)]
 
+mod asks;
 mod keys;
 mod node;
 mod plan;

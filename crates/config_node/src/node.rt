@@ -1,6 +1,6 @@
 //! The node, and its steps.
 
-ghost use Rattle.std.specs.Prelude.{◌≡◌, ◌⊎◌, ◌<◌, ◌≤◌, ◌∷◌, [], IfOk, IfSome, IsSome, None, Some, false, max, true};
+ghost use Rattle.std.specs.Prelude.{◌≡◌, ◌⊎◌, ◌<◌, ◌≤◌, ◌∷◌, [], IfOk, IfSome, IsSome, None, Some, false, map, max, true};
 ghost use Rattle.std.specs.Arc.{arc_value};
 ghost use Rattle.std.specs.Option.{option_map};
 ghost use Rattle.chunk_catalogue.specs.Catalogues.{IsNext, changes_of};
@@ -9,58 +9,35 @@ ghost use Rattle.chunk_model.specs.Changes.{known_table, time_of};
 ghost use Rattle.chunk_model.specs.Requests.{changed, create_answer};
 ghost use Rattle.node_model.specs.Lacks.{last_time, time_in};
 ghost use Rattle.node_model.specs.States.{catalogue_state, new_catalogue};
-ghost use Rattle.node_model.specs.CatalogueRows.{AsksNothing};
 ghost use Rattle.node_model.specs.Letters.{Letter, letter_input};
-ghost use Rattle.protocol_model.specs.Bodies.{body_view, split_ask_view, table_ask_view};
+ghost use Rattle.node_traits.specs.Faults.{cause_of};
+ghost use Rattle.protocol_model.specs.Bodies.{split_ask_view, table_ask_view};
 ghost use Rattle.protocol_model.specs.Inputs.{input_of};
 ghost use Rattle.protocol_model.specs.Requests.{request_of};
 ghost use Rattle.protocol_model.specs.Messages.{letter_of};
+ghost use Rattle.protocol_model.specs.Missed.{TellsMissed};
 ghost use Rattle.config_node.specs.Plans.{IsWritableChange, at_then};
-ghost use Rattle.config_node.specs.Asks.{ask_view};
 ghost use Rattle.config_node.specs.StepPlans.{IsPlanned, IsReady};
 ghost use Rattle.config_node.specs.State.{state_of};
+ghost use Rattle.config_node.specs.Told.{answers};
+ghost use Rattle.config_node.specs.declared.plan.Answer.TheVariants.{Split};
 
+use crate::asks::{Ask, answers, ask_in, requested};
 use crate::keys::is_writable;
-use crate::plan::{StepPlan, none_records, split_answer, table_answer, without};
+use crate::plan::{Answer, StepPlan, none_records, without};
 use crate::state::ConfigNode;
 use bson_values::Memory;
 use chunk_catalogue::{CatFault, Catalogue, Change};
 use chunk_table::Table;
 use cluster_base::{Namespace, NodeId, Time, moment_time};
-use node_traits::{Node, Outputs, ReplyList, StepCount, StepFault, append_records};
+use node_traits::{Node, NotTaken, Outputs, ReplyList, StepCount, StepFault, append_records};
 use opmsg_frames::Request;
 use outside::log::Log;
-use protocol_model::{Body, Input, Message, SplitAsk, TableAsk};
+use protocol_model::{Input, Message, SplitAsk, TableAsk, missed};
 use std::alloc::Global;
 use std::marker::Sync;
 use std::sync::Arc;
 use std::thread::Threads;
-
-/// What is requested of the catalogue.
-#[derive(Drop)]
-enum Ask {
-    Table(TableAsk),
-    Split(SplitAsk),
-}
-
-// Returns what a message requests of the catalogue, if it requests something.
-fn ask_in(body: Body) -> Option<Ask>
-    ensures some { IfSome result (λ ask. body_view body ≡ ask_view ask) }
-    ensures none { (result ≡ None) → AsksNothing (body_view body) }
-{
-    match body {
-        Body::TableAsk(ask) => Some(Ask::Table(ask)),
-        Body::SplitAsk(ask) => Some(Ask::Split(ask)),
-        Body::TableTold(told) => without(told, None),
-        Body::WriteAsk(ask) => without(ask, None),
-        Body::WriteDone(done) => without(done, None),
-        Body::ReadAsk(ask) => without(ask, None),
-        Body::HalfAsk(ask) => without(ask, None),
-        Body::ReadRows(rows) => without(rows, None),
-        Body::Refused(answer) => without(answer, None),
-        Body::SplitDone(_) | Body::TimeAsk(_) | Body::TimeTold(_) => None,
-    }
-}
 
 impl ConfigNode {
     ghost use Rattle.config_node.specs.State.{state_of};
@@ -95,10 +72,10 @@ impl ConfigNode {
     }
 
     // Returns the plan for an input. Reserves room for a new table; nothing else changes.
-    fn plan(&mut self, input: Input) -> Result<StepPlan, Memory>
+    fn plan(&mut self, input: &Input) -> Result<StepPlan, Memory>
         requires early { self.old.time.0 < last_time }
-        requires brought { time_in (input_of input) < last_time }
-        ensures planned { IfOk result (λ p. IsPlanned self.old (input_of input) p) }
+        requires brought { time_in (input_of input.now) < last_time }
+        ensures planned { IfOk result (λ p. IsPlanned self.old (input_of input.now) p) }
         ensures ready { IfOk result (λ p. IsReady self.new p) }
         ensures same { state_of self.new ≡ state_of self.old }
         ensures steps { self.new.steps ≡ self.old.steps }
@@ -107,7 +84,7 @@ impl ConfigNode {
             Input::Deliver(message) => self.plan_message(message),
             Input::Moment(moment) => Ok(StepPlan::of_time(
                 self.alloc,
-                self.time.max(moment_time(moment)),
+                self.time.max(moment_time(*moment)),
             )),
             Input::Client { .. } => Ok(StepPlan::of_time(self.alloc, self.time)),
             Input::Opened => Ok(StepPlan::of_time(self.alloc, self.time)),
@@ -115,58 +92,48 @@ impl ConfigNode {
     }
 
     // Returns the plan for a message.
-    fn plan_message(&mut self, message: Message) -> Result<StepPlan, Memory>
+    fn plan_message(&mut self, message: &Message) -> Result<StepPlan, Memory>
         requires early { self.old.time.0 < last_time }
-        requires brought { message.time.0 < last_time }
-        ensures planned { IfOk result (λ p. IsPlanned self.old (letter_input (letter_of message)) p) }
+        requires brought { message.now.time.0 < last_time }
+        ensures planned { IfOk result (λ p. IsPlanned self.old (letter_input (letter_of message.now)) p) }
         ensures ready { IfOk result (λ p. IsReady self.new p) }
         ensures same { state_of self.new ≡ state_of self.old }
         ensures steps { self.new.steps ≡ self.old.steps }
     {
-        let Message {
-            sender,
-            receiver,
-            time,
-            body,
-        } = message;
-        let asked = ask_in(body);
-        if receiver != self.me {
+        if message.receiver != self.me {
             return Ok(StepPlan::of_time(self.alloc, self.time));
         }
-        let heard = self.time.max(time);
-        match asked {
-            Some(Ask::Table(ask)) => self.plan_table(heard, sender, ask),
-            Some(Ask::Split(ask)) => self.plan_split(heard, sender, &ask),
+        let heard = self.time.max(message.time);
+        match ask_in(&message.body) {
+            Some(Ask::Table(ask)) => self.plan_table(heard, ask),
+            Some(Ask::Split(ask)) => self.plan_split(heard, ask),
             None => Ok(StepPlan::of_time(self.alloc, self.time)),
         }
     }
 
     // Returns the plan for a request of a table, at the time that the message carries: the collection is created where that is requested and there is none of
     // its name; else the present table, or none, is returned, and that there is none at a time is stored.
-    fn plan_table(&mut self, heard: Time, sender: NodeId, ask: TableAsk) -> Result<StepPlan, Memory>
+    fn plan_table(&mut self, heard: Time, ask: &TableAsk) -> Result<StepPlan, Memory>
         requires early { heard.0 < last_time }
         requires late { self.old.time.0 ≤ heard.0 }
-        ensures planned { (m : Letter) → heard.0 ≡ max self.old.time.0 m.time → sender.0 ≡ m.sender → m.body ≡ table_ask_view ask → m.receiver ≡ self.old.me.0 →
+        ensures planned { (m : Letter) → heard.0 ≡ max self.old.time.0 m.time → m.body ≡ table_ask_view ask.now → m.receiver ≡ self.old.me.0 →
             IfOk result (λ p. IsPlanned self.old (letter_input m) p) }
         ensures ready { IfOk result (λ p. IsReady self.new p) }
         ensures same { state_of self.new ≡ state_of self.old }
         ensures steps { self.new.steps ≡ self.old.steps }
     {
-        let me = self.me;
         let next = Time(heard.0 + 1);
-        match self.creation(&ask, next)? {
+        match self.creation(ask, next)? {
             Some(change) => match Arc::try_clone(&change.table) {
                 Ok(table) => {
-                    let answer = table_answer(me, next, sender, ask, Some(table));
-                    StepPlan::make(self.alloc, change, answer)
+                    StepPlan::make(self.alloc, change, next, Answer::Table(Some(table)))
                 }
                 Err(_) => Err(without(change, Memory)),
             },
             None => {
                 let table = self.known(&ask.namespace)?;
                 let records = none_records(self.alloc, ask.at, &table)?;
-                let answer = table_answer(me, heard, sender, ask, table);
-                Ok(StepPlan::store_and_tell(self.alloc, records, answer))
+                Ok(StepPlan::tell(heard, Answer::Table(table), records))
             }
         }
     }
@@ -196,11 +163,11 @@ impl ConfigNode {
     }
 
     // Returns the plan for a request for a split, at the time that the message carries: a chunk is split, or one begins there, or there is no such collection.
-    fn plan_split(&self, heard: Time, sender: NodeId, ask: &SplitAsk) -> Result<StepPlan, Memory>
+    fn plan_split(&self, heard: Time, ask: &SplitAsk) -> Result<StepPlan, Memory>
         requires early { heard.0 < last_time }
         requires late { self.now.time.0 ≤ heard.0 }
-        ensures planned { (m : Letter) → heard.0 ≡ max self.now.time.0 m.time → sender.0 ≡ m.sender → m.body ≡ split_ask_view ask.now →
-            m.receiver ≡ self.now.me.0 → IfOk result (λ p. IsPlanned self.now (letter_input m) p) }
+        ensures planned { (m : Letter) → heard.0 ≡ max self.now.time.0 m.time → m.body ≡ split_ask_view ask.now → m.receiver ≡ self.now.me.0 →
+            IfOk result (λ p. IsPlanned self.now (letter_input m) p) }
         ensures ready { IfOk result (λ p. IsReady self.now p) }
     {
         let writable = is_writable(self.alloc, &ask.middle)?;
@@ -211,19 +178,22 @@ impl ConfigNode {
         let next = Time(heard.0 + 1);
         match self.catalogue.split(&ask.namespace, &ask.middle, next) {
             Ok(Some(change)) => {
-                let answer = split_answer(self.me, next, sender, ask.id, true);
-                StepPlan::make(self.alloc, change, answer)
+                StepPlan::make(self.alloc, change, next, Answer::Split { found: true })
             }
-            Ok(None) => {
-                let answer = split_answer(self.me, heard, sender, ask.id, true);
-                Ok(StepPlan::tell(self.alloc, answer))
-            }
-            Err(CatFault::NoCollection) => {
-                let answer = split_answer(self.me, heard, sender, ask.id, false);
-                Ok(StepPlan::tell(self.alloc, answer))
-            }
+            Ok(None) => Ok(self.split_told(heard, true)),
+            Err(CatFault::NoCollection) => Ok(self.split_told(heard, false)),
             Err(_) => Err(Memory),
         }
+    }
+
+    // Returns the plan to answer a request for a split at a time, without a change: whether there is such a collection.
+    fn split_told(&self, time: Time, found: bool) -> StepPlan
+        ensures time { result.time ≡ time }
+        ensures change { result.change ≡ None }
+        ensures answer { result.answer ≡ Split found }
+        ensures records { result.records.items ≡ [] }
+    {
+        StepPlan::tell(time, Answer::Split { found }, Vec::new(self.alloc))
     }
 
     // Returns the table of a collection, shared, if there is one, or `Memory` if memory runs out.
@@ -236,26 +206,36 @@ impl ConfigNode {
         }
     }
 
-    // Changes the catalogue as planned, and returns its messages. Takes no memory.
-    fn take(&mut self, plan: StepPlan) -> Outputs<Message>
+    // Changes the catalogue as planned, and answers the input. Takes no memory.
+    fn take(&mut self, plan: StepPlan, input: Input) -> Outputs<Message>
         requires ready { IsReady self.old plan }
         ensures state { state_of self.new ≡
             at_then self.old.me.0 plan.time.0 (option_map (λ c. change_view c.fields) plan.change) (changes_of self.old.catalogue) }
-        ensures mail { result.mail ≡ plan.mail }
+        ensures mail { map letter_of result.mail ≡ answers self.old.me.0 plan.time.0 plan.answer (input_of input) }
         ensures replies { result.replies ≡ [] }
         ensures steps { self.new.steps ≡ self.old.steps }
     {
         let StepPlan {
             time,
             change,
-            mail,
+            answer,
             records: _,
         } = plan;
+        let mail = answers(self.alloc, self.me, time, answer, input);
         self.pass(time, change);
         Outputs {
             mail,
             replies: ReplyList::new(self.alloc),
         }
+    }
+
+    // Returns what is told of a step that was not taken on an input, after so many steps, for this cause.
+    fn missed(&self, steps: u64, input: Input, cause: NotTaken) -> StepFault<Message>
+        ensures cause { cause_of result ≡ cause }
+        ensures told { TellsMissed (state_of self.now) (input_of input) steps result }
+    {
+        let asked = requested(self.me, input);
+        missed(self.alloc, self.me, self.time, steps, asked, cause)
     }
 
     // Goes on to a time, with a change, if there is one. Takes no memory.
@@ -317,16 +297,21 @@ impl Node for ConfigNode {
         self.count_from(before.counted());
     }
 
-    fn step<L: Log>(&mut self, log: &mut L, input: Input) -> Result<Outputs<Message>, StepFault> {
+    fn step<L: Log>(
+        &mut self,
+        log: &mut L,
+        input: Input,
+    ) -> Result<Outputs<Message>, StepFault<Message>> {
+        let steps = self.steps.get();
         match self.steps.count(self.time, input.time()) {
-            Ok(()) => {
-                let plan = self.plan(input)?;
-                match append_records(log, &plan.records) {
-                    Ok(()) => Ok(self.take(plan)),
-                    Err(fault) => Err(without(plan, fault)),
-                }
-            }
-            Err(fault) => Err(without(input, fault)),
+            Ok(()) => match self.plan(&input) {
+                Ok(plan) => match append_records(log, &plan.records) {
+                    Ok(()) => Ok(self.take(plan, input)),
+                    Err(cause) => Err(without(plan, self.missed(steps, input, cause))),
+                },
+                Err(_) => Err(self.missed(steps, input, NotTaken::Memory)),
+            },
+            Err(cause) => Err(self.missed(steps, input, cause)),
         }
     }
 }

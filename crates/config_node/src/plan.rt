@@ -1,17 +1,16 @@
 //! The plan of a step of the catalogue, before it is taken.
 
-ghost use Rattle.std.specs.Prelude.{◌≡◌, ◌++◌, ◌∷◌, [], IfOk, None, OnOk, Some, map};
+ghost use Rattle.std.specs.Prelude.{◌≡◌, ◌++◌, ◌∷◌, [], IfOk, None, OnOk, Some};
 ghost use Rattle.std.specs.Arc.{arc_value};
 ghost use Rattle.std.specs.Option.{option_map};
 ghost use Rattle.chunk_catalogue.specs.Views.{change_view};
 ghost use Rattle.config_node.specs.Plans.{IsWritableChange};
+ghost use Rattle.config_node.specs.declared.plan.Answer.TheVariants.{Nothing};
 ghost use Rattle.node_model.specs.CatalogueRows.{none_at};
 ghost use Rattle.node_model.specs.Journal.{change_record};
-ghost use Rattle.node_model.specs.Letters.{split_done, table_told};
 ghost use Rattle.node_traits.specs.Effects.{AreReadable, spellings};
 ghost use Rattle.node_traits.specs.Ids.{id_view};
 ghost use Rattle.protocol_model.specs.Tables.{at_view};
-ghost use Rattle.protocol_model.specs.Messages.{letter_of};
 ghost use Rattle.record_model.specs.RecordFormat.{spelled};
 ghost use Rattle.shard_records.specs.Readable.{IsReadable};
 ghost use Rattle.record_model.specs.Records.{catalogue_ceiling_record};
@@ -21,8 +20,7 @@ use bson_values::{Blob, Memory};
 use chunk_catalogue::{Change, ChangeFields};
 use chunk_table::Table;
 use cluster_base::{Namespace, NodeId, RequestId, Time};
-use node_traits::MailList;
-use protocol_model::{At, Body, Message, SplitDone, TableAsk, TableTold};
+use protocol_model::At;
 use shard_records::{
     CommitChange, SplitChange, write_catalogue_ceiling, write_commit, write_creation, write_split,
 };
@@ -30,12 +28,23 @@ use std::alloc::Global;
 use std::sync::Arc;
 use value_compare::{Key, KeyRange};
 
-/// What a step will write and send, and the catalogue after it: at which time, and with which change.
+/// How a request is answered.
+#[derive(Drop)]
+pub(crate) enum Answer {
+    /// Not at all.
+    Nothing,
+    /// The request for a table: with the table, if there is one.
+    Table(Option<Arc<Table, Global>>),
+    /// The request for a split: whether there is such a collection.
+    Split { found: bool },
+}
+
+/// What a step will write and answer, and the catalogue after it: at which time, and with which change.
 #[derive(Drop)]
 pub(crate) struct StepPlan {
     pub(crate) time: Time,
     pub(crate) change: Option<Change>,
-    pub(crate) mail: MailList<Message>,
+    pub(crate) answer: Answer,
     pub(crate) records: Vec<Blob>,
 }
 
@@ -44,64 +53,54 @@ impl StepPlan {
     pub(crate) fn of_time(alloc: Global, time: Time) -> StepPlan
         ensures time { result.time ≡ time }
         ensures change { result.change ≡ None }
-        ensures mail { result.mail ≡ [] }
+        ensures answer { result.answer ≡ Nothing }
         ensures records { result.records.items ≡ [] }
     {
         StepPlan {
             time,
             change: None,
-            mail: MailList::new(alloc),
+            answer: Answer::Nothing,
             records: Vec::new(alloc),
         }
     }
 
-    /// Returns the plan to send a message at a time, without a change. Takes no memory.
-    pub(crate) fn tell(alloc: Global, message: Message) -> StepPlan
-        ensures time { result.time ≡ message.time }
+    /// Returns the plan to store these records and answer at a time, without a change. Takes no memory.
+    pub(crate) fn tell(time: Time, answer: Answer, records: Vec<Blob>) -> StepPlan
+        ensures time { result.time ≡ time }
         ensures change { result.change ≡ None }
-        ensures mail { map letter_of result.mail ≡ letter_of message ∷ [] }
-        ensures records { result.records.items ≡ [] }
-    {
-        StepPlan {
-            time: message.time,
-            change: None,
-            mail: MailList::of_one(alloc, message),
-            records: Vec::new(alloc),
-        }
-    }
-
-    /// Returns the plan to store these records and send a message at its time, without a change. Takes no memory.
-    pub(crate) fn store_and_tell(alloc: Global, records: Vec<Blob>, message: Message) -> StepPlan
-        ensures time { result.time ≡ message.time }
-        ensures change { result.change ≡ None }
-        ensures mail { map letter_of result.mail ≡ letter_of message ∷ [] }
+        ensures answer { result.answer ≡ answer }
         ensures records { result.records.items ≡ records.items }
     {
         StepPlan {
-            time: message.time,
+            time,
             change: None,
-            mail: MailList::of_one(alloc, message),
+            answer,
             records,
         }
     }
 
-    /// Returns the plan to make a change at the time of a message, which is sent. Returns `Memory` if memory runs out.
-    pub(crate) fn make(alloc: Global, change: Change, message: Message) -> Result<StepPlan, Memory>
+    /// Returns the plan to make a change at a time, and to answer. Returns `Memory` if memory runs out.
+    pub(crate) fn make(
+        alloc: Global,
+        change: Change,
+        time: Time,
+        answer: Answer,
+    ) -> Result<StepPlan, Memory>
         requires { IsWritableChange (change_view change.fields) }
-        ensures time { IfOk result (λ p. p.time ≡ message.time) }
+        ensures time { IfOk result (λ p. p.time ≡ time) }
         ensures change { IfOk result (λ p. p.change ≡ Some change) }
-        ensures mail { IfOk result (λ p. map letter_of p.mail ≡ letter_of message ∷ []) }
+        ensures answer { IfOk result (λ p. p.answer ≡ answer) }
         ensures records { IfOk result (λ p. p.records.items ≡ spelled 1 (change_record (change_view change.fields)) ∷ []) }
         ensures readable { IfOk result (λ p. IsReadable (change_record (change_view change.fields))) }
     {
         match change_records(alloc, &change.fields) {
             Ok(records) => Ok(StepPlan {
-                time: message.time,
+                time,
                 change: Some(change),
-                mail: MailList::of_one(alloc, message),
+                answer,
                 records,
             }),
-            Err(fault) => Err(without(change, without(message, fault))),
+            Err(fault) => Err(without(change, without(answer, fault))),
         }
     }
 }
@@ -111,59 +110,6 @@ pub(crate) fn without<T: Drop, R>(_value: T, other: R) -> R
     ensures { result ≡ other }
 {
     other
-}
-
-/// Returns the answer to a request of a table, from a node at a time.
-pub(crate) fn table_answer(
-    me: NodeId,
-    time: Time,
-    sender: NodeId,
-    ask: TableAsk,
-    table: Option<Arc<Table, Global>>,
-) -> Message
-    ensures time { result.time ≡ time }
-    ensures letter { letter_of result ≡ record {
-      sender = me.0;
-      receiver = sender.0;
-      time = time.0;
-      body = table_told ask.namespace ask.create (at_view ask.at) (option_map (λ t. arc_value t) table);
-    } }
-{
-    let TableAsk {
-        namespace,
-        create,
-        at,
-    } = ask;
-    Message {
-        sender: me,
-        receiver: sender,
-        time,
-        body: Body::TableTold(TableTold {
-            namespace,
-            create,
-            at,
-            table,
-        }),
-    }
-}
-
-/// Returns the answer to a request for a split, from a node at a time: whether there is such a collection.
-pub(crate) fn split_answer(
-    me: NodeId,
-    time: Time,
-    sender: NodeId,
-    id: RequestId,
-    found: bool,
-) -> Message
-    ensures time { result.time ≡ time }
-    ensures letter { letter_of result ≡ record { sender = me.0; receiver = sender.0; time = time.0; body = split_done (id_view id) found } }
-{
-    Message {
-        sender: me,
-        receiver: sender,
-        time,
-        body: Body::SplitDone(SplitDone { id, found }),
-    }
 }
 
 // Returns the list of one record, of these bytes, or `Memory` if memory runs out.

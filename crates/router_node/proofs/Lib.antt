@@ -10,3 +10,4 @@ mod Started
 mod Shown
 mod Sent
 mod Told
+mod Lacks

@@ -3,3 +3,4 @@ pub mod UpsertedKeys
 pub mod Planned
 pub mod Writing
 pub mod Serving
+pub mod Lacks

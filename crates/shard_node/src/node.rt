@@ -5,11 +5,12 @@ ghost use Rattle.node_traits.specs.States.{new_shard, shard_state};
 ghost use Rattle.shard_store.specs.Stores.{last_of, shard_of};
 
 use cluster_base::{NodeId, Time};
-use node_traits::{Node, Outputs, StepCount, StepFault, append_records};
+use node_traits::{Node, NotTaken, Outputs, StepCount, StepFault, append_records};
 use opmsg_frames::Request;
 use outside::log::Log;
-use protocol_model::{Input, Message};
+use protocol_model::{Asked, Input, Message, missed};
 use route_cache::RouteCache;
+use shard_requests::requested;
 use shard_store::ShardStore;
 use std::alloc::Global;
 use std::marker::Sync;
@@ -35,6 +36,9 @@ pub struct ShardNode {
 }
 
 impl ShardNode {
+    ghost use Rattle.node_traits.specs.Faults.{cause_of};
+    ghost use Rattle.node_traits.specs.Letters as letters;
+    ghost use Rattle.protocol_model.specs.Missed.{IsAsked, TellsMissed};
     ghost use Rattle.shard_node.specs.State.{state_of};
 
     /// Returns the shard with this number, with no record.
@@ -52,6 +56,14 @@ impl ShardNode {
             ceiling: Time(0),
             parked: Vec::new(alloc),
         }
+    }
+
+    // Returns what is told of a step that was not taken, after so many steps, for this cause.
+    fn missed(&self, steps: u64, asked: Option<Asked>, cause: NotTaken) -> StepFault<Message>
+        ensures cause { cause_of result ≡ cause }
+        ensures told { (i : letters.Input) → IsAsked (state_of self.now) i asked → TellsMissed (state_of self.now) i steps result }
+    {
+        missed(self.alloc, self.me, self.time, steps, asked, cause)
     }
 
     /// Returns how many steps it has taken.
@@ -117,19 +129,29 @@ impl Node for ShardNode {
         self.count_from(before.counted());
     }
 
-    fn step<L: Log>(&mut self, log: &mut L, input: Input) -> Result<Outputs<Message>, StepFault> {
-        self.steps.count(self.time, input.time())?;
-        let plan = self.plan(input)?;
-        match append_records(log, &plan.records) {
-            Ok(()) => Ok(self.take(plan)),
-            Err(fault) => Err(without(plan, fault)),
+    fn step<L: Log>(
+        &mut self,
+        log: &mut L,
+        input: Input,
+    ) -> Result<Outputs<Message>, StepFault<Message>> {
+        let steps = self.steps.get();
+        let asked = requested(self.me, &input);
+        match self.steps.count(self.time, input.time()) {
+            Ok(()) => match self.plan(input) {
+                Ok(plan) => match append_records(log, &plan.records) {
+                    Ok(()) => Ok(self.take(plan)),
+                    Err(cause) => Err(without(plan, self.missed(steps, asked, cause))),
+                },
+                Err(_) => Err(self.missed(steps, asked, NotTaken::Memory)),
+            },
+            Err(cause) => Err(without(input, self.missed(steps, asked, cause))),
         }
     }
 }
 
-// Lets a plan go that was not taken, and returns why.
-fn without<T: Drop>(_plan: T, fault: StepFault) -> StepFault
-    ensures { result ≡ fault }
+// Lets a value go that is not used, and returns the other.
+fn without<T: Drop, R>(_value: T, other: R) -> R
+    ensures { result ≡ other }
 {
-    fault
+    other
 }
