@@ -5,7 +5,7 @@ ghost use Rattle.std.specs.Prelude.{◌≡◌};
 use crate::desk::Desk;
 use mail_routes::{Routes, Waiting};
 use node_cell::{Book, Cell, CellFault, Delivered, Letter, Note, Numbering, Stepped};
-use node_traits::{Node, StepFault};
+use node_traits::{Node, NotTaken};
 use outside::log::Log;
 use std::alloc::Global;
 use std::collections::VecDeque;
@@ -115,8 +115,8 @@ impl<N: Node, L: Log, K: Numbering> Shared<N, L, K> {
     /// Notes why a step was not taken. A node that takes no more steps stops the server; a step for which memory ran out is lost.
     pub(crate) fn met<R: Wait>(&self, rt: &R, fault: CellFault) {
         match fault {
-            CellFault::NotTaken(StepFault::Memory) => {}
-            CellFault::NotTaken(StepFault::Disk { .. } | StepFault::Steps) | CellFault::Halted(_) =>
+            CellFault::NotTaken(NotTaken::Memory) => {}
+            CellFault::NotTaken(NotTaken::Disk { .. } | NotTaken::Steps) | CellFault::Halted(_) =>
                 self.desk.lock(rt).stop(),
         }
     }

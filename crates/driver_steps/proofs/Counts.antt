@@ -1,11 +1,10 @@
--- A step that is taken: not the last one, also by a lower count, and none is missed.
+-- A step that is taken: not the last one, also by a lower count.
 use Rattle.std.proofs.Common.{◌≡◌, ℕ, ◌<◌, ◌≤◌, Bool, true, false, refl, ap, ◌∙◌, arith}
 use Rattle.std.specs.Prelude.{◌||◌, nat_le}
 use Rattle.std.proofs.lemmas.Bool.{leb-false, lt-leb}
 use Rattle.node_model.specs.Lacks.{is_last, last_time, most_steps, time_in}
 use Rattle.node_model.specs.Letters.{Input}
 use Rattle.node_model.specs.States.{NodeState, time_of_node}
-use Rattle.node_model.specs.World.{World, Moves}
 
 none_of_fewer : (many few other : Bool) → (many ≡ false → few ≡ false) → (many || other) ≡ false → (few || other) ≡ false
 none_of_fewer true few other lower none = absurd (cc)
@@ -21,6 +20,3 @@ pub goes_with_fewer : (fewer steps : ℕ) (s : NodeState) (i : Input) → fewer 
 goes_with_fewer fewer steps s i less goes =
     none_of_fewer (nat_le most_steps steps) (nat_le most_steps fewer) (nat_le last_time (time_of_node s) || nat_le last_time (time_in i))
     (below_most most_steps fewer steps less) goes
-
-pub move_misses_none : (w : World) (at : ℕ) (i : Input) (v : World) → Moves w at i v → v.missed ≡ w.missed
-move_misses_none w at i v m = ap (λ (x : World). x.missed) m.then

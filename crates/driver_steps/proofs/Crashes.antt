@@ -16,7 +16,7 @@ use Rattle.node_traits.specs.Calls.{LeavesThen}
 use Rattle.node_traits.specs.Effects.{spellings}
 use Rattle.driver_steps.specs.declared.seat.Seat.{Seat}
 use Rattle.driver_steps.specs.Crashes.{Noted, Since, LeadsTo, Passes, LeavesKept, LeavesNoLess, LeavesSinceNotes, leaves_kept, with_notes}
-use Rattle.driver_steps.specs.Seats.{SeatView, AreHeld, AreKept, EachLeaves, seat_since, seat_view, since_then}
+use Rattle.driver_steps.specs.Seats.{SeatView, AreCounted, AreHeld, AreKept, EachLeaves, seat_since, seat_view, since_then}
 use Rattle.driver_steps.proofs.Seats.{HeldAt, held_at}
 
 -- THE WAY
@@ -208,6 +208,20 @@ module _ {N L : Type 0} (state : N → NodeState) (steps : N → ℕ) (facts : L
       },
       held_plain seats held are.1,
     )
+
+    pub counted_since : (seats : List (Seat N L)) (held : List Held) → AreCounted (seat_view state steps facts) seats held
+        → AreCounted (seat_since state steps facts since) seats held
+    counted_since [] [] are = tt
+    counted_since [] (h ∷ held) are = absurd are
+    counted_since (s ∷ seats) [] are = absurd are
+    counted_since (s ∷ seats) (h ∷ held) are = (are.0, counted_since seats held are.1)
+
+    pub counted_plain : (seats : List (Seat N L)) (held : List Held) → AreCounted (seat_since state steps facts since) seats held
+        → AreCounted (seat_view state steps facts) seats held
+    counted_plain [] [] are = tt
+    counted_plain [] (h ∷ held) are = absurd are
+    counted_plain (s ∷ seats) [] are = absurd are
+    counted_plain (s ∷ seats) (h ∷ held) are = (are.0, counted_plain seats held are.1)
 
     pub kept_plain : (seats : List (Seat N L)) (held : List Held) → AreKept (seat_since state steps facts since) seats held
         → AreKept (seat_view state steps facts) seats held

@@ -1,10 +1,14 @@
 pub mod Counts
+pub mod Costs
 pub mod Crashes
 pub mod Cuts
 pub mod DiskNotes
+pub mod Hosts
+pub mod Missed
 pub mod Moments
 pub mod Moves
 pub mod StoppedNodes
+pub mod Queued
 pub mod Runs
 pub mod Seats
 pub mod Stepping

@@ -1,5 +1,5 @@
 -- Events, one after another.
-use Rattle.std.proofs.Common.{◌≡◌, ◌⊎◌, inl, inr, ℕ, ℤ, zero, suc, ◌+◌, ◌-◌, ◌*◌, ◌<◌, ◌≤◌, ◌^◌, List}
+use Rattle.std.proofs.Common.{◌≡◌, inl, inr, ℕ, ℤ, zero, suc, ◌+◌, ◌-◌, ◌<◌, ◌≤◌, List}
 use Rattle.std.proofs.Common.{[], ◌∷◌, ◌++◌, map, length, refl, sym, ap, subst, ◌∙◌, arith, append_assoc, append-nil, length-append, add-one}
 use Rattle.std.specs.Prelude.{Option, Some, None, MatchOption, option_to_list}
 use Rattle.std.specs.VecDeque.{deque_len}
@@ -7,18 +7,17 @@ use Rattle.std.specs.List.{slice_get}
 use Rattle.node_model.specs.Letters.{Letter, Input, client_input, letter_input, moment_input, opened_input}
 use Rattle.node_model.specs.Requests.{Request}
 use Rattle.node_model.specs.Schedule.{moments_given, openings, Delivers, delivers_none, delivers_next}
-use Rattle.node_model.specs.World.{World, IsRouter, Moves, Meets, Event, client_event, deliver_event, moment_event, opened_event}
+use Rattle.node_model.specs.World.{World, IsRouter, Meets, Event, client_event, deliver_event, moment_event, opened_event}
 use Rattle.node_model.specs.World.{Happens, comes, delivers, passes, begins as was_opened, Run, stands, goes}
 use Rattle.node_model.proofs.Schedules.{run_then}
-use Rattle.node_traits.specs.declared.outputs.StepFault.{StepFault}
-use Rattle.node_traits.specs.declared.outputs.StepFault.TheVariants.{Disk, Steps, Memory}
+use Rattle.node_traits.specs.declared.outputs.NotTaken.{NotTaken}
+use Rattle.node_traits.specs.declared.outputs.NotTaken.TheVariants.{Disk, Steps, Memory}
 use Rattle.node_traits.specs.declared.outputs.ToLink.{ToLink}
 use Rattle.driver_steps.specs.declared.network.Network.{Network}
 use Rattle.driver_steps.specs.Seats.{Hosted, SeatView}
 use Rattle.driver_steps.specs.Worlds.{NetworkView, StandsFor, network_view}
 use Rattle.driver_steps.specs.Moves.{IsEvent, IsUpTo, BeginWith, IsDelivery, AreDeliveries, HasDelivered, HasHappened, HasMoved, HasRun, HasSettled, HasStopped}
-use Rattle.driver_steps.proofs.Counts.{move_misses_none}
-use Rattle.driver_steps.specs.Moves.{IsCutShort, MovesOrNot, DeliversOrLoses, Settles, settles_none, settles_next, loses_next}
+use Rattle.driver_steps.specs.Moves.{IsCutShort, MeetsOrNot, DeliversOrLoses, Settles, settles_none, settles_next, loses_next}
 
 -- THE SCHEDULE
 
@@ -70,16 +69,6 @@ loses_more _ _ _ _ _ m (settles_next u v w next later first events here more) go
 loses_more _ _ _ _ _ m (loses_next u w next later o events before lost more) got none =
     loses_next u w next (later + 1) o events before lost (loses_more u (next + 1) events w later m more got none)
 
--- a delivery leaves less to do: fewer steps, or as many and fewer messages
-pub less_left : {M : Type 0} (left left_after count count_taken count_after : ℕ) (taken after : List M)
-    → (left_after + 1 ≡ left) ⊎ ((left_after ≡ left) × (after ≡ taken))
-    → count_taken + 1 ≡ count → count_taken ≡ length taken → count_after ≡ length after → count_after < 2 ^ 64
-    → left_after * 2 ^ 66 + count_after < left * 2 ^ 66 + count
-less_left left left_after count count_taken count_after taken after (inl fewer) one some all fits = omega arith
-less_left {M} left left_after count count_taken count_after taken after (inr (same, stays)) one some all fits =
-    let as_many : length after ≡ length taken = ap (λ (l : List M). length l) stays in
-    omega arith
-
 seam : (past : List Letter) (m : Letter) (rest : List Letter) → slice_get (past ++ m ∷ rest) (length past) ≡ Some m
 seam [] m rest = refl
 seam (x ∷ past) m rest = seam past m rest
@@ -104,6 +93,7 @@ popped view letter hosts handed w next m old new s first same =
           (seam s.past (letter m) (map letter new.waiting.items));
       stands = record {
         nodes = s.nodes;
+        counted = s.counted;
         crashes = s.crashes;
         past = s.past ++ letter m ∷ [];
         sent = all ∙ sym (append_assoc s.past (letter m ∷ []) (map letter new.waiting.items));
@@ -116,18 +106,18 @@ popped view letter hosts handed w next m old new s first same =
 
 is_delivery : (w : World) (which at : ℕ) (m : Letter) (i : Input) → slice_get w.sent which ≡ Some m → i ≡ letter_input m → at ≡ m.receiver
     → IsEvent w at i (deliver_event m.receiver which)
-is_delivery w which at m i got is to v moves =
-    delivers w v m.receiver which m got refl (subst (λ (n : ℕ). Meets w n (letter_input m) v) to (subst (λ (x : Input). Meets w at x v) is moves))
+is_delivery w which at m i got is to v meets =
+    delivers w v m.receiver which m got refl (subst (λ (n : ℕ). Meets w n (letter_input m) v) to (subst (λ (x : Input). Meets w at x v) is meets))
 
 is_request : (w : World) (at link : ℕ) (number : ℤ) (request : Request) (i : Input) → IsRouter w.nodes at → i ≡ client_input link number request
     → IsEvent w at i (client_event at link number request)
-is_request w at link number request i router is v moves = comes w v at link number request router (subst (λ (x : Input). Meets w at x v) is moves)
+is_request w at link number request i router is v meets = comes w v at link number request router (subst (λ (x : Input). Meets w at x v) is meets)
 
 is_opening : (w : World) (at : ℕ) (i : Input) → i ≡ opened_input → IsEvent w at i (opened_event at)
-is_opening w at i is v moves = was_opened w v at (subst (λ (x : Input). Meets w at x v) is moves)
+is_opening w at i is v meets = was_opened w v at (subst (λ (x : Input). Meets w at x v) is meets)
 
 is_passing : (w : World) (at moment : ℕ) (i : Input) → i ≡ moment_input moment → IsEvent w at i (moment_event at moment)
-is_passing w at moment i is v moves = passes w v at moment (subst (λ (x : Input). Meets w at x v) is moves)
+is_passing w at moment i is v meets = passes w v at moment (subst (λ (x : Input). Meets w at x v) is meets)
 
 pub delivered : {S : Type 0} (view : S → SeatView) (hosts : Hosted S) (network : NetworkView) (handed : List ToLink) (w : World) (next which at : ℕ)
     (m : Letter) (i : Input)
@@ -135,8 +125,7 @@ pub delivered : {S : Type 0} (view : S → SeatView) (hosts : Hosted S) (network
     → HasDelivered view hosts network handed w next which m.receiver
 delivered view hosts network handed w next which at m i got is to h = record {
   end = h.end;
-  delivers = inl (is_delivery w which at m i got is to h.end (inl h.moves));
-  none_missed = move_misses_none w at i h.end h.moves;
+  delivers = inl (is_delivery w which at m i got is to h.end h.meets);
   stands = h.stands (deliver_event m.receiver which) (is_delivery w which at m i got is to);
 }
 
@@ -147,18 +136,21 @@ pub lost : {S : Type 0} (view : S → SeatView) (hosts : Hosted S) (network : Ne
 lost view hosts network handed w next which receiver count at same counted to behind s = record {
   end = w;
   delivers = inr (refl, omega arith);
-  none_missed = refl;
   stands = s;
 }
 
--- a step leads to another world
-never_still : (w v : World) (at : ℕ) (i : Input) → Moves w at i v → v ≡ w → ⊥
-never_still w v at i m same =
+-- what comes to a node leads to another world
+never_still : (w v : World) (at : ℕ) (i : Input) → Meets w at i v → v ≡ w → ⊥
+never_still w v at i (inl m) same =
+    let later : v.now ≡ w.now + 1 = ap (λ (x : World). x.now) m.then in
+    let now : v.now ≡ w.now = ap (λ (x : World). x.now) same in
+    omega (arith, later, now)
+never_still w v at i (inr m) same =
     let later : v.now ≡ w.now + 1 = ap (λ (x : World). x.now) m.then in
     let now : v.now ≡ w.now = ap (λ (x : World). x.now) same in
     omega (arith, later, now)
 
-pub up_to_more : (fault : StepFault) (end last : World) (A B : Type 0) → IsUpTo fault end last A → (A → B) → IsUpTo fault end last B
+pub up_to_more : (fault : NotTaken) (end last : World) (A B : Type 0) → IsUpTo fault end last A → (A → B) → IsUpTo fault end last B
 up_to_more (Disk faults) end last A B (inl same) f = inl same
 up_to_more (Disk faults) end last A B (inr more) f = inr (f more)
 up_to_more Steps end last A B same f = same
@@ -166,18 +158,17 @@ up_to_more Memory end last A B same f = same
 
 -- events happened, and the next one was cut short
 pub stopped : {S : Type 0} (view : S → SeatView) (hosts : Hosted S) (replies handed : List ToLink) (u : World) (events : List Event) (w : World)
-    (e : Event) (at : ℕ) (i : Input) (P : List Event → Type 0) (fault : StepFault)
-    → Run u events w → w.missed ≡ u.missed → IsEvent w at i e → P events → P (events ++ e ∷ [])
+    (e : Event) (at : ℕ) (i : Input) (P : List Event → Type 0) (fault : NotTaken)
+    → Run u events w → IsEvent w at i e → P events → P (events ++ e ∷ [])
     → IsCutShort view hosts replies handed w at i fault → HasStopped view hosts replies handed u P fault
-stopped view hosts replies handed u events w e at i P fault run none event before behind c = by_step c.moves
+stopped view hosts replies handed u events w e at i P fault run event before behind c = by_step c.meets
   where
-    by_step : MovesOrNot w at i c.end → HasStopped view hosts replies handed u P fault
+    by_step : MeetsOrNot w at i c.end → HasStopped view hosts replies handed u P fault
     by_step (inl same) = record {
       events = events;
       end = c.end;
       which = before;
       run = subst (λ (x : World). Run u events x) (sym same) run;
-      none_missed = ap (λ (x : World). x.missed) same ∙ none;
       nodes = c.nodes;
       last = c.last;
       up_to = up_to_more fault c.end c.last _ _ c.up_to
@@ -190,8 +181,7 @@ stopped view hosts replies handed u events w e at i P fault run none event befor
       events = events ++ e ∷ [];
       end = c.end;
       which = behind;
-      run = run_then u events w (e ∷ []) c.end run (goes w c.end c.end e [] (event c.end (inl m)) (stands c.end));
-      none_missed = move_misses_none w at i c.end m ∙ none;
+      run = run_then u events w (e ∷ []) c.end run (goes w c.end c.end e [] (event c.end m) (stands c.end));
       nodes = c.nodes;
       last = c.last;
       up_to = up_to_more fault c.end c.last _ _ c.up_to (λ more. absurd (never_still w c.end at i m more.0));
@@ -202,26 +192,24 @@ stopped view hosts replies handed u events w e at i P fault run none event befor
 
 pub run_more : {S : Type 0} (view : S → SeatView) (hosts : Hosted S) (network : NetworkView) (handed : List ToLink) (u : World) (events : List Event)
     (w : World) (next : ℕ) (e : Event) (at : ℕ) (i : Input)
-    → Run u events w → w.missed ≡ u.missed → IsEvent w at i e → HasMoved view hosts network handed w next at i
+    → Run u events w → IsEvent w at i e → HasMoved view hosts network handed w next at i
     → HasRun view hosts network handed u next (events ++ e ∷ [])
-run_more view hosts network handed u events w next e at i run none event h = record {
+run_more view hosts network handed u events w next e at i run event h = record {
   end = h.end;
-  run = run_then u events w (e ∷ []) h.end run (goes w h.end h.end e [] (event h.end (inl h.moves)) (stands h.end));
-  none_missed = move_misses_none w at i h.end h.moves ∙ none;
+  run = run_then u events w (e ∷ []) h.end run (goes w h.end h.end e [] (event h.end h.meets) (stands h.end));
   stands = h.stands e event;
 }
 
 -- a run, and then a stop
 pub stopped_behind : {S : Type 0} (view : S → SeatView) (hosts : Hosted S) (replies handed : List ToLink) (u : World) (events : List Event) (w : World)
-    (P Q : List Event → Type 0) (fault : StepFault)
-    → Run u events w → w.missed ≡ u.missed → ((more : List Event) → P more → Q (events ++ more)) → HasStopped view hosts replies handed w P fault
+    (P Q : List Event → Type 0) (fault : NotTaken)
+    → Run u events w → ((more : List Event) → P more → Q (events ++ more)) → HasStopped view hosts replies handed w P fault
     → HasStopped view hosts replies handed u Q fault
-stopped_behind view hosts replies handed u events w P Q fault run none all s = record {
+stopped_behind view hosts replies handed u events w P Q fault run all s = record {
   events = events ++ s.events;
   end = s.end;
   which = all s.events s.which;
   run = run_then u events w s.events s.end run s.run;
-  none_missed = s.none_missed ∙ none;
   nodes = s.nodes;
   last = s.last;
   up_to = up_to_more fault s.end s.last _ _ s.up_to
@@ -243,14 +231,13 @@ pub record IsSettling {S : Type 0} (view : S → SeatView) (hosts : Hosted S) (n
   pub end : World
   pub later : ℕ
   pub settles : Settles before next events end later
-  pub none_missed : end.missed ≡ before.missed
   pub stands : StandsFor view hosts network handed end later
 
 pub settling_more : {S : Type 0} (view : S → SeatView) (hosts : Hosted S) (network : NetworkView) (handed : List ToLink) (u : World) (next : ℕ)
     (events : List Event) (v : World) (later : ℕ) (m : Letter)
-    → Settles u next events v later → v.missed ≡ u.missed → slice_get v.sent later ≡ Some m → HasDelivered view hosts network handed v (later + 1) later m.receiver
+    → Settles u next events v later → slice_get v.sent later ≡ Some m → HasDelivered view hosts network handed v (later + 1) later m.receiver
     → IsSettling view hosts network handed u next
-settling_more view hosts network handed u next events v later m so_far none_before got d = by_delivery d.delivers
+settling_more view hosts network handed u next events v later m so_far got d = by_delivery d.delivers
   where
     by_delivery : DeliversOrLoses v later m.receiver d.end → IsSettling view hosts network handed u next
     by_delivery (inl happens) = record {
@@ -258,7 +245,6 @@ settling_more view hosts network handed u next events v later m so_far none_befo
       end = d.end;
       later = later + 1;
       settles = settles_more u next events v later m.receiver d.end so_far happens;
-      none_missed = d.none_missed ∙ none_before;
       stands = d.stands;
     }
     by_delivery (inr (same, none)) = record {
@@ -266,7 +252,6 @@ settling_more view hosts network handed u next events v later m so_far none_befo
       end = d.end;
       later = later + 1;
       settles = subst (λ (x : World). Settles u next events x (later + 1)) (sym same) (loses_more u next events v later m so_far got none);
-      none_missed = d.none_missed ∙ none_before;
       stands = d.stands;
     }
 
@@ -279,7 +264,7 @@ pub settling_step : {S M : Type 0} (view : S → SeatView) (letter : M → Lette
     → IsSettling view hosts_after network handed u next
 settling_step view letter hosts hosts_after network handed u next m old taken r first same deliver =
     let p = popped view letter hosts handed r.end r.later m old taken r.stands first same in
-    settling_more view hosts_after network handed u next r.events r.end r.later (letter m) r.settles r.none_missed p.got (deliver r.end (r.later + 1) r.later p.stands p.got)
+    settling_more view hosts_after network handed u next r.events r.end r.later (letter m) r.settles p.got (deliver r.end (r.later + 1) r.later p.stands p.got)
 
 -- the first of one delivery, as far as it goes
 first_is_delivery : (receiver which : ℕ) (events : List Event) → BeginWith events (deliver_event receiver which ∷ []) → AreDeliveries events
@@ -290,7 +275,7 @@ first_is_delivery receiver which (e ∷ []) (others, all) =
 first_is_delivery receiver which (e ∷ f ∷ events) (others, all) = absurd (cc)
 
 pub settling_stopped : {S M : Type 0} (view : S → SeatView) (letter : M → Letter) (hosts hosts_after : Hosted S) (replies handed : List ToLink)
-    (u : World) (next : ℕ) (m : M) (old taken : Network M) (fault : StepFault)
+    (u : World) (next : ℕ) (m : M) (old taken : Network M) (fault : NotTaken)
     → IsSettling view hosts (network_view letter old) handed u next → old.waiting.items ≡ m ∷ taken.waiting.items → taken.replies.items ≡ old.replies.items
     → ((v : World) (n which : ℕ) → StandsFor view hosts (network_view letter taken) handed v n → slice_get v.sent which ≡ Some (letter m)
     → HasStopped view hosts_after replies handed v (λ events. BeginWith events (deliver_event (letter m).receiver which ∷ [])) fault)
@@ -298,7 +283,7 @@ pub settling_stopped : {S M : Type 0} (view : S → SeatView) (letter : M → Le
 settling_stopped view letter hosts hosts_after replies handed u next m old taken fault r first same deliver =
     let p = popped view letter hosts handed r.end r.later m old taken r.stands first same in
     stopped_behind view hosts_after replies handed u r.events r.end (λ events. BeginWith events (deliver_event (letter m).receiver r.later ∷ []))
-    AreDeliveries fault (settles_run u next r.events r.end r.later r.settles) r.none_missed
+    AreDeliveries fault (settles_run u next r.events r.end r.later r.settles)
     (λ more are. deliveries_then r.events more (settles_which u next r.events r.end r.later r.settles)
     (first_is_delivery (letter m).receiver r.later more are))
     (deliver r.end (r.later + 1) r.later p.stands p.got)
@@ -313,7 +298,6 @@ settled view hosts network handed u next s none =
       events = s.events;
       end = s.end;
       settles = subst (λ (n : ℕ). Settles u next s.events s.end n) all s.settles;
-      none_missed = s.none_missed;
       stands = subst (λ (n : ℕ). StandsFor view hosts network handed s.end n) all s.stands;
     }
 
@@ -336,9 +320,9 @@ settled_at_end {S} {M} view letter hosts handed u next old taken None r none ite
       events = h.events;
       end = h.end;
       settles = h.settles;
-      none_missed = h.none_missed;
       stands = record {
         nodes = h.stands.nodes;
+        counted = h.stands.counted;
         crashes = h.stands.crashes;
         past = h.stands.past;
         sent = h.stands.sent ∙ ap (λ (l : List M). h.stands.past ++ map letter l) items;
@@ -350,22 +334,22 @@ settled_at_end {S} {M} view letter hosts handed u next old taken None r none ite
 -- OPENINGS, MOMENTS AND REQUESTS
 
 pub delivery_stopped : {S : Type 0} (view : S → SeatView) (hosts : Hosted S) (replies handed : List ToLink) (w : World) (which at : ℕ) (m : Letter)
-    (i : Input) (fault : StepFault)
+    (i : Input) (fault : NotTaken)
     → slice_get w.sent which ≡ Some m → i ≡ letter_input m → at ≡ m.receiver → IsCutShort view hosts replies handed w at i fault
     → HasStopped view hosts replies handed w (λ events. BeginWith events (deliver_event m.receiver which ∷ [])) fault
 delivery_stopped view hosts replies handed w which at m i fault got is to c =
     stopped view hosts replies handed w [] w (deliver_event m.receiver which) at i
-    (λ events. BeginWith events (deliver_event m.receiver which ∷ [])) fault (stands w) refl
+    (λ events. BeginWith events (deliver_event m.receiver which ∷ [])) fault (stands w)
     (is_delivery w which at m i got is to)
     (deliver_event m.receiver which ∷ [], refl) ([], refl) c
 
 pub ask_stopped : {S : Type 0} (view : S → SeatView) (hosts : Hosted S) (replies handed : List ToLink) (w : World) (at link : ℕ) (number : ℤ)
-    (request : Request) (i : Input) (fault : StepFault)
+    (request : Request) (i : Input) (fault : NotTaken)
     → IsRouter w.nodes at → i ≡ client_input link number request → IsCutShort view hosts replies handed w at i fault
     → HasStopped view hosts replies handed w (λ events. BeginWith events (client_event at link number request ∷ [])) fault
 ask_stopped view hosts replies handed w at link number request i fault router is c =
     stopped view hosts replies handed w [] w (client_event at link number request) at i
-    (λ events. BeginWith events (client_event at link number request ∷ [])) fault (stands w) refl
+    (λ events. BeginWith events (client_event at link number request ∷ [])) fault (stands w)
     (is_request w at link number request i router is)
     (client_event at link number request ∷ [], refl) ([], refl) c
 
@@ -416,23 +400,23 @@ one_more_moment at moment =
     ∙ ap (λ (n : ℕ). moments_given 0 at moment ++ moment_event n moment ∷ []) zero_at)
 
 pub opened_stopped : {S : Type 0} (view : S → SeatView) (hosts_before hosts : Hosted S) (post_before : NetworkView) (replies handed : List ToLink)
-    (u : World) (next at count : ℕ) (i : Input) (fault : StepFault) → at < count
+    (u : World) (next at count : ℕ) (i : Input) (fault : NotTaken) → at < count
     → (r : HasRun view hosts_before post_before handed u next (openings 0 at)) → i ≡ opened_input → IsCutShort view hosts replies handed r.end at i fault
     → HasStopped view hosts replies handed u (λ events. BeginWith events (openings 0 count)) fault
 opened_stopped view hosts_before hosts post_before replies handed u next at count i fault within r is c =
-    stopped view hosts replies handed u (openings 0 at) r.end (opened_event at) at i (λ events. BeginWith events (openings 0 count)) fault r.run r.none_missed
+    stopped view hosts replies handed u (openings 0 at) r.end (opened_event at) at i (λ events. BeginWith events (openings 0 count)) fault r.run
     (is_opening r.end at i is)
     (first_openings at count (omega (arith, within)))
     (subst (λ (l : List Event). BeginWith l (openings 0 count)) (one_more_opening at) (first_openings (at + 1) count (omega (arith, within)))) c
 
 pub given_stopped : {S : Type 0} (view : S → SeatView) (hosts_before hosts : Hosted S) (post_before : NetworkView) (replies handed : List ToLink)
-    (u : World) (next at count moment : ℕ) (i : Input) (fault : StepFault) → at < count
+    (u : World) (next at count moment : ℕ) (i : Input) (fault : NotTaken) → at < count
     → (r : HasRun view hosts_before post_before handed u next (moments_given 0 at moment)) → i ≡ moment_input moment
     → IsCutShort view hosts replies handed r.end at i fault
     → HasStopped view hosts replies handed u (λ events. BeginWith events (moments_given 0 count moment)) fault
 given_stopped view hosts_before hosts post_before replies handed u next at count moment i fault within r is c =
     stopped view hosts replies handed u (moments_given 0 at moment) r.end (moment_event at moment) at i
-    (λ events. BeginWith events (moments_given 0 count moment)) fault r.run r.none_missed
+    (λ events. BeginWith events (moments_given 0 count moment)) fault r.run
     (is_passing r.end at moment i is)
     (first_moments at count moment (omega (arith, within)))
     (subst (λ (l : List Event). BeginWith l (moments_given 0 count moment)) (one_more_moment at moment)
@@ -444,7 +428,7 @@ pub opened_more : {S : Type 0} (view : S → SeatView) (hosts_before hosts : Hos
     → HasRun view hosts network handed u next (openings 0 (at + 1))
 opened_more view hosts_before hosts post_before network handed u next at i r is h =
     subst (λ (l : List Event). HasRun view hosts network handed u next l) (sym (one_more_opening at))
-    (run_more view hosts network handed u (openings 0 at) r.end next (opened_event at) at i r.run r.none_missed
+    (run_more view hosts network handed u (openings 0 at) r.end next (opened_event at) at i r.run
     (is_opening r.end at i is) h)
 
 pub given_more : {S : Type 0} (view : S → SeatView) (hosts_before hosts : Hosted S) (post_before network : NetworkView) (handed : List ToLink) (u : World)
@@ -454,16 +438,16 @@ pub given_more : {S : Type 0} (view : S → SeatView) (hosts_before hosts : Host
     → HasRun view hosts network handed u next (moments_given 0 (at + 1) moment)
 given_more view hosts_before hosts post_before network handed u next at moment i r is h =
     subst (λ (l : List Event). HasRun view hosts network handed u next l) (sym (one_more_moment at moment))
-    (run_more view hosts network handed u (moments_given 0 at moment) r.end next (moment_event at moment) at i r.run r.none_missed
+    (run_more view hosts network handed u (moments_given 0 at moment) r.end next (moment_event at moment) at i r.run
     (is_passing r.end at moment i is) h)
 
 pub run_none : {S : Type 0} (view : S → SeatView) (hosts : Hosted S) (network : NetworkView) (handed : List ToLink) (u : World) (next : ℕ)
     → StandsFor view hosts network handed u next → HasRun view hosts network handed u next []
-run_none view hosts network handed u next s = record { end = u; run = stands u; none_missed = refl; stands = s }
+run_none view hosts network handed u next s = record { end = u; run = stands u; stands = s }
 
 pub settling_none : {S : Type 0} (view : S → SeatView) (hosts : Hosted S) (network : NetworkView) (handed : List ToLink) (u : World) (next : ℕ)
     → StandsFor view hosts network handed u next → IsSettling view hosts network handed u next
-settling_none view hosts network handed u next s = record { events = []; end = u; later = next; settles = settles_none u next; none_missed = refl; stands = s }
+settling_none view hosts network handed u next s = record { events = []; end = u; later = next; settles = settles_none u next; stands = s }
 
 pub asked : {S : Type 0} (view : S → SeatView) (hosts : Hosted S) (network : NetworkView) (handed : List ToLink) (u : World) (next at link : ℕ) (number : ℤ)
     (request : Request) (i : Input)
@@ -471,8 +455,7 @@ pub asked : {S : Type 0} (view : S → SeatView) (hosts : Hosted S) (network : N
     → HasHappened view hosts network handed u next (client_event at link number request)
 asked view hosts network handed u next at link number request i router is h = record {
   end = h.end;
-  happens = is_request u at link number request i router is h.end (inl h.moves);
-  none_missed = move_misses_none u at i h.end h.moves;
+  happens = is_request u at link number request i router is h.end h.meets;
   stands = h.stands (client_event at link number request) (is_request u at link number request i router is);
 }
 
@@ -498,6 +481,7 @@ pub handed_on : {S M : Type 0} (view : S → SeatView) (letter : M → Letter) (
     → StandsFor view hosts (network_view letter new) (handed ++ old.replies.items) w next
 handed_on view letter hosts handed w next old new s same none = record {
   nodes = s.nodes;
+  counted = s.counted;
   crashes = s.crashes;
   past = s.past;
   sent = s.sent ∙ ap (λ l. s.past ++ map letter l) (sym same);

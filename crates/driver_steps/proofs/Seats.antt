@@ -8,7 +8,7 @@ use Rattle.outside.specs.Devices.{NoneFell, OneRose}
 use Rattle.outside.proofs.Relations.{none_fell_self}
 use Rattle.node_model.specs.World.{Held}
 use Rattle.driver_steps.specs.declared.seat.Seat.{Seat}
-use Rattle.driver_steps.specs.Seats.{SeatView, Keeps, IsHeld, AreHeld, AreKept, AreOpen, faults_of, left_of, places_of}
+use Rattle.driver_steps.specs.Seats.{SeatView, Keeps, IsHeld, AreCounted, AreHeld, AreKept, AreOpen, faults_of, left_of, places_of}
 
 -- what is put at a place that there is, is there
 pub get_set : {X : Type 0} (items : List X) (at : ℕ) (old new : X) → slice_get items at ≡ Some old → slice_get (slice_set items at new) at ≡ Some new
@@ -21,6 +21,12 @@ pub record HeldAt (seat : SeatView) (held : List Held) (at : ℕ) : Type 0 where
   pub old : Held
   pub here : slice_get held at ≡ Some old
   pub is : IsHeld seat old
+
+-- how many steps the node at a place has taken
+pub record CountedAt (seat : SeatView) (held : List Held) (at : ℕ) : Type 0 where
+  pub old : Held
+  pub here : slice_get held at ≡ Some old
+  pub is : old.steps ≡ seat.steps
 
 module _ {S : Type 0} (view : S → SeatView) where
   pub held_at : (seats : List S) (held : List Held) (at : ℕ) (s : S) → AreHeld view seats held → slice_get seats at ≡ Some s → HeldAt (view s) held at
@@ -56,6 +62,24 @@ module _ {S : Type 0} (view : S → SeatView) where
       let same : g ≡ h = cc in
       (subst (λ z. IsHeld (view s) z) (sym same) is, are.1)
   held_still (x ∷ seats) (g ∷ held) (suc at) s h are got is = (are.0, held_still seats held at s h are.1 got is)
+
+  pub counted_at : (seats : List S) (held : List Held) (at : ℕ) (s : S) → AreCounted view seats held → slice_get seats at ≡ Some s → CountedAt (view s) held at
+  counted_at [] held at s are got = absurd (cc)
+  counted_at (x ∷ seats) [] at s are got = absurd are
+  counted_at (x ∷ seats) (h ∷ held) zero s are got =
+      let same : x ≡ s = cc in
+      record { old = h; here = refl; is = subst (λ z. h.steps ≡ (view z).steps) same are.0 }
+  counted_at (x ∷ seats) (h ∷ held) (suc at) s are got =
+      let there = counted_at seats held at s are.1 got in
+      record { old = there.old; here = there.here; is = there.is }
+
+  pub counted_set : (seats : List S) (held : List Held) (at : ℕ) (s : S) (h : Held) → AreCounted view seats held → h.steps ≡ (view s).steps
+      → AreCounted view (slice_set seats at s) (slice_set held at h)
+  counted_set [] [] at s h are is = tt
+  counted_set [] (g ∷ held) at s h are is = absurd are
+  counted_set (x ∷ seats) [] at s h are is = absurd are
+  counted_set (x ∷ seats) (g ∷ held) zero s h are is = (is, are.1)
+  counted_set (x ∷ seats) (g ∷ held) (suc at) s h are is = (are.0, counted_set seats held at s h are.1 is)
 
   pub held_kept : (seats : List S) (held : List Held) → AreHeld view seats held → AreKept view seats held
   held_kept [] [] are = tt
@@ -104,6 +128,17 @@ module _ {N L : Type 0} where
       omega arith
   left_falls steps (x ∷ seats) (suc at) s t got one below =
       let there : left_of steps (slice_set seats at t) + 1 ≡ left_of steps seats = left_falls steps seats at s t got one below in
+      omega arith
+
+  pub left_same : (steps : N → ℕ) (seats : List (Seat N L)) (at : ℕ) (s t : Seat N L) → slice_get seats at ≡ Some s → steps t.node ≡ steps s.node
+      → left_of steps (slice_set seats at t) ≡ left_of steps seats
+  left_same steps [] at s t got same = absurd (cc)
+  left_same steps (x ∷ seats) zero s t got same =
+      let here : x ≡ s = cc in
+      let as_many : steps x.node ≡ steps s.node = ap (λ (z : Seat N L). steps z.node) here in
+      omega arith
+  left_same steps (x ∷ seats) (suc at) s t got same =
+      let there : left_of steps (slice_set seats at t) ≡ left_of steps seats = left_same steps seats at s t got same in
       omega arith
 
   pub faults_same : (count : L → ℕ) (seats : List (Seat N L)) (at : ℕ) (s t : Seat N L) → slice_get seats at ≡ Some s → count t.log ≡ count s.log

@@ -13,9 +13,9 @@ use Rattle.node_model.specs.Lacks.{is_last}
 use Rattle.node_model.specs.World.{Held, World, Event, Moves, after, answered_by, is_given, tick, journal_at}
 use Rattle.node_model.proofs.Journals.{journal_got, journal_here}
 use Rattle.node_traits.specs.Calls.{IsWhole, LeavesThen, LogCall, log_call}
-use Rattle.node_traits.specs.Effects.{AreReadable, ByStepFault, StepBroken, StepDone, is_at_last, put_by, puts_of, spellings, steps_after}
-use Rattle.node_traits.specs.declared.outputs.StepFault.{StepFault}
-use Rattle.node_traits.specs.declared.outputs.StepFault.TheVariants.{Disk, Steps, Memory}
+use Rattle.node_traits.specs.Effects.{AreReadable, ByNotTaken, StepBroken, StepDone, is_at_last, put_by, puts_of, spellings, steps_after}
+use Rattle.node_traits.specs.declared.outputs.NotTaken.{NotTaken}
+use Rattle.node_traits.specs.declared.outputs.NotTaken.TheVariants.{Disk, Steps, Memory}
 use Rattle.node_traits.specs.declared.outputs.ToLink.{ToLink}
 use Rattle.driver_steps.specs.declared.seat.Seat.{Seat}
 use Rattle.driver_steps.specs.Crashes.{Since, LeadsTo, leaves_kept}
@@ -177,9 +177,9 @@ module _ {N L : Type 0} (state : N → NodeState) (steps : N → ℕ) (facts : L
   }
 
   -- what the fault of a step says of its node and log
-  abbrev pub Fails : StepFault → Input → (s t : Seat N L) → Type 0
+  abbrev pub Fails : NotTaken → Input → (s t : Seat N L) → Type 0
   Fails fault i s t =
-      ByStepFault fault (λ faults. StepBroken (state s.node) i (log_call facts s.log t.log))
+      ByNotTaken fault (λ faults. StepBroken (state s.node) i (log_call facts s.log t.log))
       ((state t.node ≡ state s.node) × (t.log ≡ s.log))
 
   module _ (since : Since L) (w : World) (at : ℕ) (s t : Seat N L) (i : Input) (stands : StandsAt (view_since since s) w at) where
@@ -201,30 +201,30 @@ module _ {N L : Type 0} (state : N → NodeState) (steps : N → ℕ) (facts : L
       whole = d.kept.whole;
     }
 
-    pub seat_failed : (fault : StepFault) → is_last (steps s.node) (state s.node) i ≡ is_at_last fault → steps t.node ≡ steps_after fault (steps s.node)
-        → Fails fault i s t → ByStepFault fault (λ faults. BreaksOn (log_call facts s.log t.log) (view_since since t) w at i) (StandsAt (view_since since t) w at)
+    pub seat_failed : (fault : NotTaken) → is_last (steps s.node) (state s.node) i ≡ is_at_last fault → steps t.node ≡ steps_after fault (steps s.node)
+        → Fails fault i s t → ByNotTaken fault (λ faults. BreaksOn (log_call facts s.log t.log) (view_since since t) w at i) (StandsAt (view_since since t) w at)
     seat_failed (Disk faults) goes count b =
         broken (view_since since s) (view_since since t) w at i b.effect stands goes b.readable (λ tells. tells) (leaves_by b.effect.written b.left.whole)
         b.new b.step (log_call facts s.log t.log) b.left.whole b.left.left
     seat_failed Steps goes count unchanged = same_stands since w at s t (omega (arith, count)) unchanged stands
     seat_failed Memory goes count unchanged = same_stands since w at s t (omega (arith, count)) unchanged stands
 
-  pub unchanged_by : (fault : StepFault) (i : Input) (s t : Seat N L) → Fails fault i s t
-      → ByStepFault fault (λ faults. Unit {0}) ((state t.node ≡ state s.node) × (t.log ≡ s.log))
+  pub unchanged_by : (fault : NotTaken) (i : Input) (s t : Seat N L) → Fails fault i s t
+      → ByNotTaken fault (λ faults. Unit {0}) ((state t.node ≡ state s.node) × (t.log ≡ s.log))
   unchanged_by (Disk faults) i s t b = tt
   unchanged_by Steps i s t unchanged = unchanged
   unchanged_by Memory i s t unchanged = unchanged
 
-  pub fault_told : (count : L → ℕ) (i : Input) (fault : StepFault) (s t : Seat N L) → Fails fault i s t
-      → ByStepFault fault (λ faults. (faults ≡ count t.log) × Rose (count s.log) (count t.log)) (Unit {0}) → count s.log ≤ count t.log
-      → ByStepFault fault (λ faults. NamesFault faults (count s.log) (count t.log)) (count t.log ≡ count s.log)
+  pub fault_told : (count : L → ℕ) (i : Input) (fault : NotTaken) (s t : Seat N L) → Fails fault i s t
+      → ByNotTaken fault (λ faults. (faults ≡ count t.log) × Rose (count s.log) (count t.log)) (Unit {0}) → count s.log ≤ count t.log
+      → ByNotTaken fault (λ faults. NamesFault faults (count s.log) (count t.log)) (count t.log ≡ count s.log)
   fault_told count i (Disk faults) s t b rose later = record { named = rose.0; rose = rose.1; no_fall = later }
   fault_told count i Steps s t unchanged rose later = ap count unchanged.1
   fault_told count i Memory s t unchanged rose later = ap count unchanged.1
 
 -- without what a crash leaves of the log alone
-pub breaks_only : (fault : StepFault) (call : LogCall) (seat : SeatView) (w : World) (at : ℕ) (i : Input) (other : Type 0)
-    → ByStepFault fault (λ faults. BreaksOn call seat w at i) other → ByStepFault fault (λ faults. BreaksAt seat w at i) other
+pub breaks_only : (fault : NotTaken) (call : LogCall) (seat : SeatView) (w : World) (at : ℕ) (i : Input) (other : Type 0)
+    → ByNotTaken fault (λ faults. BreaksOn call seat w at i) other → ByNotTaken fault (λ faults. BreaksAt seat w at i) other
 breaks_only (Disk faults) call seat w at i other b = b.breaks
 breaks_only Steps call seat w at i other same = same
 breaks_only Memory call seat w at i other same = same
@@ -300,9 +300,9 @@ module _ {S : Type 0} (view : S → SeatView) (on : (s : S) (at : ℕ) (v w : Wo
   )
 
 module _ {N L : Type 0} where
-  pub faults_told : (count : L → ℕ) (seats : List (Seat N L)) (at : ℕ) (s t : Seat N L) (fault : StepFault) → slice_get seats at ≡ Some s
-      → ByStepFault fault (λ faults. NamesFault faults (count s.log) (count t.log)) (count t.log ≡ count s.log)
-      → ByStepFault fault (λ faults. HaveRisen (faults_of count seats) (faults_of count (slice_set seats at t)))
+  pub faults_told : (count : L → ℕ) (seats : List (Seat N L)) (at : ℕ) (s t : Seat N L) (fault : NotTaken) → slice_get seats at ≡ Some s
+      → ByNotTaken fault (λ faults. NamesFault faults (count s.log) (count t.log)) (count t.log ≡ count s.log)
+      → ByNotTaken fault (λ faults. HaveRisen (faults_of count seats) (faults_of count (slice_set seats at t)))
       (faults_of count (slice_set seats at t) ≡ faults_of count seats)
   faults_told count seats at s t (Disk faults) got told =
       record { one = fault_rose count seats at s t got told.rose; none_fell = none_fell_at count seats at s t got told.no_fall }

@@ -2,19 +2,19 @@
 use Rattle.std.proofs.Common.{◌≡◌, inl, inr, List, [], ◌++◌, IsTrue, sym, ap, subst, ◌∙◌, arith}
 use Rattle.std.proofs.lemmas.Bool.{cases_lt}
 use Rattle.std.specs.Option.{option_map}
-use Rattle.std.specs.Prelude.{◌+◌, ◌≤◌, false, Err, IfErr, Ok, OnOk, Option, Result, Some, ℕ}
+use Rattle.std.specs.Prelude.{◌+◌, false, Err, IfErr, Ok, OnOk, Option, Result, Some, ℕ}
 use Rattle.outside.specs.Logs.{LogFacts}
 use Rattle.node_model.specs.Letters.{Input, Letter}
 use Rattle.node_model.specs.Lacks.{is_last}
 use Rattle.node_model.specs.States.{NodeState}
 use Rattle.node_replay.specs.Durable.{DurableState}
 use Rattle.node_traits.specs.Calls.{Appended, IsWhole, log_call}
-use Rattle.node_traits.specs.Effects.{ByStepFault, StepBroken, StepDone, spellings}
-use Rattle.node_traits.specs.declared.outputs.StepFault.{StepFault}
-use Rattle.node_traits.specs.declared.outputs.StepFault.TheVariants.{Disk, Steps, Memory}
+use Rattle.node_traits.specs.Effects.{ByNotTaken, StepBroken, StepDone, spellings}
+use Rattle.node_traits.specs.declared.outputs.NotTaken.{NotTaken}
+use Rattle.node_traits.specs.declared.outputs.NotTaken.TheVariants.{Disk, Steps, Memory}
 use Rattle.node_traits.specs.declared.outputs.ToLink.{ToLink}
 use Rattle.node_traits.proofs.Calls.{left_alone}
-use Rattle.driver_steps.specs.Restarts.{IsOpenedAs, IsReread, IsStartedAgain, IsStopped, IsStoppedAtDisk, stores_none, stores_step}
+use Rattle.driver_steps.specs.Restarts.{IsOpenedAs, IsReread, IsStartedAgain, IsStopped, IsStoppedAtDisk, StopsWith, stores_none, is_short, stores_step}
 use Rattle.driver_steps.specs.declared.seat.Seat.{Seat}
 
 module _ {L : Type 0} (facts : LogFacts L) where
@@ -43,9 +43,9 @@ module _ {N L : Type 0} (state : N → NodeState) (steps : N → ℕ) (facts : L
   found_again : (m t : L) → IsReread facts m t → IsTrue facts.tells → facts.holds t (facts.records t)
   found_again m t r told = subst (λ (l : List (List ℕ)). facts.holds t l) (sym (r.same told)) r.holds
 
-  -- it stopped, and counts no fewer steps now than it had taken then
+  -- it stopped, and counts as many steps now as it had taken then
   abbrev pub Stopped : (i : Option Input) (s t : Seat N L) → Type 0
-  Stopped i s t = (x : IsStopped state steps facts i s t) × (x.count ≤ steps t.node)
+  Stopped i s t = (x : IsStopped state steps facts i s t) × (x.count ≡ steps t.node)
 
   -- it took a step, and its log was read again
   pub stopped_in_step : (i : Input) (mail : List Letter) (replies : List ToLink) (s m t : Seat N L) → is_last (steps s.node) (state s.node) i ≡ false
@@ -63,20 +63,29 @@ module _ {N L : Type 0} (state : N → NodeState) (steps : N → ℕ) (facts : L
     omega (arith, one, same),
   )
 
-  -- it took none
-  pub stopped_alone : (i : Option Input) (s m t : Seat N L) → m.log ≡ s.log → steps s.node ≤ steps m.node → IsReread facts m.log t.log
-      → steps t.node ≡ steps m.node → Stopped i s t
-  stopped_alone i s m t same no_fewer r counted = (
+  -- it took none, and stored nothing
+  stopped_so : (i : Option Input) (s m t : Seat N L) (count : ℕ) → StopsWith (state s.node) (steps s.node) i [] count → m.log ≡ s.log
+      → count ≡ steps m.node → IsReread facts m.log t.log → steps t.node ≡ steps m.node → Stopped i s t
+  stopped_so i s m t count how same as_many r counted = (
     record {
       more = [];
-      count = steps s.node;
-      how = stores_none i;
+      count = count;
+      how = how;
       readable = tt;
       kept = reread_call facts s.log m.log t.log [] (subst (λ (l : L). Appended (log_call facts s.log l) []) (sym same) (left_alone facts s.log)) r;
       holds = found_again m.log t.log r;
     },
-    omega (arith, no_fewer, counted),
+    as_many ∙ sym counted,
   )
+
+  pub stopped_alone : (i : Option Input) (s m t : Seat N L) → m.log ≡ s.log → steps m.node ≡ steps s.node → IsReread facts m.log t.log
+      → steps t.node ≡ steps m.node → Stopped i s t
+  stopped_alone i s m t same as_many r counted = stopped_so i s m t (steps s.node) (stores_none i) same (sym as_many) r counted
+
+  -- it was out of memory for the step
+  stopped_short : (i : Input) (s m t : Seat N L) → is_last (steps s.node) (state s.node) i ≡ false → m.log ≡ s.log → steps m.node ≡ steps s.node + 1
+      → IsReread facts m.log t.log → steps t.node ≡ steps m.node → Stopped (Some i) s t
+  stopped_short i s m t goes same one r counted = stopped_so (Some i) s m t (steps s.node + 1) (is_short i goes) same (sym one) r counted
 
   pub broken_in_step : (i : Input) (s t : Seat N L) → is_last (steps s.node) (state s.node) i ≡ false
       → StepBroken (state s.node) i (log_call facts s.log t.log) → IsStoppedAtDisk state steps facts (Some i) s t
@@ -100,8 +109,8 @@ module _ {N L : Type 0} (state : N → NodeState) (steps : N → ℕ) (facts : L
     whole = x.kept.whole;
   }
 
-  pub stopped_by : (fault : StepFault) (i : Option Input) (s t : Seat N L) → IsStopped state steps facts i s t
-      → ByStepFault fault (λ faults. IsStoppedAtDisk state steps facts i s t) (IsStopped state steps facts i s t)
+  pub stopped_by : (fault : NotTaken) (i : Option Input) (s t : Seat N L) → IsStopped state steps facts i s t
+      → ByNotTaken fault (λ faults. IsStoppedAtDisk state steps facts i s t) (IsStopped state steps facts i s t)
   stopped_by (Disk faults) i s t x = at_disk i s t x
   stopped_by Steps i s t x = x
   stopped_by Memory i s t x = x
@@ -116,24 +125,24 @@ module _ {N L : Type 0} (state : N → NodeState) (steps : N → ℕ) (facts : L
   }
 
   -- what the result of starting it again says, where it had stopped
-  module _ {X : Type 0} (i : Option Input) (s now : Seat N L) (told : Result X StepFault) where
-    pub again_started : (empty : DurableState) (result : Result X StepFault) (m t : Seat N L) → told ≡ result → now ≡ t → Stopped i s t
+  module _ {X : Type 0} (i : Option Input) (s now : Seat N L) (told : Result X NotTaken) where
+    pub again_started : (empty : DurableState) (result : Result X NotTaken) (m t : Seat N L) → told ≡ result → now ≡ t → Stopped i s t
         → IsReread facts m.log t.log → OnOk result (IsTrue facts.tells → IsOpenedAs empty (facts.records m.log) (state t.node))
         → OnOk told (IsStartedAgain state steps facts empty i s now)
     again_started empty (Ok x) m t same at stopped r opened =
-        subst (λ (n : Result X StepFault). OnOk n (IsStartedAgain state steps facts empty i s now)) (sym same)
+        subst (λ (n : Result X NotTaken). OnOk n (IsStartedAgain state steps facts empty i s now)) (sym same)
         (subst (λ (n : Seat N L). IsStartedAgain state steps facts empty i s n) (sym at) (started_on empty i s m t stopped r opened))
     again_started empty (Err fault) m t same at stopped r opened =
-        subst (λ (n : Result X StepFault). OnOk n (IsStartedAgain state steps facts empty i s now)) (sym same) tt
+        subst (λ (n : Result X NotTaken). OnOk n (IsStartedAgain state steps facts empty i s now)) (sym same) tt
 
-    abbrev Failed : Result X StepFault → Seat N L → Type 0
-    Failed result t = IfErr result (λ e. ByStepFault e (λ faults. IsStoppedAtDisk state steps facts i s t) (IsStopped state steps facts i s t))
+    abbrev Failed : Result X NotTaken → Seat N L → Type 0
+    Failed result t = IfErr result (λ e. ByNotTaken e (λ faults. IsStoppedAtDisk state steps facts i s t) (IsStopped state steps facts i s t))
 
-    failed_as : (result : Result X StepFault) (t : Seat N L) → told ≡ result → now ≡ t → Failed result t → Failed told now
+    failed_as : (result : Result X NotTaken) (t : Seat N L) → told ≡ result → now ≡ t → Failed result t → Failed told now
     failed_as result t same at failed =
-        subst (λ (n : Result X StepFault). Failed n now) (sym same) (subst (λ (n : Seat N L). Failed result n) (sym at) failed)
+        subst (λ (n : Result X NotTaken). Failed n now) (sym same) (subst (λ (n : Seat N L). Failed result n) (sym at) failed)
 
-    pub again_failed : (result : Result X StepFault) (t : Seat N L) → told ≡ result → now ≡ t → Stopped i s t → Failed told now
+    pub again_failed : (result : Result X NotTaken) (t : Seat N L) → told ≡ result → now ≡ t → Stopped i s t → Failed told now
     again_failed (Ok x) t same at stopped = failed_as (Ok x) t same at tt
     again_failed (Err fault) t same at stopped = failed_as (Err fault) t same at (stopped_by fault i s t stopped.0)
 
@@ -151,6 +160,11 @@ module _ {N L : Type 0} (state : N → NodeState) (steps : N → ℕ) (facts : L
         → IsReread facts m.log t.log → steps t.node ≡ steps m.node → Stopped (option_map (λ (j : I). meaning j) input) s t
     given_in_step mail replies d one r same =
         subst (λ (o : Option Input). Stopped o s t) (sym named) (stopped_in_step (meaning given) mail replies s m t goes d one r same)
+
+    pub given_short : m.log ≡ s.log → steps m.node ≡ steps s.node + 1 → IsReread facts m.log t.log → steps t.node ≡ steps m.node
+        → Stopped (option_map (λ (j : I). meaning j) input) s t
+    given_short unchanged one r same =
+        subst (λ (o : Option Input). Stopped o s t) (sym named) (stopped_short (meaning given) s m t goes unchanged one r same)
 
     pub broken_by : StepBroken (state s.node) (meaning given) (log_call facts s.log t.log)
         → IsStoppedAtDisk state steps facts (option_map (λ (j : I). meaning j) input) s t

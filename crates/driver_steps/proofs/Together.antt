@@ -1,6 +1,6 @@
 -- One step more, and what a crash leaves of all disks together.
 use Rattle.std.proofs.Common.{◌≡◌, ◌⊎◌, inl, inr, ℕ, zero, suc, ◌+◌, ◌<◌, ◌≤◌, List, [], ◌∷◌, ◌++◌, map, Bool, IsTrue, refl, sym, ap, subst, arith, ◌∙◌}
-use Rattle.std.proofs.Common.{append_assoc}
+use Rattle.std.proofs.Common.{append_assoc, append-nil}
 use Rattle.std.proofs.lemmas.Bool.{cases_lt}
 use Rattle.std.proofs.lemmas.List.{map-append}
 use Rattle.std.proofs.lemmas.Grind.{common_steps}
@@ -9,25 +9,20 @@ use Rattle.std.specs.List.{slice_get, slice_set}
 use Rattle.outside.specs.Logs.{LogFacts, WithOrWithout}
 use Rattle.outside.specs.Notes.{Note}
 use Rattle.node_model.specs.Journal.{Kept}
-use Rattle.node_model.specs.Letters.{Input, Letter}
+use Rattle.node_model.specs.Letters.{Input}
 use Rattle.node_model.specs.States.{NodeState}
-use Rattle.node_model.specs.World.{Held, Moves, World}
+use Rattle.node_model.specs.World.{Held, Misses, Moves, World, steps_after as steps_by}
 use Rattle.node_traits.specs.Calls.{IsWhole, LeavesThen, log_call}
-use Rattle.node_traits.specs.Effects.{ByStepFault, spellings}
-use Rattle.node_traits.specs.declared.outputs.StepFault.{StepFault}
-use Rattle.node_traits.specs.declared.outputs.StepFault.TheVariants.{Disk, Steps, Memory}
-use Rattle.node_traits.specs.declared.outputs.ToLink.{ToLink}
+use Rattle.node_traits.specs.Effects.{spellings}
+use Rattle.node_traits.proofs.Calls.{left_alone}
 use Rattle.driver_steps.specs.Crashes.{LeadsTo, Since}
 use Rattle.driver_steps.specs.Cuts.{Cut, IsRow, HasCuts, Between, MightLeave, OneMove, LeaveTogether}
-use Rattle.driver_steps.specs.Moves.{HasStepped, IsBroken}
-use Rattle.driver_steps.specs.OneSeat.{BreaksOn, StandsAt, StepsOn}
-use Rattle.driver_steps.specs.Seats.{AreDurableWhileOpen, AreHeld, AreOpen, Hosted, LeaveKept, notes_of, seat_since, since_noted}
+use Rattle.driver_steps.specs.Seats.{AreDurableWhileOpen, AreHeld, AreOpen, LeaveKept, notes_of, seat_since, since_noted}
 use Rattle.driver_steps.specs.Together.{AreFound, AreOfOne, TogetherSince, hosted, stored_in}
 use Rattle.driver_steps.specs.declared.seat.Seat.{Seat}
-use Rattle.driver_steps.proofs.Crashes.{leads_by, spellings_append, start_leaves}
+use Rattle.driver_steps.proofs.Crashes.{spellings_append, start_leaves}
 use Rattle.driver_steps.proofs.Cuts.{AreUpTo, along_as, along_then, along_up, between_up, earlier, has_cuts_more, has_cuts_then, moved_up, one_moved, up_to_then}
 use Rattle.driver_steps.proofs.Seats.{HeldAt, held_at, open_at}
-use Rattle.driver_steps.proofs.Stepping.{all_as_before, all_broken, all_stepped, since_on}
 
 -- LISTS
 
@@ -327,6 +322,29 @@ module _ {N L : Type 0} (facts : LogFacts L) where
           together_grows v w moves.f.written are held led whole
           (stored_with v w moves.old moves.new (moves.old.steps + 1) moves.f.written moves.here (ap (λ (x : World). x.nodes) moves.then) stored_old) same together
 
+    -- it took no step, and its log is as it was
+    pub together_missed : (v w : World) (i : Input) → AreOpen facts.is_open seats → AreHeld (seat_since state steps facts since) seats v.nodes
+        → Misses v at i w → LeadsTo v w → t.log ≡ s.log → TogetherSince facts since before seats v → TogetherSince facts since now (slice_set seats at t) w
+    together_missed v w i are held m led same together =
+        together_grows v w [] are held led whole
+        (stored_with v w m.old m.old.state (steps_by m.lack m.old.steps) [] m.here nodes stored) (ap facts.place same) together
+      where
+        whole : IsWhole (log_call facts s.log t.log) (spellings [])
+        whole = subst (λ (l : L). IsWhole (log_call facts s.log l) []) (sym same) (left_alone facts s.log).whole
+
+        nodes : w.nodes ≡ slice_set v.nodes at (record { state = m.old.state; kept = m.old.kept ++ []; steps = steps_by m.lack m.old.steps })
+        nodes =
+            ap (λ (x : World). x.nodes) m.then
+            ∙ ap (λ (l : List Kept). slice_set v.nodes at (record { state = m.old.state; kept = l; steps = steps_by m.lack m.old.steps }))
+            (sym (append-nil m.old.kept))
+
+        stored : facts.records s.log ≡ spellings m.old.kept
+        stored =
+            let place : HeldAt (seat_since state steps facts since s) v.nodes at = held_at (seat_since state steps facts since) seats v.nodes at s held got in
+            let both : Some place.old ≡ Some m.old = sym place.here ∙ m.here in
+            let one : place.old ≡ m.old = cc both in
+            place.is.written told ∙ ap (λ (h : Held). spellings h.kept) one
+
     -- its log is as it was
     pub together_stays : (w : World) → t.log ≡ s.log → TogetherSince facts since before seats w → TogetherSince facts since now (slice_set seats at t) w
     together_stays w same together = record {
@@ -341,42 +359,6 @@ module _ {N L : Type 0} (facts : LogFacts L) where
         as_before =
             sym (set_same (logs_of seats) at s.log (got_map (λ (z : Seat N L). z.log) seats at s got))
             ∙ (ap (λ (l : L). slice_set (logs_of seats) at l) (sym same) ∙ logs_set)
-
-  module _ (state : N → NodeState) (steps : N → ℕ) (shows : Bool) (since : Since L) (seats : List (Seat N L)) (at : ℕ) (s t : Seat N L) (before now : List Note) (length : ℕ)
-      (got : slice_get seats at ≡ Some s) (are : AreOpen facts.is_open seats) (durable : AreDurableWhileOpen facts (slice_set seats at t))
-      (taken : IsTrue shows → now ≡ (before ++ notes_of facts length (slice_set seats at t)) ++ notes_of facts length (slice_set seats at t))
-      (same : facts.place t.log ≡ facts.place s.log) (w : World) (i : Input) (held : AreHeld (seat_since state steps facts since) seats w.nodes)
-      (leave : LeaveKept (seat_since state steps facts since) (hosted shows facts since before seats) w) where
-    abbrev now_hosted : Hosted (Seat N L)
-    now_hosted = hosted shows facts since now (slice_set seats at t)
-
-    -- the node at a place took a step
-    pub node_stepped : (mail : List Letter) (replies : List ToLink)
-        → StepsOn (log_call facts s.log t.log) (seat_since state steps facts since t) w at i mail replies
-        → HasStepped (seat_since state steps facts since) now_hosted w at i mail replies
-    node_stepped mail replies o =
-        all_stepped (seat_since state steps facts since) (since_on state steps facts since) seats w at t i held leave.each now_hosted.together mail replies o.steps
-        (λ e event shown told.
-        together_steps state steps since seats at s t before now length told got durable (taken shown) w o.steps.end i are held o.steps.moves
-        (leads_by e w o.steps.end (event o.steps.end (inl o.steps.moves))) o.whole same (leave.together shown told))
-
-    -- it did not
-    pub node_failed : (fault : StepFault)
-        → ByStepFault fault (λ faults. BreaksOn (log_call facts s.log t.log) (seat_since state steps facts since t) w at i) (StandsAt (seat_since state steps facts since t) w at)
-        → ByStepFault fault (λ faults. Unit {0}) ((state t.node ≡ state s.node) × (t.log ≡ s.log))
-        → ByStepFault fault (λ faults. IsBroken (seat_since state steps facts since) now_hosted w at i)
-        (AreHeld (seat_since state steps facts since) (slice_set seats at t) w.nodes × LeaveKept (seat_since state steps facts since) now_hosted w)
-    node_failed (Disk faults) o unchanged =
-        all_broken (seat_since state steps facts since) (since_on state steps facts since) seats w at t i held leave.each now_hosted.together o.breaks
-        (λ e event shown told.
-        together_steps state steps since seats at s t before now length told got durable (taken shown) w o.breaks.last i are held o.breaks.moves
-        (leads_by e w o.breaks.last (event o.breaks.last (inl o.breaks.moves))) o.whole same (leave.together shown told))
-    node_failed Steps o unchanged =
-        all_as_before (seat_since state steps facts since) (since_on state steps facts since) seats w at t i held leave.each now_hosted.together o
-        (λ shown told. together_stays state steps since seats at s t before now length told got durable (taken shown) w unchanged.1 (leave.together shown told))
-    node_failed Memory o unchanged =
-        all_as_before (seat_since state steps facts since) (since_on state steps facts since) seats w at t i held leave.each now_hosted.together o
-        (λ shown told. together_stays state steps since seats at s t before now length told got durable (taken shown) w unchanged.1 (leave.together shown told))
 
   -- notes that are no cut
   pub together_noted : (since : Since L) (before more : List Note) (seats : List (Seat N L)) (w : World) → TogetherSince facts since before seats w

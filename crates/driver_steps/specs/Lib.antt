@@ -3,6 +3,7 @@ pub mod Cuts
 pub mod Seats
 pub mod Together
 pub mod Worlds
+pub mod Told
 pub mod Moves
 pub mod OneSeat
 pub mod Restarts

@@ -1,5 +1,5 @@
 -- A node that stops, and is started again on its journal, while a driver goes on (own).
-use Rattle.std.specs.Prelude.{◌≡◌, ℕ, ◌+◌, ◌≤◌, IsTrue, List, [], ◌∷◌, ◌++◌, false, Option, Some, None}
+use Rattle.std.specs.Prelude.{◌≡◌, ℕ, ◌+◌, IsTrue, List, [], ◌∷◌, ◌++◌, false, Option, Some, None}
 use Rattle.std.specs.List.{slice_get}
 use Rattle.outside.specs.Disks.{LeavesOnly}
 use Rattle.outside.specs.Logs.{LogFacts, WithOrWithout}
@@ -15,10 +15,10 @@ use Rattle.node_replay.specs.Restarts.{EventOrStop, whole_event, restart_event, 
 use Rattle.restart_laws.specs.Calls.{Reached}
 use Rattle.node_traits.specs.Calls.{Appended, IsWhole, log_call}
 use Rattle.node_traits.specs.Effects.{AreReadable, spellings}
-use Rattle.node_traits.specs.declared.outputs.StepFault.{StepFault}
+use Rattle.node_traits.specs.declared.outputs.NotTaken.{NotTaken}
 use Rattle.node_traits.specs.declared.outputs.ToLink.{ToLink}
 use Rattle.driver_steps.specs.Moves.{BeginWith, IsUpTo}
-use Rattle.driver_steps.specs.Seats.{Hosted, SeatView, AreHeld, AreKept, LeaveKept}
+use Rattle.driver_steps.specs.Seats.{Hosted, SeatView, AreCounted, AreHeld, AreKept, LeaveKept}
 use Rattle.driver_steps.specs.Worlds.{NetworkView, StandsFor, puts_given}
 use Rattle.driver_steps.specs.declared.seat.Seat.{Seat}
 
@@ -36,9 +36,10 @@ IsOpenedAs empty records state =
     (s : NodeState) (kept : List Kept) → empty_of s ≡ empty → AreReadable kept → records ≡ spellings kept → opened_on s kept ≡ Some state
 
 -- What a node stores with which it stops, and how many steps it has taken then: nothing, and as many as before; or the records of a step on the input, which is
--- not its last one, and one more.
+-- not its last one, and one more; or nothing, and one more, where it was out of memory for that step.
 pub data StopsWith (s : NodeState) (steps : ℕ) : Option Input → List Kept → (after : ℕ) → Type 0 where
   stores_none : (i : Option Input) → StopsWith s steps i [] steps
+  is_short : (i : Input) → is_last steps s i ≡ false → StopsWith s steps (Some i) [] (steps + 1)
   stores_step : (i : Input) (f : Effect) (reached : NodeState) → is_last steps s i ≡ false → Step s i f reached
       → StopsWith s steps (Some i) f.written (steps + 1)
 
@@ -55,7 +56,7 @@ pub record IsStopped {N L : Type 0} (state : N → NodeState) (steps : N → ℕ
 pub record IsStartedAgain {N L : Type 0} (state : N → NodeState) (steps : N → ℕ) (facts : LogFacts L) (empty : DurableState) (i : Option Input)
     (old new : Seat N L) : Type 0 where
   pub stopped : IsStopped state steps facts i old new
-  pub counted : stopped.count ≤ steps new.node
+  pub counted : stopped.count ≡ steps new.node
   pub opened : IsTrue facts.tells → IsOpenedAs empty (facts.records new.log) (state new.node)
 
 -- a disk failed: the log has what was to be stored, or not
@@ -99,14 +100,14 @@ stop_and_open at e = e ∷ whole_event (opened_event at) ∷ []
 abbrev pub BeginToStop : (at : ℕ) → Option Event → List EventOrStop → Type 0
 BeginToStop at e events = (x : EventOrStop) × StopsBy at e x × BeginWith events (stop_and_open at x)
 
--- The node at a place stopped and was started again, and no step was missed: what it sent or returned in the step in which it stopped was dropped.
+-- The node at a place stopped and was started again: what it sent or returned in the step in which it stopped was dropped.
 pub record HasStarted {S : Type 0} (view : S → SeatView) (hosted : Hosted S) (before : World) (at : ℕ) (e : Option Event) : Type 0 where
   pub stop : EventOrStop
   pub started : World
   pub which : StopsBy at e stop
   pub occurs : Occurs before stop started
-  pub none_missed : started.missed ≡ before.missed
   pub nodes : AreHeld view hosted.seats started.nodes
+  pub counted : AreCounted view hosted.seats started.nodes
   pub crashes : LeaveKept view hosted started
   pub sent : started.sent ≡ before.sent
   pub given : puts_given started.answered ≡ puts_given before.answered
@@ -118,17 +119,15 @@ pub record HasStartedAgain {S : Type 0} (view : S → SeatView) (hosted : Hosted
   pub end : World
   pub which : StopsBy at e stop
   pub run : RunWithStops before (stop_and_open at stop) end
-  pub none_missed : end.missed ≡ before.missed
   pub stands : StandsFor view hosted network handed end next
 
--- Events occurred, of which P holds, and no step was missed, and then a fault came: the logs keep what the journals keep, and of the nodes nothing is said.
+-- Events occurred, of which P holds, and then a fault came: the logs keep what the journals keep, and of the nodes nothing is said.
 -- Where a disk failed a crash may have left what one event more leaves, with which P holds too.
-pub record HasFailed {S : Type 0} (view : S → SeatView) (hosted : Hosted S) (before : World) (P : List EventOrStop → Type 0) (fault : StepFault) : Type 0 where
+pub record HasFailed {S : Type 0} (view : S → SeatView) (hosted : Hosted S) (before : World) (P : List EventOrStop → Type 0) (fault : NotTaken) : Type 0 where
   pub events : List EventOrStop
   pub end : World
   pub which : P events
   pub run : RunWithStops before events end
-  pub none_missed : end.missed ≡ before.missed
   pub kept : AreKept view hosted.seats end.nodes
   pub last : World
   pub up_to : IsUpTo fault end last ((e : EventOrStop) × P (events ++ e ∷ []) × Occurs end e last)

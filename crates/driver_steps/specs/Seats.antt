@@ -7,8 +7,8 @@ use Rattle.outside.specs.Notes.{Note}
 use Rattle.node_model.specs.Journal.{Kept}
 use Rattle.node_model.specs.States.{NodeState}
 use Rattle.node_model.specs.World.{Held, World}
-use Rattle.node_traits.specs.Effects.{AreReadable, ByStepFault, spellings}
-use Rattle.node_traits.specs.declared.outputs.StepFault.{StepFault}
+use Rattle.node_traits.specs.Effects.{AreReadable, ByNotTaken, spellings}
+use Rattle.node_traits.specs.declared.outputs.NotTaken.{NotTaken}
 use Rattle.driver_steps.specs.Crashes.{Since, leaves_kept}
 use Rattle.driver_steps.specs.declared.seat.Seat.{Seat}
 
@@ -75,6 +75,12 @@ AreHeld view [] [] = Unit {0}
 AreHeld view (s ∷ seats) (h ∷ held) = IsHeld (view s) h × AreHeld view seats held
 AreHeld view seats held = ⊥
 
+-- each has taken as many steps as its node in the world
+abbrev pub AreCounted : {S : Type 0} → (S → SeatView) → List S → List Held → Type 0
+AreCounted view [] [] = Unit {0}
+AreCounted view (s ∷ seats) (h ∷ held) = (h.steps ≡ (view s).steps) × AreCounted view seats held
+AreCounted view seats held = ⊥
+
 -- of the nodes that is not said, but the logs keep what the journals keep
 abbrev pub AreKept : {S : Type 0} → (S → SeatView) → List S → List Held → Type 0
 AreKept view [] [] = Unit {0}
@@ -82,8 +88,8 @@ AreKept view (s ∷ seats) (h ∷ held) = Keeps (view s) h.kept × AreKept view 
 AreKept view seats held = ⊥
 
 -- all where no disk failed, else what the logs keep
-abbrev pub AreHeldOrKept : {S : Type 0} → StepFault → (S → SeatView) → Hosted S → List Held → Type 0
-AreHeldOrKept fault view hosted held = ByStepFault fault (λ faults. AreKept view hosted.seats held) (AreHeld view hosted.seats held)
+abbrev pub AreHeldOrKept : {S : Type 0} → NotTaken → (S → SeatView) → Hosted S → List Held → Type 0
+AreHeldOrKept fault view hosted held = ByNotTaken fault (λ faults. AreKept view hosted.seats held) (AreHeld view hosted.seats held)
 
 -- what is said of crashes holds of each node of a world
 abbrev pub EachLeaves : {S : Type 0} → (S → SeatView) → List S → World → Type 0
@@ -115,9 +121,9 @@ abbrev pub HasMore : (before after : List Note) → Type 0
 HasMore before after = (more : List Note) × (after ≡ before ++ more)
 
 -- this holds but where a disk failed
-abbrev pub UnlessDiskFailed : {X : Type 0} → Result X StepFault → Type 0 → Type 0
+abbrev pub UnlessDiskFailed : {X : Type 0} → Result X NotTaken → Type 0 → Type 0
 UnlessDiskFailed (Ok x) holds = holds
-UnlessDiskFailed (Err fault) holds = ByStepFault fault (λ faults. Unit {0}) holds
+UnlessDiskFailed (Err fault) holds = ByNotTaken fault (λ faults. Unit {0}) holds
 
 -- how many steps are left to all nodes
 abbrev pub left_of : {N L : Type 0} → (N → ℕ) → List (Seat N L) → ℕ
@@ -138,6 +144,6 @@ pub record HaveRisen (before after : List ℕ) : Type 0 where
   pub none_fell : NoneFell before after
 
 -- one of the counts rose where a disk failed, and none fell; elsewhere all are as before
-abbrev pub TellsFaults : {X : Type 0} → Result X StepFault → (before after : List ℕ) → Type 0
+abbrev pub TellsFaults : {X : Type 0} → Result X NotTaken → (before after : List ℕ) → Type 0
 TellsFaults (Ok x) before after = after ≡ before
-TellsFaults (Err fault) before after = ByStepFault fault (λ faults. HaveRisen before after) (after ≡ before)
+TellsFaults (Err fault) before after = ByNotTaken fault (λ faults. HaveRisen before after) (after ≡ before)

@@ -4,7 +4,7 @@ use Rattle.node_model.specs.Exchanges.{Answered, reply_put}
 use Rattle.node_model.specs.Letters.{Letter}
 use Rattle.node_model.specs.World.{World}
 use Rattle.node_traits.specs.declared.outputs.ToLink.{ToLink}
-use Rattle.driver_steps.specs.Seats.{Hosted, SeatView, AreHeld, LeaveKept}
+use Rattle.driver_steps.specs.Seats.{Hosted, SeatView, AreCounted, AreHeld, LeaveKept}
 use Rattle.driver_steps.specs.declared.network.Network.{Network}
 
 -- what is put for answers, in order: nothing for a request with moreToCome
@@ -21,10 +21,11 @@ pub record NetworkView : Type 0 where
 abbrev pub network_view : {M : Type 0} → (M → Letter) → Network M → NetworkView
 network_view letter network = record { waiting = map letter network.waiting.items; replies = network.replies.items }
 
--- The nodes with their logs are those of the world, also as for crashes; of all messages that were sent those from a place on wait; and
--- the replies were given after those that were handed on.
+-- The nodes with their logs are those of the world, also as for crashes, and have taken as many steps; of all messages that were sent those from a place on wait;
+-- and the replies were given after those that were handed on.
 pub record StandsFor {S : Type 0} (view : S → SeatView) (hosted : Hosted S) (network : NetworkView) (handed : List ToLink) (w : World) (next : ℕ) : Type 0 where
   pub nodes : AreHeld view hosted.seats w.nodes
+  pub counted : AreCounted view hosted.seats w.nodes
   pub crashes : LeaveKept view hosted w
   pub past : List Letter
   pub sent : w.sent ≡ past ++ network.waiting

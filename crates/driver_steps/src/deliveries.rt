@@ -1,26 +1,27 @@
 //! Deliveries.
 
-ghost use Rattle.std.specs.Prelude.{◌≡◌, ℕ, ◌+◌, ◌⊎◌, Some, List, [], ◌∷◌, vec_len, IfErr, OnOk, IsTrue};
+ghost use Rattle.std.specs.Prelude.{◌≡◌, ℕ, Some, List, [], ◌∷◌, map, vec_len, IfErr, OnOk, IsTrue};
 ghost use Rattle.std.specs.List.{slice_get};
 ghost use Rattle.node_model.specs.World.{World, deliver_event};
 ghost use Rattle.node_traits.specs.declared.outputs.ToLink.{ToLink};
 ghost use Rattle.driver_steps.specs.Crashes.{Since};
 ghost use Rattle.driver_steps.specs.Seats.{AreOpen, TellsFaults, UnlessDiskFailed, HasMore, faults_of, left_of, places_of, seat_since};
-ghost use Rattle.driver_steps.specs.Moves.{AreDeliveries, BeginWith, HasDelivered, HasSettled, HasStopped};
+ghost use Rattle.driver_steps.specs.Moves.{AreDeliveries, BeginWith, HasDelivered, HasSettled, HasStopped, IsLess, cost_of};
 ghost use Rattle.driver_steps.specs.Together.{hosted};
 ghost use Rattle.driver_steps.specs.Worlds.{StandsFor, network_view};
 
 use crate::network::Network;
 use crate::seat::Seat;
 use crate::steps::happen;
-use node_traits::{Mail, Node, StepFault};
+use node_traits::{Mail, Node, NotTaken};
 use outside::log::Log;
 use outside::witness::Witness;
 use std::alloc::Global;
 use std::marker::Sync;
 use std::thread::Threads;
 
-/// Delivers a message that was sent, also where it was delivered before. One that goes to no node is lost.
+/// Delivers a message that was sent, also where it was delivered before. One that goes to no node is lost. One step less is left then, or as many, and what waits
+/// costs less than before with this message.
 ///
 /// # Errors
 /// As `happen` has them.
@@ -31,7 +32,7 @@ pub fn deliver<R: Threads + Sync, N: Node, L: Log, K: Witness<L::Of>>(
     out: &mut K,
     network: &mut Network<N::Mail>,
     message: N::Mail,
-) -> Result<(), StepFault>
+) -> Result<(), NotTaken>
     requires { AreOpen L.facts.is_open seats.old.items }
     ensures delivered { (since : Since L) (w : World) (next which : ℕ) (handed : List ToLink) →
         StandsFor (seat_since N.state N.steps L.facts since) (hosted K.tells L.facts since (K.noted out.old) seats.old.items)
@@ -47,8 +48,9 @@ pub fn deliver<R: Threads + Sync, N: Node, L: Log, K: Witness<L::Of>>(
         network.new.replies.items handed w (λ events. BeginWith events (deliver_event (N.Mail.letter message).receiver which ∷ [])) e) }
     ensures len { vec_len seats.new ≡ vec_len seats.old }
     ensures open { UnlessDiskFailed result (AreOpen L.facts.is_open seats.new.items) }
-    ensures falls { OnOk result ((left_of N.steps seats.new.items + 1 ≡ left_of N.steps seats.old.items) ⊎
-        ((left_of N.steps seats.new.items ≡ left_of N.steps seats.old.items) × (network.new.waiting.items ≡ network.old.waiting.items))) }
+    ensures falls { OnOk result (IsLess (left_of N.steps seats.old.items) (left_of N.steps seats.new.items)
+        (map (λ m. N.Mail.letter m) network.old.waiting.items) (cost_of (N.Mail.letter message).body) (map (λ m. N.Mail.letter m) network.new.waiting.items)) }
+    ensures sends { OnOk result (BeginWith network.old.waiting.items network.new.waiting.items) }
 
     // Of the sink: notes alone.
     ensures held { K.held out.new ≡ K.held out.old }
@@ -79,7 +81,7 @@ pub fn settle<R: Threads + Sync, N: Node, L: Log, K: Witness<L::Of>>(
     seats: &mut Vec<Seat<N, L>>,
     out: &mut K,
     network: &mut Network<N::Mail>,
-) -> Result<(), StepFault>
+) -> Result<(), NotTaken>
     requires { AreOpen L.facts.is_open seats.old.items }
     ensures settled { (since : Since L) (w : World) (next : ℕ) (handed : List ToLink) →
         StandsFor (seat_since N.state N.steps L.facts since) (hosted K.tells L.facts since (K.noted out.old) seats.old.items)

@@ -3,10 +3,10 @@
 ghost use Rattle.std.specs.Prelude.{◌≡◌, ℕ, ◌<◌, List, Option, vec_len, IfErr, IsTrue, OnOk};
 ghost use Rattle.std.specs.Option.{option_map};
 ghost use Rattle.node_model.specs.World.{Event, World};
-ghost use Rattle.node_traits.specs.Effects.{ByStepFault};
+ghost use Rattle.node_traits.specs.Effects.{ByNotTaken};
 ghost use Rattle.node_traits.specs.declared.outputs.ToLink.{ToLink};
 ghost use Rattle.driver_steps.specs.Crashes.{Since};
-ghost use Rattle.driver_steps.specs.Seats.{AreHeld, AreOpen, LeaveKept, TellsFaults, UnlessDiskFailed, HasMore, faults_of, places_of, seat_since};
+ghost use Rattle.driver_steps.specs.Seats.{AreCounted, AreHeld, AreOpen, LeaveKept, TellsFaults, UnlessDiskFailed, HasMore, faults_of, places_of, seat_since};
 ghost use Rattle.driver_steps.specs.OneSeat.{TellsFault};
 ghost use Rattle.driver_steps.specs.Restarts.{
   BeginToStop,
@@ -29,7 +29,7 @@ use crate::notes::note_cut;
 use crate::opens::Opens;
 use crate::seat::Seat;
 use crate::steps::happen;
-use node_traits::{Node, StepFault};
+use node_traits::{Node, NotTaken, StepFault};
 use outside::log::{Log, LogFault};
 use outside::witness::Witness;
 use std::alloc::Global;
@@ -37,13 +37,13 @@ use std::alloc::Global;
 /// The records of the log are read again, and the node is opened on them. It counts its steps on.
 ///
 /// # Errors
-/// `StepFault::Disk` only if the disk of the log met a fault.
+/// `NotTaken::Disk` only if the disk of the log met a fault.
 fn start_again<N: Node, L: Log, O: Opens<N, L>>(
     opener: &O,
     alloc: Global,
     seat: &mut Seat<N, L>,
     at: usize,
-) -> Result<(), StepFault>
+) -> Result<(), NotTaken>
     requires { IsTrue (L.facts.is_open seat.old.log) }
     ensures reread { IsReread L.facts seat.old.log seat.new.log }
     ensures opened { OnOk result (IsTrue L.facts.tells → IsOpenedAs (O.part opener.now at) (L.facts.records seat.old.log) (N.state seat.new.node)) }
@@ -54,8 +54,8 @@ fn start_again<N: Node, L: Log, O: Opens<N, L>>(
 {
     let records = match opener.reopen(&mut seat.log) {
         Ok(records) => records,
-        Err(LogFault::Disk { faults }) => return Err(StepFault::Disk { faults }),
-        Err(LogFault::Memory) => return Err(StepFault::Memory),
+        Err(LogFault::Disk { faults }) => return Err(NotTaken::Disk { faults }),
+        Err(LogFault::Memory) => return Err(NotTaken::Memory),
     };
     match opener.node(alloc, at, records) {
         Ok(mut node) => {
@@ -63,7 +63,7 @@ fn start_again<N: Node, L: Log, O: Opens<N, L>>(
             seat.node = node;
             Ok(())
         }
-        Err(_) => Err(StepFault::Memory),
+        Err(_) => Err(NotTaken::Memory),
     }
 }
 
@@ -71,17 +71,17 @@ fn start_again<N: Node, L: Log, O: Opens<N, L>>(
 /// can't take the step it stops before it.
 ///
 /// # Errors
-/// `StepFault::Disk` only if the disk of the log met a fault.
+/// `NotTaken::Disk` only if the disk of the log met a fault.
 fn stop_seat<N: Node, L: Log, O: Opens<N, L>>(
     opener: &O,
     alloc: Global,
     seat: &mut Seat<N, L>,
     at: usize,
     input: Option<N::Input>,
-) -> Result<(), StepFault>
+) -> Result<(), NotTaken>
     requires { IsTrue (L.facts.is_open seat.old.log) }
     ensures started { OnOk result (IsStartedAgain N.state N.steps L.facts (O.part opener.now at) (option_map (λ i. N.meaning i) input) seat.old seat.new) }
-    ensures failed { IfErr result (λ e. ByStepFault e
+    ensures failed { IfErr result (λ e. ByNotTaken e
         (λ faults. IsStoppedAtDisk N.state N.steps L.facts (option_map (λ i. N.meaning i) input) seat.old seat.new)
         (IsStopped N.state N.steps L.facts (option_map (λ i. N.meaning i) input) seat.old seat.new)) }
     ensures open { UnlessDiskFailed result (IsTrue (L.facts.is_open seat.new.log)) }
@@ -91,9 +91,9 @@ fn stop_seat<N: Node, L: Log, O: Opens<N, L>>(
     match input {
         Some(input) => match seat.node.step(&mut seat.log, input) {
             Ok(_) => start_again(opener, alloc, seat, at),
-            Err(StepFault::Disk { faults }) => Err(StepFault::Disk { faults }),
-            Err(StepFault::Steps) => start_again(opener, alloc, seat, at),
-            Err(StepFault::Memory) => start_again(opener, alloc, seat, at),
+            Err(StepFault::Disk { faults }) => Err(NotTaken::Disk { faults }),
+            Err(StepFault::Steps { .. }) => start_again(opener, alloc, seat, at),
+            Err(StepFault::Memory { .. }) => start_again(opener, alloc, seat, at),
         },
         None => start_again(opener, alloc, seat, at),
     }
@@ -102,7 +102,7 @@ fn stop_seat<N: Node, L: Log, O: Opens<N, L>>(
 /// The node at a place stops and is started again, as `stop_seat` has it. Then the disks of all are shown to the sink, in a cut.
 ///
 /// # Errors
-/// `StepFault::Disk` only if the disk of that node's log met a fault.
+/// `NotTaken::Disk` only if the disk of that node's log met a fault.
 fn stop_node<N: Node, L: Log, K: Witness<L::Of>, O: Opens<N, L>>(
     opener: &O,
     alloc: Global,
@@ -110,12 +110,13 @@ fn stop_node<N: Node, L: Log, K: Witness<L::Of>, O: Opens<N, L>>(
     out: &mut K,
     at: usize,
     input: Option<N::Input>,
-) -> Result<(), StepFault>
+) -> Result<(), NotTaken>
     requires at { at < vec_len seats.old }
     requires open { AreOpen L.facts.is_open seats.old.items }
     ensures started { IsTrue L.facts.tells → (since : Since L) (w : World) (e : Option Event) →
         MayStop (O.part opener.now) w → MayGive w at e (option_map (λ i. N.meaning i) input) →
         AreHeld (seat_since N.state N.steps L.facts since) seats.old.items w.nodes →
+        AreCounted (seat_since N.state N.steps L.facts since) seats.old.items w.nodes →
         LeaveKept (seat_since N.state N.steps L.facts since) (hosted K.tells L.facts since (K.noted out.old) seats.old.items) w →
         OnOk result (HasStarted (seat_since N.state N.steps L.facts since) (hosted K.tells L.facts since (K.noted out.new) seats.new.items) w at e) }
     ensures failed { IsTrue L.facts.tells → (since : Since L) (w : World) (e : Option Event) →
@@ -152,7 +153,7 @@ fn stop_node<N: Node, L: Log, K: Witness<L::Of>, O: Opens<N, L>>(
 /// is dropped. Where it can't take that step, or no memory is found for it, it stops before it.
 ///
 /// # Errors
-/// `StepFault::Disk` only if a disk met a fault. As `happen` has them of the step in which it is opened; `StepFault::Memory` also if memory runs out while the
+/// `NotTaken::Disk` only if a disk met a fault. As `happen` has them of the step in which it is opened; `NotTaken::Memory` also if memory runs out while the
 /// journal is read.
 pub fn restart<N: Node, L: Log, K: Witness<L::Of>, O: Opens<N, L>>(
     opener: &O,
@@ -162,7 +163,7 @@ pub fn restart<N: Node, L: Log, K: Witness<L::Of>, O: Opens<N, L>>(
     network: &mut Network<N::Mail>,
     at: usize,
     input: Option<N::Input>,
-) -> Result<(), StepFault>
+) -> Result<(), NotTaken>
     requires at { at < vec_len seats.old }
     requires open { AreOpen L.facts.is_open seats.old.items }
     ensures started { IsTrue L.facts.tells → (since : Since L) (w : World) (next : ℕ) (handed : List ToLink) (e : Option Event) →

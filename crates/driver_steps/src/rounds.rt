@@ -12,8 +12,8 @@ ghost use Rattle.driver_steps.specs.Worlds.{StandsFor, network_view};
 
 use crate::network::Network;
 use crate::seat::Seat;
-use crate::steps::happen;
-use node_traits::{Node, StepFault};
+use crate::steps::{happen, step_node};
+use node_traits::{Node, NotTaken};
 use outside::log::Log;
 use outside::witness::Witness;
 
@@ -25,7 +25,7 @@ pub fn open_all<N: Node, L: Log, K: Witness<L::Of>>(
     seats: &mut Vec<Seat<N, L>>,
     out: &mut K,
     network: &mut Network<N::Mail>,
-) -> Result<(), StepFault>
+) -> Result<(), NotTaken>
     requires { AreOpen L.facts.is_open seats.old.items }
     ensures opened { (since : Since L) (w : World) (next : ℕ) (handed : List ToLink) →
         StandsFor (seat_since N.state N.steps L.facts since) (hosted K.tells L.facts since (K.noted out.old) seats.old.items)
@@ -69,7 +69,7 @@ pub fn give_moments<N: Node, L: Log, K: Witness<L::Of>>(
     out: &mut K,
     network: &mut Network<N::Mail>,
     moment: u64,
-) -> Result<(), StepFault>
+) -> Result<(), NotTaken>
     requires { AreOpen L.facts.is_open seats.old.items }
     ensures given { (since : Since L) (w : World) (next : ℕ) (handed : List ToLink) →
         StandsFor (seat_since N.state N.steps L.facts since) (hosted K.tells L.facts since (K.noted out.old) seats.old.items)
@@ -114,7 +114,7 @@ pub fn give_moment<N: Node, L: Log, K: Witness<L::Of>>(
     network: &mut Network<N::Mail>,
     at: usize,
     moment: u64,
-) -> Result<(), StepFault>
+) -> Result<(), NotTaken>
     requires at { at < vec_len seats.old }
     requires open { AreOpen L.facts.is_open seats.old.items }
     ensures given { (since : Since L) (w : World) (next : ℕ) (handed : List ToLink) →
@@ -148,7 +148,9 @@ pub fn give_moment<N: Node, L: Log, K: Witness<L::Of>>(
 /// Passes a request to the router at a place, on a link; the number is that of its reply.
 ///
 /// # Errors
-/// As `happen` has them.
+/// - `NotTaken::Disk` only if the disk of that node's log met a fault.
+/// - `NotTaken::Steps` if the router is at its last step, and `NotTaken::Memory` if it is out of memory: the request is not taken, and not answered.
+/// - `NotTaken::Memory` also if memory runs out for messages or replies.
 pub fn ask<N: Node, L: Log, K: Witness<L::Of>>(
     seats: &mut Vec<Seat<N, L>>,
     out: &mut K,
@@ -157,7 +159,7 @@ pub fn ask<N: Node, L: Log, K: Witness<L::Of>>(
     link: u32,
     number: i32,
     request: N::Request,
-) -> Result<(), StepFault>
+) -> Result<(), NotTaken>
     requires at { at < vec_len seats.old }
     requires open { AreOpen L.facts.is_open seats.old.items }
     ensures asked { (since : Since L) (w : World) (next : ℕ) (handed : List ToLink) →
@@ -184,8 +186,12 @@ pub fn ask<N: Node, L: Log, K: Witness<L::Of>>(
     ensures faults { TellsFaults result (faults_of L.facts.fault_count seats.old.items) (faults_of L.facts.fault_count seats.new.items) }
     ensures places { places_of L.facts.place seats.new.items ≡ places_of L.facts.place seats.old.items }
 {
-    match happen(seats, out, network, at, N::client(link, number, request)) {
+    let outputs = match step_node(seats, out, at, N::client(link, number, request)) {
+        Ok(outputs) => outputs,
+        Err(e) => return Err(e.cause()),
+    };
+    match network.take(outputs) {
         Ok(()) => Ok(()),
-        Err(e) => Err(e),
+        Err(_) => Err(NotTaken::Memory),
     }
 }

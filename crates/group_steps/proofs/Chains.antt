@@ -12,9 +12,9 @@ use Rattle.node_model.specs.Steps.{Step}
 use Rattle.node_model.specs.World.{Held, World, Moves, after, is_given, tick}
 use Rattle.node_model.proofs.Journals.{journal_got}
 use Rattle.node_traits.specs.Calls.{Appended, LeftOff, LogCall, log_call}
-use Rattle.node_traits.specs.Effects.{AreReadable, ByStepFault, StepDone, puts_of, spellings}
-use Rattle.node_traits.specs.declared.outputs.StepFault.{StepFault}
-use Rattle.node_traits.specs.declared.outputs.StepFault.TheVariants.{Disk, Steps, Memory}
+use Rattle.node_traits.specs.Effects.{AreReadable, ByNotTaken, StepDone, puts_of, spellings}
+use Rattle.node_traits.specs.declared.outputs.NotTaken.{NotTaken}
+use Rattle.node_traits.specs.declared.outputs.NotTaken.TheVariants.{Disk, Steps, Memory}
 use Rattle.driver_steps.specs.declared.seat.Seat.{Seat}
 use Rattle.driver_steps.specs.Crashes.{Since, LeadsTo, leaves_kept}
 use Rattle.driver_steps.specs.OneSeat.{StandsAt}
@@ -209,7 +209,7 @@ module _ {N L : Type 0} (state : N → NodeState) (steps : N → ℕ) (facts : L
     crashes = λ on. subst (λ (l : L). leaves_kept facts since l at reached.end) (sym same) (leaves_on facts since s.log at w reached.end stands.leaves on);
   }
 
-  pub breaks_all : (fault : StepFault) → ByStepFault fault (λ faults. LeftOff (log_call facts s.log t.log) records) (t.log ≡ s.log)
+  pub breaks_all : (fault : NotTaken) → ByNotTaken fault (λ faults. LeftOff (log_call facts s.log t.log) records) (t.log ≡ s.log)
       → BreaksAll view w at parts
   breaks_all (Disk faults) left =
       let more : LeftOff (log_call facts s.log t.log) (spellings c.written) =

@@ -7,8 +7,8 @@ use Rattle.outside.specs.Logs.{LogFacts}
 use Rattle.node_model.specs.Letters.{Letter, Input}
 use Rattle.node_model.specs.States.{NodeState}
 use Rattle.node_traits.specs.Calls.{LeftOff, log_call}
-use Rattle.node_traits.specs.Effects.{ByStepFault}
-use Rattle.node_traits.specs.declared.outputs.StepFault.{StepFault}
+use Rattle.node_traits.specs.Effects.{ByNotTaken}
+use Rattle.node_traits.specs.declared.outputs.NotTaken.{NotTaken}
 use Rattle.driver_steps.specs.declared.seat.Seat.{Seat}
 use Rattle.group_steps.specs.Collected.{Collects}
 use Rattle.group_steps.specs.Groups as groups
@@ -63,9 +63,9 @@ on_means letter meaning all (p ∷ parts) on =
 
 -- the records of the steps were not appended
 pub group_broken : {N L M I : Type 0} (state : N → NodeState) (steps : N → ℕ) (facts : LogFacts L) (letter : M → Letter) (meaning : I → Input) (inputs : List I)
-    (s t : Seat N L) (parts : List (Part M I)) (records : List (List ℕ)) (fault : StepFault)
+    (s t : Seat N L) (parts : List (Part M I)) (records : List (List ℕ)) (fault : NotTaken)
     → Collects (state s.node) (steps s.node) (parts_of letter meaning parts) records (state t.node) (steps t.node) → AreOn inputs parts
-    → ByStepFault fault (λ faults. LeftOff (log_call facts s.log t.log) records) (t.log ≡ s.log) → AreBroken state steps facts meaning inputs s t
+    → ByNotTaken fault (λ faults. LeftOff (log_call facts s.log t.log) records) (t.log ≡ s.log) → AreBroken state steps facts meaning inputs s t
 group_broken state steps facts letter meaning inputs s t parts records fault c on left = record {
   parts = parts_of letter meaning parts;
   on = on_means letter meaning inputs parts on;
@@ -98,7 +98,7 @@ more_out {M} {I} inputs left input rest parts all out first grown =
     ∙ ap (λ (l : List I). l ++ rest) (sym grown)))
 
 -- no step was taken on it
-pub one_lost : {M I : Type 0} (inputs left : List I) (input : I) (rest : List I) (parts all : List (Part M I)) (fault : StepFault)
+pub one_lost : {M I : Type 0} (inputs left : List I) (input : I) (rest : List I) (parts all : List (Part M I)) (fault : NotTaken)
     → inputs ≡ inputs_of parts ++ left → left ≡ input ∷ rest → all ≡ parts → AreTakenOut inputs all (Some fault) rest
 one_lost {M} {I} inputs left input rest parts all fault out first same = (
   input ∷ [],

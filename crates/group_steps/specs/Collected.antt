@@ -4,8 +4,8 @@ use Rattle.outside.specs.Logs.{LogFacts}
 use Rattle.node_model.specs.Journal.{Kept}
 use Rattle.node_model.specs.States.{NodeState}
 use Rattle.node_traits.specs.Effects.{spellings}
-use Rattle.node_traits.specs.declared.outputs.StepFault.{StepFault}
-use Rattle.node_traits.specs.declared.outputs.StepFault.TheVariants.{Disk as disk_of_step, Steps, Memory as memory_of_step}
+use Rattle.node_traits.specs.declared.outputs.NotTaken.{NotTaken}
+use Rattle.node_traits.specs.declared.outputs.NotTaken.TheVariants.{Disk as disk_of_step, Steps, Memory as memory_of_step}
 use Rattle.group_steps.specs.Groups.{Leads, Part}
 use Rattle.group_steps.specs.declared.fault.GroupFault.{GroupFault}
 use Rattle.group_steps.specs.declared.fault.GroupFault.TheVariants.{Disk, Memory}
@@ -33,7 +33,7 @@ collected_facts records moment place = record {
 }
 
 -- the fault of an append, as that of a group
-abbrev pub fault_of : StepFault → GroupFault
+abbrev pub fault_of : NotTaken → GroupFault
 fault_of (disk_of_step faults) = Disk faults
 fault_of Steps = Memory
 fault_of memory_of_step = Memory

@@ -5,7 +5,7 @@ use Rattle.node_model.specs.Letters.{Letter, Input}
 use Rattle.node_model.specs.States.{NodeState}
 use Rattle.node_model.specs.World.{World}
 use Rattle.outside.specs.Logs.{LogFacts}
-use Rattle.node_traits.specs.declared.outputs.StepFault.{StepFault}
+use Rattle.node_traits.specs.declared.outputs.NotTaken.{NotTaken}
 use Rattle.driver_steps.specs.Crashes.{Since}
 use Rattle.driver_steps.specs.OneSeat.{StandsAt}
 use Rattle.driver_steps.specs.Seats.{seat_since}
@@ -34,12 +34,12 @@ abbrev pub AreLeft : {I : Type 0} → (inputs left : List I) → Type 0
 AreLeft {I} inputs left = (front : List I) × (inputs ≡ front ++ left)
 
 -- one input where a step was not taken, else none
-abbrev pub IsLost : {I : Type 0} → Option StepFault → (lost : List I) → Type 0
+abbrev pub IsLost : {I : Type 0} → Option NotTaken → (lost : List I) → Type 0
 IsLost None lost = lost ≡ []
 IsLost {I} (Some fault) lost = (input : I) × (lost ≡ input ∷ [])
 
 -- These steps were taken on the first of the inputs, in order; the next one was lost where the step on it was not taken; and the others are left.
-abbrev pub AreTakenOut : {M I : Type 0} → (inputs : List I) → List (Part M I) → Option StepFault → (left : List I) → Type 0
+abbrev pub AreTakenOut : {M I : Type 0} → (inputs : List I) → List (Part M I) → Option NotTaken → (left : List I) → Type 0
 AreTakenOut {M} {I} inputs parts fault left = (lost : List I) × IsLost fault lost × (inputs ≡ map (λ p. p.input.value) parts ++ (lost ++ left))
 
 -- one fact where a disk failed, with its count of faults, and another where memory ran out

@@ -3,7 +3,7 @@
 ghost use Rattle.std.specs.Prelude.{◌≡◌};
 ghost use Rattle.group_steps.specs.Collected.{fault_of};
 
-use node_traits::StepFault;
+use node_traits::NotTaken;
 
 /// Why the records of several steps were not appended. The node has taken the steps in memory, so that it must be opened again from its log.
 #[derive(Clone, Copy, Debug, PartialEq, Eq)]
@@ -16,13 +16,13 @@ pub enum GroupFault {
 
 impl GroupFault {
     /// Returns the fault of an append, which is never that of a last step.
-    pub(crate) fn of(fault: StepFault) -> GroupFault
+    pub(crate) fn of(fault: NotTaken) -> GroupFault
         ensures { result ≡ fault_of fault }
     {
         match fault {
-            StepFault::Disk { faults } => GroupFault::Disk { faults },
-            StepFault::Steps => GroupFault::Memory,
-            StepFault::Memory => GroupFault::Memory,
+            NotTaken::Disk { faults } => GroupFault::Disk { faults },
+            NotTaken::Steps => GroupFault::Memory,
+            NotTaken::Memory => GroupFault::Memory,
         }
     }
 }

@@ -14,7 +14,7 @@ use crate::collected::Collected;
 use crate::fault::GroupFault;
 use crate::records::Records;
 use driver_steps::Seat;
-use node_traits::{Node, Outputs, StepFault, append_records};
+use node_traits::{Node, NotTaken, Outputs, append_records};
 use outside::disk::Disk;
 use outside::log::Log;
 use std::alloc::Global;
@@ -38,19 +38,19 @@ pub struct Part<M: Drop, I> {
 #[derive(Drop)]
 pub struct Group<M: Drop, I> {
     pub parts: Vec<Part<M, I>>,
-    pub fault: Option<StepFault>,
+    pub fault: Option<NotTaken>,
 }
 
-/// Takes one step on the input, in memory, and adds it to the others.
+/// Takes one step on the input, in memory, and adds it to the others. What is returned of a step that is not taken is dropped.
 ///
 /// # Errors
-/// The fault of the step, `StepFault::Memory` also where memory runs out for a place among the others: no step was taken.
+/// Why the step was not taken, `NotTaken::Memory` also where memory runs out for a place among the others: no step was taken.
 fn step_on<N: Node, D: Disk>(
     node: &mut N,
     collected: &mut Collected<'_, D>,
     parts: &mut Vec<Part<N::Mail, N::Input>>,
     input: N::Input,
-) -> Result<(), StepFault>
+) -> Result<(), NotTaken>
     ensures led { (s : NodeState) (n : ℕ) →
         Collects s n (parts_of (λ m. N.Mail.letter m) N.meaning parts.old.items) collected.old.records (N.state node.old) (N.steps node.old) →
         Collects s n (parts_of (λ m. N.Mail.letter m) N.meaning parts.new.items) collected.new.records (N.state node.new) (N.steps node.new) }
@@ -62,7 +62,7 @@ fn step_on<N: Node, D: Disk>(
 {
     match parts.reserve(1) {
         Ok(()) => {}
-        Err(_) => return Err(StepFault::Memory),
+        Err(_) => return Err(NotTaken::Memory),
     }
     let taken = Snapshot::of(&input);
     match node.step(collected, input) {
@@ -73,7 +73,7 @@ fn step_on<N: Node, D: Disk>(
             });
             Ok(())
         }
-        Err(e) => Err(e),
+        Err(e) => Err(e.cause()),
     }
 }
 

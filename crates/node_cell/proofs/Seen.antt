@@ -5,7 +5,7 @@ use Rattle.std.specs.List.{AllByRecursion}
 use Rattle.std.proofs.lemmas.List.{length-map}
 use Rattle.std.proofs.lemmas.Option.{none-some, same_Some}
 use Rattle.node_model.specs.Letters.{Letter, Input}
-use Rattle.node_traits.specs.declared.outputs.StepFault.{StepFault}
+use Rattle.node_traits.specs.declared.outputs.NotTaken.{NotTaken}
 use Rattle.node_traits.specs.declared.outputs.ToLink.{ToLink}
 use Rattle.group_steps.specs.declared.group.Part.{Part}
 use Rattle.group_steps.specs.Parts.{Among, AreLeft, AreOn, AreTakenOut}
@@ -155,7 +155,7 @@ deliveries_on {M} {I} meaning messages inputs steps all on =
     (λ s there. all_at (λ i. Delivers meaning messages i) inputs there.0 s.taken.input there.1 all) on
 
 -- each step was taken on an input of its own
-pub out_count : {M I : Type 0} (inputs : List I) (parts : List (Part M I)) (fault : Option StepFault) (left : List I) → AreTakenOut inputs parts fault left
+pub out_count : {M I : Type 0} (inputs : List I) (parts : List (Part M I)) (fault : Option NotTaken) (left : List I) → AreTakenOut inputs parts fault left
     → length parts + length left ≤ length inputs
 out_count {M} {I} inputs parts fault left (lost, which, is) =
     let all : length inputs ≡ length (map (λ (p : Part M I). p.input.value) parts ++ (lost ++ left)) = ap (λ (l : List I). length l) is in

@@ -16,7 +16,7 @@ use crate::numbers::Book;
 use crate::view::{Numbering, Pass, Placed};
 use bson_values::Memory;
 use group_steps::{Group, Part};
-use node_traits::{Node, StepFault};
+use node_traits::{Node, NotTaken};
 use outside::log::Log;
 use std::alloc::Global;
 use std::collections::VecDeque;
@@ -38,7 +38,7 @@ impl<N: Node, L: Log, K: Numbering> Delivered<N, L, K> {
     {
         Delivered {
             steps: Vec::new(alloc),
-            fault: Some(CellFault::NotTaken(StepFault::Memory)),
+            fault: Some(CellFault::NotTaken(NotTaken::Memory)),
         }
     }
 }
@@ -171,7 +171,7 @@ pub(crate) fn take_one<N: Node, L: Log, K: Numbering, R: Wait>(
 {
     let mut inputs = match VecDeque::with_capacity(alloc, 1) {
         Ok(inputs) => inputs,
-        Err(_) => return Err(CellFault::NotTaken(StepFault::Memory)),
+        Err(_) => return Err(CellFault::NotTaken(NotTaken::Memory)),
     };
     inputs.push_back_reserved(input);
     let at = placed.at;
@@ -180,7 +180,7 @@ pub(crate) fn take_one<N: Node, L: Log, K: Numbering, R: Wait>(
             let Group { parts, fault } = group;
             match VecDeque::from_vec(parts).pop_front() {
                 Some(part) => Ok(stepped(book, pass, number, at, part)),
-                None => Err(CellFault::NotTaken(fault.unwrap_or(StepFault::Memory))),
+                None => Err(CellFault::NotTaken(fault.unwrap_or(NotTaken::Memory))),
             }
         }
         Err(halt) => Err(CellFault::Halted(halt)),
@@ -191,10 +191,10 @@ pub(crate) fn take_one<N: Node, L: Log, K: Numbering, R: Wait>(
 ///
 /// # Errors
 /// A fault that each step after it would meet too.
-fn passed_over(fault: Option<StepFault>) -> Result<Option<CellFault>, CellFault> {
+fn passed_over(fault: Option<NotTaken>) -> Result<Option<CellFault>, CellFault> {
     match fault {
         None => Ok(None),
-        Some(StepFault::Memory) => Ok(Some(CellFault::NotTaken(StepFault::Memory))),
+        Some(NotTaken::Memory) => Ok(Some(CellFault::NotTaken(NotTaken::Memory))),
         Some(e) => Err(CellFault::NotTaken(e)),
     }
 }

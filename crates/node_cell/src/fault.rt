@@ -5,7 +5,7 @@ ghost use Rattle.node_cell.specs.Standing.{halt_by};
 
 use crate::view::Halt;
 use group_steps::GroupFault;
-use node_traits::StepFault;
+use node_traits::NotTaken;
 
 /// Why a node took no step.
 #[derive(Clone, Copy, Debug, PartialEq, Eq)]
@@ -13,7 +13,7 @@ pub enum CellFault {
     /// The node takes no more steps.
     Halted(Halt),
     /// The step was not taken: the node is at its last step, or memory ran out.
-    NotTaken(StepFault),
+    NotTaken(NotTaken),
 }
 
 /// Returns why a node takes no more steps after the records of a group were not appended.

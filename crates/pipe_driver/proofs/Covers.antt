@@ -16,7 +16,7 @@ use Rattle.driver_steps.specs.Crashes.{LeadsTo, LeavesNoLess, Noted, Since, with
 use Rattle.driver_steps.specs.Seats.{AreDurable, EachLeaves, HasMore, Hosted, LeaveKept, notes_of, places_of, seat_since}
 use Rattle.driver_steps.specs.Together.{TogetherSince, hosted}
 use Rattle.driver_steps.specs.Worlds.{NetworkView, StandsFor}
-use Rattle.driver_steps.proofs.Crashes.{held_plain, held_since, leads_nowhere, leads_on, note_leaves}
+use Rattle.driver_steps.proofs.Crashes.{counted_plain, counted_since, held_plain, held_since, leads_nowhere, leads_on, note_leaves}
 use Rattle.driver_steps.proofs.Together.{together_noted}
 use Rattle.pipe_driver.specs.Acknowledgements.{AreAcknowledgedBy, AreCovered, AreNoted, IsCovered}
 use Rattle.pipe_driver.specs.Pieces.{IsPrefix}
@@ -101,6 +101,8 @@ module _ {N L : Type 0} (facts : LogFacts L) (seats : List (Seat N L)) (w : Worl
       → StandsFor (seat_since state steps facts (with_notes since (now_noted ∷ since.noted))) (hosted shows facts since notes' seats) network handed w next
   note_stands state steps since network handed next shows notes notes' durable more s = record {
     nodes = held_since state steps facts (with_notes since (now_noted ∷ since.noted)) seats w.nodes (held_plain state steps facts since seats w.nodes s.nodes);
+    counted = counted_since state steps facts (with_notes since (now_noted ∷ since.noted)) seats w.nodes
+        (counted_plain state steps facts since seats w.nodes s.counted);
     crashes = record {
       each = note_leaves state steps facts since seats w s.nodes durable before s.crashes.each;
       together = λ shown told. subst (λ (l : List Note). TogetherSince facts since l seats w) (sym (more shown))
@@ -123,7 +125,6 @@ note_served facts seats count state steps since network handed before next r sho
   events = h.events;
   end = h.end;
   round = h.round;
-  none_missed = h.none_missed;
   stands = note_stands facts seats h.end count state steps since network handed (length h.end.sent) shows notes notes' durable more h.stands;
 }
 

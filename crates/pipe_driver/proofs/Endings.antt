@@ -104,7 +104,6 @@ module _ {S : Type 0} (view : S → SeatView) (hosts : Hosted S) (source : Sourc
         frames = f.frames;
         rest_left = f.counted;
         most = f.most;
-        none_missed = s.none_missed;
         one = s.one;
         cause = subst (λ (n : Status). Cause limit (IsTrue source.tells → source.left_after ≡ []) (consumed ++ rest) fault
             (AllServed first (bytes_of (puts_since first s.world)) (requests_of s.rounds ++ []) s.rounds s.world)
@@ -116,7 +115,7 @@ module _ {S : Type 0} (view : S → SeatView) (hosts : Hosted S) (source : Sourc
               next = s.next;
               asked = append-nil (requests_of s.rounds);
               served = s.pipes;
-              answered = piped_requests_are_answered first s.rounds s.events s.world s.next s.begins s.pipes s.none_missed;
+              answered = λ none. piped_requests_are_answered first s.rounds s.events s.world s.next s.begins s.pipes none;
               replied = refl;
             }));
         files = held_kept view hosts.seats s.world.nodes s.stands.nodes;
@@ -180,7 +179,6 @@ module _ {S : Type 0} (view : S → SeatView) (hosts : Hosted S) (source : Sourc
         frames = f.frames;
         rest_left = f.counted;
         most = f.most;
-        none_missed = s.none_missed;
         one = s.one;
         cause = subst (λ (n : Status). Cause limit (IsTrue source.tells → source.left_after ≡ []) (consumed ++ rest) found.2
             (AllServed first (bytes_of (puts_since first s.whole)) (asked ++ found.0) s.rounds s.end)
@@ -220,7 +218,6 @@ module _ {S : Type 0} (view : S → SeatView) (hosts : Hosted S) (source : Sourc
         frames = f.frames;
         rest_left = f.counted;
         most = f.most;
-        none_missed = s.none_missed;
         one = s.one;
         cause = subst (λ (n : Status). Cause limit (IsTrue source.tells → source.left_after ≡ []) (consumed ++ rest) found.2
             (AllServed first s.part (asked ++ found.0) rounds s.end) (SomeServed first gives router s.part (asked ++ found.0) rounds s.end)
@@ -335,7 +332,6 @@ piped_with source sink gives router kept plain leaves leaves' owed owed' first l
   frames = p.frames;
   rest_left = p.rest_left;
   most = p.most;
-  none_missed = p.none_missed;
   one = p.one;
   cause = p.cause;
   files = told p.end.nodes p.files;

@@ -14,7 +14,7 @@ use Rattle.node_progress.specs.Firsts.{IsFirst}
 use Rattle.node_progress.proofs.Firsts.{first_rests}
 use Rattle.node_traits.specs.declared.outputs.ToLink.{ToLink}
 use Rattle.driver_steps.specs.declared.network.Network.{Network}
-use Rattle.driver_steps.specs.Seats.{Hosted, SeatView, AreHeld, LeaveKept}
+use Rattle.driver_steps.specs.Seats.{Hosted, SeatView, AreCounted, AreHeld, LeaveKept}
 use Rattle.driver_steps.specs.Worlds.{StandsFor, network_view, puts_given}
 
 -- NOTHING IS REPLIED
@@ -55,10 +55,11 @@ nothing_told first count w run = run_tells first (openings 0 count) w (openings_
 -- AT THE START
 
 pub starts : {S M : Type 0} (view : S → SeatView) (letter : M → Letter) (hosts : Hosted S) (first : World) (network : Network M)
-    → IsFirst first → AreHeld view hosts.seats first.nodes → LeaveKept view hosts first → network.waiting.items ≡ [] → network.replies.items ≡ []
+    → IsFirst first → AreHeld view hosts.seats first.nodes → AreCounted view hosts.seats first.nodes → LeaveKept view hosts first → network.waiting.items ≡ [] → network.replies.items ≡ []
     → StandsFor view hosts (network_view letter network) (puts_given first.answered) first 0
-starts {S} {M} view letter hosts first network begins are leave none silent = record {
+starts {S} {M} view letter hosts first network begins are as_many leave none silent = record {
   nodes = are;
+  counted = as_many;
   crashes = leave;
   past = [];
   sent = (first_rests first begins).none_sent ∙ sym (ap (λ (l : List M). map letter l) none);

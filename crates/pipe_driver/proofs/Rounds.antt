@@ -10,7 +10,7 @@ use Rattle.node_model.specs.World.{World, Event, client_event, IsRouter, Happens
 use Rattle.node_model.specs.Schedule.{moments_given, Round, Pipes}
 use Rattle.node_model.proofs.Schedules.{run_then}
 use Rattle.node_progress.proofs.Rounds.{pipes_bag, round_asked}
-use Rattle.node_traits.specs.declared.outputs.StepFault.{StepFault}
+use Rattle.node_traits.specs.declared.outputs.NotTaken.{NotTaken}
 use Rattle.node_traits.specs.declared.outputs.ToLink.{ToLink}
 use Rattle.driver_steps.specs.Seats.{Hosted, SeatView}
 use Rattle.driver_steps.specs.Worlds.{NetworkView}
@@ -32,9 +32,9 @@ module _ {S : Type 0} (view : S → SeatView) (handed : List ToLink) (first : Wo
 
   -- all messages of the round were delivered
   pub round_served : (hosts : Hosted S) (network : NetworkView) (given asked : World) → Run w (moments_given 0 count r.moment) given
-      → Happens given (client_event r.at r.link r.number r.request) asked → asked.missed ≡ w.missed → HasSettled view hosts network handed asked next
+      → Happens given (client_event r.at r.link r.number r.request) asked → HasSettled view hosts network handed asked next
       → HasServed view hosts network handed w next r
-  round_served hosts network given asked run came none s =
+  round_served hosts network given asked run came s =
       let same : moments_given 0 count r.moment ≡ moments_given 0 (length w.nodes) r.moment = ap (λ (n : ℕ). moments_given 0 n r.moment) as_many in
       let moments : Run w (moments_given 0 (length w.nodes) r.moment) given = subst (λ (l : List Event). Run w l given) same run in
       let bag = round_asked first w given asked next r (pipes_bag first may.begins rounds before w next pipes) moments came in
@@ -50,13 +50,12 @@ module _ {S : Type 0} (view : S → SeatView) (handed : List ToLink) (first : Wo
           comes = came;
           settles = none_lost first asked next s.events s.end (length s.end.sent) bag s.settles;
         };
-        none_missed = s.none_missed ∙ none;
         stands = s.stands;
       }
 
 -- A ROUND THAT IS CUT SHORT
 
-module _ {S : Type 0} (view : S → SeatView) (hosts : Hosted S) (replies handed : List ToLink) (w : World) (count : ℕ) (r : Round) (fault : StepFault) where
+module _ {S : Type 0} (view : S → SeatView) (hosts : Hosted S) (replies handed : List ToLink) (w : World) (count : ℕ) (r : Round) (fault : NotTaken) where
   pub stopped_in_moments : HasStopped view hosts replies handed w (λ events. BeginWith events (moments_given 0 count r.moment)) fault
       → HasStopped view hosts replies handed w (IsPart count r) fault
   stopped_in_moments s = record {
@@ -64,7 +63,6 @@ module _ {S : Type 0} (view : S → SeatView) (hosts : Hosted S) (replies handed
     end = s.end;
     which = in_moments s.events s.which;
     run = s.run;
-    none_missed = s.none_missed;
     nodes = s.nodes;
     last = s.last;
     up_to = up_to_more fault s.end s.last _ _ s.up_to (λ more. (more.0, in_moments (s.events ++ more.0 ∷ []) more.1, more.2));
@@ -85,23 +83,22 @@ module _ {S : Type 0} (view : S → SeatView) (hosts : Hosted S) (replies handed
       subst (λ (x : Event). IsPart count r (moments_given 0 count r.moment ++ x ∷ [])) same (in_deliveries [] tt)
   part_asked (e ∷ f ∷ more) (others, is) = absurd (cc is)
 
-  pub stopped_in_asking : (given : World) → Run w (moments_given 0 count r.moment) given → given.missed ≡ w.missed
+  pub stopped_in_asking : (given : World) → Run w (moments_given 0 count r.moment) given
       → HasStopped view hosts replies handed given (λ events. BeginWith events (client_event r.at r.link r.number r.request ∷ [])) fault
       → HasStopped view hosts replies handed w (IsPart count r) fault
-  stopped_in_asking given run none s =
+  stopped_in_asking given run s =
       stopped_behind view hosts replies handed w (moments_given 0 count r.moment) given
-      (λ events. BeginWith events (client_event r.at r.link r.number r.request ∷ [])) (IsPart count r) fault run none part_asked s
+      (λ events. BeginWith events (client_event r.at r.link r.number r.request ∷ [])) (IsPart count r) fault run part_asked s
 
   pub stopped_in_deliveries : (given asked : World) → Run w (moments_given 0 count r.moment) given
-      → Happens given (client_event r.at r.link r.number r.request) asked → asked.missed ≡ w.missed
+      → Happens given (client_event r.at r.link r.number r.request) asked
       → HasStopped view hosts replies handed asked AreDeliveries fault → HasStopped view hosts replies handed w (IsPart count r) fault
-  stopped_in_deliveries given asked run came none s = record {
+  stopped_in_deliveries given asked run came s = record {
     events = moments_given 0 count r.moment ++ client_event r.at r.link r.number r.request ∷ s.events;
     end = s.end;
     which = in_deliveries s.events s.which;
     run = run_then w (moments_given 0 count r.moment) given (client_event r.at r.link r.number r.request ∷ s.events) s.end run
         (goes given asked s.end (client_event r.at r.link r.number r.request) s.events came s.run);
-    none_missed = s.none_missed ∙ none;
     nodes = s.nodes;
     last = s.last;
     up_to = up_to_more fault s.end s.last _ _ s.up_to

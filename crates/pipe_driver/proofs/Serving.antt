@@ -8,9 +8,9 @@ use Rattle.node_model.specs.World.{World, Event, client_event, Happens, Run, sta
 use Rattle.node_model.proofs.Schedules.{delivers_run, pipes_run, run_then}
 use Rattle.node_model.specs.Schedule.{openings, moments_given, Round, IsRound, opens, serves}
 use Rattle.node_progress.specs.Firsts.{IsFirst}
-use Rattle.node_traits.specs.Effects.{ByStepFault}
-use Rattle.node_traits.specs.declared.outputs.StepFault.{StepFault}
-use Rattle.node_traits.specs.declared.outputs.StepFault.TheVariants.{Disk, Steps, Memory}
+use Rattle.node_traits.specs.Effects.{ByNotTaken}
+use Rattle.node_traits.specs.declared.outputs.NotTaken.{NotTaken}
+use Rattle.node_traits.specs.declared.outputs.NotTaken.TheVariants.{Disk, Steps, Memory}
 use Rattle.node_traits.specs.declared.outputs.ToLink.{ToLink}
 use Rattle.driver_steps.specs.declared.network.Network.{Network}
 use Rattle.driver_steps.specs.Crashes.{LeadsTo, Noted}
@@ -37,7 +37,7 @@ use Rattle.pipe_driver.proofs.Rounds.{asked_more, behind_more, one_more, request
 use Rattle.pipe_driver.proofs.Since.{since_more, since_none}
 
 -- what the logs keep after a fault
-pub kept_at : {S : Type 0} (fault : StepFault) (view : S → SeatView) (hosts : Hosted S) (w : World) → AreHeldOrKept fault view hosts w.nodes
+pub kept_at : {S : Type 0} (fault : NotTaken) (view : S → SeatView) (hosts : Hosted S) (w : World) → AreHeldOrKept fault view hosts w.nodes
     → AreKept view hosts.seats w.nodes
 kept_at (Disk faults) view hosts w are = are
 kept_at Steps view hosts w are = held_kept view hosts.seats w.nodes are
@@ -46,7 +46,7 @@ kept_at Memory view hosts w are = held_kept view hosts.seats w.nodes are
 -- BY STATUS
 
 -- the world up to which a crash may have left what the nodes keep
-last_by : (fault : StepFault) (end last : World) (P : Event → Type 0) (goes_on : World → Type 0)
+last_by : (fault : NotTaken) (end last : World) (P : Event → Type 0) (goes_on : World → Type 0)
     → IsUpTo fault end last ((e : Event) × P e × Happens end e last) → ((e : Event) → P e → Happens end e last → goes_on last)
     → IsLast (status_for fault) goes_on end last
 last_by (Disk faults) end last P goes_on (inl same) on = inl same
@@ -54,7 +54,7 @@ last_by (Disk faults) end last P goes_on (inr (e, is, more)) on = inr (refl, on 
 last_by Steps end last P goes_on same on = inl same
 last_by Memory end last P goes_on same on = inl same
 
-last_leads : (fault : StepFault) (end last : World) (P : Event → Type 0) → IsUpTo fault end last ((e : Event) × P e × Happens end e last) → LeadsTo end last
+last_leads : (fault : NotTaken) (end last : World) (P : Event → Type 0) → IsUpTo fault end last ((e : Event) × P e × Happens end e last) → LeadsTo end last
 last_leads (Disk faults) end last P (inl same) = subst (λ (w : World). LeadsTo end w) (sym same) (leads_nowhere end)
 last_leads (Disk faults) end last P (inr (e, is, more)) = leads_by e end last more
 last_leads Steps end last P same = subst (λ (w : World). LeadsTo end w) (sym same) (leads_nowhere end)
@@ -65,7 +65,7 @@ run_one_more : (u : World) (events : List Event) (v : World) (e : Event) (w : Wo
 run_one_more u events v e w run more = run_then u events v (e ∷ []) w run (goes v w w e [] more (stands w))
 
 module _ {S : Type 0} (view : S → SeatView) (hosts : Hosted S) (gives : ℕ → Type 0) (router : ℕ) (first : World) (tells : Bool) (noted : List Noted) (held_before held consumed : List ℕ) where
-  pub stops_by : (fault : StepFault) (status : Status) → status ≡ status_for fault
+  pub stops_by : (fault : NotTaken) (status : Status) → status ≡ status_for fault
       → CutShort view hosts gives router first tells noted held_before held consumed (status_for fault)
       → StopsAtRequest view hosts gives router first tells noted held_before held consumed status
   stops_by (Disk faults) status is cut = subst (λ (s : Status). StopsAtRequest view hosts gives router first tells noted held_before held consumed s) (sym is)
@@ -82,7 +82,6 @@ module _ {S : Type 0} (view : S → SeatView) (hosts : Hosted S) (gives : ℕ �
     whole = s.world;
     end = s.world;
     came = came_whole s.rounds s.events s.world s.next s.pipes;
-    none_missed = s.none_missed;
     one = s.one;
     put = s.put;
     asked = subst (λ (l : List Request). AreAsked consumed l) (sym (append-nil (requests_of s.rounds))) s.asked;
@@ -94,8 +93,8 @@ module _ {S : Type 0} (view : S → SeatView) (hosts : Hosted S) (gives : ℕ �
   }
 
 -- what holds but where a disk failed
-pub but_for_disks : (fault : StepFault) (status : Status) (holds : Type 0) → status ≡ status_for fault → status ≢ statuses.DiskFailed
-    → ByStepFault fault (λ faults. Unit {0}) holds → holds
+pub but_for_disks : (fault : NotTaken) (status : Status) (holds : Type 0) → status ≡ status_for fault → status ≢ statuses.DiskFailed
+    → ByNotTaken fault (λ faults. Unit {0}) holds → holds
 but_for_disks (Disk faults) status holds is other given = absurd (other is)
 but_for_disks Steps status holds is other given = given
 but_for_disks Memory status holds is other given = given
@@ -118,7 +117,6 @@ module _ {S : Type 0} (view : S → SeatView) (hosts : Hosted S) (gives : ℕ �
         next = 0;
         begins = begins;
         pipes = opens r.end run;
-        none_missed = r.none_missed;
         one = record { moments = tt; routers = tt; links = tt; numbers = tt };
         stands = subst (λ (l : List ToLink). StandsFor view hosts network l r.end 0) (ap puts_given (sym none)) r.stands;
         put = λ told. sym (ap (λ (l : List ToLink). held ++ bytes_of l) silent ∙ append-nil held);
@@ -127,7 +125,7 @@ module _ {S : Type 0} (view : S → SeatView) (hosts : Hosted S) (gives : ℕ �
         covered = λ told. covered_none (all_replies first) first held [] _ r.end (ap bytes_of silent);
       }
 
-  pub opening_cut : (replies : List ToLink) (fault : StepFault)
+  pub opening_cut : (replies : List ToLink) (fault : NotTaken)
       → HasStopped view hosts replies (puts_given first.answered) first (λ events. BeginWith events (openings 0 count)) fault
       → CutShort view hosts gives router first tells [] held held [] (status_for fault)
   opening_cut replies fault s = record {
@@ -136,7 +134,6 @@ module _ {S : Type 0} (view : S → SeatView) (hosts : Hosted S) (gives : ℕ �
     whole = first;
     end = s.end;
     came = came_opening s.events s.end (subst (λ (n : ℕ). BeginWith s.events (openings 0 n)) as_many s.which) s.run;
-    none_missed = s.none_missed;
     one = record { moments = tt; routers = tt; links = tt; numbers = tt };
     put = λ told. sym (ap (λ (l : List ToLink). held ++ bytes_of l) (since_none first first refl) ∙ append-nil held);
     asked = record { all = refl; each = tt };
@@ -189,7 +186,7 @@ module _ {S : Type 0} (view : S → SeatView) (hosts hosts_after : Hosted S) (be
       (subst (λ (r : Round). IsPart count r events) round_is part)
 
   -- a step failed
-  pub cut_in_round : (count : ℕ) (replies : List ToLink) (fault : StepFault) → count ≡ length s.world.nodes
+  pub cut_in_round : (count : ℕ) (replies : List ToLink) (fault : NotTaken) → count ≡ length s.world.nodes
       → HasStopped view hosts_after replies (puts_given s.world.answered) s.world (IsPart count (round_of router moment number asked)) fault
       → CutShort view hosts_after gives router first tells noted held_before held (consumed ++ q.bytes) (status_for fault)
   cut_in_round count replies fault as_many h = record {
@@ -199,7 +196,6 @@ module _ {S : Type 0} (view : S → SeatView) (hosts hosts_after : Hosted S) (be
     end = h.end;
     came = came_part s.rounds s.events h.events s.world h.end s.next moment q s.pipes given
         (part_in_round count h.events as_many h.which) h.run;
-    none_missed = h.none_missed ∙ s.none_missed;
     one = s.one;
     put = s.put;
     asked = asked_then;
@@ -262,7 +258,6 @@ module _ {S : Type 0} (view : S → SeatView) (hosts hosts_after : Hosted S) (be
       next = length h.end.sent;
       begins = s.begins;
       pipes = serves s.rounds (round_of router moment number asked) s.events h.events s.world h.end s.next s.pipes h.round;
-      none_missed = h.none_missed ∙ s.none_missed;
       one = rounds_one;
       stands = subst (λ (l : List ToLink). StandsFor after_view hosts_after (network_view letter new) l h.end (length h.end.sent)) (sym puts_are)
           (handed_on after_view letter hosts_after (puts_given s.world.answered) h.end (length h.end.sent) old new h.stands waits none);
@@ -289,7 +284,6 @@ module _ {S : Type 0} (view : S → SeatView) (hosts hosts_after : Hosted S) (be
       next = s.next;
       served = s.pipes;
       round = h.round;
-      none_missed = h.none_missed ∙ s.none_missed;
       one = rounds_one;
       part = bytes_of (puts_since first s.world) ++ part;
       earlier_put = (part, refl);

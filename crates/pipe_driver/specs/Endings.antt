@@ -18,13 +18,13 @@ use Rattle.pipe_driver.specs.declared.status.Status.TheVariants as statuses
 abbrev pub most_taken : ℕ
 most_taken = 2 ^ 40
 
--- each request had its round, every one is answered, and all replies were put, and nothing else
+-- each request had its round, every one is answered where no step was missed, and all replies were put, and nothing else
 pub record AllServed (first : World) (put : List ℕ) (requests : List Request) (rounds : List Round) (end : World) : Type 0 where
   pub events : List Event
   pub next : ℕ
   pub asked : requests ≡ requests_of rounds
   pub served : Pipes first rounds events end next
-  pub answered : AreAnswered first end
+  pub answered : end.missed ≡ first.missed → AreAnswered first end
   pub replied : put ≡ bytes_of (puts_since first end)
 
 -- The first requests had their rounds, and all replies of these were put, and nothing else. One request more may be under way.
@@ -71,10 +71,10 @@ pub data Cause (limit : ℕ) (at_end : Type 0) (taken : List ℕ) (fault : Optio
   -- as many bytes were taken as may be
   too_long : length taken ≡ limit → fault ≡ None → all → Cause limit at_end taken fault all some short statuses.InputTooLong
 
--- One connection was served by the schedule, all by one router, from the first world on: these bytes were taken and put, and these rounds led to this world, in
--- which no node missed a step. `kept` says of the nodes of that world that the journals keep what they keep; and `leaves` of a world that a crash at any moment
--- since the start left, of each log, what it might have left before, or a file in which an opening finds what that node kept in a world on the way; and `owed` of
--- that world and the bytes that were put what the journals owed before each of these was put.
+-- One connection was served by the schedule, all by one router, from the first world on: these bytes were taken and put, and these rounds led to this world.
+-- `kept` says of the nodes of that world that the journals keep what they keep; and `leaves` of a world that a crash at any moment since the start left, of each
+-- log, what it might have left before, or a file in which an opening finds what that node kept in a world on the way; and `owed` of that world and the bytes
+-- that were put what the journals owed before each of these was put.
 pub record IsPiped (source : SourceCall) (sink : SinkCall) (gives : ℕ → Type 0) (router : ℕ) (kept : List Held → Type 0) (leaves : World → Type 0)
     (owed : World → (put : List ℕ) → Type 0) (first : World) (limit : ℕ) (status : Status) (rest : ℕ) : Type 0 where
   pub taken : List ℕ
@@ -89,7 +89,6 @@ pub record IsPiped (source : SourceCall) (sink : SinkCall) (gives : ℕ → Type
   pub frames : Frames taken requests left fault
   pub rest_left : rest ≡ length left
   pub most : length taken ≤ limit
-  pub none_missed : end.missed ≡ first.missed
   pub one : AreOfOne gives router rounds
   pub cause : Cause limit (IsTrue source.tells → source.left_after ≡ []) taken fault (AllServed first put requests rounds end)
       (SomeServed first gives router put requests rounds end) (LastCutShort first put requests rounds end) status

@@ -30,7 +30,7 @@ pub record AreAsked (bytes : List ℕ) (requests : List Request) : Type 0 where
 abbrev pub all_replies : (first w : World) → List ℕ → Type 0
 all_replies first w out = out ≡ bytes_of (puts_since first w)
 
--- These bytes were served, in whole rounds, in which no step was missed: nodes, logs and messages are those of the world after them, and all replies were put.
+-- These bytes were served, in whole rounds: nodes, logs and messages are those of the world after them, and all replies were put.
 pub record Serving {S : Type 0} (view : S → SeatView) (hosted : Hosted S) (network : NetworkView) (gives : ℕ → Type 0) (router : ℕ) (first : World) (tells : Bool) (noted : List Noted)
     (held_before held consumed : List ℕ) (replied : ℕ) : Type 0 where
   pub rounds : List Round
@@ -39,7 +39,6 @@ pub record Serving {S : Type 0} (view : S → SeatView) (hosted : Hosted S) (net
   pub next : ℕ
   pub begins : IsFirst first
   pub pipes : Pipes first rounds events world next
-  pub none_missed : world.missed ≡ first.missed
   pub one : AreOfOne gives router rounds
   pub stands : StandsFor view hosted network (puts_given world.answered) world next
   pub put : Put tells held_before (bytes_of (puts_since first world)) held
@@ -47,7 +46,7 @@ pub record Serving {S : Type 0} (view : S → SeatView) (hosted : Hosted S) (net
   pub count : replied ≡ replies_behind 0 (requests_of rounds)
   pub covered : IsTrue tells → AreCovered (all_replies first) first noted held_before (bytes_of (puts_since first world)) world
 
--- These bytes were served, the last request of them maybe in part, and no step was missed: all replies of whole rounds were put.
+-- These bytes were served, the last request of them maybe in part: all replies of whole rounds were put.
 pub record CutShort {S : Type 0} (view : S → SeatView) (hosted : Hosted S) (gives : ℕ → Type 0) (router : ℕ) (first : World) (tells : Bool) (noted : List Noted)
     (held_before held consumed : List ℕ) (status : Status) : Type 0 where
   pub rounds : List Round
@@ -55,7 +54,6 @@ pub record CutShort {S : Type 0} (view : S → SeatView) (hosted : Hosted S) (gi
   pub whole : World
   pub end : World
   pub came : Came first gives router rounds under_way whole end
-  pub none_missed : end.missed ≡ first.missed
   pub one : AreOfOne gives router rounds
   pub put : Put tells held_before (bytes_of (puts_since first whole)) held
   pub asked : AreAsked consumed (requests_of rounds ++ under_way)
@@ -65,7 +63,7 @@ pub record CutShort {S : Type 0} (view : S → SeatView) (hosted : Hosted S) (gi
   pub crashes : LeaveKept view hosted last
   pub covered : IsTrue tells → AreCovered (all_replies first) first noted held_before (bytes_of (puts_since first whole)) last
 
--- These bytes were served, in whole rounds, in which no step was missed: of the replies of the last one a prefix was put, and all others.
+-- These bytes were served, in whole rounds: of the replies of the last one a prefix was put, and all others.
 pub record PutShort {S : Type 0} (view : S → SeatView) (hosted : Hosted S) (gives : ℕ → Type 0) (router : ℕ) (first : World) (tells : Bool) (noted : List Noted)
     (held_before held consumed : List ℕ) : Type 0 where
   pub earlier : List Round
@@ -77,7 +75,6 @@ pub record PutShort {S : Type 0} (view : S → SeatView) (hosted : Hosted S) (gi
   pub next : ℕ
   pub served : Pipes first earlier events before next
   pub round : IsRound before next last more end
-  pub none_missed : end.missed ≡ first.missed
   pub one : AreOfOne gives router (earlier ++ last ∷ [])
   pub part : List ℕ
   pub earlier_put : IsPrefix (bytes_of (puts_since first before)) part

@@ -27,13 +27,12 @@ pub data IsPart (count : ℕ) (r : Round) : List Event → Type 0 where
   in_deliveries : (deliveries : List Event) → AreDeliveries deliveries
       → IsPart count r (moments_given 0 count r.moment ++ client_event r.at r.link r.number r.request ∷ deliveries)
 
--- The round happened, and no step was missed: nodes and logs, messages and replies are those of the world after it.
+-- The round happened: nodes and logs, messages and replies are those of the world after it.
 pub record HasServed {S : Type 0} (view : S → SeatView) (hosted : Hosted S) (network : NetworkView) (handed : List ToLink) (before : World) (next : ℕ)
     (r : Round) : Type 0 where
   pub events : List Event
   pub end : World
   pub round : IsRound before next r events end
-  pub none_missed : end.missed ≡ before.missed
   pub stands : StandsFor view hosted network handed end (length end.sent)
 
 -- From the first world the schedule came to an end of rounds, to the world after them (`whole`), and then to the last one (`end`), with no request under way, or with one.

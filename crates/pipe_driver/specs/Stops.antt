@@ -2,8 +2,8 @@
 use Rattle.std.specs.Prelude.{◌≡◌, ◌≢◌, ◌⊎◌, ℕ, Bool, List, ◌++◌, Result, Ok, Err}
 use Rattle.opmsg_frames.specs.Outline.{FrameFault, outline, partial_outline, faulty_outline}
 use Rattle.node_model.specs.World.{World}
-use Rattle.node_traits.specs.declared.outputs.StepFault.{StepFault}
-use Rattle.node_traits.specs.declared.outputs.StepFault.TheVariants.{Disk, Steps, Memory}
+use Rattle.node_traits.specs.declared.outputs.NotTaken.{NotTaken}
+use Rattle.node_traits.specs.declared.outputs.NotTaken.TheVariants.{Disk, Steps, Memory}
 use Rattle.driver_steps.specs.Crashes.{Noted}
 use Rattle.driver_steps.specs.Seats.{Hosted, SeatView}
 use Rattle.driver_steps.specs.Worlds.{NetworkView}
@@ -12,7 +12,7 @@ use Rattle.pipe_driver.specs.declared.status.Status.{Status}
 use Rattle.pipe_driver.specs.declared.status.Status.TheVariants as statuses
 
 -- the status of a fault of a step: a node at its last step is reported as out of memory
-abbrev pub status_for : StepFault → Status
+abbrev pub status_for : NotTaken → Status
 status_for (Disk faults) = statuses.DiskFailed
 status_for Steps = statuses.OutOfMemory
 status_for Memory = statuses.OutOfMemory

@@ -4,7 +4,7 @@ ghost use Rattle.std.specs.Prelude.{◌≡◌, ◌≢◌, ℕ, ◌<◌, ◌≤�
 ghost use Rattle.outside.specs.Devices.{sink_call, source_call};
 ghost use Rattle.node_model.specs.World.{World};
 ghost use Rattle.driver_steps.specs.Crashes.{Since, with_notes};
-ghost use Rattle.driver_steps.specs.Seats.{AreHeld, AreKept, AreOpen, LeaveKept, faults_of, places_of, seat_since, seat_view, since_noted, since_then};
+ghost use Rattle.driver_steps.specs.Seats.{AreCounted, AreHeld, AreKept, AreOpen, LeaveKept, faults_of, places_of, seat_since, seat_view, since_noted, since_then};
 ghost use Rattle.driver_steps.specs.Together.{hosted};
 ghost use Rattle.driver_steps.specs.Worlds.{network_view};
 ghost use Rattle.pipe_driver.specs.Acknowledgements.{AreAcknowledgedBy, AreCovered, AreNoted, WithNotes};
@@ -50,8 +50,8 @@ fn ended(status: Status, rest: usize) -> Ending
 /// are open and keep what they keep in the world that the call begins in. All nodes are opened; then each whole request is served in a round of
 /// its own, at one moment of the clock, by the router with this number, before more is taken, and the replies of the round are put.
 ///
-/// The status is `DiskFailed` where the disk of a log failed: the logs must be opened again. It is `OutOfMemory` also where a node is at its
-/// last step.
+/// The status is `DiskFailed` where the disk of a log failed: the logs must be opened again. It is `OutOfMemory` also where the router is at
+/// its last step.
 pub fn pipe<
     R: Threads + Sync,
     N: Node<Request = Request>,
@@ -74,6 +74,7 @@ pub fn pipe<
     requires limit { limit ≤ most_taken }
     ensures piped { AreAskedAsRead N.asks → (first : World) → MayServe first router →
         AreHeld (seat_view N.state N.steps L.facts) seats.old.items first.nodes →
+        AreCounted (seat_view N.state N.steps L.facts) seats.old.items first.nodes →
         IsPiped (source_call S.tells S.left S.fault_count input.old input.new) (sink_call K.tells K.held K.fault_count out.old out.new)
         (C.gives clock.now) router (AreKept (seat_view N.state N.steps L.facts) seats.new.items)
         (LeaveKept (seat_since N.state N.steps L.facts (since_then seats.old.items first))

@@ -37,7 +37,7 @@ use std::thread::Threads;
 /// # Errors
 /// - `Status::WriteFailed` if a write of a reply failed.
 /// - `Status::DiskFailed` if a disk failed: no reply of the round was put.
-/// - `Status::OutOfMemory` if memory ran out, or a node was at its last step: no reply of the round was put.
+/// - `Status::OutOfMemory` if memory ran out, or the router was at its last step: no reply of the round was put.
 pub fn answer_one<
     R: Threads + Sync,
     N: Node<Request = Request>,

@@ -12,7 +12,7 @@ ghost use Rattle.driver_steps.specs.Worlds.{StandsFor, network_view};
 ghost use Rattle.pipe_driver.specs.Schedules.{HasServed, IsPart, MayServe, round_of};
 
 use driver_steps::{Network, Seat, ask, give_moments, settle};
-use node_traits::{Node, StepFault};
+use node_traits::{Node, NotTaken};
 use outside::log::Log;
 use outside::witness::Witness;
 use std::alloc::Global;
@@ -37,7 +37,7 @@ pub fn serve_round<R: Threads + Sync, N: Node, L: Log, K: Witness<L::Of>>(
     moment: u64,
     number: i32,
     request: N::Request,
-) -> Result<(), StepFault>
+) -> Result<(), NotTaken>
     requires at { router < vec_len seats.old }
     requires open { AreOpen L.facts.is_open seats.old.items }
     ensures served { (since : Since L) (first : World) (rounds : List Round) (events : List Event) (w : World) (next : ℕ) (handed : List ToLink) →

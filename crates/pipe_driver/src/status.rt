@@ -3,7 +3,7 @@
 ghost use Rattle.std.specs.Prelude.{◌≡◌};
 ghost use Rattle.pipe_driver.specs.Stops.{status_for};
 
-use node_traits::StepFault;
+use node_traits::NotTaken;
 
 /// How a connection ended, by its cause.
 #[derive(Clone, Copy, Debug, PartialEq, Eq)]
@@ -16,7 +16,7 @@ pub enum Status {
     WriteFailed,
     /// A call of a disk failed.
     DiskFailed,
-    /// Out of memory, or a node was at its last step.
+    /// Out of memory, or a router was at its last step.
     OutOfMemory,
     /// The next bytes are no request.
     BadInput,
@@ -26,13 +26,13 @@ pub enum Status {
 
 impl Status {
     /// Returns the status of a fault of a step.
-    pub fn of(fault: StepFault) -> Status
+    pub fn of(fault: NotTaken) -> Status
         ensures { result ≡ status_for fault }
     {
         match fault {
-            StepFault::Disk { .. } => Status::DiskFailed,
-            StepFault::Steps => Status::OutOfMemory,
-            StepFault::Memory => Status::OutOfMemory,
+            NotTaken::Disk { .. } => Status::DiskFailed,
+            NotTaken::Steps => Status::OutOfMemory,
+            NotTaken::Memory => Status::OutOfMemory,
         }
     }
 }

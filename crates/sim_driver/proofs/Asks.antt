@@ -7,7 +7,7 @@ use Rattle.opmsg_frames.specs.Requests.{IsRequest}
 use Rattle.node_model.specs.Requests.{Request}
 use Rattle.node_model.specs.World.{World, IsRouter, Event, client_event, Happens, Run, stands, goes}
 use Rattle.node_model.proofs.Schedules.{run_then}
-use Rattle.node_traits.specs.declared.outputs.StepFault.{StepFault}
+use Rattle.node_traits.specs.declared.outputs.NotTaken.{NotTaken}
 use Rattle.node_traits.specs.declared.outputs.ToLink.{ToLink}
 use Rattle.driver_steps.specs.Seats.{Hosted, SeatView}
 use Rattle.driver_steps.specs.Worlds.{NetworkView, StandsFor}
@@ -38,7 +38,6 @@ pub record AreAsking {S : Type 0} (view : S → SeatView) (hosts : Hosted S) (ne
   pub all : bytes ≡ consumed ++ left
   pub asked : AreAsked consumed requests
   pub run : Run before (client_events at link replied_before requests) end
-  pub none_missed : end.missed ≡ before.missed
   pub count : replied ≡ replies_behind replied_before requests
   pub router : IsRouter end.nodes at
   pub stands : StandsFor view hosts network handed end 0
@@ -53,7 +52,6 @@ module _ {S : Type 0} (view : S → SeatView) (handed : List ToLink) (w : World)
     all = refl;
     asked = record { all = refl; each = tt };
     run = stands w;
-    none_missed = refl;
     count = refl;
     router = router;
     stands = s;
@@ -71,7 +69,6 @@ module _ {S : Type 0} (view : S → SeatView) (handed : List ToLink) (w : World)
       frames = subst (λ (b : List ℕ). FramesFrom 0 b (a.requests ++ []) rest None) (sym whole)
           (frames_behind 0 a.requests rest [] rest None a.asked.each (ends _ rest partial));
       run = subst (λ (l : List Request). Run w (client_events at link replied_before l) a.end) (sym (append-nil a.requests)) a.run;
-      none_missed = a.none_missed;
       count = a.count ∙ ap (λ (l : List Request). replies_behind replied_before l) (sym (append-nil a.requests));
       ends = refl;
       stands = a.stands;
@@ -90,7 +87,6 @@ module _ {S : Type 0} (view : S → SeatView) (handed : List ToLink) (w : World)
           (frames_behind 0 a.requests rest [] rest (Some (malformed.0, 0 + length (bytes_of a.requests))) a.asked.each
           (fails (0 + length (bytes_of a.requests)) rest malformed.0 malformed.1));
       run = subst (λ (l : List Request). Run w (client_events at link replied_before l) a.end) (sym (append-nil a.requests)) a.run;
-      none_missed = a.none_missed;
       count = a.count ∙ ap (λ (l : List Request). replies_behind replied_before l) (sym (append-nil a.requests));
       ends = refl;
       stands = a.stands;
@@ -102,7 +98,7 @@ module _ {S : Type 0} (view : S → SeatView) (handed : List ToLink) (w : World)
     -- memory ran out for the next one
     pub asking_cut : (status : Status) → IsCut view hosts w (IsFirstAsked at link replied_before bytes) status
     asking_cut status =
-        cut_here view hosts w (client_events at link replied_before a.requests) a.end (IsFirstAsked at link replied_before bytes) status a.run a.none_missed
+        cut_here view hosts w (client_events at link replied_before a.requests) a.end (IsFirstAsked at link replied_before bytes) status a.run
         (record {
           consumed = a.consumed;
           rest = left;
@@ -137,7 +133,6 @@ module _ {S : Type 0} (view : S → SeatView) (handed : List ToLink) (w : World)
             (client_event at link (number_behind (replies_behind replied_before a.requests)) q ∷ []) h.end a.run
             (goes a.end h.end h.end (client_event at link (number_behind (replies_behind replied_before a.requests)) q) []
             (subst (λ (e : Event). Happens a.end e h.end) event_is h.happens) (stands h.end)));
-        none_missed = h.none_missed ∙ a.none_missed;
         count = counted ∙ (ap (λ (n : ℕ). replies_after q.more n) a.count ∙ sym (behind_more replied_before a.requests q));
         router = happens_stays a.end h.end (client_event at link number asked) at h.happens a.router;
         stands = h.stands;
@@ -161,10 +156,10 @@ module _ {S : Type 0} (view : S → SeatView) (handed : List ToLink) (w : World)
       }
 
       -- its step failed
-      pub asking_stopped : (hosts_after : Hosted S) (replies : List ToLink) (fault : StepFault) (status : Status) → status ≡ status_for fault
+      pub asking_stopped : (hosts_after : Hosted S) (replies : List ToLink) (fault : NotTaken) (status : Status) → status ≡ status_for fault
           → HasStopped view hosts_after replies handed a.end (λ events. BeginWith events (client_event at link number asked ∷ [])) fault
           → IsCut view hosts_after w (IsFirstAsked at link replied_before bytes) status
       asking_stopped hosts_after replies fault status is_for s =
           cut_behind view hosts_after replies handed w (client_events at link replied_before a.requests) a.end
           (λ events. BeginWith events (client_event at link number asked ∷ [])) (IsFirstAsked at link replied_before bytes) fault status is_for
-          a.run a.none_missed first_then s
+          a.run first_then s

@@ -1,5 +1,5 @@
 -- Deliveries in order of sending, but for those before.
-use Rattle.std.proofs.Common.{◌≡◌, ◌⊎◌, inl, inr, ℕ, zero, suc, ◌+◌, ◌-◌, ◌*◌, ◌<◌, ◌≤◌, ◌^◌, List, [], ◌∷◌, ◌++◌, length, refl, sym, ap, subst, ◌∙◌, arith}
+use Rattle.std.proofs.Common.{◌≡◌, inl, inr, ℕ, zero, suc, ◌+◌, ◌<◌, ◌≤◌, List, [], ◌∷◌, ◌++◌, length, refl, sym, ap, subst, ◌∙◌, arith}
 use Rattle.std.proofs.Common.{add-one, append-nil, true, false}
 use Rattle.std.specs.Prelude.{Bool, Option, Some, ◌||◌}
 use Rattle.std.specs.List.{slice_get}
@@ -90,7 +90,6 @@ pub record IsSettling {S : Type 0} (view : S → SeatView) (hosts : Hosted S) (n
   pub events : List Event
   pub end : World
   pub settles : SettlesBut except before ds 0 events end es later
-  pub none_missed : end.missed ≡ before.missed
   pub within : later ≤ length end.sent
   pub stands : StandsFor view hosts network handed end 0
 
@@ -99,7 +98,7 @@ pub settling_none : {S : Type 0} (view : S → SeatView) (hosts : Hosted S) (net
     → IsSettling view hosts network handed u except ds ds first
 settling_none view hosts network handed u except ds first all within s =
     let inside : first ≤ length u.sent = omega (arith, within, delivered_length first ds all) in
-    record { events = []; end = u; settles = passed_before except u ds first inside all; none_missed = refl; within = inside; stands = s }
+    record { events = []; end = u; settles = passed_before except u ds first inside all; within = inside; stands = s }
 
 module _ {S : Type 0} (view : S → SeatView) (hosts_after : Hosted S) (post_after : NetworkView) (handed : List ToLink) (u : World)
     (except : Option (List ℕ)) (ds es : List Bool) (later : ℕ) where
@@ -115,7 +114,6 @@ module _ {S : Type 0} (view : S → SeatView) (hosts_after : Hosted S) (post_aft
         end = d.end;
         settles = but_then except u ds 0 s.events s.end es later (deliver_event d.message.receiver later ∷ []) d.end (marked later es) (later + 1) s.settles
             (but_next s.end d.end d.end es (marked later es) later (later + 1) d.message [] d.got new h (but_none d.end (marked later es) (later + 1)));
-        none_missed = d.none_missed ∙ s.none_missed;
         within = omega (arith, slice_get_within s.end.sent later d.message d.got, sent_grows s.end d.end (deliver_event d.message.receiver later) h);
         stands = d.stands;
       }
@@ -125,7 +123,6 @@ module _ {S : Type 0} (view : S → SeatView) (hosts_after : Hosted S) (post_aft
         settles = subst (λ (x : World). SettlesBut except u ds 0 (s.events ++ []) x (marked later es) (later + 1)) (sym same)
             (but_then except u ds 0 s.events s.end es later [] s.end (marked later es) (later + 1) s.settles
             (but_lost s.end s.end es (marked later es) later (later + 1) d.message [] d.got new none (but_none s.end (marked later es) (later + 1))));
-        none_missed = d.none_missed ∙ s.none_missed;
         within = subst (λ (x : World). later + 1 ≤ length x.sent) (sym same) (omega (arith, slice_get_within s.end.sent later d.message d.got));
         stands = d.stands;
       }
@@ -138,7 +135,6 @@ module _ {S : Type 0} (view : S → SeatView) (hosts_after : Hosted S) (post_aft
         events = s.events;
         end = s.end;
         settles = passed_more except u ds 0 s.events s.end es later m s.settles got is;
-        none_missed = s.none_missed;
         within = omega (arith, slice_get_within s.end.sent later m got);
         stands = there;
       })
@@ -150,7 +146,7 @@ pub settling_cut : {S : Type 0} (view : S → SeatView) (hosts hosts_after : Hos
     → IsCut view hosts_after s.end (IsPartOfDelivery s.end later) status → IsCut view hosts_after u (IsPartOfSettling except u ds) status
 settling_cut view hosts hosts_after network handed u except ds es later status s c =
     cut_then view hosts_after u s.events s.end (IsPartOfDelivery s.end later) (IsPartOfSettling except u ds) status
-    (but_run except u ds 0 s.events s.end es later s.settles) s.none_missed
+    (but_run except u ds 0 s.events s.end es later s.settles)
     (λ more part. record {
       before = s.events;
       more = more;
@@ -172,22 +168,12 @@ delivered_cut view hosts network handed w which status d = by_kind d.delivers
     by_kind : DeliversOrLoses w which d.message.receiver d.end → IsCut view hosts w (IsPartOfDelivery w which) status
     by_kind (inl h) =
         cut_here view hosts w (deliver_event d.message.receiver which ∷ []) d.end (IsPartOfDelivery w which) status
-        (goes w d.end d.end (deliver_event d.message.receiver which) [] h (stands d.end)) d.none_missed
+        (goes w d.end d.end (deliver_event d.message.receiver which) [] h (stands d.end))
         (record { message = d.message; got = d.got; first = ([], refl) }) (still view hosts network handed d.end d.stands)
     by_kind (inr (same, none)) =
-        cut_here view hosts w [] d.end (IsPartOfDelivery w which) status (subst (λ (x : World). Run w [] x) (sym same) (stands w)) d.none_missed
+        cut_here view hosts w [] d.end (IsPartOfDelivery w which) status (subst (λ (x : World). Run w [] x) (sym same) (stands w))
         (record { message = d.message; got = d.got; first = (deliver_event d.message.receiver which ∷ [], refl) })
         (still view hosts network handed d.end d.stands)
-
--- a delivery leaves less to do, and a place that is passed too
-pub less_to_do : {M : Type 0} (left left_after at count count_after : ℕ) (waiting after : List M)
-    → (left_after + 1 ≡ left) ⊎ ((left_after ≡ left) × (after ≡ waiting))
-    → count ≡ length waiting → count_after ≡ length after → at < count → count_after < 2 ^ 64
-    → left_after * 2 ^ 66 + (count_after - (at + 1)) < left * 2 ^ 66 + (count - at)
-less_to_do left left_after at count count_after waiting after (inl fewer) is was below fits = omega arith
-less_to_do {M} left left_after at count count_after waiting after (inr (same, stays)) is was below fits =
-    let as_many : length after ≡ length waiting = ap (λ (l : List M). length l) stays in
-    omega arith
 
 pub settling_end : {S : Type 0} (view : S → SeatView) (hosts : Hosted S) (network : NetworkView) (handed : List ToLink) (u : World)
     (except : Option (List ℕ)) (ds es : List Bool) (later : ℕ) → IsSettling view hosts network handed u except ds es later
@@ -199,6 +185,5 @@ settling_end view hosts network handed u except ds es later s past =
       events = s.events;
       end = s.end;
       settles = subst (λ (n : ℕ). SettlesBut except u ds 0 s.events s.end es n) end s.settles;
-      none_missed = s.none_missed;
       stands = s.stands;
     }

@@ -55,9 +55,8 @@ module _ {S : Type 0} (view : S → SeatView) (hosts : Hosted S) (source : Sourc
     parts = ap (λ (b : List ℕ). b ++ left) p.all;
     each = p.each;
     most = omega (arith, most, length-append consumed left);
-    none_missed = p.none_missed;
     cause = as_cause known is p.lines p.out p.world
-        (cause (all_played first_router first p.begins p.lines p.events p.world s p.out p.plays p.none_missed));
+        (cause (all_played first_router first p.begins p.lines p.events p.world s p.out p.plays));
     files = held_kept view hosts.seats p.world.nodes p.stands.nodes;
     last = p.world;
     is_last = inl refl;
@@ -81,7 +80,6 @@ module _ {S : Type 0} (view : S → SeatView) (hosts : Hosted S) (source : Sourc
     parts = ap (λ (b : List ℕ). b ++ left) s.all;
     each = s.each;
     most = omega (arith, most, length-append consumed left);
-    none_missed = s.none_missed;
     cause = as_cause told is s.lines s.out s.end (by_cause told s.cause);
     files = s.kept;
     last = s.last;
@@ -161,7 +159,6 @@ simulated_as source sink first_router kept other leaves leaves' owed owed' first
   parts = s.parts;
   each = s.each;
   most = s.most;
-  none_missed = s.none_missed;
   cause = s.cause;
   files = says s.end.nodes s.files;
   last = s.last;

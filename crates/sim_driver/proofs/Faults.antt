@@ -5,8 +5,8 @@ use Rattle.node_model.proofs.Schedules.{run_then}
 use Rattle.node_replay.specs.Restarts.{EventOrStop, Occurs, occurs, stays, whole_event}
 use Rattle.restart_laws.specs.Calls.{wholes}
 use Rattle.restart_laws.proofs.ReachedCalls.{run_whole}
-use Rattle.node_traits.specs.declared.outputs.StepFault.{StepFault}
-use Rattle.node_traits.specs.declared.outputs.StepFault.TheVariants.{Disk, Steps, Memory}
+use Rattle.node_traits.specs.declared.outputs.NotTaken.{NotTaken}
+use Rattle.node_traits.specs.declared.outputs.NotTaken.TheVariants.{Disk, Steps, Memory}
 use Rattle.node_traits.specs.declared.outputs.ToLink.{ToLink}
 use Rattle.driver_steps.specs.Seats.{Hosted, SeatView}
 use Rattle.driver_steps.specs.Worlds.{NetworkView, StandsFor}
@@ -30,7 +30,7 @@ pub run_more : (u : World) (events : List Event) (v : World) (e : Event) (w : Wo
 run_more u events v e w run more = run_then u events v (e ∷ []) w run (goes v w w e [] more (stands w))
 
 -- the world up to which a crash may have left what the nodes keep
-pub last_of : (fault : StepFault) (status : Status) → status ≡ status_for fault → (end last : World) (events events' : List Event)
+pub last_of : (fault : NotTaken) (status : Status) → status ≡ status_for fault → (end last : World) (events events' : List Event)
     (P Q : List Event → Type 0) → ((e : Event) → P (events ++ e ∷ []) → Q (events' ++ e ∷ []))
     → IsUpTo fault end last ((e : Event) × P (events ++ e ∷ []) × Happens end e last) → IsLastOf status events' Q end last
 last_of (Disk faults) status is end last events events' P Q says (inl same) = inl same
@@ -49,14 +49,13 @@ behind es more e Q has = subst (λ (l : List Event). Q l) (sym (append_assoc es 
 
 -- events, and then a fault of a step
 pub cut_behind : {S : Type 0} (view : S → SeatView) (hosts : Hosted S) (replies handed : List ToLink) (u : World) (es : List Event) (w : World)
-    (P Q : List Event → Type 0) (fault : StepFault) (status : Status) → status ≡ status_for fault → Run u es w → w.missed ≡ u.missed
+    (P Q : List Event → Type 0) (fault : NotTaken) (status : Status) → status ≡ status_for fault → Run u es w
     → ((more : List Event) → P more → Q (es ++ more)) → HasStopped view hosts replies handed w P fault → IsCut view hosts u Q status
-cut_behind view hosts replies handed u es w P Q fault status is run none all s = record {
+cut_behind view hosts replies handed u es w P Q fault status is run all s = record {
   events = es ++ s.events;
   end = s.end;
   which = all s.events s.which;
   run = run_then u es w s.events s.end run s.run;
-  none_missed = s.none_missed ∙ none;
   kept = kept_at fault view hosts s.end s.nodes;
   last = s.last;
   is_last = last_of fault status is s.end s.last s.events (es ++ s.events) P Q (λ e has. behind es s.events e Q (all (s.events ++ e ∷ []) has)) s.up_to;
@@ -65,13 +64,12 @@ cut_behind view hosts replies handed u es w P Q fault status is run none all s =
 
 -- events, and then a fault that is none of a step
 pub cut_here : {S : Type 0} (view : S → SeatView) (hosts : Hosted S) (u : World) (es : List Event) (w : World) (Q : List Event → Type 0) (status : Status)
-    → Run u es w → w.missed ≡ u.missed → Q es → AreStill view hosts w → IsCut view hosts u Q status
-cut_here view hosts u es w Q status run none which are = record {
+    → Run u es w → Q es → AreStill view hosts w → IsCut view hosts u Q status
+cut_here view hosts u es w Q status run which are = record {
   events = es;
   end = w;
   which = which;
   run = run;
-  none_missed = none;
   kept = held_kept view hosts.seats w.nodes are.nodes;
   last = w;
   is_last = inl refl;
@@ -79,13 +77,12 @@ cut_here view hosts u es w Q status run none which are = record {
 }
 
 pub cut_then : {S : Type 0} (view : S → SeatView) (hosts : Hosted S) (u : World) (es : List Event) (w : World) (P Q : List Event → Type 0) (status : Status)
-    → Run u es w → w.missed ≡ u.missed → ((more : List Event) → P more → Q (es ++ more)) → IsCut view hosts w P status → IsCut view hosts u Q status
-cut_then view hosts u es w P Q status run none all c = record {
+    → Run u es w → ((more : List Event) → P more → Q (es ++ more)) → IsCut view hosts w P status → IsCut view hosts u Q status
+cut_then view hosts u es w P Q status run all c = record {
   events = es ++ c.events;
   end = c.end;
   which = all c.events c.which;
   run = run_then u es w c.events c.end run c.run;
-  none_missed = c.none_missed ∙ none;
   kept = c.kept;
   last = c.last;
   is_last = last_as status c.end c.last c.events (es ++ c.events) P Q (λ e has. behind es c.events e Q (all (c.events ++ e ∷ []) has)) c.is_last;
@@ -100,14 +97,13 @@ cut_as view hosts u P Q status says c = record {
   end = c.end;
   which = says c.events c.which;
   run = c.run;
-  none_missed = c.none_missed;
   kept = c.kept;
   last = c.last;
   is_last = last_as status c.end c.last c.events c.events P Q (λ e has. says (c.events ++ e ∷ []) has) c.is_last;
   crashes = c.crashes;
 }
 
-pub one_of_two : (fault : StepFault) (status : Status) → status ≡ status_for fault → (status ≡ statuses.DiskFailed) ⊎ (status ≡ statuses.OutOfMemory)
+pub one_of_two : (fault : NotTaken) (status : Status) → status ≡ status_for fault → (status ≡ statuses.DiskFailed) ⊎ (status ≡ statuses.OutOfMemory)
 one_of_two (Disk faults) status is = inl is
 one_of_two Steps status is = inr is
 one_of_two Memory status is = inr is
@@ -126,7 +122,6 @@ cut_in view hosts u P Q status says c = record {
   end = c.end;
   which = says c.events c.which;
   run = run_whole u c.end c.events c.run;
-  none_missed = c.none_missed;
   kept = c.kept;
   last = c.last;
   is_last = by_last c.is_last;
@@ -146,7 +141,6 @@ cut_in_as view hosts u P Q status says c = record {
   end = c.end;
   which = says c.events c.which;
   run = c.run;
-  none_missed = c.none_missed;
   kept = c.kept;
   last = c.last;
   is_last = by_last c.is_last;
@@ -165,7 +159,6 @@ cut_in_here view hosts u Q status which are = record {
   end = u;
   which = which;
   run = stays u;
-  none_missed = refl;
   kept = held_kept view hosts.seats u.nodes are.nodes;
   last = u;
   is_last = inl refl;
@@ -173,21 +166,20 @@ cut_in_here view hosts u Q status which are = record {
 }
 
 -- a fault came while a node was started again
-pub cut_in_stop : {S : Type 0} (view : S → SeatView) (hosts : Hosted S) (u : World) (P : List EventOrStop → Type 0) (fault : StepFault) (status : Status)
+pub cut_in_stop : {S : Type 0} (view : S → SeatView) (hosts : Hosted S) (u : World) (P : List EventOrStop → Type 0) (fault : NotTaken) (status : Status)
     → status ≡ status_for fault → HasFailed view hosts u P fault → IsCutIn view hosts u P status
 cut_in_stop view hosts u P fault status is h = record {
   events = h.events;
   end = h.end;
   which = h.which;
   run = h.run;
-  none_missed = h.none_missed;
   kept = h.kept;
   last = h.last;
   is_last = by_fault fault is h.up_to;
   crashes = h.crashes;
 }
   where
-    by_fault : (f : StepFault) → status ≡ status_for f
+    by_fault : (f : NotTaken) → status ≡ status_for f
         → IsUpTo f h.end h.last ((e : EventOrStop) × P (h.events ++ e ∷ []) × Occurs h.end e h.last) → IsLastIn status h.events P h.end h.last
     by_fault (Disk faults) told (inl same) = inl same
     by_fault (Disk faults) told (inr (e, has, h)) = inr (told, e, has, h)

@@ -1,6 +1,7 @@
 pub mod Asks
 pub mod Deliveries
 pub mod Endings
+pub mod Falls
 pub mod Faults
 pub mod Histories
 pub mod LineBags

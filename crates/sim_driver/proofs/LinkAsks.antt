@@ -12,7 +12,7 @@ module _ {S : Type 0} (view : S → SeatView) (hosts : Hosted S) (w : World) (at
   -- no request came
   pub link_unfed : (status : Status) → AreStill view hosts w → IsCut view hosts w (IsFirstAsked at number replied bytes) status
   link_unfed status are =
-      cut_here view hosts w [] w (IsFirstAsked at number replied bytes) status (stands w) refl
+      cut_here view hosts w [] w (IsFirstAsked at number replied bytes) status (stands w)
       (record { consumed = []; rest = bytes; requests = []; all = refl; asked = record { all = refl; each = tt }; first = ([], refl) }) are
 
   module _ (all : List ℕ) (whole : all ≡ bytes) where

@@ -68,7 +68,6 @@ module _ {S : Type 0} (view : S → SeatView) (hosts : Hosted S) (network : Netw
         events = events_on s.first_router router link a.requests;
         end = a.end;
         run = a.run;
-        none_missed = a.none_missed;
         played = subst (λ (n : ℕ). IsPlayedWhole w s (client_line router bytes) (events_on s.first_router router link a.requests) a.end
             (with_link s router (record { number = link.number; left = left; replied = n; is_open = true })) None) (sym a.count)
             (plays_client router link bytes left a.requests a.end here frames a.run);
@@ -86,7 +85,6 @@ module _ {S : Type 0} (view : S → SeatView) (hosts : Hosted S) (network : Netw
         events = events_on s.first_router router link a.requests;
         end = a.end;
         run = a.run;
-        none_missed = a.none_missed;
         played = closes router link bytes left a.requests fault a.end here frames a.run;
         stands = a.stands;
       }
@@ -96,7 +94,6 @@ module _ {S : Type 0} (view : S → SeatView) (hosts : Hosted S) (network : Netw
       → IsCut view hosts w (IsPartOfWhole w s (client_line router bytes)) statuses.OutOfMemory
   client_full a =
       cut_here view hosts w (events_on s.first_router router link a.requests) a.end (IsPartOfWhole w s (client_line router bytes)) statuses.OutOfMemory a.run
-      a.none_missed
       (client_is_part w s router link bytes left a.requests a.fault here a.frames)
       (still view hosts network handed a.end a.stands)
 
@@ -152,7 +149,6 @@ module _ {S : Type 0} (view : S → SeatView) (hosts : Hosted S) (network : Netw
             events = deliver_event node which ∷ [];
             end = d.end;
             run = goes w d.end d.end (deliver_event node which) [] there (stands d.end);
-            none_missed = d.none_missed;
             played = subst (λ (l : List Bool). IsPlayedWhole w s (deliver_line node k) (deliver_event node which ∷ []) d.end (with_delivered s l) None)
                 (sym noted) (plays_deliver node k which d.end place there);
             stands = d.stands;
@@ -174,7 +170,6 @@ module _ {S : Type 0} (view : S → SeatView) (hosts : Hosted S) (network : Netw
         events = deliver_event d.message.receiver which ∷ [];
         end = d.end;
         run = goes w d.end d.end (deliver_event d.message.receiver which) [] h (stands d.end);
-        none_missed = d.none_missed;
         played = subst (λ (l : List Bool). IsPlayedWhole w s (next_line kind) (deliver_event d.message.receiver which ∷ []) d.end (with_delivered s l) None)
             (sym noted) (plays_next kind which d.message d.end place d.got h);
         stands = d.stands;
@@ -183,7 +178,6 @@ module _ {S : Type 0} (view : S → SeatView) (hosts : Hosted S) (network : Netw
         events = [];
         end = d.end;
         run = subst (λ (x : World). Run w [] x) (sym same) (stands w);
-        none_missed = d.none_missed;
         played = subst (λ (x : World). IsPlayedWhole w s (next_line kind) [] x (with_delivered s ds) None) (sym same)
             (subst (λ (l : List Bool). IsPlayedWhole w s (next_line kind) [] w (with_delivered s l) None) (sym noted)
             (loses_next kind which d.message place d.got none));
@@ -200,7 +194,6 @@ module _ {S : Type 0} (view : S → SeatView) (hosts : Hosted S) (network : Netw
     events = h.events;
     end = h.end;
     run = but_run except w s.delivered 0 h.events h.end ds (length h.end.sent) h.settles;
-    none_missed = h.none_missed;
     played = plays_settle except h.events h.end ds h.settles;
     stands = h.stands;
   }
@@ -213,7 +206,6 @@ module _ {S : Type 0} (view : S → SeatView) (hosts : Hosted S) (network : Netw
     events = moment_event node moment ∷ [];
     end = h.end;
     run = goes w h.end h.end (moment_event node moment) [] h.happens (stands h.end);
-    none_missed = h.none_missed;
     played = plays_moment node moment h.end h.happens;
     stands = h.stands;
   }
@@ -240,7 +232,6 @@ played_as view hosts network handed w known line s t closed same h =
       events = wholes h.events;
       end = h.end;
       run = run_whole w h.end h.events h.run;
-      none_missed = h.none_missed;
       played = plays_whole known h.events h.end t closed h.played;
       stands = h.stands;
     })
@@ -303,7 +294,6 @@ note_played facts seats count state steps since network handed before bytes old 
     events = h.played.events;
     end = h.played.end;
     run = h.played.run;
-    none_missed = h.played.none_missed;
     played = h.played.played;
     stands = note_stands facts seats h.played.end count state steps since network handed 0 shows notes notes' durable more h.played.stands;
   };

@@ -365,12 +365,11 @@ restarted_scripts_are_answered first_router first lines events w s out begins pl
 -- both, of all lines that were played
 unfoldable pub all_played : (first_router : ℕ) (first : World) → IsFirst first → (lines : List (List ℕ)) (events : List EventOrStop) (w : World)
     (s : ScriptView)
-    (out : List ℕ) → Plays first_router first lines events w s out → w.missed ≡ first.missed → AllPlayed first_router first lines out w
-all_played first_router first begins lines events w s out plays kept = record {
+    (out : List ℕ) → Plays first_router first lines events w s out → AllPlayed first_router first lines out w
+all_played first_router first begins lines events w s out plays = record {
   events = events;
   script = s;
   played = plays;
-  none_missed = kept;
-  answered = λ ends none. ends_answered first_router first begins lines events w s out plays ends none kept;
-  answered_after = λ ends. restarted_scripts_are_answered first_router first lines events w s out begins plays ends kept;
+  answered = λ ends none kept. ends_answered first_router first begins lines events w s out plays ends none kept;
+  answered_after = λ ends kept. restarted_scripts_are_answered first_router first lines events w s out begins plays ends kept;
 }

@@ -11,8 +11,8 @@ use Rattle.node_replay.specs.Restarts.{EventOrStop, Occurs, RunWithStops, occurs
 use Rattle.restart_laws.specs.Calls.{wholes}
 use Rattle.restart_laws.proofs.ReachedCalls.{stops_then}
 use Rattle.node_progress.specs.Firsts.{IsFirst}
-use Rattle.node_traits.specs.declared.outputs.StepFault.{StepFault}
-use Rattle.node_traits.specs.declared.outputs.StepFault.TheVariants.{Disk, Steps, Memory}
+use Rattle.node_traits.specs.declared.outputs.NotTaken.{NotTaken}
+use Rattle.node_traits.specs.declared.outputs.NotTaken.TheVariants.{Disk, Steps, Memory}
 use Rattle.node_traits.specs.declared.outputs.ToLink.{ToLink}
 use Rattle.driver_steps.specs.declared.network.Network.{Network}
 use Rattle.driver_steps.specs.Crashes.{LeadsTo, Noted}
@@ -50,7 +50,7 @@ next_line : (bytes others : List ℕ) → HasNone newline bytes → IsCutAt newl
 next_line bytes others none = record { whole = refl; first = none }
 
 -- the world up to which a crash may have left what the nodes keep
-last_by : (fault : StepFault) (status : Status) → status ≡ status_for fault → (end last : World) (events : List Event) (P : List Event → Type 0)
+last_by : (fault : NotTaken) (status : Status) → status ≡ status_for fault → (end last : World) (events : List Event) (P : List Event → Type 0)
     (goes_on : World → Type 0) → ((e : Event) → P (events ++ e ∷ []) → Happens end e last → goes_on last)
     → IsUpTo fault end last ((e : Event) × P (events ++ e ∷ []) × Happens end e last) → IsLastOfScript status goes_on end last
 last_by (Disk faults) status is end last events P goes_on on (inl same) = inl same
@@ -91,7 +91,6 @@ module _ {S : Type 0} (view : S → SeatView) (hosts : Hosted S) (first_router :
         out = [];
         begins = begins;
         plays = plays_none r.end run;
-        none_missed = r.none_missed;
         stands = subst (λ (l : List ToLink). StandsFor view hosts network l r.end 0) (ap puts_given (sym none)) r.stands;
         put = λ told. sym (append-nil held);
         all = refl;
@@ -99,20 +98,20 @@ module _ {S : Type 0} (view : S → SeatView) (hosts : Hosted S) (first_router :
         covered = λ told. covered_none (all_printed first_router first) first held [] [] r.end refl;
       }
 
-  opening_came : (left : List ℕ) (replies : List ToLink) (fault : StepFault)
+  opening_came : (left : List ℕ) (replies : List ToLink) (fault : NotTaken)
       → (s : HasStopped view hosts replies (puts_given first.answered) first (λ events. BeginWith events (openings 0 count)) fault)
       → CameTo first_router first [] left [] s.end
   opening_came left replies fault s =
       came_opening left s.events s.end (subst (λ (n : ℕ). BeginWith s.events (openings 0 n)) as_many s.which) s.run
 
-  stops_by : (fault : StepFault) (status : Status) → status ≡ status_for fault → (lines : List (List ℕ)) (left put : List ℕ) (end : World)
+  stops_by : (fault : NotTaken) (status : Status) → status ≡ status_for fault → (lines : List (List ℕ)) (left put : List ℕ) (end : World)
       → CameTo first_router first lines left put end → StopsAt first_router first lines left put end status
   stops_by (Disk faults) status is lines left put end came =
       subst (λ (n : Status). StopsAt first_router first lines left put end n) (sym is) (at_disk_fault came)
   stops_by Steps status is lines left put end came = subst (λ (n : Status). StopsAt first_router first lines left put end n) (sym is) (at_no_memory came)
   stops_by Memory status is lines left put end came = subst (λ (n : Status). StopsAt first_router first lines left put end n) (sym is) (at_no_memory came)
 
-  pub opening_stopped : (left : List ℕ) (replies : List ToLink) (fault : StepFault) (status : Status) → status ≡ status_for fault
+  pub opening_stopped : (left : List ℕ) (replies : List ToLink) (fault : NotTaken) (status : Status) → status ≡ status_for fault
       → HasStopped view hosts replies (puts_given first.answered) first (λ events. BeginWith events (openings 0 count)) fault
       → Stopped view hosts first_router first tells [] held held [] left status
   opening_stopped left replies fault status is s = record {
@@ -120,7 +119,6 @@ module _ {S : Type 0} (view : S → SeatView) (hosts : Hosted S) (first_router :
     end = s.end;
     out = [];
     cause = stops_by fault status is [] left [] s.end (opening_came left replies fault s);
-    none_missed = s.none_missed;
     put = λ told. sym (append-nil held);
     all = refl;
     each = tt;
@@ -154,7 +152,6 @@ module _ {S : Type 0} (view : S → SeatView) (hosts hosts_after : Hosted S) (be
     end = c.end;
     out = p.out;
     cause = cause;
-    none_missed = c.none_missed ∙ p.none_missed;
     put = p.put;
     all = p.all;
     each = p.each;
@@ -170,15 +167,14 @@ module _ {S : Type 0} (view : S → SeatView) (hosts hosts_after : Hosted S) (be
 
   -- the script stops where nothing is cut short, and of the line nothing was put
   stops_here : (others : List ℕ) (status : Status) (end : World) → StopsAt first_router first p.lines (bytes ++ newline ∷ others) p.out end status
-      → AreStill view hosts_after end → LeadsTo p.world end → end.missed ≡ p.world.missed → Stopped view hosts_after first_router first tells noted
+      → AreStill view hosts_after end → LeadsTo p.world end → Stopped view hosts_after first_router first tells noted
       held_before held consumed
       (bytes ++ newline ∷ others) status
-  stops_here others status end cause are on none = record {
+  stops_here others status end cause are on = record {
     lines = p.lines;
     end = end;
     out = p.out;
     cause = cause;
-    none_missed = none ∙ p.none_missed;
     put = p.put;
     all = p.all;
     each = p.each;
@@ -194,8 +190,8 @@ module _ {S : Type 0} (view : S → SeatView) (hosts hosts_after : Hosted S) (be
   unfolding all_played
   line_stopped others _ (bytes_refused refused are) =
       stops_here others statuses.BadInput p.world
-      (at_refused_line bytes others (next_line bytes others none) (all_played first_router first p.begins p.lines p.events p.world s p.out p.plays
-      p.none_missed) refused) are (leads_nowhere p.world) refl
+      (at_refused_line bytes others (next_line bytes others none) (all_played first_router first p.begins p.lines p.events p.world s p.out p.plays) refused)
+      are (leads_nowhere p.world)
   line_stopped others _ (bytes_at_disk c) = stops_within others statuses.DiskFailed c (at_disk_fault (came_in others c.events c.end c.which c.run))
   line_stopped others _ (bytes_at_memory c) = stops_within others statuses.OutOfMemory c (at_no_memory (came_in others c.events c.end c.which c.run))
 
@@ -212,7 +208,7 @@ module _ {S : Type 0} (view : S → SeatView) (hosts hosts_after : Hosted S) (be
         (at_no_memory (came_in others h.played.events h.played.end
         (part_read h.line h.played.events h.says (whole_is_part p.world s h.line h.played.events h.played.end t closed h.played.played)) h.played.run))
         (still view hosts_after (network_view letter old) (puts_given p.world.answered) h.played.end h.played.stands)
-        (h.played.events, h.played.run) h.played.none_missed
+        (h.played.events, h.played.run)
 
     -- it is written after one note more of all disks
     line_few : IsTrue tells → length held ≤ length held_before + length p.out
@@ -235,7 +231,7 @@ module _ {S : Type 0} (view : S → SeatView) (hosts hosts_after : Hosted S) (be
         (printed s.links old.replies.items closed) (p.covered told) (
           p.lines ++ bytes ∷ [],
           all_played first_router first p.begins (p.lines ++ bytes ∷ []) (p.events ++ h.played.events) h.played.end t
-              (p.out ++ printed s.links old.replies.items closed) played_line (h.played.none_missed ∙ p.none_missed),
+              (p.out ++ printed s.links old.replies.items closed) played_line,
         )
         (leads_on first p.world h.played.end (p.events, plays_run first_router first p.lines p.events p.world s p.out p.plays) line_on) line_on (line_few told)
 
@@ -259,7 +255,6 @@ module _ {S : Type 0} (view : S → SeatView) (hosts hosts_after : Hosted S) (be
       begins = p.begins;
       plays = plays_more p.lines p.events h.played.events p.world h.played.end s t p.out bytes h.line closed old.replies.items p.plays h.says
           h.played.played gave;
-      none_missed = h.played.none_missed ∙ p.none_missed;
       stands = subst (λ (l : List ToLink). StandsFor after_view hosts_after (network_view letter new) l h.played.end 0) (sym gave)
           (handed_on after_view letter hosts_after (puts_given p.world.answered) h.played.end 0 old new h.played.stands waits silent);
       put = put_then tells held_before p.out held (printed s.links old.replies.items closed) held' p.put put;
@@ -296,7 +291,6 @@ module _ {S : Type 0} (view : S → SeatView) (hosts hosts_after : Hosted S) (be
         in_part = prefix;
         all = refl;
       });
-      none_missed = h.played.none_missed ∙ p.none_missed;
       put = put_then tells held_before p.out held part held' p.put put;
       all = p.all;
       each = p.each;
@@ -323,8 +317,7 @@ playing_full view hosts network first_router first tells noted held_before held 
   lines = p.lines;
   end = p.world;
   out = p.out;
-  cause = at_no_memory (came_lines p.lines left p.out p.world (all_played first_router first p.begins p.lines p.events p.world s p.out p.plays p.none_missed));
-  none_missed = p.none_missed;
+  cause = at_no_memory (came_lines p.lines left p.out p.world (all_played first_router first p.begins p.lines p.events p.world s p.out p.plays));
   put = p.put;
   all = p.all;
   each = p.each;

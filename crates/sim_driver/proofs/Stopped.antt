@@ -58,7 +58,6 @@ module _ {S : Type 0} (view : S → SeatView) (hosts : Hosted S) (w : World) (s 
         events = stop_and_open node r.again.stop;
         end = r.again.end;
         run = r.again.run;
-        none_missed = r.again.none_missed;
         played = subst (λ (v : ScriptView). IsPlayed w s line (stop_and_open node r.again.stop) r.again.end v closed) (sym x.2)
             (plays_restart line node r.again.stop ds r.again.end x.0 closed (stops r.again.stop r.again.which) r.again.run x.1);
         stands = r.again.stands;

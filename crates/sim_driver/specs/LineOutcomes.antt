@@ -14,13 +14,12 @@ use Rattle.sim_driver.specs.Moves.{AreStill, IsCut}
 
 -- THE LINES IN WHICH NO NODE STOPS
 
--- the line was played, and no step was missed
+-- the line was played
 pub record HasPlayedWhole {S : Type 0} (view : S → SeatView) (hosted : Hosted S) (network : NetworkView) (handed : List ToLink) (before : World) (line : Line)
     (old new : ScriptView) (closed : Option ℕ) : Type 0 where
   pub events : List Event
   pub end : World
   pub run : Run before events end
-  pub none_missed : end.missed ≡ before.missed
   pub played : IsPlayedWhole before old line events end new closed
   pub stands : StandsFor view hosted network handed end 0
 
@@ -34,13 +33,12 @@ pub data StopsWhole {S : Type 0} (view : S → SeatView) (hosted : Hosted S) (be
 
 -- ALL LINES
 
--- the line was played, and no step was missed
+-- the line was played
 pub record HasPlayed {S : Type 0} (view : S → SeatView) (hosted : Hosted S) (network : NetworkView) (handed : List ToLink) (before : World) (line : Line)
     (old new : ScriptView) (closed : Option ℕ) : Type 0 where
   pub events : List EventOrStop
   pub end : World
   pub run : RunWithStops before events end
-  pub none_missed : end.missed ≡ before.missed
   pub played : IsPlayed before old line events end new closed
   pub stands : StandsFor view hosted network handed end 0
 
@@ -49,13 +47,12 @@ abbrev pub IsLastIn : Status → (events : List EventOrStop) → (List EventOrSt
 IsLastIn status events P end last =
     (last ≡ end) ⊎ ((status ≡ statuses.DiskFailed) × (e : EventOrStop) × P (events ++ e ∷ []) × Occurs end e last)
 
--- Events occurred, of which P holds, and no step was missed, and then a fault came, with this status: the logs keep what the journals of that world keep.
+-- Events occurred, of which P holds, and then a fault came, with this status: the logs keep what the journals of that world keep.
 pub record IsCutIn {S : Type 0} (view : S → SeatView) (hosted : Hosted S) (before : World) (P : List EventOrStop → Type 0) (status : Status) : Type 0 where
   pub events : List EventOrStop
   pub end : World
   pub which : P events
   pub run : RunWithStops before events end
-  pub none_missed : end.missed ≡ before.missed
   pub kept : AreKept view hosted.seats end.nodes
   pub last : World
   pub is_last : IsLastIn status events P end last

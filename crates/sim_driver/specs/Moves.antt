@@ -1,5 +1,5 @@
 -- What calls of a script do to the world that models nodes and messages (own).
-use Rattle.std.specs.Prelude.{◌≡◌, ◌⊎◌, ℕ, ◌+◌, ◌<◌, List, [], ◌∷◌, ◌++◌, length, Some, None, Option, Bool, true, false, not, ◌&&◌}
+use Rattle.std.specs.Prelude.{◌≡◌, ◌⊎◌, ℕ, ◌+◌, ◌<◌, List, [], ◌∷◌, ◌++◌, length, drop, Some, None, Option, Bool, true, false, not, ◌&&◌}
 use Rattle.std.specs.List.{slice_get}
 use Rattle.opmsg_frames.specs.Outline.{FrameFault}
 use Rattle.opmsg_frames.specs.Frames.{FramesFrom}
@@ -11,7 +11,7 @@ use Rattle.node_traits.specs.declared.outputs.ToLink.{ToLink}
 use Rattle.driver_steps.specs.Seats.{Hosted, SeatView, AreHeld, AreKept, LeaveKept}
 use Rattle.driver_steps.specs.Restarts.{HasStartedAgain}
 use Rattle.driver_steps.specs.Worlds.{NetworkView, StandsFor}
-use Rattle.driver_steps.specs.Moves.{BeginWith, DeliversOrLoses}
+use Rattle.driver_steps.specs.Moves.{BeginWith, DeliversOrLoses, costs_of}
 use Rattle.pipe_driver.specs.Progress.{AreAsked}
 use Rattle.pipe_driver.specs.Rounds.{replies_behind}
 use Rattle.pipe_driver.specs.declared.status.Status.{Status}
@@ -19,14 +19,13 @@ use Rattle.pipe_driver.specs.declared.status.Status.TheVariants as statuses
 use Rattle.sim_driver.specs.Plays.{SettlesBut, client_events, is_passed}
 use Rattle.sim_driver.specs.Scripts.{ScriptView, ClosesLink, is_delivered, is_of_kind, marked, place_from, with_delivered}
 
--- the message at a place among all that were sent was delivered, or lost where it goes to no node, and no step was missed
+-- the message at a place among all that were sent was delivered, or lost where it goes to no node
 pub record HasDeliveredOne {S : Type 0} (view : S → SeatView) (hosted : Hosted S) (network : NetworkView) (handed : List ToLink) (before : World)
     (which : ℕ) : Type 0 where
   pub message : Letter
   pub end : World
   pub got : slice_get before.sent which ≡ Some message
   pub delivers : DeliversOrLoses before which message.receiver end
-  pub none_missed : end.missed ≡ before.missed
   pub stands : StandsFor view hosted network handed end 0
 
 -- the message at a place is delivered, or is about to be
@@ -43,13 +42,12 @@ pub data PassesOrDelivers {S : Type 0} (view : S → SeatView) (hosted : Hosted 
   has_delivered : (d : HasDeliveredOne view hosted network handed before which) → is_passed except old which d.message ≡ false → new ≡ marked which old
       → PassesOrDelivers view hosted network handed before except which old new
 
--- all that was not delivered was, but for the messages that are passed over, and no step was missed
+-- all that was not delivered was, but for the messages that are passed over
 pub record HasSettledBut {S : Type 0} (view : S → SeatView) (hosted : Hosted S) (network : NetworkView) (handed : List ToLink) (before : World)
     (except : Option (List ℕ)) (old new : List Bool) : Type 0 where
   pub events : List Event
   pub end : World
   pub settles : SettlesBut except before old 0 events end new (length end.sent)
-  pub none_missed : end.missed ≡ before.missed
   pub stands : StandsFor view hosted network handed end 0
 
 -- nothing happened
@@ -62,13 +60,12 @@ abbrev pub IsLastOf : Status → (events : List Event) → (List Event → Type 
 IsLastOf status events P end last =
     (last ≡ end) ⊎ ((status ≡ statuses.DiskFailed) × (e : Event) × P (events ++ e ∷ []) × Happens end e last)
 
--- Events happened, of which P holds, and no step was missed, and then a fault came, with this status: the logs keep what the journals of that world keep.
+-- Events happened, of which P holds, and then a fault came, with this status: the logs keep what the journals of that world keep.
 pub record IsCut {S : Type 0} (view : S → SeatView) (hosted : Hosted S) (before : World) (P : List Event → Type 0) (status : Status) : Type 0 where
   pub events : List Event
   pub end : World
   pub which : P events
   pub run : Run before events end
-  pub none_missed : end.missed ≡ before.missed
   pub kept : AreKept view hosted.seats end.nodes
   pub last : World
   pub is_last : IsLastOf status events P end last
@@ -79,7 +76,7 @@ abbrev pub HasFault : Option (FrameFault × ℕ) → Bool → Type 0
 HasFault None malformed = malformed ≡ false
 HasFault (Some fault) malformed = malformed ≡ true
 
--- the whole requests in the bytes of a link came to the router at a place, and no step was missed
+-- the whole requests in the bytes of a link came to the router at a place
 pub record HasAsked {S : Type 0} (view : S → SeatView) (hosted : Hosted S) (network : NetworkView) (handed : List ToLink) (before : World)
     (at link replied_before : ℕ) (bytes left : List ℕ) (replied : ℕ) (malformed : Bool) : Type 0 where
   pub requests : List Request
@@ -87,7 +84,6 @@ pub record HasAsked {S : Type 0} (view : S → SeatView) (hosted : Hosted S) (ne
   pub end : World
   pub frames : FramesFrom 0 bytes requests left fault
   pub run : Run before (client_events at link replied_before requests) end
-  pub none_missed : end.missed ≡ before.missed
   pub count : replied ≡ replies_behind replied_before requests
   pub ends : HasFault fault malformed
   pub stands : StandsFor view hosted network handed end 0
@@ -137,3 +133,10 @@ IsPassedAt letters at except delivered is = (m : Letter) × (slice_get letters a
 -- whether a message at a place is of the kind, and was not delivered
 abbrev pub IsNextAt : List Letter → (at : ℕ) → (kind : List ℕ) → (delivered : List Bool) → Bool → Type 0
 IsNextAt letters at kind delivered is = (m : Letter) × (slice_get letters at ≡ Some m) × (is ≡ (not (is_delivered delivered at) && is_of_kind kind m))
+
+-- WHAT IS LEFT TO DO
+
+-- One step less is left to the nodes, or as many, and then what was sent from the next place on costs less than what was sent from this one on.
+abbrev pub IsLessFrom : (left_before left_after at : ℕ) → (before after : List Letter) → Type 0
+IsLessFrom left_before left_after at before after =
+    (left_after + 1 ≡ left_before) ⊎ ((left_after ≡ left_before) × (costs_of (drop (at + 1) after) < costs_of (drop at before)))

@@ -16,7 +16,7 @@ use Rattle.sim_driver.specs.Scripts.{ScriptView}
 use Rattle.sim_driver.specs.LineOutcomes.{IsRefused}
 use Rattle.sim_driver.specs.Simulations.{newline, bytes_of_lines, Plays, AllPlayed, CameTo, IsLastOfScript, LastPutShort, all_printed}
 
--- These bytes were played, in whole lines, and no step was missed: nodes, logs and messages are those of the world after them, and what they print was put.
+-- These bytes were played, in whole lines: nodes, logs and messages are those of the world after them, and what they print was put.
 pub record Playing {S : Type 0} (view : S → SeatView) (hosted : Hosted S) (network : NetworkView) (first_router : ℕ) (first : World) (tells : Bool)
     (noted : List Noted) (held_before held : List ℕ)
     (script : ScriptView) (consumed : List ℕ) : Type 0 where
@@ -26,7 +26,6 @@ pub record Playing {S : Type 0} (view : S → SeatView) (hosted : Hosted S) (net
   pub out : List ℕ
   pub begins : IsFirst first
   pub plays : Plays first_router first lines events world script out
-  pub none_missed : world.missed ≡ first.missed
   pub stands : StandsFor view hosted network (puts_given world.answered) world 0
   pub put : Put tells held_before out held
   pub all : consumed ≡ bytes_of_lines lines
@@ -42,7 +41,7 @@ pub data StopsAt (first_router : ℕ) (first : World) (lines : List (List ℕ)) 
   at_disk_fault : CameTo first_router first lines left put end → StopsAt first_router first lines left put end statuses.DiskFailed
   at_no_memory : CameTo first_router first lines left put end → StopsAt first_router first lines left put end statuses.OutOfMemory
 
--- These bytes were played, in whole lines, and with what is left the script stops; no step was missed.
+-- These bytes were played, in whole lines, and with what is left the script stops.
 pub record Stopped {S : Type 0} (view : S → SeatView) (hosted : Hosted S) (first_router : ℕ) (first : World) (tells : Bool) (noted : List Noted)
     (held_before held consumed left : List ℕ)
     (status : Status)
@@ -51,7 +50,6 @@ pub record Stopped {S : Type 0} (view : S → SeatView) (hosted : Hosted S) (fir
   pub end : World
   pub out : List ℕ
   pub cause : StopsAt first_router first lines left out end status
-  pub none_missed : end.missed ≡ first.missed
   pub put : Put tells held_before out held
   pub all : consumed ≡ bytes_of_lines lines
   pub each : AllByRecursion (HasNone newline) lines

@@ -75,15 +75,14 @@ pub record AreAnsweredAfterRestarts (first_router : ℕ) (first : World) (lines 
   pub then : RunWithStops restarted late end
   pub answered : AreAnsweredSince restarted end
 
--- All these lines were played, and no step was missed; what they print was put, and nothing else. Where they end in `settle`, every request that was taken
+-- All these lines were played; what they print was put, and nothing else. Where they end in `settle`, and no step was missed, every request that was taken
 -- since the first world is answered, if no node was started again, and otherwise every one that was taken since the last such line.
 pub record AllPlayed (first_router : ℕ) (first : World) (lines : List (List ℕ)) (put : List ℕ) (end : World) : Type 0 where
   pub events : List EventOrStop
   pub script : ScriptView
   pub played : Plays first_router first lines events end script put
-  pub none_missed : end.missed ≡ first.missed
-  pub answered : EndInSettle lines → HaveNoRestart lines → AreAnswered first end
-  pub answered_after : EndInSettle lines → AreAnsweredAfterRestarts first_router first lines events end
+  pub answered : EndInSettle lines → HaveNoRestart lines → end.missed ≡ first.missed → AreAnswered first end
+  pub answered_after : EndInSettle lines → end.missed ≡ first.missed → AreAnsweredAfterRestarts first_router first lines events end
 
 -- all output of a script: what the lines print that were played since the first world
 abbrev pub all_printed : (first_router : ℕ) (first w : World) → List ℕ → Type 0
@@ -155,10 +154,10 @@ abbrev pub IsLastOfScript : Status → (proceeds : World → Type 0) → (end la
 IsLastOfScript status proceeds end last =
     (last ≡ end) ⊎ ((status ≡ statuses.DiskFailed) × proceeds last × (e : EventOrStop) × Occurs end e last)
 
--- A script was played, from the first world on: these bytes were taken and put, and the lines in them led to this world; no node missed a step. `kept` says of
--- the nodes of that world that the journals keep what they keep; and `leaves` of a world that a crash at any moment since the start left, of each log, what it
--- might have left before, or a file in which an opening finds what that node kept in a world on the way; and `owed` of that world and the bytes that were put
--- what the journals owed before each of these was put.
+-- A script was played, from the first world on: these bytes were taken and put, and the lines in them led to this world. `kept` says of the nodes of that
+-- world that the journals keep what they keep; and `leaves` of a world that a crash at any moment since the start left, of each log, what it might have left
+-- before, or a file in which an opening finds what that node kept in a world on the way; and `owed` of that world and the bytes that were put what the journals
+-- owed before each of these was put.
 pub record IsSimulated (source : SourceCall) (sink : SinkCall) (first_router : ℕ) (kept : List Held → Type 0) (leaves : World → Type 0)
     (owed : World → (put : List ℕ) → Type 0) (first : World) (limit : ℕ) (status : Status) : Type 0 where
   pub taken : List ℕ
@@ -171,7 +170,6 @@ pub record IsSimulated (source : SourceCall) (sink : SinkCall) (first_router : �
   pub parts : taken ≡ bytes_of_lines lines ++ left
   pub each : AllByRecursion (HasNone newline) lines
   pub most : length taken ≤ limit
-  pub none_missed : end.missed ≡ first.missed
   pub cause : Cause first_router first limit (IsTrue source.tells → source.left_after ≡ []) taken lines left put end status
   pub files : kept end.nodes
   pub last : World

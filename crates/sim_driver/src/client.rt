@@ -33,7 +33,7 @@ pub struct Asked {
 ///
 /// # Errors
 /// - `Status::DiskFailed` if a disk failed.
-/// - `Status::OutOfMemory` if out of memory, or where a node is at its last step, or 2^62 requests of the link got a reply.
+/// - `Status::OutOfMemory` if out of memory, or where the router is at its last step, or 2^62 requests of the link got a reply.
 pub fn ask_all<N: Node<Request = Request>, L: Log, K: Witness<L::Of>>(
     framer: &mut Framer,
     seats: &mut Vec<Seat<N, L>>,

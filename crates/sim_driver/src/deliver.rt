@@ -1,6 +1,6 @@
 //! Messages that are delivered, each of all that were ever sent.
 
-ghost use Rattle.std.specs.Prelude.{◌≡◌, ◌≢◌, ◌⊎◌, ◌+◌, ◌<◌, ◌≤◌, List, Some, length, map, option_map, vec_len, IfErr, IfOk, IfSome, OnOk, Err, IsTrue};
+ghost use Rattle.std.specs.Prelude.{◌≡◌, ◌≢◌, ◌⊎◌, ◌<◌, ◌≤◌, List, Some, length, map, option_map, vec_len, IfErr, IfOk, IfSome, OnOk, Err, IsTrue};
 ghost use Rattle.std.specs.List.{slice_get};
 ghost use Rattle.std.specs.VecDeque.{deque_len};
 ghost use Rattle.node_model.specs.World.{World};
@@ -11,7 +11,7 @@ ghost use Rattle.driver_steps.specs.Together.{hosted};
 ghost use Rattle.driver_steps.specs.Worlds.{StandsFor, network_view};
 ghost use Rattle.pipe_driver.specs.Counts.{HaveRisenWhere};
 ghost use Rattle.pipe_driver.specs.declared.status.Status.TheVariants as statuses;
-ghost use Rattle.sim_driver.specs.Moves.{HasDeliveredOne, HasSettledBut, IsCut, IsNextAt, IsOfKindAt, IsPartOfDelivery, IsPassedAt, IsReceiverAt, PassesOrDelivers};
+ghost use Rattle.sim_driver.specs.Moves.{HasDeliveredOne, HasSettledBut, IsCut, IsLessFrom, IsNextAt, IsOfKindAt, IsPartOfDelivery, IsPassedAt, IsReceiverAt, PassesOrDelivers};
 ghost use Rattle.sim_driver.specs.Plays.{IsPartOfSettling};
 ghost use Rattle.sim_driver.specs.Scripts.{AreDelivered, marked, next_from, place_from};
 
@@ -74,7 +74,7 @@ pub fn find<M: Mail>(sent: &VecDeque<M>, node: u64, k: u64) -> Option<usize>
 ///
 /// # Errors
 /// - `Status::DiskFailed` if a disk failed.
-/// - `Status::OutOfMemory` if out of memory, or where a node is at its last step.
+/// - `Status::OutOfMemory` if out of memory.
 pub fn deliver_at<R: Threads + Sync, N: Node, L: Log, K: Witness<L::Of>>(
     rt: &R,
     alloc: Global,
@@ -97,8 +97,8 @@ pub fn deliver_at<R: Threads + Sync, N: Node, L: Log, K: Witness<L::Of>>(
         (IsPartOfDelivery w at) status) }
     ensures len { vec_len seats.new ≡ vec_len seats.old }
     ensures open { result ≢ Err statuses.DiskFailed → AreOpen L.facts.is_open seats.new.items }
-    ensures falls { OnOk result ((left_of N.steps seats.new.items + 1 ≡ left_of N.steps seats.old.items) ⊎
-        ((left_of N.steps seats.new.items ≡ left_of N.steps seats.old.items) × (network.new.waiting.items ≡ network.old.waiting.items))) }
+    ensures falls { OnOk result (IsLessFrom (left_of N.steps seats.old.items) (left_of N.steps seats.new.items) at
+        (map (λ m. N.Mail.letter m) network.old.waiting.items) (map (λ m. N.Mail.letter m) network.new.waiting.items)) }
 
     // Of the sink: notes alone.
     ensures held { K.held out.new ≡ K.held out.old }
@@ -211,8 +211,8 @@ pub fn deliver_and_mark<R: Threads + Sync, N: Node, L: Log, K: Witness<L::Of>>(
         (IsPartOfDelivery w at) status) }
     ensures len { vec_len seats.new ≡ vec_len seats.old }
     ensures open { result ≢ Err statuses.DiskFailed → AreOpen L.facts.is_open seats.new.items }
-    ensures falls { OnOk result ((left_of N.steps seats.new.items + 1 ≡ left_of N.steps seats.old.items) ⊎
-        ((left_of N.steps seats.new.items ≡ left_of N.steps seats.old.items) × (network.new.waiting.items ≡ network.old.waiting.items))) }
+    ensures falls { OnOk result (IsLessFrom (left_of N.steps seats.old.items) (left_of N.steps seats.new.items) at
+        (map (λ m. N.Mail.letter m) network.old.waiting.items) (map (λ m. N.Mail.letter m) network.new.waiting.items)) }
 
     // Of the sink: notes alone.
     ensures held { K.held out.new ≡ K.held out.old }
@@ -263,8 +263,8 @@ fn deliver_unless<R: Threads + Sync, N: Node, L: Log, K: Witness<L::Of>>(
         (IsPartOfDelivery w at) status) }
     ensures len { vec_len seats.new ≡ vec_len seats.old }
     ensures open { result ≢ Err statuses.DiskFailed → AreOpen L.facts.is_open seats.new.items }
-    ensures falls { OnOk result ((left_of N.steps seats.new.items + 1 ≡ left_of N.steps seats.old.items) ⊎
-        ((left_of N.steps seats.new.items ≡ left_of N.steps seats.old.items) × (network.new.waiting.items ≡ network.old.waiting.items))) }
+    ensures falls { OnOk result (IsLessFrom (left_of N.steps seats.old.items) (left_of N.steps seats.new.items) at
+        (map (λ m. N.Mail.letter m) network.old.waiting.items) (map (λ m. N.Mail.letter m) network.new.waiting.items)) }
 
     // Of the sink: notes alone.
     ensures held { K.held out.new ≡ K.held out.old }

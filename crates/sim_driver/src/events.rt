@@ -29,7 +29,7 @@ use std::alloc::Global;
 /// # Errors
 /// - `Status::BadInput` if the router does not exist; nothing happened.
 /// - `Status::DiskFailed` if a disk failed.
-/// - `Status::OutOfMemory` if out of memory, or where a node is at its last step, or links or replies can't be counted.
+/// - `Status::OutOfMemory` if out of memory, or where the router is at its last step, or links or replies can't be counted.
 pub fn play_client<N: Node<Request = Request>, L: Log, K: Witness<L::Of>>(
     alloc: Global,
     router: u64,
@@ -94,7 +94,7 @@ pub fn play_client<N: Node<Request = Request>, L: Log, K: Witness<L::Of>>(
 /// # Errors
 /// - `Status::BadInput` if the node does not exist; nothing happened.
 /// - `Status::DiskFailed` if a disk failed.
-/// - `Status::OutOfMemory` if out of memory, or where a node is at its last step.
+/// - `Status::OutOfMemory` if out of memory.
 pub fn play_moment<N: Node, L: Log, K: Witness<L::Of>>(
     node: u64,
     moment: u64,

@@ -37,7 +37,7 @@ use std::thread::Threads;
 /// - `Status::BadInput` if the bytes say no line, or one that names what is not there; nothing happened.
 /// - `Status::WriteFailed` if a write failed; the line was played.
 /// - `Status::DiskFailed` if a disk failed: nothing of the line was put.
-/// - `Status::OutOfMemory` if out of memory, or where a node is at its last step: nothing of the line was put.
+/// - `Status::OutOfMemory` if out of memory, or where a router is at its last step: nothing of the line was put.
 pub fn answer_line<
     R: Threads + Sync,
     N: Node<Request = Request>,

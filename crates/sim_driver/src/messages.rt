@@ -29,7 +29,7 @@ use std::thread::Threads;
 /// # Errors
 /// - `Status::BadInput` if the node or the message does not exist; nothing happened.
 /// - `Status::DiskFailed` if a disk failed.
-/// - `Status::OutOfMemory` if out of memory, or where a node is at its last step.
+/// - `Status::OutOfMemory` if out of memory.
 pub fn play_deliver<R: Threads + Sync, N: Node, L: Log, K: Witness<L::Of>>(
     rt: &R,
     alloc: Global,
@@ -86,7 +86,7 @@ pub fn play_deliver<R: Threads + Sync, N: Node, L: Log, K: Witness<L::Of>>(
 ///
 /// # Errors
 /// - `Status::DiskFailed` if a disk failed.
-/// - `Status::OutOfMemory` if out of memory, or where a node is at its last step.
+/// - `Status::OutOfMemory` if out of memory.
 pub fn play_settle<R: Threads + Sync, N: Node, L: Log, K: Witness<L::Of>>(
     rt: &R,
     alloc: Global,
@@ -148,7 +148,7 @@ pub fn play_settle<R: Threads + Sync, N: Node, L: Log, K: Witness<L::Of>>(
 /// # Errors
 /// - `Status::BadInput` if there is none; nothing happened.
 /// - `Status::DiskFailed` if a disk failed.
-/// - `Status::OutOfMemory` if out of memory, or where a node is at its last step.
+/// - `Status::OutOfMemory` if out of memory.
 pub fn play_next<R: Threads + Sync, N: Node, L: Log, K: Witness<L::Of>>(
     rt: &R,
     alloc: Global,

@@ -125,7 +125,7 @@ pub fn play_said<
 /// # Errors
 /// - `Status::BadInput` if the bytes say no line, or one that names what does not exist; nothing happened.
 /// - `Status::DiskFailed` if a disk failed.
-/// - `Status::OutOfMemory` if out of memory, or where a node is at its last step, or links or replies can't be counted.
+/// - `Status::OutOfMemory` if out of memory, or where a router is at its last step, or links or replies can't be counted.
 pub fn play_line<
     R: Threads + Sync,
     N: Node<Request = Request>,

@@ -32,7 +32,7 @@ use std::thread::Threads;
 ///
 /// # Errors
 /// - `Status::DiskFailed` if a disk failed.
-/// - `Status::OutOfMemory` if out of memory, or where the node is at its last step, or links can't be counted.
+/// - `Status::OutOfMemory` if out of memory, or where links can't be counted.
 fn play_stop<N: Node, L: Log, K: Witness<L::Of>, O: Opens<N, L>>(
     opener: &O,
     alloc: Global,
@@ -88,7 +88,7 @@ fn play_stop<N: Node, L: Log, K: Witness<L::Of>, O: Opens<N, L>>(
 /// # Errors
 /// - `Status::BadInput` if the node does not exist; nothing happened.
 /// - `Status::DiskFailed` if a disk failed.
-/// - `Status::OutOfMemory` if out of memory, or where the node is at its last step, or links can't be counted.
+/// - `Status::OutOfMemory` if out of memory, or where links can't be counted.
 pub fn play_restart<N: Node, L: Log, K: Witness<L::Of>, O: Opens<N, L>>(
     opener: &O,
     alloc: Global,
@@ -178,7 +178,7 @@ fn take_message<M: Mail>(
 /// # Errors
 /// - `Status::BadInput` if the node or the message does not exist; nothing happened.
 /// - `Status::DiskFailed` if a disk failed.
-/// - `Status::OutOfMemory` if out of memory, or where the node is at its last step when it is opened, or links can't be counted.
+/// - `Status::OutOfMemory` if out of memory, or where links can't be counted.
 pub fn play_kept<R: Threads + Sync, N: Node, L: Log, K: Witness<L::Of>, O: Opens<N, L>>(
     rt: &R,
     opener: &O,

@@ -5,7 +5,7 @@ ghost use Rattle.outside.specs.Devices.{sink_call, source_call};
 ghost use Rattle.node_model.specs.World.{World};
 ghost use Rattle.driver_steps.specs.Crashes.{Since, with_notes};
 ghost use Rattle.driver_steps.specs.Restarts.{HaveParts};
-ghost use Rattle.driver_steps.specs.Seats.{AreHeld, AreKept, AreOpen, LeaveKept, faults_of, places_of, seat_since, seat_view, since_noted, since_then};
+ghost use Rattle.driver_steps.specs.Seats.{AreCounted, AreHeld, AreKept, AreOpen, LeaveKept, faults_of, places_of, seat_since, seat_view, since_noted, since_then};
 ghost use Rattle.driver_steps.specs.Together.{hosted};
 ghost use Rattle.driver_steps.specs.Worlds.{network_view};
 ghost use Rattle.pipe_driver.specs.Acknowledgements.{AreAcknowledgedBy, AreCovered, AreNoted, WithNotes};
@@ -50,7 +50,7 @@ fn unended(cause: Status, begun: &[u8]) -> Status
 /// A node that stops in a line is opened again by `opener`.
 ///
 /// The status is `BadInput` where the next line is refused, and `DiskFailed` where the disk of a log failed: the logs must be opened again. It
-/// is `OutOfMemory` also where a node is at its last step.
+/// is `OutOfMemory` also where a router is at its last step.
 pub fn simulate<
     R: Threads + Sync,
     N: Node<Request = Request>,
@@ -73,6 +73,7 @@ pub fn simulate<
     ensures simulated { AreAskedAsRead N.asks → IsTrue L.facts.tells → (first : World) → MayPlay first_router first →
         HaveParts (O.part opener.now) first.nodes →
         AreHeld (seat_view N.state N.steps L.facts) seats.old.items first.nodes →
+        AreCounted (seat_view N.state N.steps L.facts) seats.old.items first.nodes →
         IsSimulated (source_call S.tells S.left S.fault_count input.old input.new) (sink_call K.tells K.held K.fault_count out.old out.new)
         first_router (AreKept (seat_view N.state N.steps L.facts) seats.new.items)
         (LeaveKept (seat_since N.state N.steps L.facts (since_then seats.old.items first))

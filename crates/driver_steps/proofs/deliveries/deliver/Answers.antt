@@ -1,8 +1,11 @@
-use Rattle.std.proofs.Common.{◌∙◌}
-use Rattle.driver_steps.specs.Seats.{seat_since}
+use Rattle.std.proofs.Common.{◌∙◌, map}
+use Rattle.node_model.specs.Letters.{letter_input}
+use Rattle.driver_steps.specs.Seats.{left_of, seat_since}
 use Rattle.driver_steps.specs.Together.{hosted}
 use Rattle.driver_steps.specs.Worlds.{network_view}
+use Rattle.driver_steps.proofs.Costs.{delivered_less, is_no_request, lost_costs}
 use Rattle.driver_steps.proofs.DiskNotes.{no_more}
+use Rattle.driver_steps.proofs.Queued.{sends_none}
 use Rattle.driver_steps.proofs.Seats.{held_len}
 use Rattle.driver_steps.proofs.Runs.{delivered, delivery_stopped, lost}
 use Rattle.driver_steps.proofs.deliveries.deliver.Goals as goal
@@ -32,3 +35,21 @@ returns-in-Err-clause-stopped g c since w next which handed s got =
 
 pub returns-then-at-len-clause-noted : goal.returns-then-at-len-clause-noted
 returns-then-at-len-clause-noted g c shown = no_more (g.K.Sink.noted c.args.out.now)
+
+pub returns-then-at-len-clause-falls : goal.returns-then-at-len-clause-falls
+returns-then-at-len-clause-falls g c =
+    lost_costs (left_of g.N.Node.steps c.args.seats.now.items) (map (λ m. g.N.Mail.Mail.letter m) c.args.network.now.waiting.items)
+    (g.N.Mail.Mail.letter c.args.message).body
+
+pub returns-in-Ok-clause-falls : goal.returns-in-Ok-clause-falls
+returns-in-Ok-clause-falls g c =
+    delivered_less (left_of g.N.Node.steps c.args.seats.now.items) (left_of g.N.Node.steps c.happen.new.seats.items)
+    (map (λ m. g.N.Mail.Mail.letter m) c.args.network.now.waiting.items) (map (λ m. g.N.Mail.Mail.letter m) c.happen.new.network.waiting.items)
+    (g.N.Node.meaning c.prepare.result) (g.N.Mail.Mail.letter c.args.message) c.prepare.ensures c.in-Ok.ensures.falls
+
+pub happen-requires-clause-request : goal.happen-requires-clause-request
+happen-requires-clause-request g c =
+    is_no_request (g.N.Node.meaning c.prepare.result) (letter_input (g.N.Mail.Mail.letter c.args.message)) c.prepare.ensures tt
+
+pub returns-then-at-len-clause-sends : goal.returns-then-at-len-clause-sends
+returns-then-at-len-clause-sends g c = sends_none c.args.network.now.waiting.items

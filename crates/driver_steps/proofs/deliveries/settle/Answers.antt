@@ -1,9 +1,10 @@
 use Rattle.std.proofs.Common.{rules, ◌≡◌, ◌<◌, ◌^◌, refl, arith, ◌∙◌}
 use Rattle.std.specs.Prelude.{None}
-use Rattle.driver_steps.specs.Seats.{seat_since}
+use Rattle.driver_steps.specs.Seats.{left_of, seat_since}
 use Rattle.driver_steps.specs.Together.{hosted}
+use Rattle.driver_steps.proofs.Costs.{less_left}
 use Rattle.driver_steps.proofs.DiskNotes.{more_then, no_more}
-use Rattle.driver_steps.proofs.Runs.{less_left, settled_at_end, settling_none, settling_step, settling_stopped}
+use Rattle.driver_steps.proofs.Runs.{settled_at_end, settling_none, settling_step, settling_stopped}
 use Rattle.driver_steps.proofs.deliveries.settle.Goals as goal
 
 pub messages-init : goal.messages-init
@@ -40,8 +41,9 @@ messages-preserved g c = record {
 pub messages-smaller : goal.messages-smaller
 messages-smaller g c =
     let fits : c.deliver.new.network.waiting.len < 2 ^ 64 = omega (arith, c.deliver.new.network.waiting.small.0, c.deliver.new.network.waiting.small.1) in
-    less_left _ _ _ _ _ c.pop_front.new.self.items c.deliver.new.network.waiting.items c.in-Ok.ensures.falls c.in-Some.ensures.cases c.pop_front.new.self.ok.0
-    c.deliver.new.network.waiting.ok.0 fits
+    less_left (λ m. g.N.Mail.Mail.letter m) (left_of g.N.Node.steps c.messages.seats.items) (left_of g.N.Node.steps c.deliver.new.seats.items)
+    c.in-Some.message c.messages.network.waiting.items c.pop_front.new.self.items c.deliver.new.network.waiting.items c.in-Ok.ensures.falls
+    c.in-Some.ensures.items (omega (arith, c.deliver.new.network.waiting.ok.0, fits))
 
 pub returns-in-Err-clause-stopped : goal.returns-in-Err-clause-stopped
 returns-in-Err-clause-stopped g c since w next handed s =

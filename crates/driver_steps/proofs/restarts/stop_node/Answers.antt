@@ -8,11 +8,11 @@ use Rattle.driver_steps.proofs.Stops.{node_failed, node_started}
 use Rattle.driver_steps.proofs.restarts.stop_node.Goals as goal
 
 pub returns-in-Ok-clause-started : goal.returns-in-Ok-clause-started
-returns-in-Ok-clause-started g c told since w e may gives are leave =
+returns-in-Ok-clause-started g c told since w e may gives are counts leave =
     node_started g.L.Log.facts g.N.Node.state g.N.Node.steps g.K.Sink.tells since c.args.seats.now.items c.args.at c.index_mut-seat.result.now c.stop_seat.new.seat
     (g.K.Sink.noted c.args.out.now) (g.K.Sink.noted c.note_cut.new.out) (length (g.K.Sink.held c.args.out.now))
     (slice_get_read _ _ _ _ (search rules) c.requires.at c.index_mut-seat.ensures.value) c.requires.«open» c.note_cut.ensures.durable c.note_cut.ensures.noted
-    c.stop_seat.ensures.place told (g.O.Opens.part c.args.opener.now) w e (option_map (λ i. g.N.Node.meaning i) c.args.input) may gives are leave
+    c.stop_seat.ensures.place told (g.O.Opens.part c.args.opener.now) w e (option_map (λ i. g.N.Node.meaning i) c.args.input) may gives are leave counts
     c.in-Ok.ensures.started
 
 pub returns-in-Err-clause-failed : goal.returns-in-Err-clause-failed

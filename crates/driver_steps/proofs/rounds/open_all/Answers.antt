@@ -1,10 +1,12 @@
 use Rattle.std.proofs.Common.{◌≡◌, ℕ, refl, subst, arith, ◌∙◌}
 use Rattle.std.specs.Prelude.{vec_len}
 use Rattle.node_model.specs.Schedule.{openings}
+use Rattle.node_model.specs.Letters.{opened_input}
 use Rattle.driver_steps.specs.Seats.{seat_since}
 use Rattle.driver_steps.specs.Together.{hosted}
 use Rattle.driver_steps.specs.Worlds.{network_view}
 use Rattle.driver_steps.specs.Moves.{HasRun}
+use Rattle.driver_steps.proofs.Costs.{is_no_request}
 use Rattle.driver_steps.proofs.DiskNotes.{more_then, no_more}
 use Rattle.driver_steps.proofs.Runs.{opened_more, opened_stopped, run_none}
 use Rattle.driver_steps.proofs.rounds.open_all.Goals as goal
@@ -59,3 +61,6 @@ pub returns-in-Err-clause-noted : goal.returns-in-Err-clause-noted
 returns-in-Err-clause-noted g c shown =
     more_then (g.K.Sink.noted c.args.out.now) (g.K.Sink.noted c.nodes.out) (g.K.Sink.noted c.happen.new.out) (c.nodes.invariant.noted shown)
     (c.in-Err.ensures.noted shown)
+
+pub happen-requires-clause-request : goal.happen-requires-clause-request
+happen-requires-clause-request g c = is_no_request (g.N.Node.meaning c.opened.result) opened_input c.opened.ensures tt

@@ -6,7 +6,7 @@ use Rattle.driver_steps.specs.Crashes.{with_notes}
 use Rattle.driver_steps.specs.Seats.{seat_since, since_noted}
 use Rattle.driver_steps.specs.Together.{hosted}
 use Rattle.driver_steps.specs.Worlds.{network_view, puts_given}
-use Rattle.driver_steps.proofs.Crashes.{held_since, kept_plain}
+use Rattle.driver_steps.proofs.Crashes.{counted_since, held_since, kept_plain}
 use Rattle.driver_steps.proofs.Seats.{held_len}
 use Rattle.driver_steps.proofs.Together.{leave_at_start}
 use Rattle.pipe_driver.specs.Acknowledgements.{AreCovered}
@@ -18,16 +18,17 @@ use Rattle.pipe_driver.proofs.Serving.{but_for_disks, opened_serving, opening_cu
 use Rattle.pipe_driver.proofs.connection.pipe.Goals as goal
 
 pub returns-in-Ok-clause-piped : goal.returns-in-Ok-clause-piped
-returns-in-Ok-clause-piped g c = λ asks first some are.
+returns-in-Ok-clause-piped g c = λ asks first some are as_held.
     let facts = g.L.Log.facts in
     let seats = c.args.seats.now.items in
     let since = since_noted seats first (g.K.Sink.noted c.args.out.now) in
     let seated = held_since g.N.Node.state g.N.Node.steps facts since seats first.nodes are in
+    let counted = counted_since g.N.Node.state g.N.Node.steps facts since seats first.nodes as_held in
     let held : g.K.Sink.held c.open_all.new.out ≡ g.K.Sink.held c.args.out.now = c.open_all.ensures.held ∙ c.note_cut.ensures.held in
     let calm : g.K.Sink.fault_count c.open_all.new.out ≡ g.K.Sink.fault_count c.args.out.now = c.open_all.ensures.sink ∙ c.note_cut.ensures.faults in
     let as_many = c.args.seats.now.ok.0 ∙ held_len _ seats first.nodes seated in
     let s = starts (seat_since g.N.Node.state g.N.Node.steps facts since) (λ m. g.N.Mail.Mail.letter m)
-    (hosted g.K.Sink.tells facts since (g.K.Sink.noted c.note_cut.new.out) seats) first c.new-network.result some.begins seated
+    (hosted g.K.Sink.tells facts since (g.K.Sink.noted c.note_cut.new.out) seats) first c.new-network.result some.begins seated counted
     (leave_at_start facts g.N.Node.state g.N.Node.steps g.K.Sink.tells seats first (g.K.Sink.noted c.args.out.now) (g.K.Sink.noted c.note_cut.new.out)
     (length (g.K.Sink.held c.args.out.now)) c.requires.«open» c.note_cut.ensures.durable seated c.note_cut.ensures.noted)
     c.new-network.ensures.waiting c.new-network.ensures.replies in
@@ -43,16 +44,17 @@ returns-in-Ok-clause-piped g c = λ asks first some are.
     (λ told. subst (λ (b : List ℕ). AreCovered (all_replies first) first served.0 b put w) held (owed told)))
 
 pub returns-in-Err-clause-piped : goal.returns-in-Err-clause-piped
-returns-in-Err-clause-piped g c = λ asks first some are.
+returns-in-Err-clause-piped g c = λ asks first some are as_held.
     let facts = g.L.Log.facts in
     let seats = c.args.seats.now.items in
     let since = since_noted seats first (g.K.Sink.noted c.args.out.now) in
     let seated = held_since g.N.Node.state g.N.Node.steps facts since seats first.nodes are in
+    let counted = counted_since g.N.Node.state g.N.Node.steps facts since seats first.nodes as_held in
     let held : g.K.Sink.held c.open_all.new.out ≡ g.K.Sink.held c.args.out.now = c.open_all.ensures.held ∙ c.note_cut.ensures.held in
     let calm : g.K.Sink.fault_count c.open_all.new.out ≡ g.K.Sink.fault_count c.args.out.now = c.open_all.ensures.sink ∙ c.note_cut.ensures.faults in
     let as_many = c.args.seats.now.ok.0 ∙ held_len _ seats first.nodes seated in
     let s = starts (seat_since g.N.Node.state g.N.Node.steps facts since) (λ m. g.N.Mail.Mail.letter m)
-    (hosted g.K.Sink.tells facts since (g.K.Sink.noted c.note_cut.new.out) seats) first c.new-network.result some.begins seated
+    (hosted g.K.Sink.tells facts since (g.K.Sink.noted c.note_cut.new.out) seats) first c.new-network.result some.begins seated counted
     (leave_at_start facts g.N.Node.state g.N.Node.steps g.K.Sink.tells seats first (g.K.Sink.noted c.args.out.now) (g.K.Sink.noted c.note_cut.new.out)
     (length (g.K.Sink.held c.args.out.now)) c.requires.«open» c.note_cut.ensures.durable seated c.note_cut.ensures.noted)
     c.new-network.ensures.waiting c.new-network.ensures.replies in

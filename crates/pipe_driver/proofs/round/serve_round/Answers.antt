@@ -33,7 +33,7 @@ returns-in-Err-ask-clause-stopped g c since first rounds events w next handed so
     (IsPart (vec_len c.args.seats.now) (round_of c.args.router c.args.moment z (g.N.Node.asks c.args.request))) c.in-Err-ask.e) same
     (stopped_in_asking (seat_since g.N.Node.state g.N.Node.steps g.L.Log.facts since)
     _ _ handed w (vec_len c.args.seats.now)
-    (round_of c.args.router c.args.moment (to_z w32 (of_z w32 c.args.number)) (g.N.Node.asks c.args.request)) _ r.end r.run r.none_missed
+    (round_of c.args.router c.args.moment (to_z w32 (of_z w32 c.args.number)) (g.N.Node.asks c.args.request)) _ r.end r.run
     (c.in-Err-ask.ensures.stopped since r.end next handed r.stands router))
 
 pub returns-in-Err-settle-clause-stopped : goal.returns-in-Err-settle-clause-stopped
@@ -53,7 +53,7 @@ returns-in-Err-settle-clause-stopped g c since first rounds events w next handed
     (IsPart (vec_len c.args.seats.now) (round_of c.args.router c.args.moment z (g.N.Node.asks c.args.request))) c.in-Err-settle.e) same
     (stopped_in_deliveries (seat_since g.N.Node.state g.N.Node.steps g.L.Log.facts since)
     _ _ handed w (vec_len c.args.seats.now)
-    (round_of c.args.router c.args.moment (to_z w32 (of_z w32 c.args.number)) (g.N.Node.asks c.args.request)) _ r.end a.end r.run a.happens (a.none_missed ∙ r.none_missed)
+    (round_of c.args.router c.args.moment (to_z w32 (of_z w32 c.args.number)) (g.N.Node.asks c.args.request)) _ r.end a.end r.run a.happens
     (c.in-Err-settle.ensures.stopped since a.end next handed a.stands))
 
 pub returns-in-Ok-settle-clause-served : goal.returns-in-Ok-settle-clause-served
@@ -73,7 +73,7 @@ returns-in-Ok-settle-clause-served g c since first rounds events w next handed s
     (round_served (seat_since g.N.Node.state g.N.Node.steps g.L.Log.facts since)
     handed first rounds events w next
     (vec_len c.args.seats.now) (round_of c.args.router c.args.moment (to_z w32 (of_z w32 c.args.number)) (g.N.Node.asks c.args.request))
-    c.args.router some pipes as_many refl _ _ r.end a.end r.run a.happens (a.none_missed ∙ r.none_missed)
+    c.args.router some pipes as_many refl _ _ r.end a.end r.run a.happens
     (c.in-Ok-settle.ensures.settled since a.end next handed a.stands))
 
 pub returns-in-Err-ask-clause-noted : goal.returns-in-Err-ask-clause-noted

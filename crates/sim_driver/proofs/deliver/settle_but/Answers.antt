@@ -1,11 +1,12 @@
-use Rattle.std.proofs.Common.{◌∙◌, ◌<◌, ◌^◌, refl, arith}
+use Rattle.std.proofs.Common.{◌∙◌, refl, arith}
 use Rattle.std.specs.Prelude.{option_map}
 use Rattle.std.proofs.lemmas.List.{length-map}
-use Rattle.driver_steps.specs.Seats.{seat_since}
+use Rattle.driver_steps.specs.Seats.{left_of, seat_since}
 use Rattle.driver_steps.proofs.DiskNotes.{more_then, no_more}
 use Rattle.driver_steps.specs.Together.{hosted}
 use Rattle.driver_steps.specs.Worlds.{network_view}
-use Rattle.sim_driver.proofs.Deliveries.{less_to_do, settling_cut, settling_end, settling_none, settling_step}
+use Rattle.sim_driver.proofs.Deliveries.{settling_cut, settling_end, settling_none, settling_step}
+use Rattle.sim_driver.proofs.Falls.{less_to_do}
 use Rattle.sim_driver.proofs.deliver.settle_but.Goals as goal
 
 pub messages-init : goal.messages-init
@@ -45,10 +46,9 @@ messages-preserved g c = record {
 
 pub messages-smaller : goal.messages-smaller
 messages-smaller g c =
-    let fits : c.deliver_unless.new.network.waiting.len < 2 ^ 64 =
-    omega (arith, c.deliver_unless.new.network.waiting.small.0, c.deliver_unless.new.network.waiting.small.1) in
-    less_to_do _ _ c.messages.at _ _ c.messages.network.waiting.items c.deliver_unless.new.network.waiting.items c.in-Ok.ensures.falls
-    c.messages.network.waiting.ok.0 c.deliver_unless.new.network.waiting.ok.0 (omega (arith, c.messages-test.true, c.len.ensures)) fits
+    let after = c.deliver_unless.new.network.waiting in
+    less_to_do (λ m. g.N.Mail.Mail.letter m) (left_of g.N.Node.steps c.messages.seats.items) (left_of g.N.Node.steps c.deliver_unless.new.seats.items)
+    c.messages.at c.messages.network.waiting.items after.items c.in-Ok.ensures.falls (omega (arith, after.ok.0, after.small.0, after.small.1))
 
 pub returns-in-Err-clause-cut : goal.returns-in-Err-clause-cut
 returns-in-Err-clause-cut g c since w handed known s =

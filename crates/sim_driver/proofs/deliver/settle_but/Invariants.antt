@@ -1,9 +1,9 @@
-use Rattle.std.proofs.Common.{◌≡◌, ◌+◌, ◌-◌, ◌*◌, ◌^◌, ◌≤◌, List, IsTrue, length}
+use Rattle.std.proofs.Common.{◌≡◌, ◌+◌, ◌*◌, ◌^◌, ◌≤◌, IsTrue, List, drop, length, map}
 use Rattle.std.specs.Prelude.{option_map, vec_len}
-use Rattle.std.specs.VecDeque.{deque_len}
 use Rattle.node_model.specs.World.{World}
 use Rattle.node_traits.specs.declared.outputs.ToLink.{ToLink}
 use Rattle.driver_steps.specs.Crashes.{Since}
+use Rattle.driver_steps.specs.Moves.{costs_of}
 use Rattle.driver_steps.specs.Seats.{AreOpen, HasMore, faults_of, left_of, places_of, seat_since}
 use Rattle.driver_steps.specs.Together.{hosted}
 use Rattle.driver_steps.specs.Worlds.{StandsFor, network_view}
@@ -11,7 +11,8 @@ use Rattle.sim_driver.proofs.Deliveries.{IsSettling}
 use Rattle.sim_driver.proofs.deliver.settle_but.Given as goal
 
 abbrev pub decreases-messages : goal.decreases-messages
-decreases-messages g l = left_of g.N.Node.steps l.seats.items * 2 ^ 66 + (deque_len l.network.waiting - l.at)
+decreases-messages g l =
+    left_of g.N.Node.steps l.seats.items * 2 ^ 66 + costs_of (drop l.at (map (λ m. g.N.Mail.Mail.letter m) l.network.waiting.items))
 
 abbrev pub invariant-messages : goal.invariant-messages
 invariant-messages g l = record {

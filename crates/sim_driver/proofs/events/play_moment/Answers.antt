@@ -1,4 +1,4 @@
-use Rattle.std.proofs.Common.{◌∷◌, [], refl, ap, arith}
+use Rattle.std.proofs.Common.{◌∷◌, [], ap, arith}
 use Rattle.std.specs.Prelude.{Err}
 use Rattle.node_model.specs.World.{moment_event, stands}
 use Rattle.driver_steps.specs.Seats.{seat_since}
@@ -36,7 +36,7 @@ returns-in-Err-clause-stops g c since w handed s =
     (moment_line c.args.node c.args.moment) (script_view c.args.script.now) c.of.result (one_of_two c.in-Err.e _ c.of.ensures)
     (cut_behind (seat_since g.N.Node.state g.N.Node.steps g.L.Log.facts since) _ _ handed w [] w
     (λ events. BeginWith events (moment_event c.args.node c.args.moment ∷ []))
-    (IsPartOfWhole w (script_view c.args.script.now) (moment_line c.args.node c.args.moment)) c.in-Err.e _ c.of.ensures (stands w) refl
+    (IsPartOfWhole w (script_view c.args.script.now) (moment_line c.args.node c.args.moment)) c.in-Err.e _ c.of.ensures (stands w)
     (λ more first. part_of_moment c.args.node c.args.moment more first)
     (c.in-Err.ensures.stopped since w 0 handed s))
 

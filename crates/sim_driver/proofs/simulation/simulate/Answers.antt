@@ -5,7 +5,7 @@ use Rattle.driver_steps.specs.Crashes.{with_notes}
 use Rattle.driver_steps.specs.Seats.{seat_since, since_noted}
 use Rattle.driver_steps.specs.Together.{hosted}
 use Rattle.driver_steps.specs.Worlds.{puts_given}
-use Rattle.driver_steps.proofs.Crashes.{held_since, kept_plain}
+use Rattle.driver_steps.proofs.Crashes.{counted_since, held_since, kept_plain}
 use Rattle.driver_steps.proofs.Seats.{held_len}
 use Rattle.driver_steps.proofs.Together.{leave_at_start}
 use Rattle.pipe_driver.specs.Acknowledgements.{AreCovered}
@@ -19,16 +19,17 @@ use Rattle.pipe_driver.proofs.Serving.{but_for_disks}
 use Rattle.sim_driver.proofs.simulation.simulate.Goals as goal
 
 pub returns-in-Ok-clause-simulated : goal.returns-in-Ok-clause-simulated
-returns-in-Ok-clause-simulated g c = λ asks told first some parts are.
+returns-in-Ok-clause-simulated g c = λ asks told first some parts are as_held.
     let facts = g.L.Log.facts in
     let seats = c.args.seats.now.items in
     let since = since_noted seats first (g.K.Sink.noted c.args.out.now) in
     let seated = held_since g.N.Node.state g.N.Node.steps facts since seats first.nodes are in
+    let counted = counted_since g.N.Node.state g.N.Node.steps facts since seats first.nodes as_held in
     let held : g.K.Sink.held c.open_all.new.out ≡ g.K.Sink.held c.args.out.now = c.open_all.ensures.held ∙ c.note_cut.ensures.held in
     let calm : g.K.Sink.fault_count c.open_all.new.out ≡ g.K.Sink.fault_count c.args.out.now = c.open_all.ensures.sink ∙ c.note_cut.ensures.faults in
     let as_many = c.args.seats.now.ok.0 ∙ held_len _ seats first.nodes seated in
     let s = starts (seat_since g.N.Node.state g.N.Node.steps facts since) (λ m. g.N.Mail.Mail.letter m)
-    (hosted g.K.Sink.tells facts since (g.K.Sink.noted c.note_cut.new.out) seats) first c.new-network.result some.begins seated
+    (hosted g.K.Sink.tells facts since (g.K.Sink.noted c.note_cut.new.out) seats) first c.new-network.result some.begins seated counted
     (leave_at_start facts g.N.Node.state g.N.Node.steps g.K.Sink.tells seats first (g.K.Sink.noted c.args.out.now) (g.K.Sink.noted c.note_cut.new.out)
     (length (g.K.Sink.held c.args.out.now)) c.requires.«open» c.note_cut.ensures.durable seated c.note_cut.ensures.noted)
     c.new-network.ensures.waiting c.new-network.ensures.replies in
@@ -44,16 +45,17 @@ returns-in-Ok-clause-simulated g c = λ asks told first some parts are.
     (simulated_by _ _ _ _ _ _ _ first _ _ (same_sink g.K.Sink.tells g.K.Sink.held g.K.Sink.fault_count _ _ _ _ held calm refl refl) played.2)
 
 pub returns-in-Err-clause-simulated : goal.returns-in-Err-clause-simulated
-returns-in-Err-clause-simulated g c = λ asks told first some parts are.
+returns-in-Err-clause-simulated g c = λ asks told first some parts are as_held.
     let facts = g.L.Log.facts in
     let seats = c.args.seats.now.items in
     let since = since_noted seats first (g.K.Sink.noted c.args.out.now) in
     let seated = held_since g.N.Node.state g.N.Node.steps facts since seats first.nodes are in
+    let counted = counted_since g.N.Node.state g.N.Node.steps facts since seats first.nodes as_held in
     let held : g.K.Sink.held c.open_all.new.out ≡ g.K.Sink.held c.args.out.now = c.open_all.ensures.held ∙ c.note_cut.ensures.held in
     let calm : g.K.Sink.fault_count c.open_all.new.out ≡ g.K.Sink.fault_count c.args.out.now = c.open_all.ensures.sink ∙ c.note_cut.ensures.faults in
     let as_many = c.args.seats.now.ok.0 ∙ held_len _ seats first.nodes seated in
     let s = starts (seat_since g.N.Node.state g.N.Node.steps facts since) (λ m. g.N.Mail.Mail.letter m)
-    (hosted g.K.Sink.tells facts since (g.K.Sink.noted c.note_cut.new.out) seats) first c.new-network.result some.begins seated
+    (hosted g.K.Sink.tells facts since (g.K.Sink.noted c.note_cut.new.out) seats) first c.new-network.result some.begins seated counted
     (leave_at_start facts g.N.Node.state g.N.Node.steps g.K.Sink.tells seats first (g.K.Sink.noted c.args.out.now) (g.K.Sink.noted c.note_cut.new.out)
     (length (g.K.Sink.held c.args.out.now)) c.requires.«open» c.note_cut.ensures.durable seated c.note_cut.ensures.noted)
     c.new-network.ensures.waiting c.new-network.ensures.replies in
