@@ -56,7 +56,7 @@ module _ (source : SourceCall) (sink : SinkCall) (tells : Bool) (files_after : L
     history =
         let run = piped_run source sink gives router (λ nodes. IsTrue tells → AreJournals files_after nodes) leaves owed first most_taken ending rest piped in
         one_history first begins (wholes run.0) piped.end (run_whole first piped.end run.0 run.1);
-    answered = λ ended. (all_served most_taken _ piped.taken piped.fault _ _ _ ending piped.cause ended).answered;
+    answered = λ ended none_missed. (all_served most_taken _ piped.taken piped.fault _ _ _ ending piped.cause ended).answered none_missed;
   }
 
   script_from : (first_router : ℕ) (first : World) → IsFirst first → (ending : connections.Status)
@@ -67,14 +67,14 @@ module _ (source : SourceCall) (sink : SinkCall) (tells : Bool) (files_after : L
     history =
         let run = simulated_run source sink first_router (λ nodes. IsTrue tells → AreJournals files_after nodes) leaves owed first most_taken ending simulated in
         one_history first begins run.0 simulated.end run.1;
-    answered = λ ended last none.
+    answered = λ ended last none none_missed.
         let all =
         all_played first_router first most_taken _ simulated.taken simulated.lines simulated.left simulated.put simulated.end ending simulated.cause ended in
-        all.answered last none;
-    answered_after = λ ended last.
+        all.answered last none none_missed;
+    answered_after = λ ended last none_missed.
         let all =
         all_played first_router first most_taken _ simulated.taken simulated.lines simulated.left simulated.put simulated.end ending simulated.cause ended in
-        (all.events, all.answered_after last);
+        (all.events, all.answered_after last none_missed);
     no_rest = none;
   }
 
@@ -100,7 +100,6 @@ module _ (source : SourceCall) (sink : SinkCall) (tells : Bool) (files_after : L
       fault = None;
       rounds = [];
       end = first;
-      none_missed = refl;
       took = took;
       put_all = put;
       frames = ends 0 [] refl;
@@ -124,7 +123,6 @@ module _ (source : SourceCall) (sink : SinkCall) (tells : Bool) (files_after : L
       lines = [];
       left = [];
       end = first;
-      none_missed = refl;
       took = took;
       put_all = put;
       parts = refl;

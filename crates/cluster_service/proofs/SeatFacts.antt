@@ -8,7 +8,7 @@ use Rattle.outside.specs.Disks.{Outcomes}
 use Rattle.journal_frames.specs.Views.{JournalView, journal_facts}
 use Rattle.node_model.specs.States.{NodeState}
 use Rattle.node_model.specs.World.{Held, World}
-use Rattle.driver_steps.specs.Seats.{AreHeld, AreKept, seat_view}
+use Rattle.driver_steps.specs.Seats.{AreCounted, AreHeld, AreKept, seat_view}
 use Rattle.driver_steps.specs.declared.seat.Seat.{Seat}
 use Rattle.pipe_driver.specs.Endings.{most_taken}
 use Rattle.pipe_driver.proofs.Endings.{piped_with}
@@ -50,6 +50,18 @@ module _ {N D : Type 0} (state : N → NodeState) (steps : N → ℕ) (tells : B
     },
     held_from nodes journals held (cc same) are.1 none.1,
   )
+
+  -- before their first steps
+  pub counted_from : (nodes : List N) (journals : List (JournalView D)) (held : List Held) → length nodes ≡ length journals → length nodes ≡ length held
+      → AllByRecursion (λ n. steps n ≡ 0) nodes → AllByRecursion (λ (h : Held). h.steps ≡ 0) held
+      → AreCounted (seat_view state steps (journal_facts tells content moment left_at fault_count place)) (seats_of nodes journals) held
+  counted_from [] [] [] long as_many new none = tt
+  counted_from [] [] (h ∷ held) long as_many new none = absurd (omega (arith, as_many))
+  counted_from [] (journal ∷ journals) held long as_many new none = absurd (omega (arith, long))
+  counted_from (node ∷ nodes) [] held long as_many new none = absurd (omega (arith, long))
+  counted_from (node ∷ nodes) (journal ∷ journals) [] long as_many new none = absurd (omega (arith, as_many))
+  counted_from (node ∷ nodes) (journal ∷ journals) (h ∷ held) long as_many new none =
+      (none.0 ∙ sym new.0, counted_from nodes journals held (omega (arith, long)) (omega (arith, as_many)) new.1 none.1)
 
   -- where the logs keep what the journals keep, so do the files
   pub kept_in_files : (seats : List (Seat N (JournalView D))) (nodes : List Held)

@@ -29,23 +29,24 @@ pub record MakesOneHistory (end : World) : Type 0 where
 -- the disks store; the requests come to the router of this number. For all inputs, what the nodes store then is one legal history of an unsharded collection
 -- with each statement at most once, in which each reply is a right one. `tells` is whether the files of the disks are observable; `leaves` gives the files
 -- after a crash at any moment of the call, of the world up to which the run may proceed; and `owed` says that each byte was put only after what it says was
--- durable. Where the input was read to its end, every request that was taken since the first world is answered.
+-- durable. Where the input was read to its end, and no node missed a step, every request that was taken since the first world is answered.
 pub record Headline (router : ℕ) (first : World) (source : SourceCall) (sink : SinkCall) (tells : Bool) (files : List (List ℕ)) (leaves : World → Type 0)
     (owed : World → List ℕ → Type 0) (gives : ℕ → Type 0) (status : Status) (rest : ℕ) : Type 0 where
   pub piped : IsPiped source sink gives router (λ nodes. IsTrue tells → AreJournals files nodes) leaves owed first most_taken status rest
   pub history : MakesOneHistory piped.end
-  pub answered : status ≡ statuses.InputEnded → AreAnswered first piped.end
+  pub answered : status ≡ statuses.InputEnded → piped.end.missed ≡ first.missed → AreAnswered first piped.end
 
 -- The bytes taken are lines of a script and a rest, and the bytes put are what a run of the nodes from the first world on prints, of the events that the
 -- lines say; the nodes from this number on are routers. What their journals keep is one history too, in whatever order the script delivers. Where the script
--- was played to its end, and its last line is `settle`, every request that was taken since the first world is answered, if no line starts a node again, and
--- otherwise every one that was taken since the last such line.
+-- was played to its end, its last line is `settle`, and no node missed a step, every request that was taken since the first world is answered, if no line
+-- starts a node again, and otherwise every one that was taken since the last such line.
 pub record ScriptHeadline (first_router : ℕ) (first : World) (source : SourceCall) (sink : SinkCall) (tells : Bool) (files : List (List ℕ))
     (leaves : World → Type 0) (owed : World → List ℕ → Type 0) (status : Status) (rest : ℕ) : Type 0 where
   pub simulated : IsSimulated source sink first_router (λ nodes. IsTrue tells → AreJournals files nodes) leaves owed first most_taken status
   pub history : MakesOneHistory simulated.end
-  pub answered : status ≡ statuses.InputEnded → EndInSettle simulated.lines → HaveNoRestart simulated.lines → AreAnswered first simulated.end
-  pub answered_after : status ≡ statuses.InputEnded → EndInSettle simulated.lines
+  pub answered : status ≡ statuses.InputEnded → EndInSettle simulated.lines → HaveNoRestart simulated.lines
+      → simulated.end.missed ≡ first.missed → AreAnswered first simulated.end
+  pub answered_after : status ≡ statuses.InputEnded → EndInSettle simulated.lines → simulated.end.missed ≡ first.missed
       → (events : List EventOrStop) × AreAnsweredAfterRestarts first_router first simulated.lines events simulated.end
   pub no_rest : rest ≡ 0
 

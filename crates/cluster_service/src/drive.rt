@@ -4,7 +4,7 @@ ghost use Rattle.std.specs.Prelude.{◌≡◌, ◌≢◌, ◌<◌, IsTrue, vec_l
 ghost use Rattle.outside.specs.Devices.{sink_call, source_call};
 ghost use Rattle.node_model.specs.World.{World};
 ghost use Rattle.driver_steps.specs.Restarts.{HaveParts};
-ghost use Rattle.driver_steps.specs.Seats.{AreHeld, AreKept, AreOpen, LeaveKept, faults_of, places_of, seat_since, seat_view, since_noted, since_then};
+ghost use Rattle.driver_steps.specs.Seats.{AreCounted, AreHeld, AreKept, AreOpen, LeaveKept, faults_of, places_of, seat_since, seat_view, since_noted, since_then};
 ghost use Rattle.driver_steps.specs.Together.{hosted};
 ghost use Rattle.pipe_driver.specs.Acknowledgements.{AreAcknowledgedBy};
 ghost use Rattle.pipe_driver.specs.Counts.{HaveRisenWhere, RoseWhere};
@@ -57,6 +57,7 @@ pub fn drive<
     ensures driven { AreAskedAsRead N.asks → IsTrue L.facts.tells → (first : World) → MayPlay (first_router_of command) first →
         HaveParts (O.part opener.now) first.nodes →
         AreHeld (seat_view N.state N.steps L.facts) seats.old.items first.nodes →
+        AreCounted (seat_view N.state N.steps L.facts) seats.old.items first.nodes →
         IsDriven command first (source_call S.tells S.left S.fault_count input.old input.new) (sink_call K.tells K.held K.fault_count out.old out.new)
         (C.gives clock.now) (AreKept (seat_view N.state N.steps L.facts) seats.new.items)
         (LeaveKept (seat_since N.state N.steps L.facts (since_then seats.old.items first))

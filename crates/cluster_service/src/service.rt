@@ -86,11 +86,11 @@ pub fn serve<
     requires back { back.items ≡ [] }
     requires room { nodes_of command ≤ vec_capacity back }
 
-    // The headline, in each world that a call may begin in, whose nodes these are, and which has stored what the journals have. `disks` are those of before
+    // The headline, in each world that a call may begin in, whose nodes these are, before their first step, and which has stored what the journals have. `disks` are those of before
     // the journals were opened.
     ensures headline { AreAskedAsRead N.asks → IsTrue D.tells → (first : World) → MayPlay (first_router_of command) first →
         HaveParts (O.part opener.now) first.nodes →
-        map N.state nodes.items ≡ map (λ h. h.state) first.nodes →
+        map N.state nodes.items ≡ map (λ h. h.state) first.nodes → AllByRecursion (λ n. N.steps n ≡ 0) nodes.items →
         AreOpenWith D.tells D.content journals.items first.nodes → (disks : List D) →
         (IsTrue D.tells → LeaveSuch D.moment D.left_at (λ at file. Stands file (spellings (journal_at first.nodes at))) disks (disks_of journals.items)) →
         OfConnection result.status (λ ending. HeadlineOf command first

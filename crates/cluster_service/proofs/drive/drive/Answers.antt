@@ -8,7 +8,7 @@ use Rattle.cluster_service.proofs.drive.drive.Goals as goal
 
 pub returns-in-Pipe-clause-driven : goal.returns-in-Pipe-clause-driven
 returns-in-Pipe-clause-driven g c =
-    rw c.in-Pipe.is (λ asked told first may parts are.
+    rw c.in-Pipe.is (λ asked told first may parts are counted.
     let router : c.first_router-first_router.result ≡ 1 + c.in-Pipe.shards = c.first_router-first_router.ensures ∙ ap first_router_of c.in-Pipe.is in
     let long = held_len (seat_view g.N.Node.state g.N.Node.steps g.L.Log.facts) c.args.seats.now.items first.nodes are in
     let inside : 1 + c.in-Pipe.shards + 0 < length first.nodes = omega (arith, long, c.requires.at, c.args.seats.now.ok) in
@@ -17,10 +17,10 @@ returns-in-Pipe-clause-driven g c =
       begins = may.begins;
       there = subst (λ (n : ℕ). IsRouter first.nodes n) there (may.routers 0 inside);
     } in
-    (rw router at c.pipe.ensures.piped) asked first serves are)
+    (rw router at c.pipe.ensures.piped) asked first serves are counted)
 
 pub returns-in-Sim-clause-driven : goal.returns-in-Sim-clause-driven
 returns-in-Sim-clause-driven g c =
-    rw c.in-Sim.is (λ asked told first may parts are.
+    rw c.in-Sim.is (λ asked told first may parts are counted.
     let router : c.first_router-first_router.result ≡ 1 + c.in-Sim.shards = c.first_router-first_router.ensures ∙ ap first_router_of c.in-Sim.is in
-    ((rw router at c.simulate.ensures.simulated) asked told first may parts are, refl))
+    ((rw router at c.simulate.ensures.simulated) asked told first may parts are counted, refl))

@@ -1,10 +1,11 @@
 use Rattle.std.proofs.Common.{◌∙◌, ◌≡◌, ℕ, List, inr, refl, sym, ap, map, subst, append-nil, arith}
-use Rattle.std.specs.Prelude.{IsTrue}
+use Rattle.std.specs.Prelude.{IsTrue, length}
+use Rattle.std.proofs.lemmas.List.{length-map}
 use Rattle.outside.specs.Devices.{NoneFell, sink_call, source_call}
 use Rattle.outside.proofs.Relations.{none_fell_self}
 use Rattle.journal_frames.specs.Views.{journal_facts}
 use Rattle.pipe_driver.specs.Acknowledgements.{AreAcknowledgedBy}
-use Rattle.driver_steps.specs.Seats.{AreHeld, AreKept, LeaveKept, seat_since, seat_view, since_noted, since_then}
+use Rattle.driver_steps.specs.Seats.{AreCounted, AreHeld, AreKept, LeaveKept, seat_since, seat_view, since_noted, since_then}
 use Rattle.driver_steps.specs.Together.{hosted}
 use Rattle.node_model.specs.World.{Held, World}
 use Rattle.pipe_driver.proofs.Counts.{still}
@@ -19,13 +20,13 @@ use Rattle.cluster_service.proofs.Counts.{all_still}
 use Rattle.cluster_service.proofs.Crashes.{disks_owed, first_leaves_all, none_owed}
 use Rattle.cluster_service.proofs.Together.{seats_leave_all}
 use Rattle.cluster_service.proofs.Firsts.{first_taken}
-use Rattle.cluster_service.proofs.SeatFacts.{driven_as, has_ending, held_from, kept_in_files, later_of, moved, of_no_other, one_rose_of, open_files}
+use Rattle.cluster_service.proofs.SeatFacts.{counted_from, driven_as, has_ending, held_from, kept_in_files, later_of, moved, of_no_other, one_rose_of, open_files}
 use Rattle.cluster_service.proofs.SeatFacts.{rose_of, seat_disks, seats_open, told_after, told_before}
 use Rattle.cluster_service.proofs.NotServed.{headline_of, unopened}
 use Rattle.cluster_service.proofs.service.serve.Goals as goal
 
 pub returns-then-is_err-clause-headline : goal.returns-then-is_err-clause-headline
-returns-then-is_err-clause-headline g c = λ asked told first may parts same are disks early.
+returns-then-is_err-clause-headline g c = λ asked told first may parts same new are disks early.
     let left = disks_of c.args.journals.items in
     rw (c.unserved.ensures.disks, c.unserved.ensures.status, c.close_all.ensures.disks)
     (unopened (source_call g.S.Source.tells g.S.Source.left g.S.Source.fault_count c.args.input.now c.args.input.now)
@@ -75,7 +76,7 @@ pub drive-ending-requires-clause-open : goal.drive-ending-requires-clause-open
 drive-ending-requires-clause-open g c κs within = rw c.put_in.ensures.items (seats_open c.args.nodes.items c.args.journals.items c.requires.«open»)
 
 pub returns-clause-headline : goal.returns-clause-headline
-returns-clause-headline g c = λ asked told first may parts same are disks early.
+returns-clause-headline g c = λ asked told first may parts same new are disks early.
     let source = (source_call g.S.Source.tells g.S.Source.left g.S.Source.fault_count c.args.input.now c.drive-ending.new.input) in
     let sink = (sink_call g.K.Sink.tells g.K.Sink.held g.K.Sink.fault_count c.args.out.now c.drive-ending.new.out) in
     let facts = journal_facts g.D.Disk.tells g.D.Disk.content g.D.Disk.moment g.D.Disk.left_at g.D.Disk.fault_count g.D.Disk.place in
@@ -93,6 +94,13 @@ returns-clause-headline g c = λ asked told first may parts same are disks early
     subst (λ seats. AreHeld view seats first.nodes) (sym c.put_in.ensures.items)
     (held_from g.N.Node.state g.N.Node.steps g.D.Disk.tells g.D.Disk.content g.D.Disk.moment g.D.Disk.left_at g.D.Disk.fault_count g.D.Disk.place c.args.nodes.items
     c.args.journals.items first.nodes same are (first_taken first may.begins)) in
+    let as_many : length c.args.nodes.items ≡ length first.nodes =
+    sym (length-map c.args.nodes.items g.N.Node.state) ∙ ap (λ l. length l) same ∙ length-map first.nodes (λ (h : Held). h.state) in
+    let counted : AreCounted view seats first.nodes =
+    subst (λ seats. AreCounted view seats first.nodes) (sym c.put_in.ensures.items)
+    (counted_from g.N.Node.state g.N.Node.steps g.D.Disk.tells g.D.Disk.content g.D.Disk.moment g.D.Disk.left_at g.D.Disk.fault_count g.D.Disk.place
+    c.args.nodes.items c.args.journals.items first.nodes
+    (omega (arith, c.requires.nodes, c.requires.journals, c.args.nodes.ok, c.args.journals.ok)) as_many new (first_taken first may.begins)) in
     let kept : (nodes : List Held) → AreKept view after nodes → IsTrue g.D.Disk.tells → files back nodes = λ nodes keeps told.
     subst (λ (ds : List g.row.D.Denot). files ds nodes) (sym c.take_disks.ensures.disks)
     (kept_in_files g.N.Node.state g.N.Node.steps g.D.Disk.tells g.D.Disk.content g.D.Disk.moment g.D.Disk.left_at g.D.Disk.fault_count g.D.Disk.place
@@ -120,7 +128,7 @@ returns-clause-headline g c = λ asked told first may parts same are disks early
       headline_of source sink g.D.Disk.tells (map g.D.Disk.content back) (way back) (owed back) (g.C.Clock.gives c.args.clock.now)
           c.drive-ending.result.rest c.args.command first may.begins c.drive-ending.result.status
           (driven_as c.args.command first source sink (g.C.Clock.gives c.args.clock.now) (AreKept view after) _ _ (way back) _ (owed back)
-          c.drive-ending.result.status c.drive-ending.result.rest kept leaves pays (c.drive-ending.ensures.driven asked told first may parts begun)),
+          c.drive-ending.result.status c.drive-ending.result.rest kept leaves pays (c.drive-ending.ensures.driven asked told first may parts begun counted)),
     )
 
 pub returns-clause-durable : goal.returns-clause-durable

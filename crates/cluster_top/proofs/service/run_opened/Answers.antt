@@ -40,6 +40,7 @@ returns-in-Ok-clause-headline g c = λ disks first told opened begun.
     (rw c.shards-in-Ok.ensures (first_parts (others_of c.args.command) _ (map g.D.Disk.content disks) first begun))
     (starts_are_opened _ _ (map g.D.Disk.content disks) first c.args.opened.found.items (map state_of c.in-Ok.nodes.items) begun
     (opened_records facts disks c.args.opened.journals.items c.args.opened.found.items told opened) (rw c.shards.ensures at c.in-Ok.ensures.opened))
+    c.in-Ok.ensures.new
     (opened_with facts disks c.args.opened.journals.items c.args.opened.found.items first.nodes opened journals) disks
     (λ told. opened_leave facts disks c.args.opened.journals.items c.args.opened.found.items first.nodes told opened journals)
 
