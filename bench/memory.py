@@ -3,7 +3,7 @@
 
 Each message is sent to a program of its own (`cluster pipe`, in a new folder), its reply is read, and the program's greatest resident
 size, less that of a program that answers one small message, is printed as a multiple of the message's bytes. Wanted: at most 40 times,
-and at most 2 GB in all. The program is the first argument, $CLUSTER, or `cluster` at the top of the repository. Messages have about as many
+and at most 2 GB in all. The program is the first argument, $CLUSTER, or the one that `cluster` builds. Messages have about as many
 megabytes as the second argument says, 4 if there is none, and 47 at most; inserted documents share them where one can't have them all. Names
 of messages choose some of them. Ends with status 1 where a message takes more than is wanted, or the program ends before its reply.
 Usage: memory.py [PROGRAM] [MEGABYTES] [NAME..]
@@ -14,7 +14,7 @@ import subprocess
 import sys
 import tempfile
 
-from inserts import CLUSTER, document, element, text
+from inserts import built, document, element, text
 
 MOST_TIMES, MOST_BYTES = 40, 2_000_000_000
 
@@ -258,7 +258,7 @@ def refusal(reply):
 
 def main():
     words = sys.argv[1:]
-    program = words[0] if words else os.environ.get("CLUSTER", str(CLUSTER))
+    program = words[0] if words else os.environ.get("CLUSTER") or built()
     program = os.path.abspath(program)
     size = int(float(words[1]) * 1_000_000) if len(words) > 1 else 4_000_000
     names = words[2:] or list(MESSAGES)

@@ -1,5 +1,6 @@
 //! The inputs of the node, and its steps.
 
+ghost use Rattle.std.specs.Prelude.{◌≡◌, []};
 ghost use Rattle.node_tests.specs.Idle.{idle_input, idle_state, request_of_nothing, silent_letter};
 
 use crate::state::Idle;
@@ -88,17 +89,31 @@ impl Node for Idle {
         &mut self,
         _log: &mut L,
         input: IdleInput,
-    ) -> Result<Outputs<Silent>, StepFault> {
+    ) -> Result<Outputs<Silent>, StepFault<Silent>> {
         if self.steps >= LAST {
-            return Err(StepFault::Steps);
+            return Err(StepFault::Steps {
+                told: self.nothing(),
+            });
         }
         self.steps += 1;
         match input {
-            IdleInput::Opened => Ok(Outputs {
-                mail: MailList::new(self.alloc),
-                replies: ReplyList::new(self.alloc),
+            IdleInput::Opened => Ok(self.nothing()),
+            _ => Err(StepFault::Memory {
+                told: self.nothing(),
             }),
-            _ => Err(StepFault::Memory),
+        }
+    }
+}
+
+impl Idle {
+    // Returns no message and no reply.
+    fn nothing(&self) -> Outputs<Silent>
+        ensures mail { result.mail ≡ [] }
+        ensures replies { result.replies ≡ [] }
+    {
+        Outputs {
+            mail: MailList::new(self.alloc),
+            replies: ReplyList::new(self.alloc),
         }
     }
 }

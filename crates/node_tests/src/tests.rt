@@ -21,7 +21,7 @@ fn steps(rt: HostRuntime) -> Result<(), Fail> {
     assert!(rt;
         matches!(
             node.step(&mut journal, IdleInput::Moment(1)),
-            Err(StepFault::Memory)
+            Err(StepFault::Memory { .. })
         )
     );
     Ok(())

@@ -40,7 +40,12 @@ impl<L: Log + Drop> Hosted<L> {
                 let sent = Sent::of(alloc, outputs)?;
                 Ok((Hosted { node, log }, sent))
             }
-            Err(_) => Err(RowFault::Memory),
+            Err(fault) => Err(without(fault, RowFault::Memory)),
         }
     }
+}
+
+// Lets a value go that is not used, and returns the other.
+fn without<T: Drop>(_value: T, other: RowFault) -> RowFault {
+    other
 }
